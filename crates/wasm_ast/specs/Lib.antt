@@ -1,0 +1,5 @@
+pub mod Syntax
+pub mod Code
+pub mod View
+pub mod Ranged
+pub mod Names
