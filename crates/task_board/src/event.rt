@@ -1,0 +1,26 @@
+//! The events that a board goes through.
+
+use crate::request::{Reply, Request};
+use wasm_ast::{Refusal, Text};
+
+/// An event.
+#[derive(Drop)]
+pub enum Event {
+    /// A request is made.
+    Call(Request),
+    /// A slice of the task with this id, of at most so many turns, goes out.
+    Take(Text, u64),
+    /// The slice of the task with this id is run and comes home.
+    Return(Text),
+}
+
+/// What an event is answered.
+#[derive(Drop)]
+pub enum EventReply {
+    /// The answer to the request.
+    Called(Result<Reply, Refusal>),
+    /// Whether a slice was taken.
+    Taken(bool),
+    /// Whether a slice came home.
+    Returned(bool),
+}

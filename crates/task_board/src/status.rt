@@ -1,0 +1,84 @@
+//! What a task is doing, and how it ended.
+
+ghost use Rattle.std.specs.Prelude.{◌≡◌, Some};
+ghost use Rattle.task_board.specs.Names.{status_name, cause_name, exit_status};
+
+use std::fmt;
+use wasm_ast::Trap;
+
+/// The status of a task: those of the OCI Runtime Specification, and containerd's `pausing` and
+/// `paused`.
+#[derive(Clone, Copy, PartialEq, Eq, Debug)]
+pub enum Status {
+    Created,
+    Running,
+    Pausing,
+    Paused,
+    Stopped,
+}
+
+impl Status {
+    /// The name, as replies print it.
+    pub fn name(&self) -> &'static str
+        ensures { result.now ≡ status_name self.now }
+    {
+        match self {
+            Status::Created => "created",
+            Status::Running => "running",
+            Status::Pausing => "pausing",
+            Status::Paused => "paused",
+            Status::Stopped => "stopped",
+        }
+    }
+}
+
+impl fmt::Display for Status {
+    ghost use Rattle.std.specs.Prelude.{Some};
+    ghost use Rattle.task_board.specs.Names.{status_name};
+
+    ghost output = { λ s. Some (status_name s) };
+
+    fn fmt<W: fmt::Write>(&self, f: &mut fmt::Formatter<W>) -> fmt::Result {
+        f.write_str(self.name())
+    }
+}
+
+/// How a stopped task ended.
+#[derive(Clone, Copy, PartialEq, Eq, Debug)]
+pub enum ExitRecord {
+    /// Its entry function returned.
+    Return,
+    /// It called `proc_exit` with this code.
+    Exit(u32),
+    /// It trapped.
+    Trapped(Trap),
+    /// It was killed by this signal.
+    Kill(u64),
+}
+
+impl ExitRecord {
+    /// What ended it, as replies print it.
+    pub fn cause(&self) -> &'static str
+        ensures { result.now ≡ cause_name self.now }
+    {
+        match self {
+            ExitRecord::Return => "return",
+            ExitRecord::Exit(_) => "exit",
+            ExitRecord::Trapped(_) => "trap",
+            ExitRecord::Kill(_) => "kill",
+        }
+    }
+
+    /// The exit status: 0 where the entry returned, the code of `proc_exit`, 134 for a trap, 128 and
+    /// the signal for a kill (at most 2^64 - 1).
+    pub fn exit(&self) -> u64
+        ensures { result ≡ exit_status self.now }
+    {
+        match self {
+            ExitRecord::Return => 0,
+            ExitRecord::Exit(code) => u64::from(*code),
+            ExitRecord::Trapped(_) => 134,
+            ExitRecord::Kill(signal) => signal.saturating_add(128),
+        }
+    }
+}
