@@ -3,3 +3,4 @@ pub mod Code
 pub mod View
 pub mod Ranged
 pub mod Names
+pub mod Limits

@@ -11,7 +11,10 @@ mod text;
 mod trap;
 mod values;
 
-pub use module::{Body, Export, ExportKind, Func, Import, Instr, Module};
+pub use module::{
+    Body, Export, ExportKind, Func, Import, Instr, MOST_FUNCTIONS, MOST_LOCALS, MOST_NESTING,
+    Module,
+};
 pub use refusal::Refusal;
 pub use sequence::{Bytes, Sequence};
 pub use text::Text;

@@ -1,14 +1,24 @@
 //! Modules and their instructions (2.4, 2.5).
 
-ghost use Rattle.std.specs.Prelude.{◌≡◌, map, All};
+ghost use Rattle.std.specs.Prelude.{◌≡◌, map, All, true, false};
 ghost use Rattle.wasm_ast.specs.Syntax.{ops_of};
 ghost use Rattle.wasm_ast.specs.View.{op_of};
+ghost use Rattle.wasm_ast.specs.Limits.{Within, FuncWithin, ops_depth, params_of};
 ghost use Rattle.wasm_ast.specs.Ranged.{Ranged, RangedOp, RangedOps, RangedImport, RangedFunc, RangedExport};
 
 use crate::sequence::Sequence;
 use crate::text::Text;
 use crate::values::{FuncType, ValType};
 use std::marker::Model;
+
+/// How many functions a module may have, imports included.
+pub const MOST_FUNCTIONS: usize = 4096;
+
+/// How many locals a function may have, parameters included.
+pub const MOST_LOCALS: usize = 1024;
+
+/// How many blocks may stand one inside another.
+pub const MOST_NESTING: usize = 256;
 
 /// An instruction (2.4).
 #[derive(Clone, Copy, PartialEq, Eq, Debug)]
@@ -77,6 +87,14 @@ impl Body {
     {
         let Body { instrs } = self;
         instrs
+    }
+
+    /// How many blocks stand one inside another. No instruction of the profile has a body so far.
+    pub fn depth(&self) -> usize
+        ensures { result ≡ ops_depth self.now }
+    {
+        let _instrs = &self.instrs;
+        0
     }
 
     /// That each number in the instructions is in its range.
@@ -158,6 +176,17 @@ pub struct Module {
 }
 
 impl Module {
+    /// Whether the module is within the profile's limits: 4,096 functions with imports, 1,024 locals to
+    /// a function, parameters included, and 256 blocks one inside another.
+    pub fn is_within_limits(&self) -> bool
+        ensures within { result ≡ true → Within self.now }
+        ensures beyond { result ≡ false → Within self.now → ⊥ }
+    {
+        self.imports.len() <= MOST_FUNCTIONS
+            && self.funcs.len() <= MOST_FUNCTIONS - self.imports.len()
+            && are_within(self.types.as_slice(), self.funcs.as_slice())
+    }
+
     /// That each number in the module is in its range.
     pub fn ranged(&self)
         ensures { Ranged self.now }
@@ -166,6 +195,38 @@ impl Module {
         funcs_ranged(self.funcs.as_slice());
         exports_ranged(self.exports.as_slice());
     }
+}
+
+// How many parameters a function of the type with this index has.
+fn params_of(types: &[FuncType], index: u32) -> usize
+    ensures { result ≡ params_of types.now index }
+{
+    match types.get(index as usize) {
+        Some(found) => found.params.len(),
+        None => 0,
+    }
+}
+
+fn is_within(types: &[FuncType], func: &Func) -> bool
+    ensures within { result ≡ true → FuncWithin types.now func.now }
+    ensures beyond { result ≡ false → FuncWithin types.now func.now → ⊥ }
+{
+    let params = params_of(types, func.type_index);
+    params <= MOST_LOCALS
+        && func.locals.len() <= MOST_LOCALS - params
+        && func.body.depth() <= MOST_NESTING
+}
+
+fn are_within(types: &[FuncType], funcs: &[Func]) -> bool
+    ensures within { result ≡ true → All (FuncWithin types.now) funcs.now }
+    ensures beyond { result ≡ false → All (FuncWithin types.now) funcs.now → ⊥ }
+{
+    for func in funcs {
+        if !is_within(types, func) {
+            return false;
+        }
+    }
+    true
 }
 
 fn imports_ranged(imports: &[Import])
