@@ -1,0 +1,17 @@
+//! Execution: which modules are valid, what a turn is, and a machine that makes turns.
+//!
+//! Sections are those of the WebAssembly Core Specification 1.0.
+#![tactic(auto)]
+
+mod ends;
+mod machine;
+mod operands;
+mod places;
+mod process;
+mod valid;
+
+pub use ends::{End, SliceEnd};
+pub use machine::Machine;
+pub use places::{Breaks, Place};
+pub use process::Process;
+pub use valid::{Valid, validate};

