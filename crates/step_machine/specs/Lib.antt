@@ -6,3 +6,4 @@ pub mod Opening
 pub mod Slices
 pub mod Typing
 pub mod Ran
+pub mod Worked

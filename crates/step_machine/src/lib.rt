@@ -4,6 +4,7 @@
 #![tactic(auto)]
 
 mod ends;
+mod laws;
 mod machine;
 mod operands;
 mod places;
@@ -11,6 +12,11 @@ mod process;
 mod valid;
 
 pub use ends::{End, SliceEnd};
+pub use laws::{
+    arms_are_chosen, branch_keeps_the_top, call_returns_the_top, cuts_commute, empty_entry_returns,
+    exit_takes_a_turn, frames_are_limited, halted_stays, loop_takes_a_turn, one_more_turn,
+    turns_settle, values_are_limited,
+};
 pub use machine::Machine;
 pub use places::{Breaks, Place};
 pub use process::Process;

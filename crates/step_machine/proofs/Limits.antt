@@ -1,0 +1,27 @@
+-- Trees within the limits of frames and values, and beyond them.
+use Rattle.std.proofs.Common.{◌≡◌, ℕ, zero, suc, ◌+◌, ◌<◌, ◌≤◌, List, [], ◌∷◌, length, Bool, true, false, nat_lt, ◌||◌, cond, refl, arith}
+use Rattle.std.proofs.lemmas.Bool.Decides.{nat_tests}
+use Rattle.wasm_ast.specs.declared.trap.Trap.TheVariants as trap
+use Rattle.wasm_ast.specs.Syntax.{Op, Ops, stop, next, count}
+use Rattle.step_machine.specs.Tree.{Tree, Items, items_of, running, trapped, frames, values, items_frames, items_values}
+use Rattle.step_machine.specs.Reduce.{limited}
+
+pub plain_frames : (k : ℕ) (os : Ops) → items_frames (items_of k os) ≡ 0
+plain_frames k stop = refl
+plain_frames k (next o os) = rw (plain_frames (k + count o) os)
+
+pub plain_values : (k : ℕ) (os : Ops) → items_values (items_of k os) ≡ 0
+plain_values k stop = refl
+plain_values k (next o os) = rw (plain_values (k + count o) os)
+
+pub within : (t : Tree) → frames t ≤ 1024 → values t ≤ 65536 → limited t ≡ running t
+within t f v =
+    let a : nat_lt 1024 (frames t) ≡ false = grind (arith, nat_tests) in
+    let b : nat_lt 65536 (values t) ≡ false = grind (arith, nat_tests) in
+    rw (a, b)
+
+pub beyond : (t : Tree) → frames t ≤ 1024 → 65536 < values t → limited t ≡ trapped trap.Exhausted
+beyond t f v =
+    let a : nat_lt 1024 (frames t) ≡ false = grind (arith, nat_tests) in
+    let b : nat_lt 65536 (values t) ≡ true = grind (arith, nat_tests) in
+    rw (a, b)

@@ -1,0 +1,95 @@
+//! Laws of execution, and worked programs that show it. Each function is nothing but its contract.
+
+ghost use Rattle.std.specs.Prelude.{◌≡◌, ℕ, ◌+◌, ◌^◌, ◌<◌, ◌≤◌, List, [], ◌∷◌, length, true, false, Some, None};
+ghost use Rattle.wasm_ast.specs.declared.values.Value.{Value};
+ghost use Rattle.wasm_ast.specs.declared.values.Value.TheVariants as value;
+ghost use Rattle.wasm_ast.specs.declared.trap.Trap.TheVariants as trap;
+ghost use Rattle.wasm_ast.specs.Syntax.{i32_const, discard, stop, next};
+ghost use Rattle.step_machine.specs.Program.{Program, program};
+ghost use Rattle.step_machine.specs.Tree.{Config, exited, trapped, is_halted, is_settled};
+ghost use Rattle.step_machine.specs.Turns.{from, numbered, turn};
+ghost use Rattle.step_machine.specs.Opening.{after, ended};
+ghost use Rattle.step_machine.specs.Slices.{at_break};
+ghost use Rattle.step_machine.specs.Worked.{bare_process, exit_seven, branch_out, endless, two_ways, call_and_return, empty_entry, place, entered, entered_at, deep};
+ghost use Rattle.step_machine.specs.declared.ends.End.TheVariants as ends;
+
+/// Turns may be cut anywhere: so many and then so many more are as many as both together.
+pub fn cuts_commute()
+    ensures { (p : Program) (k a b : ℕ) (c : Config)
+        → from p k c (a + b) ≡ from p (k + a) (from p k c a) b }
+{}
+
+/// One turn more is the turn of the next number, made by the configuration so far.
+pub fn one_more_turn()
+    ensures { (p : Program) (k n : ℕ) (c : Config)
+        → from p k c (n + 1) ≡ numbered p (k + n + 1) (from p k c n) }
+{}
+
+/// A configuration that has halted stays as it is.
+pub fn halted_stays()
+    ensures { (p : Program) (k n : ℕ) (c : Config) → is_halted c.state ≡ true → from p k c n ≡ c }
+{}
+
+/// A turn ends where the next instruction is plain or the configuration has ended.
+pub fn turns_settle()
+    ensures { (p : Program) (c : Config) → is_settled (turn p c).state ≡ true }
+{}
+
+/// `i32.const 7 call 0`, where function 0 is `proc_exit`, exits with 7 at its second turn.
+pub fn exit_takes_a_turn()
+    ensures exits { (after exit_seven bare_process 2).state ≡ exited 7 }
+    ensures not_before { is_halted (after exit_seven bare_process 1).state ≡ false }
+{}
+
+/// An empty entry has returned before any turn.
+pub fn empty_entry_returns()
+    ensures { ended (after empty_entry bare_process 0).state ≡ Some ends.Returned }
+{}
+
+/// A branch out of a block keeps the top value: the task exits with 2 at its fifth turn.
+pub fn branch_keeps_the_top()
+    ensures exits { (after branch_out bare_process 5).state ≡ exited 2 }
+    ensures not_before { is_halted (after branch_out bare_process 4).state ≡ false }
+{}
+
+/// A branch to a loop makes the loop itself the next instruction: `loop br 0 end` alternates between
+/// its two places for ever.
+pub fn loop_takes_a_turn()
+    ensures loop_first { at_break (place 1 0 ∷ []) (after endless bare_process 0).state ≡ true }
+    ensures then_branch { at_break (place 1 1 ∷ []) (after endless bare_process 1).state ≡ true }
+    ensures loop_again { at_break (place 1 0 ∷ []) (after endless bare_process 2).state ≡ true }
+    ensures branch_again { at_break (place 1 1 ∷ []) (after endless bare_process 3).state ≡ true }
+{}
+
+/// An `if` takes its then arm where the operand is not 0, and else its else arm, whose places begin
+/// behind the then arm's.
+pub fn arms_are_chosen()
+    ensures first_arm { (after (two_ways 2) bare_process 4).state ≡ exited 3 }
+    ensures second_arm { (after (two_ways 0) bare_process 4).state ≡ exited 4 }
+    ensures first_place { at_break (place 1 2 ∷ []) (after (two_ways 2) bare_process 2).state ≡ true }
+    ensures second_place { at_break (place 1 4 ∷ []) (after (two_ways 0) bare_process 2).state ≡ true }
+{}
+
+/// A call of an own function and a return from it: the function's first instruction is next behind the
+/// call's turn, and the return's turn keeps the top value and goes on behind the call.
+pub fn call_returns_the_top()
+    ensures called { at_break (place 2 0 ∷ []) (after call_and_return bare_process 1).state ≡ true }
+    ensures returned { at_break (place 1 1 ∷ []) (after call_and_return bare_process 4).state ≡ true }
+    ensures exits { (after call_and_return bare_process 5).state ≡ exited 9 }
+{}
+
+/// The frame that would be the 1,025th traps, and the 1,024th does not.
+pub fn frames_are_limited()
+    ensures beyond { (turn (program call_and_return bare_process) (deep 1024)).state ≡ trapped trap.Exhausted }
+    ensures within { is_halted (turn (program call_and_return bare_process) (deep 1023)).state ≡ false }
+{}
+
+/// The value that would be the 65,537th traps, and the 65,536th does not.
+pub fn values_are_limited()
+    ensures beyond { (p : Program) (vs : List Value) (n : ℕ)
+        → length vs ≡ 65536
+        → (turn p (entered vs (next (i32_const n) (next discard stop)))).state ≡ trapped trap.Exhausted }
+    ensures within { (p : Program) (vs : List Value) (n : ℕ)
+        → length vs ≡ 65535
+        → (turn p (entered vs (next (i32_const n) (next discard stop)))).state ≡ entered_at 1 (value.I32 n ∷ vs) (next discard stop) }
+{}
