@@ -1,3 +1,4 @@
 pub mod Cuts
 pub mod Settles
 pub mod Limits
+pub mod Types

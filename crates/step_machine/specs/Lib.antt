@@ -5,5 +5,6 @@ pub mod Turns
 pub mod Opening
 pub mod Slices
 pub mod Typing
+pub mod Reaches
 pub mod Ran
 pub mod Worked

@@ -1,8 +1,11 @@
 //! Modules that are valid (3).
 
-ghost use Rattle.std.specs.Prelude.{◌≡◌, ◌⊎◌, IfOk, OnErr, Err};
+ghost use Rattle.std.specs.Prelude.{◌≡◌, ◌⊎◌, IfOk, OnOk, OnErr, Err};
 ghost use Rattle.wasm_ast.specs.declared.refusal.Refusal.TheVariants as refusal;
+ghost use Rattle.step_machine.specs.Typing.{ValidModule};
+ghost use Rattle.step_machine.specs.Reaches.{CallsImports};
 
+use crate::check::check_module;
 use std::alloc::Global;
 use std::marker::Model;
 use wasm_ast::{Module, Refusal};
@@ -23,23 +26,32 @@ impl Model for Valid {
 
     ghost coded = { Prim.hlevel (codes, ops_code) };
 
+    ghost use Rattle.step_machine.specs.Typing.{ValidModule};
+    ghost use Rattle.step_machine.specs.Reaches.{CallsImports};
+
     ghost view = { λ v. v.module };
+
+    ghost invariant = { λ v. ValidModule v.module × CallsImports v.module };
 }
 
 impl Valid {
     /// The module.
     pub fn module(&self) -> &Module
-        ensures { result.now ≡ self.now }
+        ensures value { result.now ≡ self.now }
+        ensures valid { ValidModule self.now }
+        ensures calls { CallsImports self.now }
     {
         &self.module
     }
 }
 
-/// Takes a module that is valid. `Invalid` where it is not; `NoMemory` where there is no room to find out.
+/// Takes a module that is valid. `Invalid` where it is not, or where a function of its own is called;
+/// `NoMemory` where there is no room to find out.
 pub fn validate(alloc: Global, unchecked: Module) -> Result<Valid, Refusal>
     ensures ok { IfOk result (λ v. v ≡ unchecked) }
+    ensures valid { OnOk result (ValidModule unchecked) }
     ensures err { OnErr result ((result ≡ Err refusal.Invalid) ⊎ (result ≡ Err refusal.NoMemory)) }
 {
-    let _ = alloc;
+    check_module(alloc, &unchecked)?;
     Ok(Valid { module: unchecked })
 }
