@@ -8,3 +8,5 @@ pub mod Typing
 pub mod Reaches
 pub mod Ran
 pub mod Worked
+pub mod Flat
+pub mod Stands

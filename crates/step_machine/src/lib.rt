@@ -10,6 +10,7 @@ mod machine;
 mod operands;
 mod places;
 mod process;
+mod progress;
 mod valid;
 
 pub use ends::{End, SliceEnd};

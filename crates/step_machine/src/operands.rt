@@ -51,6 +51,15 @@ impl Operands {
         self.words.push_reserved(word);
     }
 
+    /// The newest word.
+    #[inline(always)]
+    pub fn top(&self) -> u64
+        requires { 0 < length self.now }
+        ensures { result ≡ slice_index self.now (length self.now - 1) }
+    {
+        self.words[self.words.len() - 1]
+    }
+
     /// Takes the newest word away.
     #[inline(always)]
     pub fn pop(&mut self) -> u64
