@@ -1,6 +1,6 @@
 //! Places of instructions, and breakpoints.
 
-ghost use Rattle.std.specs.Prelude.{◌≡◌, ◌≤◌, IfOk, [], length, vec_len};
+ghost use Rattle.std.specs.Prelude.{◌≡◌, ◌≤◌, IfOk, [], true, false, length, vec_len};
 ghost use Rattle.step_machine.specs.Slices.{is_among};
 
 use std::alloc::{AllocError, Global};
@@ -59,6 +59,14 @@ impl Breaks {
         self.places.as_slice()
     }
 
+    /// Whether both are the same places in the same order.
+    pub fn is(&self, other: &Breaks) -> bool
+        ensures same { result ≡ true → self.now ≡ other.now }
+        ensures different { result ≡ false → self.now ≡ other.now → ⊥ }
+    {
+        are_same(self.as_slice(), other.as_slice())
+    }
+
     /// Gives the places back. No memory is taken.
     pub fn into_vec(self) -> Vec<Place>
         ensures places { result.items ≡ self }
@@ -80,4 +88,19 @@ impl Breaks {
         }
         false
     }
+}
+
+fn are_same(places: &[Place], others: &[Place]) -> bool
+    ensures same { result ≡ true → places.now ≡ others.now }
+    ensures different { result ≡ false → places.now ≡ others.now → ⊥ }
+{
+    if places.len() != others.len() {
+        return false;
+    }
+    for i in 0..places.len() {
+        if places[i] != others[i] {
+            return false;
+        }
+    }
+    true
 }

@@ -1,6 +1,6 @@
 //! What a task is run with.
 
-ghost use Rattle.std.specs.Prelude.{◌≡◌, IfOk};
+ghost use Rattle.std.specs.Prelude.{◌≡◌, IfOk, true, false};
 
 use std::alloc::{AllocError, Global};
 use wasm_ast::{Bytes, Sequence, Text};
@@ -31,6 +31,36 @@ impl Process {
             err: self.err.copy(alloc)?,
         })
     }
+}
+
+impl Process {
+    /// Whether both are the same process.
+    pub fn is(&self, other: &Process) -> bool
+        ensures same { result ≡ true → self.now ≡ other.now }
+        ensures different { result ≡ false → self.now ≡ other.now → ⊥ }
+    {
+        self.module.is(&other.module)
+            && are_same(self.args.as_slice(), other.args.as_slice())
+            && are_same(self.env.as_slice(), other.env.as_slice())
+            && self.cap == other.cap
+            && self.out.is(&other.out)
+            && self.err.is(&other.err)
+    }
+}
+
+fn are_same(texts: &[Text], others: &[Text]) -> bool
+    ensures same { result ≡ true → texts.now ≡ others.now }
+    ensures different { result ≡ false → texts.now ≡ others.now → ⊥ }
+{
+    if texts.len() != others.len() {
+        return false;
+    }
+    for i in 0..texts.len() {
+        if !texts[i].is(&others[i]) {
+            return false;
+        }
+    }
+    true
 }
 
 fn copy_texts(alloc: Global, texts: &[Text]) -> Result<Vec<Text>, AllocError>
