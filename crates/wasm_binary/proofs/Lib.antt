@@ -1,0 +1,3 @@
+pub mod Powers
+pub mod Texts
+pub mod Loop

@@ -1,0 +1,6 @@
+//! The binary format of modules.
+#![tactic(auto)]
+
+mod fault;
+mod numbers;
+mod types;
