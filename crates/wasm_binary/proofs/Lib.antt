@@ -1,3 +1,5 @@
 pub mod Powers
 pub mod Texts
 pub mod Loop
+pub mod Loops
+pub mod Starts

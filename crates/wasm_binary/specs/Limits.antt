@@ -30,8 +30,8 @@ abbrev pub TooManyLocals : (params : ℕ) → List ℕ → Type 0
 TooManyLocals params bytes =
     (1024 < params)
     ⊎ ((count : ℕ) × (from : List ℕ) × (runs : List (ℕ × ValType)) × (mid : List ℕ) × (n : ℕ) × (rest : List ℕ)
-      × IsU32 bytes count from × AreItems IsRun from runs mid × (length runs < count) × IsU32 mid n rest
-      × (1024 < params + sum_by (λ run. run.0) runs + n))
+    × IsU32 bytes count from × AreItems IsRun from runs mid × (length runs < count) × IsU32 mid n rest
+    × (1024 < params + sum_by (λ run. run.0) runs + n))
 
 -- codes of functions with these types: some are whole, and the next one has too many locals
 abbrev pub SomeTooManyLocals : (types : List FuncType) → (imports : ℕ) → (indices : List ℕ) → List ℕ → Type 0
@@ -52,8 +52,8 @@ pub record ReachesLimit (bytes : List ℕ) : Type 0 where
   pub reaches : Opens 2 (TooManyFunctions 0) from_imports ⊎ ((imports : List Import) × (from_functions : List ℕ)
       × IsSection 2 IsImport from_imports imports from_functions
       × (Opens 3 (TooManyFunctions (length imports)) from_functions ⊎ ((indices : List ℕ) × (from_exports : List ℕ) × (exports : List Export) × (from_codes : List ℕ)
-          × IsSection 3 IsU32 from_functions indices from_exports × IsSection 7 IsExport from_exports exports from_codes
-          × Opens 10 (SomeTooManyLocals types (length imports) indices) from_codes)))
+      × IsSection 3 IsU32 from_functions indices from_exports × IsSection 7 IsExport from_exports exports from_codes
+      × Opens 10 (SomeTooManyLocals types (length imports) indices) from_codes)))
 
 abbrev pub Over : List ℕ → Type 0
 Over bytes = (262144 < length bytes) ⊎ ReachesLimit bytes

@@ -17,6 +17,7 @@ use Rattle.wasm_binary.specs.declared.fault.Fault.{Fault}
 use Rattle.wasm_binary.specs.declared.fault.Fault.TheVariants.{Bad, Over}
 use Rattle.wasm_binary.specs.declared.fault.ReadError.{ReadError}
 use Rattle.wasm_binary.specs.declared.fault.ReadError.TheVariants as errors
+use Rattle.wasm_binary.specs.declared.sections.Front.{Front}
 use Rattle.wasm_binary.specs.Grammar.{type_byte, preamble}
 
 infixl 10 ◌>>=◌
@@ -195,11 +196,15 @@ export_at bytes = do
 unfoldable pub named_at : List ℕ → Read (List ℕ)
 named_at bytes = name_at bytes >>= λ n. Ok (n.0, [])
 
+-- the rest behind a custom section
+unfoldable pub custom_at : List ℕ → Result (List ℕ) Fault
+custom_at bytes = sized_at named_at bytes >>= λ x. Ok x.1
+
 -- the rest behind so many custom sections at most
 unfoldable pub customs_at : (most : ℕ) → List ℕ → Result (List ℕ) Fault
 customs_at zero bytes = Ok bytes
 customs_at (suc n) bytes =
-    if begins_with 0x00 bytes then (sized_at named_at (drop 1 bytes) >>= λ x. customs_at n x.1) else Ok bytes
+    if begins_with 0x00 bytes then (custom_at (drop 1 bytes) >>= λ rest. customs_at n rest) else Ok bytes
 
 unfoldable pub after_customs : List ℕ → Result (List ℕ) Fault
 after_customs bytes = customs_at (length bytes) bytes
@@ -234,6 +239,9 @@ pub record Head : Type 0 where
   pub imports : List Import
   pub indices : List ℕ
 
+abbrev pub front_of : Front → Head
+front_of f = record { types = f.types.items; imports = f.imports.items; indices = f.indices.items }
+
 unfoldable pub head_at : (limited : Bool) → List ℕ → Read Head
 head_at limited bytes = do
   sections ← preamble_at bytes
@@ -250,7 +258,7 @@ module_at limited bytes = do
   exports ← section_at 7 (vector_at export_at) h.1
   funcs ← section_at 10 (code_vector_at limited h.0.types (length h.0.imports) h.0.indices) exports.1
   need (length funcs.1 == 0) Bad (need (length funcs.0 == length h.0.indices) Bad
-    (Ok (record { types = h.0.types; imports = h.0.imports; funcs = funcs.0; exports = exports.0 })))
+      (Ok (record { types = h.0.types; imports = h.0.imports; funcs = funcs.0; exports = exports.0 })))
 
 unfoldable pub read_at : (limited : Bool) → List ℕ → Result Module Fault
 read_at limited bytes = if limited && nat_lt 262144 (length bytes) then Err Over else module_at limited bytes
