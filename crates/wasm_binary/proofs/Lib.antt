@@ -3,3 +3,5 @@ pub mod Texts
 pub mod Loop
 pub mod Loops
 pub mod Starts
+pub mod Tells
+pub mod ModuleTells

@@ -2,7 +2,7 @@
 -- a number or a sum over a limit of modules. Nothing is asked of what stands behind that number. Of a
 -- section or a body that is not read to its end, the size may be wrong: what stands within it, or
 -- within the bytes where they end before, is what is read.
-use Rattle.std.specs.Prelude.{◌≡◌, ℕ, ◌+◌, ◌<◌, List, [], ◌∷◌, ◌++◌, length, take, sum_by, Some, slice_get, ◌⊎◌}
+use Rattle.std.specs.Prelude.{◌≡◌, ℕ, ◌+◌, ◌<◌, List, [], ◌∷◌, ◌++◌, length, take, Some, slice_get, ◌⊎◌}
 use Rattle.wasm_ast.specs.declared.values.ValType.{ValType}
 use Rattle.wasm_ast.specs.declared.values.FuncType.{FuncType}
 use Rattle.wasm_ast.specs.declared.module.Import.{Import}
@@ -10,7 +10,7 @@ use Rattle.wasm_ast.specs.declared.module.Func.{Func}
 use Rattle.wasm_ast.specs.declared.module.Export.{Export}
 use Rattle.wasm_ast.specs.Limits.{params_of}
 use Rattle.wasm_binary.specs.Numbers.{IsU32}
-use Rattle.wasm_binary.specs.Grammar.{AreItems, IsFuncType, IsImport, IsExport, IsRun, IsEntry, AreCustom, IsSection, preamble}
+use Rattle.wasm_binary.specs.Grammar.{AreItems, IsFuncType, IsImport, IsExport, IsRun, locals_of, IsEntry, AreCustom, IsSection, preamble}
 
 -- behind a size: of the bytes that it takes, as many as there are
 abbrev pub Within_size : (List ℕ → Type 0) → List ℕ → Type 0
@@ -31,7 +31,7 @@ TooManyLocals params bytes =
     (1024 < params)
     ⊎ ((count : ℕ) × (from : List ℕ) × (runs : List (ℕ × ValType)) × (mid : List ℕ) × (n : ℕ) × (rest : List ℕ)
     × IsU32 bytes count from × AreItems IsRun from runs mid × (length runs < count) × IsU32 mid n rest
-    × (1024 < params + sum_by (λ run. run.0) runs + n))
+    × (1024 < params + length (locals_of runs) + n))
 
 -- codes of functions with these types: some are whole, and the next one has too many locals
 abbrev pub SomeTooManyLocals : (types : List FuncType) → (imports : ℕ) → (indices : List ℕ) → List ℕ → Type 0
