@@ -109,3 +109,135 @@ code_vector_tells types imports indices bytes = tells_then (u32_tells bytes) (λ
     tells_more (codes_tells types imports indices n.1)
       (λ x h. let k : n.0 ≡ length x.0 = eqb-true n.0 (length indices) e ∙ ap length (sym h.1) ∙ length_indices x.0 in ((n.1, rw (← k) hn, h.0), h.1, h.2))
       (λ q. (n.0, n.1, q.0, q.1, q.2, hn, q.3, q.4, q.5)))) never
+
+-- ---- sections
+
+named_tells : (bytes : List ℕ) → Tells (λ x. (more : List ℕ) × IsNamed bytes (x.0, more) x.1) ⊥ (named_at bytes)
+unfolding named_at
+named_tells bytes = tells_then (name_tells bytes) (λ n hn. tells_ok (n.0, []) (n.1, (hn, refl))) never
+
+custom_tells : (bytes : List ℕ) → begins_with 0x00 bytes ≡ true → Tells (λ rest. (x : List ℕ × List ℕ) × IsCustom bytes x rest) ⊥ (custom_at (drop 1 bytes))
+unfolding custom_at
+custom_tells bytes e = tells_then (sized_tells (λ part name rest. (more : List ℕ) × IsNamed part (name, more) rest) (λ _. ⊥) named_at named_tells (drop 1 bytes))
+    (λ x h. tells_ok x.1 ((x.0, h.4.0), (drop 1 bytes, begins_is 0x00 bytes e, (h.0, h.1, h.2, h.3, h.4.1))))
+    (λ q. q.3)
+
+customs_tells : (most : ℕ) (bytes : List ℕ) → Tells (λ rest. AreCustom bytes rest) ⊥ (customs_at most bytes)
+unfolding customs_at
+customs_tells zero bytes = tells_ok bytes ([], refl)
+customs_tells (suc n) bytes = tells_if (begins_with 0x00 bytes)
+    (λ e. tells_then (custom_tells bytes e) (λ after h. tells_more (customs_tells n after) (λ rest k. (h.0 ∷ k.0, (after, h.1, k.1))) never) never)
+    (λ _. tells_ok bytes ([], refl))
+
+after_customs_tells : (bytes : List ℕ) → Tells (λ rest. AreCustom bytes rest) ⊥ (after_customs bytes)
+unfolding after_customs
+after_customs_tells bytes = customs_tells (length bytes) bytes
+
+-- a section whose contents are of any form
+abbrev pub SectionOf : {X : Type 0} → (id : ℕ) → Form (List X) → Form (List X)
+SectionOf id IsXs bytes xs rest =
+    ((from : List ℕ) × (after : List ℕ) × (bytes ≡ id ∷ from) × IsSized IsXs from xs after × AreCustom after rest)
+    ⊎ ((xs ≡ []) × (rest ≡ bytes))
+
+section_tells : {X : Type 0} (id : ℕ) (IsXs : Form (List X)) (Q : List ℕ → Type 0) (read : List ℕ → Read (List X)) → ((part : List ℕ) → Tells (λ x. IsXs part x.0 x.1) (Q part) (read part))
+    → (bytes : List ℕ) → Tells (λ x. SectionOf id IsXs bytes x.0 x.1) (Opens id Q bytes) (section_at id read bytes)
+unfolding section_at
+section_tells id IsXs Q read tells bytes = tells_if (begins_with id bytes)
+    (λ e. tells_then (sized_tells IsXs Q read tells (drop 1 bytes)) (λ x hx. tells_then (after_customs_tells x.1) (λ rest hr.
+        tells_ok (x.0, rest) (inl (drop 1 bytes, x.1, begins_is id bytes e, hx, hr))) never)
+      (λ q. (drop 1 bytes, begins_is id bytes e, q)))
+    (λ _. tells_ok ([], bytes) (inr (refl, refl)))
+
+-- a fact beside the form of a section's contents
+section_with : {X : Type 0} (id : ℕ) (IsXs : Form (List X)) (E : List X → Type 0) (bytes : List ℕ) (xs : List X) (rest : List ℕ)
+    → SectionOf id (λ b ys r. IsXs b ys r × E ys) bytes xs rest → E [] → SectionOf id IsXs bytes xs rest × E xs
+section_with id IsXs E bytes xs rest (inl h) none = (inl (h.0, h.1, h.2, (h.3.0, h.3.1, h.3.2, h.3.3, h.3.4.0), h.4), h.3.4.1)
+section_with id IsXs E bytes xs rest (inr h) none = (inr h, subst E (sym h.0) none)
+
+functions_tells : {X : Type 0} (before : ℕ) (IsX : Form X) (read : List ℕ → Read X) → ((part : List ℕ) → Tells (λ x. IsX part x.0 x.1) ⊥ (read part))
+    → (bytes : List ℕ) → Tells (λ x. IsVector IsX bytes x.0 x.1 × (before + length x.0 ≤ 4096)) (TooManyFunctions before bytes) (functions_at true before read bytes)
+unfolding functions_at
+functions_tells before IsX read tells bytes = tells_then (u32_tells bytes) (λ n hn. tells_if (ltb 4096 (before + n.0))
+    (λ over. tells_over (n.0, n.1, hn, ltb-true 4096 (before + n.0) over))
+    (λ under. tells_more (items_tells IsX read tells n.0 n.1) (λ xs h. ((n.1, rw h.1 hn, h.0), rw h.1 (ltb-false 4096 (before + n.0) under))) never)) never
+
+-- ---- modules
+
+preamble_tells : (bytes : List ℕ) → Tells (λ rest. bytes ≡ preamble ++ rest) ⊥ (preamble_at bytes)
+unfolding preamble_at
+preamble_tells bytes = tells_need (bytes_eq (take 8 bytes) preamble) (λ e.
+    let k : take 8 bytes ≡ preamble = (bytes_eq-Decides (take 8 bytes) preamble).0 e in
+    tells_ok (drop 8 bytes) (sym (take-append-drop 8 bytes) ∙ ap (λ (front : List ℕ). front ++ drop 8 bytes) k))
+
+-- the sections up to the function section
+record HeadRead (bytes : List ℕ) (h : Head) (rest : List ℕ) : Type 0 where
+  pub sections : List ℕ
+  pub from_types : List ℕ
+  pub from_imports : List ℕ
+  pub from_functions : List ℕ
+  pub begins : bytes ≡ preamble ++ sections
+  pub customs : AreCustom sections from_types
+  pub types : IsSection 1 IsFuncType from_types h.types from_imports
+  pub imports : IsSection 2 IsImport from_imports h.imports from_functions
+  pub indices : IsSection 3 IsU32 from_functions h.indices rest
+  pub few : length h.imports + length h.indices ≤ 4096
+
+head_tells : (bytes : List ℕ) → Tells (λ x. HeadRead bytes x.0 x.1) (ReachesLimit bytes) (head_at true bytes)
+unfolding head_at
+head_tells bytes = tells_then (preamble_tells bytes) (λ sections h0. tells_then (after_customs_tells sections) (λ from_types h1.
+    tells_then (section_tells 1 (IsVector IsFuncType) (λ _. ⊥) (vector_at func_type_at) (vector_tells IsFuncType func_type_at func_type_tells) from_types) (λ types h2.
+    tells_then (section_tells 2 (λ b ys r. IsVector IsImport b ys r × (0 + length ys ≤ 4096)) (TooManyFunctions 0) (functions_at true 0 import_at) (functions_tells 0 IsImport import_at import_tells) types.1) (λ imports h3.
+    let i = section_with 2 (IsVector IsImport) (λ ys. 0 + length ys ≤ 4096) types.1 imports.0 imports.1 h3 (omega arith) in
+    tells_then (section_tells 3 (λ b ys r. IsVector IsU32 b ys r × (length imports.0 + length ys ≤ 4096)) (TooManyFunctions (length imports.0)) (functions_at true (length imports.0) u32_at) (functions_tells (length imports.0) IsU32 u32_at u32_tells) imports.1) (λ indices h4.
+    let j = section_with 3 (IsVector IsU32) (λ ys. length imports.0 + length ys ≤ 4096) imports.1 indices.0 indices.1 h4 (omega arith) in
+    tells_ok (record { types = types.0; imports = imports.0; indices = indices.0 }, indices.1)
+      (record { sections = sections; from_types = from_types; from_imports = types.1; from_functions = imports.1; begins = h0; customs = h1; types = h2; imports = i.0; indices = j.0; few = j.1 }))
+    (λ q. record { sections = sections; from_types = from_types; types = types.0; from_imports = types.1; begins = h0; customs = h1; type_section = h2; reaches = inr (imports.0, imports.1, i.0, inl q) }))
+    (λ q. record { sections = sections; from_types = from_types; types = types.0; from_imports = types.1; begins = h0; customs = h1; type_section = h2; reaches = inl q }))
+    (λ q. absurd q.2.3)) never) never
+
+code_vector_part : (types : List FuncType) (imports : ℕ) (indices : List ℕ) (bytes : List ℕ)
+    → Tells (λ x. IsVector (IsEntry imports) bytes x.0 x.1 × ((indices_of x.0 ≡ indices) × AllByRecursion (FuncWithin types) x.0)) (SomeTooManyLocals types imports indices bytes) (code_vector_at true types imports indices bytes)
+code_vector_part types imports indices bytes = tells_more (code_vector_tells types imports indices bytes) (λ x h. (h.0, (h.1, h.2))) (λ q. q)
+
+-- the code section is of the functions, or there are none
+codes_with : (types : List FuncType) (imports : ℕ) (indices : List ℕ) (bytes : List ℕ) (fs : List Func) (rest : List ℕ)
+    → SectionOf 10 (λ b ys r. IsVector (IsEntry imports) b ys r × ((indices_of ys ≡ indices) × AllByRecursion (FuncWithin types) ys)) bytes fs rest → length fs ≡ length indices
+    → IsSection 10 (IsEntry imports) bytes fs rest × (indices_of fs ≡ indices) × AllByRecursion (FuncWithin types) fs
+codes_with types imports indices bytes fs rest (inl h) same = (inl (h.0, h.1, h.2, (h.3.0, h.3.1, h.3.2, h.3.3, h.3.4.0), h.4), h.3.4.1.0, h.3.4.1.1)
+codes_with types imports indices bytes fs rest (inr h) same =
+    let none : length fs ≡ 0 = ap length h.0 in
+    let no_indices : indices ≡ [] = nil_from_length indices (omega arith) in
+    (inr h, ap indices_of h.0 ∙ sym no_indices, subst (AllByRecursion (FuncWithin types)) (sym h.0) tt)
+
+made : (bytes : List ℕ) (h : Head × List ℕ) (hh : HeadRead bytes h.0 h.1) (exports : List Export × List ℕ) (h5 : IsSection 7 IsExport h.1 exports.0 exports.1) (funcs : List Func × List ℕ)
+    (h6 : SectionOf 10 (λ b ys r. IsVector (IsEntry (length h.0.imports)) b ys r × ((indices_of ys ≡ h.0.indices) × AllByRecursion (FuncWithin h.0.types) ys)) exports.1 funcs.0 funcs.1)
+    → funcs.1 ≡ [] → length funcs.0 ≡ length h.0.indices
+    → Tells (λ m. Spells bytes m × Within m) (ReachesLimit bytes) (Ok (record { types = h.0.types; imports = h.0.imports; funcs = funcs.0; exports = exports.0 }))
+made bytes h hh exports h5 funcs h6 nothing same =
+    let k = codes_with h.0.types (length h.0.imports) h.0.indices exports.1 funcs.0 funcs.1 h6 same in
+    let indices : IsSection 3 IsU32 hh.from_functions (indices_of funcs.0) h.1 = subst (λ is. IsSection 3 IsU32 hh.from_functions is h.1) (sym k.1) hh.indices in
+    let codes : IsSection 10 (IsEntry (length h.0.imports)) exports.1 funcs.0 [] = subst (λ r. IsSection 10 (IsEntry (length h.0.imports)) exports.1 funcs.0 r) nothing k.0 in
+    let few : length h.0.imports + length h.0.indices ≤ 4096 = hh.few in
+    tells_ok (record { types = h.0.types; imports = h.0.imports; funcs = funcs.0; exports = exports.0 })
+      (record { sections = hh.sections; from_types = hh.from_types; from_imports = hh.from_imports; from_functions = hh.from_functions; from_exports = h.1; from_codes = exports.1;
+          begins = hh.begins; customs = hh.customs; types = hh.types; imports = hh.imports; functions = indices; exports = h5; codes = codes },
+       record { functions = omega arith; funcs = All-from_recursion (FuncWithin h.0.types) funcs.0 k.2 })
+
+module_tells : (bytes : List ℕ) → Tells (λ m. Spells bytes m × Within m) (ReachesLimit bytes) (module_at true bytes)
+unfolding module_at
+module_tells bytes = tells_then (head_tells bytes) (λ h hh.
+    tells_then (section_tells 7 (IsVector IsExport) (λ _. ⊥) (vector_at export_at) (vector_tells IsExport export_at export_tells) h.1) (λ exports h5.
+    tells_then (section_tells 10 (λ b ys r. IsVector (IsEntry (length h.0.imports)) b ys r × ((indices_of ys ≡ h.0.indices) × AllByRecursion (FuncWithin h.0.types) ys)) (SomeTooManyLocals h.0.types (length h.0.imports) h.0.indices)
+        (code_vector_at true h.0.types (length h.0.imports) h.0.indices) (code_vector_part h.0.types (length h.0.imports) h.0.indices) exports.1) (λ funcs h6.
+    tells_need (eqb (length funcs.1) 0) (λ e. tells_need (eqb (length funcs.0) (length h.0.indices)) (λ k.
+      made bytes h hh exports h5 funcs h6 (nil_from_length funcs.1 (eqb-true (length funcs.1) 0 e)) (eqb-true (length funcs.0) (length h.0.indices) k))))
+    (λ q. record { sections = hh.sections; from_types = hh.from_types; types = h.0.types; from_imports = hh.from_imports; begins = hh.begins; customs = hh.customs; type_section = hh.types;
+        reaches = inr (h.0.imports, hh.from_functions, hh.imports, inr (h.0.indices, h.1, exports.0, exports.1, hh.indices, h5, q)) }))
+    (λ q. absurd q.2.3)) (λ q. q)
+
+pub read_tells : (bytes : List ℕ) → Tells (λ m. Spells bytes m × Within m × (length bytes ≤ 262144)) (limits.Over bytes) (read_at true bytes)
+unfolding read_at
+read_tells bytes = tells_if (ltb 262144 (length bytes))
+    (λ over. tells_over (inl (ltb-true 262144 (length bytes) over)))
+    (λ under. tells_more (module_tells bytes) (λ m h. (h.0, h.1, ltb-false 262144 (length bytes) under)) (λ q. inr q))
