@@ -5,3 +5,4 @@ pub mod Loops
 pub mod Starts
 pub mod Tells
 pub mod ModuleTells
+pub mod Comes
