@@ -6,3 +6,4 @@ pub mod Starts
 pub mod Tells
 pub mod ModuleTells
 pub mod Comes
+pub mod ModuleComes
