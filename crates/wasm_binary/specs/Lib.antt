@@ -1,0 +1,4 @@
+pub mod Numbers
+pub mod Grammar
+pub mod Limits
+pub mod Reading
