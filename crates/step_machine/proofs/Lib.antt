@@ -5,4 +5,5 @@ pub mod Types
 pub mod Words
 pub mod Reductions
 pub mod Imports
+pub mod Within
 pub mod Follows
