@@ -7,3 +7,4 @@ pub mod Reductions
 pub mod Imports
 pub mod Within
 pub mod Follows
+pub mod Starts
