@@ -2,3 +2,9 @@ pub mod Cuts
 pub mod Settles
 pub mod Limits
 pub mod Types
+pub mod Words
+pub mod Reductions
+pub mod Imports
+pub mod Within
+pub mod Follows
+pub mod Starts

@@ -22,9 +22,13 @@ type_at [] k = None
 type_at (t ∷ ts) zero = t
 type_at (t ∷ ts) (suc k) = type_at ts k
 
+-- an export of that kind and index is a function of type [] to []
+abbrev pub is_bare_func : List (Option FuncType) → ExportKind → ℕ → Bool
+is_bare_func types kind.Func k = is_bare (type_at types k)
+
 -- an export of a function of type [] to [] under the entry's name
 abbrev pub is_entry : List (Option FuncType) → Export → Bool
-is_entry types e = bytes_eq e.name (codes "_start") && is_bare (type_at types e.index)
+is_entry types e = bytes_eq e.name (codes "_start") && is_bare_func types e.kind e.index
 
 abbrev pub entry_in : List (Option FuncType) → List Export → Option ℕ
 entry_in types [] = None

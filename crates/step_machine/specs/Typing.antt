@@ -7,6 +7,8 @@ use Rattle.wasm_ast.specs.declared.values.FuncType.{FuncType}
 use Rattle.wasm_ast.specs.declared.module.Import.{Import}
 use Rattle.wasm_ast.specs.declared.module.Func.{Func}
 use Rattle.wasm_ast.specs.declared.module.Export.{Export}
+use Rattle.wasm_ast.specs.declared.module.ExportKind.{ExportKind}
+use Rattle.wasm_ast.specs.declared.module.ExportKind.TheVariants as kind
 use Rattle.wasm_ast.specs.declared.module.Module.{Module}
 use Rattle.wasm_ast.specs.Syntax.{Op, i32_const, discard, call, block, loop, choice, br, leave, Ops, stop, next}
 use Rattle.step_machine.specs.Program.{block_type, func_types}
@@ -74,6 +76,10 @@ pub record ValidFunc (m : Module) (f : Func) : Type 0 where
   pub is_type : slice_get m.types f.type_index ≡ Some type
   pub typed : Typed (body_context m type f) f.body [] (reverse type.results)
 
+-- what an export names is there (3.4.6): how many functions there are, its kind and its index
+abbrev pub IsThere : ℕ → ExportKind → ℕ → Type 0
+IsThere funcs kind.Func k = k < funcs
+
 -- no text stands twice
 abbrev pub AllDifferent : List (List ℕ) → Type 0
 AllDifferent [] = Unit {0}
@@ -85,5 +91,5 @@ pub record ValidModule (m : Module) : Type 0 where
   pub types : All (λ t. length t.results ≤ 1) m.types
   pub imports : All (λ i. i.type_index < length m.types) m.imports
   pub funcs : All (ValidFunc m) m.funcs
-  pub exports : All (λ e. e.index < length m.imports + length m.funcs) m.exports
+  pub exports : All (λ e. IsThere (length m.imports + length m.funcs) e.kind e.index) m.exports
   pub names : AllDifferent (map (λ e. e.name) m.exports)

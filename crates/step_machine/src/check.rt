@@ -8,11 +8,11 @@ ghost use Rattle.wasm_ast.specs.Syntax.{ops_of};
 ghost use Rattle.wasm_ast.specs.View.{op_of};
 ghost use Rattle.step_machine.specs.Program.{func_types};
 ghost use Rattle.step_machine.specs.Opening.{type_at};
-ghost use Rattle.step_machine.specs.Typing.{Context, Typed, OpTyped, ValidFunc, ValidModule, AllDifferent};
+ghost use Rattle.step_machine.specs.Typing.{Context, Typed, OpTyped, ValidFunc, ValidModule, IsThere, AllDifferent};
 ghost use Rattle.step_machine.specs.Reaches.{ReachesOp, Reaches, CallsImports};
 
 use std::alloc::Global;
-use wasm_ast::{Export, Func, FuncType, Import, Instr, Module, Refusal, Text, ValType};
+use wasm_ast::{Export, ExportKind, Func, FuncType, Import, Instr, Module, Refusal, Text, ValType};
 
 /// Whether a module is valid, with each call an import's: `Invalid` where it is not, `NoMemory` where
 /// there is no room to find out.
@@ -61,21 +61,23 @@ fn imports_are_valid(types: &[FuncType], imports: &[Import]) -> bool
 
 /// What each export names is there (3.4.6).
 fn exports_are_valid(exports: &[Export], imports: usize, funcs: usize) -> bool
-    ensures { IsTrue result → All (λ e. e.index < imports + funcs) exports.now }
+    ensures { IsTrue result → All (λ e. IsThere (imports + funcs) e.kind e.index) exports.now }
 {
     for export in exports {
-        if !is_function(export.index as usize, imports, funcs) {
+        if !is_there(export.kind, export.index as usize, imports, funcs) {
             return false;
         }
     }
     true
 }
 
-/// Whether there is a function with this index.
-fn is_function(index: usize, imports: usize, funcs: usize) -> bool
-    ensures { IsTrue result ↔ (index < imports + funcs) }
+/// Whether what an export of this kind and index names is there.
+fn is_there(kind: ExportKind, index: usize, imports: usize, funcs: usize) -> bool
+    ensures { IsTrue result ↔ IsThere (imports + funcs) kind index }
 {
-    index < imports || index - imports < funcs
+    match kind {
+        ExportKind::Func => index < imports || index - imports < funcs,
+    }
 }
 
 /// The names of exports differ (3.4.10).

@@ -7,6 +7,7 @@ mod check;
 mod ends;
 mod laws;
 mod machine;
+mod opening;
 mod operands;
 mod places;
 mod process;
