@@ -8,3 +8,4 @@ pub mod Imports
 pub mod Within
 pub mod Follows
 pub mod Starts
+pub mod Slicing
