@@ -9,3 +9,4 @@ pub mod Within
 pub mod Follows
 pub mod Starts
 pub mod Slicing
+pub mod Cutting
