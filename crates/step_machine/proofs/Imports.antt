@@ -1,5 +1,5 @@
 -- In a module whose imports are all known, each of them is proc_exit.
-use Rattle.std.proofs.Common.{◌≡◌, ℕ, zero, suc, ◌+◌, ◌<◌, List, [], ◌∷◌, ◌++◌, map, length, Bool, true, false, ◌&&◌, true≢false, cond, Option, Some, None, refl, sym, ap, ◌∙◌, arith}
+use Rattle.std.proofs.Common.{◌≡◌, ℕ, zero, suc, ◌<◌, List, [], ◌∷◌, ◌++◌, map, length, Bool, true, false, ◌&&◌, true≢false, cond, Option, Some, None, refl, sym, ap, arith}
 use Rattle.std.specs.Prelude.{slice_get, bytes_eq, codes}
 use Rattle.wasm_ast.specs.declared.values.ValType.{ValType}
 use Rattle.wasm_ast.specs.declared.values.ValType.TheVariants as type

@@ -8,3 +8,5 @@ pub mod Imports
 pub mod Within
 pub mod Follows
 pub mod Starts
+pub mod Slicing
+pub mod Cutting

@@ -1,9 +1,9 @@
 -- Trees within the limits of frames and values, and beyond them.
-use Rattle.std.proofs.Common.{◌≡◌, ℕ, zero, suc, ◌+◌, ◌<◌, ◌≤◌, List, [], ◌∷◌, length, Bool, true, false, nat_lt, ◌||◌, cond, refl, arith}
+use Rattle.std.proofs.Common.{◌≡◌, ℕ, ◌+◌, ◌<◌, ◌≤◌, true, false, nat_lt, refl, arith}
 use Rattle.std.proofs.lemmas.Bool.Decides.{nat_tests}
 use Rattle.wasm_ast.specs.declared.trap.Trap.TheVariants as trap
-use Rattle.wasm_ast.specs.Syntax.{Op, Ops, stop, next, count}
-use Rattle.step_machine.specs.Tree.{Tree, Items, items_of, running, trapped, frames, values, items_frames, items_values}
+use Rattle.wasm_ast.specs.Syntax.{Ops, stop, next, count}
+use Rattle.step_machine.specs.Tree.{Tree, items_of, running, trapped, frames, values, items_frames, items_values}
 use Rattle.step_machine.specs.Reduce.{limited}
 
 pub plain_frames : (k : ℕ) (os : Ops) → items_frames (items_of k os) ≡ 0

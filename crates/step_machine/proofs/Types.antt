@@ -1,8 +1,8 @@
 -- Where the types of functions are found, and how checked instructions are typed.
-use Rattle.std.proofs.Common.{◌≡◌, ℕ, zero, suc, ◌+◌, ◌-◌, ◌<◌, ◌≤◌, List, [], ◌∷◌, ◌++◌, map, reverse, length, get_or, drop, Option, Some, None, option_map, subst, refl, sym, ap, ◌∙◌, arith}
+use Rattle.std.proofs.Common.{◌≡◌, ℕ, zero, suc, ◌-◌, ◌<◌, ◌≤◌, List, [], ◌∷◌, ◌++◌, map, reverse, length, get_or, Option, Some, None, subst, refl, sym, ap, ◌∙◌, arith}
 use Rattle.std.specs.Prelude.{slice_get, option_and_then}
 use Rattle.std.proofs.lemmas.List.{reverse-append}
-use Rattle.std.proofs.lemmas.Option.{slice_get_read, slice_get_past, slice_get-map}
+use Rattle.std.proofs.lemmas.Option.{slice_get_read, slice_get_past}
 use Rattle.wasm_ast.specs.declared.values.ValType.{ValType}
 use Rattle.wasm_ast.specs.declared.values.FuncType.{FuncType}
 use Rattle.wasm_ast.specs.declared.module.Import.{Import}
@@ -11,7 +11,7 @@ use Rattle.wasm_ast.specs.declared.module.Module.{Module}
 use Rattle.wasm_ast.specs.Syntax.{call}
 use Rattle.step_machine.specs.Program.{func_types}
 use Rattle.step_machine.specs.Opening.{type_at}
-use Rattle.step_machine.specs.Typing.{Context, OpTyped, on_top}
+use Rattle.step_machine.specs.Typing.{Context, OpTyped}
 
 front : (xs ys : List (Option FuncType)) (k : ℕ) → k < length xs → type_at (xs ++ ys) k ≡ type_at xs k
 front [] ys k h = absurd (omega arith)

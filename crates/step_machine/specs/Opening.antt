@@ -1,5 +1,5 @@
 -- How a module is opened (4.5.4): why it may be refused, and the configuration that it begins with.
-use Rattle.std.specs.Prelude.{ℕ, zero, suc, ◌+◌, List, [], ◌∷◌, length, codes, bytes_eq, Bool, true, false, ◌&&◌, not, nat_le, if◌then◌else◌, Option, Some, None, is_some, slice_get}
+use Rattle.std.specs.Prelude.{ℕ, zero, suc, ◌+◌, List, [], ◌∷◌, length, codes, bytes_eq, Bool, true, ◌&&◌, not, nat_le, if◌then◌else◌, Option, Some, None, is_some}
 use Rattle.wasm_ast.specs.declared.values.FuncType.{FuncType}
 use Rattle.wasm_ast.specs.declared.module.Import.{Import}
 use Rattle.wasm_ast.specs.declared.module.Func.{Func}

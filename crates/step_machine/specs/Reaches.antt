@@ -1,6 +1,5 @@
 -- Modules whose calls all reach imports.
 use Rattle.std.specs.Prelude.{ℕ, ◌<◌, length, All}
-use Rattle.wasm_ast.specs.declared.module.Func.{Func}
 use Rattle.wasm_ast.specs.declared.module.Module.{Module}
 use Rattle.wasm_ast.specs.Syntax.{Op, i32_const, discard, call, block, loop, choice, br, leave, Ops, stop, next}
 

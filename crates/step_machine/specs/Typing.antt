@@ -1,12 +1,10 @@
 -- Validity (3): the typing of instruction sequences over whole operand stacks, the newest first, and
 -- of modules.
-use Rattle.std.specs.Prelude.{◌≡◌, ◌≢◌, ℕ, ◌+◌, ◌<◌, ◌≤◌, List, [], ◌∷◌, ◌++◌, reverse, length, map, All, Option, Some, None, slice_get}
+use Rattle.std.specs.Prelude.{◌≡◌, ◌≢◌, ℕ, ◌+◌, ◌<◌, ◌≤◌, List, [], ◌∷◌, ◌++◌, reverse, length, map, All, Option, Some, slice_get}
 use Rattle.wasm_ast.specs.declared.values.ValType.{ValType}
-use Rattle.wasm_ast.specs.declared.values.ValType.TheVariants.{I32, I64}
+use Rattle.wasm_ast.specs.declared.values.ValType.TheVariants.{I32}
 use Rattle.wasm_ast.specs.declared.values.FuncType.{FuncType}
-use Rattle.wasm_ast.specs.declared.module.Import.{Import}
 use Rattle.wasm_ast.specs.declared.module.Func.{Func}
-use Rattle.wasm_ast.specs.declared.module.Export.{Export}
 use Rattle.wasm_ast.specs.declared.module.ExportKind.{ExportKind}
 use Rattle.wasm_ast.specs.declared.module.ExportKind.TheVariants as kind
 use Rattle.wasm_ast.specs.declared.module.Module.{Module}

@@ -1,17 +1,15 @@
 -- Worked programs, which laws on public functions run.
-use Rattle.std.specs.Prelude.{ℕ, zero, suc, ◌+◌, List, [], ◌∷◌, codes}
+use Rattle.std.specs.Prelude.{ℕ, zero, suc, List, [], ◌∷◌, codes}
 use Rattle.wasm_ast.specs.declared.values.ValType.TheVariants.{I32}
 use Rattle.wasm_ast.specs.declared.values.Value.{Value}
-use Rattle.wasm_ast.specs.declared.values.Value.TheVariants as value
 use Rattle.wasm_ast.specs.declared.values.FuncType.{FuncType}
 use Rattle.wasm_ast.specs.declared.module.Import.{Import}
 use Rattle.wasm_ast.specs.declared.module.ExportKind.TheVariants as kind
 use Rattle.wasm_ast.specs.declared.module.Module.{Module}
-use Rattle.wasm_ast.specs.Syntax.{no_result, one_result, Op, i32_const, discard, call, block, loop, choice, br, leave, Ops, stop, next}
+use Rattle.wasm_ast.specs.Syntax.{no_result, one_result, i32_const, call, block, loop, choice, br, leave, Ops, stop, next}
 use Rattle.step_machine.specs.declared.process.Process.{Process}
 use Rattle.step_machine.specs.declared.places.Place.{Place}
-use Rattle.step_machine.specs.Tree.{Store, Tree, seq, Items, done, more, frame, items_of, State, running, Config}
-use Rattle.step_machine.specs.Opening.{initial}
+use Rattle.step_machine.specs.Tree.{Store, Tree, seq, done, more, frame, items_of, State, running, Config}
 
 -- a process without arguments
 abbrev pub bare_process : Process

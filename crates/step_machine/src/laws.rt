@@ -1,6 +1,6 @@
 //! Laws of execution, and worked programs that show it. Each function is nothing but its contract.
 
-ghost use Rattle.std.specs.Prelude.{◌≡◌, ℕ, ◌+◌, ◌^◌, ◌<◌, ◌≤◌, List, [], ◌∷◌, length, true, false, Some, None};
+ghost use Rattle.std.specs.Prelude.{◌≡◌, ◌≢◌, ℕ, sum, ◌+◌, ◌^◌, ◌<◌, ◌≤◌, List, [], ◌∷◌, length, true, false, Some, None};
 ghost use Rattle.wasm_ast.specs.declared.values.Value.{Value};
 ghost use Rattle.wasm_ast.specs.declared.values.Value.TheVariants as value;
 ghost use Rattle.wasm_ast.specs.declared.trap.Trap.TheVariants as trap;
@@ -8,10 +8,15 @@ ghost use Rattle.wasm_ast.specs.Syntax.{i32_const, discard, stop, next};
 ghost use Rattle.step_machine.specs.Program.{Program, program};
 ghost use Rattle.step_machine.specs.Tree.{Config, exited, trapped, is_halted, is_settled};
 ghost use Rattle.step_machine.specs.Turns.{from, numbered, turn};
-ghost use Rattle.step_machine.specs.Opening.{after, ended};
-ghost use Rattle.step_machine.specs.Slices.{at_break};
+ghost use Rattle.step_machine.specs.Opening.{after, ended, is_within};
+ghost use Rattle.step_machine.specs.Slices.{at_break, turns_made, slices_made, slice_end};
 ghost use Rattle.step_machine.specs.Worked.{bare_process, exit_seven, branch_out, endless, two_ways, call_and_return, empty_entry, place, entered, entered_at, deep};
 ghost use Rattle.step_machine.specs.declared.ends.End.TheVariants as ends;
+ghost use Rattle.step_machine.specs.declared.ends.SliceEnd.TheVariants as slice;
+ghost use Rattle.step_machine.specs.declared.places.Place.{Place};
+ghost use Rattle.step_machine.specs.declared.process.Process.{Process};
+ghost use Rattle.wasm_ast.specs.declared.module.Module.{Module};
+ghost use Rattle.wasm_ast.specs.Limits.{Within};
 
 /// Turns may be cut anywhere: so many and then so many more are as many as both together.
 pub fn cuts_commute()
@@ -92,4 +97,29 @@ pub fn values_are_limited()
     ensures within { (p : Program) (vs : List Value) (n : ℕ)
         → length vs ≡ 65535
         → (turn p (entered vs (next (i32_const n) (next discard stop)))).state ≡ entered_at 1 (value.I32 n ∷ vs) (next discard stop) }
+{}
+
+/// Slices without breakpoints may be cut anywhere: slices of any budgets lead as far as one slice of
+/// all of them, and so to the same machine. With breakpoints a slice may be cut wherever the first part
+/// was not ended by one.
+pub fn slices_commute()
+    ensures any_cut { (m : Module) (p : Process) (n : ℕ) (budgets : List ℕ)
+        → slices_made m p n [] budgets ≡ turns_made m p n [] (sum budgets) }
+    ensures two { (m : Module) (p : Process) (n : ℕ) (bs : List Place) (a b : ℕ)
+        → slice_end m p n bs a ≢ slice.Break
+        → turns_made m p n bs (a + b) ≡ turns_made m p n bs a + turns_made m p (n + turns_made m p n bs a) bs b }
+{}
+
+/// A slice of a machine that has not ended makes a turn at least, and no more than its budget.
+pub fn slices_go_forward()
+    ensures { (m : Module) (p : Process) (n : ℕ) (bs : List Place) (budget : ℕ)
+        → ended (after m p n).state ≡ None
+        → 1 ≤ budget
+        → (1 ≤ turns_made m p n bs budget) × (turns_made m p n bs budget ≤ budget) }
+{}
+
+/// The test of the profile's limits holds exactly of the modules within them.
+pub fn limits_are_tested()
+    ensures within { (m : Module) → is_within m ≡ true → Within m }
+    ensures tested { (m : Module) → Within m → is_within m ≡ true }
 {}

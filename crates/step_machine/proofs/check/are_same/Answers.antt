@@ -1,4 +1,4 @@
-use Rattle.std.proofs.Common.{◌≡◌, Decides, true, false, refl}
+use Rattle.std.proofs.Common.{◌≡◌, Decides, refl}
 use Rattle.std.proofs.lemmas.Slice.Eq.{slice_eq-Decides}
 use Rattle.wasm_ast.specs.declared.values.ValType.{ValType}
 use Rattle.wasm_ast.specs.declared.values.ValType.TheVariants.{I32, I64}

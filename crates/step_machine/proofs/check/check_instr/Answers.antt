@@ -3,7 +3,6 @@ use Rattle.std.specs.Prelude.{Result}
 use Rattle.wasm_ast.specs.declared.values.ValType.{ValType}
 use Rattle.wasm_ast.specs.declared.values.FuncType.{FuncType}
 use Rattle.wasm_ast.specs.declared.refusal.Refusal.{Refusal}
-use Rattle.wasm_ast.specs.declared.module.Instr.{Instr}
 use Rattle.wasm_ast.specs.declared.module.Module.{Module}
 use Rattle.wasm_ast.specs.View.{op_of}
 use Rattle.wasm_ast.specs.Syntax.{Op, call}

@@ -1,4 +1,4 @@
-use Rattle.std.proofs.Common.{◌≡◌, ◌∷◌, [], suc, refl, arith}
+use Rattle.std.proofs.Common.{◌∷◌, [], arith}
 use Rattle.wasm_ast.specs.declared.values.Value.TheVariants as value
 use Rattle.wasm_ast.specs.Syntax.{discard, stop, next}
 use Rattle.step_machine.specs.Tree.{seq, done, more, frame, items_of}
