@@ -7,3 +7,4 @@ pub mod Tells
 pub mod ModuleTells
 pub mod Comes
 pub mod ModuleComes
+pub mod Decodes
