@@ -8,3 +8,4 @@ pub mod ModuleTells
 pub mod Comes
 pub mod ModuleComes
 pub mod Decodes
+pub mod Shortest

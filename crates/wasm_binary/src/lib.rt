@@ -17,6 +17,7 @@ mod numbers;
 mod ops;
 mod sections;
 mod types;
+mod writing;
 
 use fault::{Fault, ReadError};
 
