@@ -218,4 +218,3 @@ export_comes x bytes rest h =
     let byte : h.0 ≡ 0x00 ∷ h.1 = h.3 ∙ ap (λ (k : ExportKind). kind_byte k ∷ h.1) (sym (kind_is x.kind)) in
     comes_then _ (name_comes x.name bytes h.0 h.2)
     (rw byte (comes_need (begins_cons 0x00 h.1) (comes_then _ (u32_comes h.1 x.index rest h.4) (comes_ok (λ i. (record { name = x.name; kind = kind_is x.kind i; index = x.index }, rest))) always))) always
-

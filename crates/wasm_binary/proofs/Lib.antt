@@ -7,3 +7,5 @@ pub mod Tells
 pub mod ModuleTells
 pub mod Comes
 pub mod ModuleComes
+pub mod Decodes
+pub mod Shortest

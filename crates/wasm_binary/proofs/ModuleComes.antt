@@ -49,8 +49,8 @@ runs_comes limited before (run ∷ runs) bytes rest h =
     let more : length (locals_of (run ∷ runs)) ≡ run.0 + length (locals_of runs) = omega (arith, length-append (replicate run.0 run.1) (locals_of runs), length-replicate run.0 run.1) in
     comes_then _ (u32_comes bytes run.0 h.1.0 h.1.1)
     (comes_within (λ w. unlimited limited 1024 (before + run.0) (λ l. let few = w l in omega arith))
-      (comes_then _ (type_comes run.1 h.1.0 h.0 h.1.2)
-        (comes_then _ (runs_comes limited (before + run.0) runs h.0 rest h.2) (comes_ok refl) (λ w l. let few = w l in omega arith)) always)) always
+    (comes_then _ (type_comes run.1 h.1.0 h.0 h.1.2)
+    (comes_then _ (runs_comes limited (before + run.0) runs h.0 rest h.2) (comes_ok refl) (λ w l. let few = w l in omega arith)) always)) always
 
 locals_comes : (limited : Bool) (params : ℕ) (locals : List ValType) (bytes rest : List ℕ) → AreLocals bytes locals rest
     → Comes (limited ≡ true → params + length locals ≤ 1024) (locals, rest) (locals_at limited params bytes)
@@ -58,7 +58,7 @@ unfolding locals_at
 locals_comes limited params locals bytes rest h =
     comes_within (λ w. unlimited limited 1024 params (λ l. let few = w l in omega arith))
     (comes_then _ (u32_comes bytes (length h.0) h.1.0 h.1.1)
-      (rw h.2 (runs_comes limited params h.0 h.1.0 rest h.1.2)) always)
+    (rw h.2 (runs_comes limited params h.0 h.1.0 rest h.1.2)) always)
 
 -- ---- code
 
@@ -74,7 +74,7 @@ unfolding codes_at
 codes_comes limited types imports [] bytes rest h = comes_ok (λ i. ([], sym h i))
 codes_comes limited types imports (f ∷ fs) bytes rest h =
     comes_then _ (sized_comes (IsCode imports) (limited ≡ true → params_of types f.type_index + length f.locals ≤ 1024) (code_at limited imports (params_of types f.type_index) f.type_index) f
-        (λ part k. code_comes limited imports (params_of types f.type_index) f part [] k) bytes h.0 h.1)
+    (λ part k. code_comes limited imports (params_of types f.type_index) f part [] k) bytes h.0 h.1)
     (comes_then _ (codes_comes limited types imports fs h.0 rest h.2) (comes_ok refl) (λ w l. (w l).1)) (λ w l. (w l).0.locals)
 
 length_indices : (fs : List Func) → length (indices_of fs) ≡ length fs
@@ -106,10 +106,11 @@ above_less id j (b ∷ bs) h le = omega arith
 custom_comes : (x : List ℕ × List ℕ) (bytes rest : List ℕ) → IsCustom bytes x rest → Comes Always rest (custom_at (drop 1 bytes)) × (begins_with 0x00 bytes ≡ true) × (length rest < length bytes)
 unfolding custom_at named_at
 custom_comes x bytes rest h =
-    let s : IsSized (λ part name left. IsNamed part (name, x.1) left) h.0 x.0 rest = h.2 in
-    (rw h.1 (comes_then _ (sized_comes (λ part name left. IsNamed part (name, x.1) left) Always named_at x.0 (λ part k. comes_then _ (name_comes x.0 part x.1 k.0) (comes_ok refl) always) h.0 rest s) (comes_ok refl) always),
-     rw h.1 (begins_cons 0x00 h.0),
-     omega (arith, ap length h.1, sized_takes (λ part name left. IsNamed part (name, x.1) left) h.0 x.0 rest s))
+    let s : IsSized (λ part name left. IsNamed part (name, x.1) left) h.0 x.0 rest = h.2 in (
+      rw h.1 (comes_then _ (sized_comes (λ part name left. IsNamed part (name, x.1) left) Always named_at x.0 (λ part k. comes_then _ (name_comes x.0 part x.1 k.0) (comes_ok refl) always) h.0 rest s) (comes_ok refl) always),
+      rw h.1 (begins_cons 0x00 h.0),
+      omega (arith, ap length h.1, sized_takes (λ part name left. IsNamed part (name, x.1) left) h.0 x.0 rest s),
+    )
 
 customs_comes : (xs : List (List ℕ × List ℕ)) (most : ℕ) (bytes rest : List ℕ) → AreItems IsCustom bytes xs rest → Above 0 rest → length bytes ≤ most → Comes Always rest (customs_at most bytes)
 unfolding customs_at
@@ -129,7 +130,7 @@ section_comes : {X : Type 0} (id : ℕ) (IsXs : Form (List X)) (W : Type 0) (rea
 unfolding section_at
 section_comes id IsXs W read xs each bytes rest (inl h) above =
     rw h.2 (comes_first _ (begins_cons id h.0)
-      (comes_then _ (sized_comes IsXs W read xs each h.0 h.1 h.3) (comes_then _ (after_customs_comes h.1 rest h.4 (above_less id 0 rest above (omega arith))) (comes_ok refl) always) (λ w. w)))
+    (comes_then _ (sized_comes IsXs W read xs each h.0 h.1 h.3) (comes_then _ (after_customs_comes h.1 rest h.4 (above_less id 0 rest above (omega arith))) (comes_ok refl) always) (λ w. w)))
 section_comes id IsXs W read xs each bytes rest (inr h) above =
     comes_second _ (above_not id id bytes (subst (Above id) h.1 above) (omega arith)) (comes_ok (λ i. (sym h.0 i, sym h.1 i)))
 
@@ -142,7 +143,7 @@ functions_comes : {X : Type 0} (limited : Bool) (before : ℕ) (IsX : Form X) (r
 unfolding functions_at
 functions_comes limited before IsX read each xs bytes rest h =
     comes_then _ (u32_comes bytes (length xs) h.0 h.1) (comes_within (λ w. unlimited limited 4096 (before + length xs) w)
-      (comes_weaker (items_comes IsX read each xs h.0 rest h.2) always)) always
+    (comes_weaker (items_comes IsX read each xs h.0 rest h.2) always)) always
 
 -- ---- modules
 
@@ -162,7 +163,7 @@ head_comes limited bytes m s above =
     (comes_then _ (section_comes 1 (IsVector IsFuncType) Always (vector_at func_type_at) m.types (λ part k. vector_comes IsFuncType func_type_at func_type_comes m.types part [] k) s.from_types s.from_imports s.types above1)
     (comes_then _ (section_comes 2 (IsVector IsImport) (limited ≡ true → 0 + length m.imports ≤ 4096) (functions_at limited 0 import_at) m.imports (λ part k. functions_comes limited 0 IsImport import_at import_comes m.imports part [] k) s.from_imports s.from_functions s.imports above2)
     (comes_then _ (section_comes 3 (IsVector IsU32) (limited ≡ true → length m.imports + length (indices_of m.funcs) ≤ 4096) (functions_at limited (length m.imports) u32_at) (indices_of m.funcs) (λ part k. functions_comes limited (length m.imports) IsU32 u32_at (λ n p r q. u32_comes p n r q) (indices_of m.funcs) part [] k) s.from_functions s.from_exports s.functions above)
-      (comes_ok refl)
+    (comes_ok refl)
     (λ w l. let few = (w l).functions in omega (arith, length_indices m.funcs)))
     (λ w l. let few = (w l).functions in omega arith))
     always) always) always
@@ -175,8 +176,8 @@ module_comes limited bytes m s =
     comes_then _ (head_comes limited bytes m s above3)
     (comes_then _ (section_comes 7 (IsVector IsExport) Always (vector_at export_at) m.exports (λ part k. vector_comes IsExport export_at export_comes m.exports part [] k) s.from_exports s.from_codes s.exports above7)
     (comes_then _ (section_comes 10 (IsVector (IsEntry (length m.imports))) (limited ≡ true → AllByRecursion (FuncWithin m.types) m.funcs) (code_vector_at limited m.types (length m.imports) (indices_of m.funcs)) m.funcs
-        (λ part k. code_vector_comes limited m.types (length m.imports) m.funcs part [] k) s.from_codes [] s.codes tt)
-      (comes_need refl (comes_need (eq-eqb (length m.funcs) (length (indices_of m.funcs)) (sym (length_indices m.funcs))) (comes_ok refl)))
+    (λ part k. code_vector_comes limited m.types (length m.imports) m.funcs part [] k) s.from_codes [] s.codes tt)
+    (comes_need refl (comes_need (eq-eqb (length m.funcs) (length (indices_of m.funcs)) (sym (length_indices m.funcs))) (comes_ok refl)))
     (λ w l. recursion_from_All (FuncWithin m.types) m.funcs (w l).funcs)) always) (λ w. w)
 
 pub read_comes : (limited : Bool) (bytes : List ℕ) (m : Module) → Spells bytes m → Comes (limited ≡ true → Within m × (length bytes ≤ 262144)) m (read_at limited bytes)

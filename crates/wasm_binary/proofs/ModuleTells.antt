@@ -45,18 +45,18 @@ runs_tells before zero bytes few = tells_ok ([], bytes) ([], refl, refl, refl, o
 runs_tells before (suc k) bytes few = tells_then (u32_tells bytes) (λ n hn. tells_if (ltb 1024 (before + n.0))
     (λ over. tells_over ([], bytes, n.0, n.1, refl, omega arith, hn, omega (arith, ltb-true 1024 (before + n.0) over)))
     (λ under. tells_then (type_tells n.1) (λ t ht. tells_then (runs_tells (before + n.0) k t.1 (ltb-false 1024 (before + n.0) under))
-      (λ others h. tells_ok (replicate n.0 t.0 ++ others.0, others.1)
-        ((n.0, t.0) ∷ h.0, (t.1, (n.1, hn, ht), h.1), ap suc h.2, ap (λ (ts : List ValType). replicate n.0 t.0 ++ ts) h.3, omega (arith, h.4, length-append (replicate n.0 t.0) others.0, length-replicate n.0 t.0)))
-      (λ q. ((n.0, t.0) ∷ q.0, q.1, q.2, q.3, (t.1, (n.1, hn, ht), q.4), omega (arith, q.5), q.6, omega (arith, q.7, length-append (replicate n.0 t.0) (locals_of q.0), length-replicate n.0 t.0))))
-      never)) never
+    (λ others h. tells_ok (replicate n.0 t.0 ++ others.0, others.1)
+    ((n.0, t.0) ∷ h.0, (t.1, (n.1, hn, ht), h.1), ap suc h.2, ap (λ (ts : List ValType). replicate n.0 t.0 ++ ts) h.3, omega (arith, h.4, length-append (replicate n.0 t.0) others.0, length-replicate n.0 t.0)))
+    (λ q. ((n.0, t.0) ∷ q.0, q.1, q.2, q.3, (t.1, (n.1, hn, ht), q.4), omega (arith, q.5), q.6, omega (arith, q.7, length-append (replicate n.0 t.0) (locals_of q.0), length-replicate n.0 t.0))))
+    never)) never
 
 locals_tells : (params : ℕ) (bytes : List ℕ) → Tells (λ x. AreLocals bytes x.0 x.1 × (params + length x.0 ≤ 1024)) (TooManyLocals params bytes) (locals_at true params bytes)
 unfolding locals_at
 locals_tells params bytes = tells_if (ltb 1024 params)
     (λ over. tells_over (inl (ltb-true 1024 params over)))
     (λ under. tells_then (u32_tells bytes) (λ n hn. tells_more (runs_tells params n.0 n.1 (ltb-false 1024 params under))
-      (λ x h. ((h.0, (n.1, rw h.2 hn, h.1), h.3), h.4))
-      (λ q. inr (n.0, n.1, q.0, q.1, q.2, q.3, hn, q.4, q.5, q.6, q.7))) never)
+    (λ x h. ((h.0, (n.1, rw h.2 hn, h.1), h.3), h.4))
+    (λ q. inr (n.0, n.1, q.0, q.1, q.2, q.3, hn, q.4, q.5, q.6, q.7))) never)
 
 -- ---- code
 
@@ -79,7 +79,7 @@ code_tells : (types : List FuncType) (imports index : ℕ) (bytes : List ℕ) �
 unfolding code_at
 code_tells types imports index bytes = tells_then (locals_tells (params_of types index) bytes) (λ ls hls. tells_then (expression_tells imports ls.1) (λ os hos.
     tells_ok (record { type_index = index; locals = ls.0; body = os.0 }, os.1)
-      ((ls.1, hls.0, hos), refl, record { locals = hls.1; nesting = let e = flat imports os.0 ls.1 (0x0B ∷ os.1) hos in omega arith })) never) (λ q. q)
+    ((ls.1, hls.0, hos), refl, record { locals = hls.1; nesting = let e = flat imports os.0 ls.1 (0x0B ∷ os.1) hos in omega arith })) never) (λ q. q)
 
 abbrev CodesRead : (types : List FuncType) → (imports : ℕ) → (indices : List ℕ) → Form (List Func)
 CodesRead types imports indices bytes fs rest = AreItems (IsEntry imports) bytes fs rest × (indices_of fs ≡ indices) × AllByRecursion (FuncWithin types) fs
@@ -94,8 +94,8 @@ unfolding codes_at
 codes_tells types imports [] bytes = tells_ok ([], bytes) (refl, refl, tt)
 codes_tells types imports (index ∷ indices) bytes = tells_then (sized_tells (CodeRead types imports index) (TooManyLocals (params_of types index)) (code_at true imports (params_of types index) index) (code_tells types imports index) bytes)
     (λ f hf. tells_then (codes_tells types imports indices f.1)
-      (λ fs hfs. tells_ok (f.0 ∷ fs.0, fs.1) ((f.1, (hf.0, hf.1, hf.2, hf.3, hf.4.0), hfs.0), (λ i. hf.4.1 i ∷ hfs.1 i), (hf.4.2, hfs.2)))
-      (λ q. (f.0 ∷ q.0, q.1, q.2, (f.1, (hf.0, hf.1, hf.2, hf.3, hf.4.0), q.3), q.4, q.5)))
+    (λ fs hfs. tells_ok (f.0 ∷ fs.0, fs.1) ((f.1, (hf.0, hf.1, hf.2, hf.3, hf.4.0), hfs.0), (λ i. hf.4.1 i ∷ hfs.1 i), (hf.4.2, hfs.2)))
+    (λ q. (f.0 ∷ q.0, q.1, q.2, (f.1, (hf.0, hf.1, hf.2, hf.3, hf.4.0), q.3), q.4, q.5)))
     (λ q. ([], bytes, index, refl, refl, q))
 
 length_indices : (fs : List Func) → length (indices_of fs) ≡ length fs
@@ -107,8 +107,8 @@ code_vector_tells : (types : List FuncType) (imports : ℕ) (indices : List ℕ)
 unfolding code_vector_at
 code_vector_tells types imports indices bytes = tells_then (u32_tells bytes) (λ n hn. tells_need (eqb n.0 (length indices)) (λ e.
     tells_more (codes_tells types imports indices n.1)
-      (λ x h. let k : n.0 ≡ length x.0 = eqb-true n.0 (length indices) e ∙ ap length (sym h.1) ∙ length_indices x.0 in ((n.1, rw (← k) hn, h.0), h.1, h.2))
-      (λ q. (n.0, n.1, q.0, q.1, q.2, hn, q.3, q.4, q.5)))) never
+    (λ x h. let k : n.0 ≡ length x.0 = eqb-true n.0 (length indices) e ∙ ap length (sym h.1) ∙ length_indices x.0 in ((n.1, rw (← k) hn, h.0), h.1, h.2))
+    (λ q. (n.0, n.1, q.0, q.1, q.2, hn, q.3, q.4, q.5)))) never
 
 -- ---- sections
 
@@ -144,8 +144,8 @@ section_tells : {X : Type 0} (id : ℕ) (IsXs : Form (List X)) (Q : List ℕ →
 unfolding section_at
 section_tells id IsXs Q read tells bytes = tells_if (begins_with id bytes)
     (λ e. tells_then (sized_tells IsXs Q read tells (drop 1 bytes)) (λ x hx. tells_then (after_customs_tells x.1) (λ rest hr.
-        tells_ok (x.0, rest) (inl (drop 1 bytes, x.1, begins_is id bytes e, hx, hr))) never)
-      (λ q. (drop 1 bytes, begins_is id bytes e, q)))
+    tells_ok (x.0, rest) (inl (drop 1 bytes, x.1, begins_is id bytes e, hx, hr))) never)
+    (λ q. (drop 1 bytes, begins_is id bytes e, q)))
     (λ _. tells_ok ([], bytes) (inr (refl, refl)))
 
 -- a fact beside the form of a section's contents
@@ -191,7 +191,7 @@ head_tells bytes = tells_then (preamble_tells bytes) (λ sections h0. tells_then
     tells_then (section_tells 3 (λ b ys r. IsVector IsU32 b ys r × (length imports.0 + length ys ≤ 4096)) (TooManyFunctions (length imports.0)) (functions_at true (length imports.0) u32_at) (functions_tells (length imports.0) IsU32 u32_at u32_tells) imports.1) (λ indices h4.
     let j = section_with 3 (IsVector IsU32) (λ ys. length imports.0 + length ys ≤ 4096) imports.1 indices.0 indices.1 h4 (omega arith) in
     tells_ok (record { types = types.0; imports = imports.0; indices = indices.0 }, indices.1)
-      (record { sections = sections; from_types = from_types; from_imports = types.1; from_functions = imports.1; begins = h0; customs = h1; types = h2; imports = i.0; indices = j.0; few = j.1 }))
+    (record { sections = sections; from_types = from_types; from_imports = types.1; from_functions = imports.1; begins = h0; customs = h1; types = h2; imports = i.0; indices = j.0; few = j.1 }))
     (λ q. record { sections = sections; from_types = from_types; types = types.0; from_imports = types.1; begins = h0; customs = h1; type_section = h2; reaches = inr (imports.0, imports.1, i.0, inl q) }))
     (λ q. record { sections = sections; from_types = from_types; types = types.0; from_imports = types.1; begins = h0; customs = h1; type_section = h2; reaches = inl q }))
     (λ q. absurd q.2.3)) never) never
@@ -219,21 +219,43 @@ made bytes h hh exports h5 funcs h6 nothing same =
     let indices : IsSection 3 IsU32 hh.from_functions (indices_of funcs.0) h.1 = subst (λ is. IsSection 3 IsU32 hh.from_functions is h.1) (sym k.1) hh.indices in
     let codes : IsSection 10 (IsEntry (length h.0.imports)) exports.1 funcs.0 [] = subst (λ r. IsSection 10 (IsEntry (length h.0.imports)) exports.1 funcs.0 r) nothing k.0 in
     let few : length h.0.imports + length h.0.indices ≤ 4096 = hh.few in
-    tells_ok (record { types = h.0.types; imports = h.0.imports; funcs = funcs.0; exports = exports.0 })
-      (record { sections = hh.sections; from_types = hh.from_types; from_imports = hh.from_imports; from_functions = hh.from_functions; from_exports = h.1; from_codes = exports.1;
-          begins = hh.begins; customs = hh.customs; types = hh.types; imports = hh.imports; functions = indices; exports = h5; codes = codes },
-       record { functions = omega arith; funcs = All-from_recursion (FuncWithin h.0.types) funcs.0 k.2 })
+    tells_ok (record { types = h.0.types; imports = h.0.imports; funcs = funcs.0; exports = exports.0 }) (
+      record {
+        sections = hh.sections;
+        from_types = hh.from_types;
+        from_imports = hh.from_imports;
+        from_functions = hh.from_functions;
+        from_exports = h.1;
+        from_codes = exports.1;
+        begins = hh.begins;
+        customs = hh.customs;
+        types = hh.types;
+        imports = hh.imports;
+        functions = indices;
+        exports = h5;
+        codes = codes;
+      },
+      record { functions = omega arith; funcs = All-from_recursion (FuncWithin h.0.types) funcs.0 k.2 },
+    )
 
 module_tells : (bytes : List ℕ) → Tells (λ m. Spells bytes m × Within m) (ReachesLimit bytes) (module_at true bytes)
 unfolding module_at
 module_tells bytes = tells_then (head_tells bytes) (λ h hh.
     tells_then (section_tells 7 (IsVector IsExport) (λ _. ⊥) (vector_at export_at) (vector_tells IsExport export_at export_tells) h.1) (λ exports h5.
     tells_then (section_tells 10 (λ b ys r. IsVector (IsEntry (length h.0.imports)) b ys r × ((indices_of ys ≡ h.0.indices) × AllByRecursion (FuncWithin h.0.types) ys)) (SomeTooManyLocals h.0.types (length h.0.imports) h.0.indices)
-        (code_vector_at true h.0.types (length h.0.imports) h.0.indices) (code_vector_part h.0.types (length h.0.imports) h.0.indices) exports.1) (λ funcs h6.
+    (code_vector_at true h.0.types (length h.0.imports) h.0.indices) (code_vector_part h.0.types (length h.0.imports) h.0.indices) exports.1) (λ funcs h6.
     tells_need (eqb (length funcs.1) 0) (λ e. tells_need (eqb (length funcs.0) (length h.0.indices)) (λ k.
-      made bytes h hh exports h5 funcs h6 (nil_from_length funcs.1 (eqb-true (length funcs.1) 0 e)) (eqb-true (length funcs.0) (length h.0.indices) k))))
-    (λ q. record { sections = hh.sections; from_types = hh.from_types; types = h.0.types; from_imports = hh.from_imports; begins = hh.begins; customs = hh.customs; type_section = hh.types;
-        reaches = inr (h.0.imports, hh.from_functions, hh.imports, inr (h.0.indices, h.1, exports.0, exports.1, hh.indices, h5, q)) }))
+    made bytes h hh exports h5 funcs h6 (nil_from_length funcs.1 (eqb-true (length funcs.1) 0 e)) (eqb-true (length funcs.0) (length h.0.indices) k))))
+    (λ q. record {
+      sections = hh.sections;
+      from_types = hh.from_types;
+      types = h.0.types;
+      from_imports = hh.from_imports;
+      begins = hh.begins;
+      customs = hh.customs;
+      type_section = hh.types;
+      reaches = inr (h.0.imports, hh.from_functions, hh.imports, inr (h.0.indices, h.1, exports.0, exports.1, hh.indices, h5, q));
+    }))
     (λ q. absurd q.2.3)) (λ q. q)
 
 pub read_tells : (bytes : List ℕ) → Tells (λ m. Spells bytes m × Within m × (length bytes ≤ 262144)) (limits.Over bytes) (read_at true bytes)

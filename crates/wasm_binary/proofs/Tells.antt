@@ -73,16 +73,16 @@ unsigned_tells bits [] = tells_bad
 unsigned_tells bits (b ∷ bs) = tells_if (ltb b 128)
     (λ lt. tells_then (last_unsigned_tells bits b) (λ n hn. tells_ok (n, bs) (inl (ltb-true b 128 lt, hn, refl))) never)
     (λ ge. tells_need (ltb 7 bits) (λ e. tells_then (unsigned_tells (bits - 7) bs) (λ high hh.
-      tells_ok (128 * high.0 + (b - 128), high.1) (inr (ltb-false b 128 ge, ltb-true 7 bits e, high.0, hh, refl))) never))
+    tells_ok (128 * high.0 + (b - 128), high.1) (inr (ltb-false b 128 ge, ltb-true 7 bits e, high.0, hh, refl))) never))
 
 last_signed_tells : (bits b : ℕ) → b < 128 → Tells (λ n. IsLastSigned bits b n) ⊥ (last_signed_at bits b)
 unfolding last_signed_at
 last_signed_tells bits b h = tells_if (ltb b 64)
     (λ lt. tells_need (ltb (2 * b) (2 ^ bits)) (λ e. tells_ok b (inl (ltb-true b 64 lt, ltb-true (2 * b) (2 ^ bits) e, refl))))
     (λ ge. tells_need (ltb 255 (2 * b + 2 ^ bits)) (λ e.
-      let ge' : 64 ≤ b = ltb-false b 64 ge in
-      let lt : 255 < 2 * b + 2 ^ bits = ltb-true 255 (2 * b + 2 ^ bits) e in
-      tells_ok (2 ^ bits - (128 - b)) (inr (ge', omega arith, omega arith))))
+    let ge' : 64 ≤ b = ltb-false b 64 ge in
+    let lt : 255 < 2 * b + 2 ^ bits = ltb-true 255 (2 * b + 2 ^ bits) e in
+    tells_ok (2 ^ bits - (128 - b)) (inr (ge', omega arith, omega arith))))
 
 signed_tells : (bits : ℕ) (bytes : List ℕ) → Tells (λ x. IsSigned bits bytes x.0 x.1) ⊥ (signed_at bits bytes)
 unfolding signed_at
@@ -90,7 +90,7 @@ signed_tells bits [] = tells_bad
 signed_tells bits (b ∷ bs) = tells_if (ltb b 128)
     (λ lt. tells_then (last_signed_tells bits b (ltb-true b 128 lt)) (λ n hn. tells_ok (n, bs) (inl (ltb-true b 128 lt, hn, refl))) never)
     (λ ge. tells_need (ltb 7 bits) (λ e. tells_then (signed_tells (bits - 7) bs) (λ high hh.
-      tells_ok (128 * high.0 + (b - 128), high.1) (inr (ltb-false b 128 ge, ltb-true 7 bits e, high.0, hh, refl))) never))
+    tells_ok (128 * high.0 + (b - 128), high.1) (inr (ltb-false b 128 ge, ltb-true 7 bits e, high.0, hh, refl))) never))
 
 pub u32_tells : (bytes : List ℕ) → Tells (λ x. IsU32 bytes x.0 x.1) ⊥ (u32_at bytes)
 unfolding u32_at
@@ -114,7 +114,7 @@ pub sized_tells : {X : Type 0} (IsX : Form X) (Q : List ℕ → Type 0) (read : 
     → (bytes : List ℕ) → Tells (λ x. IsSized IsX bytes x.0 x.1) (Within_size Q bytes) (sized_at read bytes)
 unfolding sized_at
 sized_tells IsX Q read tells bytes = tells_then (u32_tells bytes) (λ n hn. tells_then (tells (take n.0 n.1)) (λ x hx. tells_then (behind_tells n.0 x.1 n.1) (λ rest hr.
-      tells_ok (x.0, rest) (take n.0 n.1, n.1, rw hr.2 hn, hr.1, subst (λ left. IsX (take n.0 n.1) x.0 left) hr.0 hx))
+    tells_ok (x.0, rest) (take n.0 n.1, n.1, rw hr.2 hn, hr.1, subst (λ left. IsX (take n.0 n.1) x.0 left) hr.0 hx))
     never) (λ q. (n.0, n.1, hn, q))) never
 
 pub items_tells : {X : Type 0} (IsX : Form X) (read : List ℕ → Read X) → ((part : List ℕ) → Tells (λ x. IsX part x.0 x.1) ⊥ (read part))
@@ -160,9 +160,9 @@ unfolding op_of_byte
 op_of_byte_tells imports b bs = tells_if (eqb b 0x41)
     (λ e. tells_then (signed_tells 32 bs) (λ n hn. tells_ok (i32_const n.0, n.1) (bs, ap (λ (x : ℕ). x ∷ bs) (eqb-true b 0x41 e), hn)) never)
     (λ _. tells_if (eqb b 0x1A)
-      (λ e. tells_ok (discard, bs) (ap (λ (x : ℕ). x ∷ bs) (eqb-true b 0x1A e)))
-      (λ _. tells_need (eqb b 0x10) (λ e. tells_then (u32_tells bs) (λ f hf. tells_need (ltb f.0 imports) (λ lt.
-        tells_ok (call f.0, f.1) (bs, ap (λ (x : ℕ). x ∷ bs) (eqb-true b 0x10 e), hf, ltb-true f.0 imports lt))) never)))
+    (λ e. tells_ok (discard, bs) (ap (λ (x : ℕ). x ∷ bs) (eqb-true b 0x1A e)))
+    (λ _. tells_need (eqb b 0x10) (λ e. tells_then (u32_tells bs) (λ f hf. tells_need (ltb f.0 imports) (λ lt.
+    tells_ok (call f.0, f.1) (bs, ap (λ (x : ℕ). x ∷ bs) (eqb-true b 0x10 e), hf, ltb-true f.0 imports lt))) never)))
 
 op_tells : (imports : ℕ) (bytes : List ℕ) → Tells (λ x. IsOp imports bytes x.0 x.1) ⊥ (op_at imports bytes)
 unfolding op_at
@@ -185,10 +185,10 @@ pub import_tells : (bytes : List ℕ) → Tells (λ x. IsImport bytes x.0 x.1) �
 unfolding import_at
 import_tells bytes = tells_then (name_tells bytes) (λ m hm. tells_then (name_tells m.1) (λ n hn. tells_need (begins_with 0x00 n.1) (λ e.
     tells_then (u32_tells (drop 1 n.1)) (λ t ht. tells_ok (record { «module» = m.0; name = n.0; type_index = t.0 }, t.1)
-      (m.1, n.1, drop 1 n.1, hm, hn, begins_is 0x00 n.1 e, ht)) never)) never) never
+    (m.1, n.1, drop 1 n.1, hm, hn, begins_is 0x00 n.1 e, ht)) never)) never) never
 
 pub export_tells : (bytes : List ℕ) → Tells (λ x. IsExport bytes x.0 x.1) ⊥ (export_at bytes)
 unfolding export_at
 export_tells bytes = tells_then (name_tells bytes) (λ n hn. tells_need (begins_with 0x00 n.1) (λ e.
     tells_then (u32_tells (drop 1 n.1)) (λ i hi. tells_ok (record { name = n.0; kind = kinds.Func; index = i.0 }, i.1)
-      (n.1, drop 1 n.1, hn, begins_is 0x00 n.1 e, hi)) never)) never
+    (n.1, drop 1 n.1, hn, begins_is 0x00 n.1 e, hi)) never)) never

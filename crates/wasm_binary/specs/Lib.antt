@@ -2,3 +2,4 @@ pub mod Numbers
 pub mod Grammar
 pub mod Limits
 pub mod Reading
+pub mod Canonical

@@ -1,0 +1,42 @@
+use Rattle.std.proofs.Common.{◌≡◌, Ok, Err, true, ap, inl, sym}
+use Rattle.wasm_ast.specs.declared.module.Module.{Module}
+use Rattle.wasm_binary.specs.declared.fault.Fault.TheVariants as fault
+use Rattle.wasm_binary.specs.Reading.{read_at}
+use Rattle.wasm_binary.proofs.Decodes.{by_fault, decoded, passes, not_spelled, none_within, one_module}
+use Rattle.wasm_binary.proofs.decode.Goals as goal
+
+pub returns-in-Ok-clause-spelled : goal.returns-in-Ok-clause-spelled
+returns-in-Ok-clause-spelled c = (decoded c.args.bytes.now c.in-Ok.module c.in-Ok.ensures).0
+
+pub returns-in-Ok-clause-within : goal.returns-in-Ok-clause-within
+returns-in-Ok-clause-within c = let d = decoded c.args.bytes.now c.in-Ok.module c.in-Ok.ensures in (d.1, d.2)
+
+pub returns-in-Ok-clause-read : goal.returns-in-Ok-clause-read
+returns-in-Ok-clause-read c = λ m s w few.
+    inl (ap (λ (x : Module). Ok x) (one_module c.args.bytes.now c.in-Ok.module m (decoded c.args.bytes.now c.in-Ok.module c.in-Ok.ensures).0 s))
+
+pub returns-in-Err-Fault-Bad-clause-read : goal.returns-in-Err-Fault-Bad-clause-read
+returns-in-Err-Fault-Bad-clause-read c = λ m s w few.
+    let e : read_at true c.args.bytes.now ≡ Err fault.Bad = by_fault c.in-Err-Fault-Bad.field-0 c.in-Err-Fault-Bad.field-0-0 fault.Bad (read_at true c.args.bytes.now) c.in-Err-Fault-Bad.field-0-is c.in-Err-Fault-Bad.field-0-0-is c.in-Err-Fault-Bad.ensures in
+    absurd (not_spelled c.args.bytes.now e m s)
+
+pub returns-in-Err-Fault-Bad-clause-bad : goal.returns-in-Err-Fault-Bad-clause-bad
+returns-in-Err-Fault-Bad-clause-bad c = λ _.
+    let e : read_at true c.args.bytes.now ≡ Err fault.Bad = by_fault c.in-Err-Fault-Bad.field-0 c.in-Err-Fault-Bad.field-0-0 fault.Bad (read_at true c.args.bytes.now) c.in-Err-Fault-Bad.field-0-is c.in-Err-Fault-Bad.field-0-0-is c.in-Err-Fault-Bad.ensures in
+    not_spelled c.args.bytes.now e
+
+pub returns-in-Err-Fault-Over-clause-read : goal.returns-in-Err-Fault-Over-clause-read
+returns-in-Err-Fault-Over-clause-read c = λ m s w few.
+    let e : read_at true c.args.bytes.now ≡ Err fault.Over = by_fault c.in-Err-Fault-Over.field-0 c.in-Err-Fault-Over.field-0-0 fault.Over (read_at true c.args.bytes.now) c.in-Err-Fault-Over.field-0-is c.in-Err-Fault-Over.field-0-0-is c.in-Err-Fault-Over.ensures in
+    absurd (none_within c.args.bytes.now e m s w few)
+
+pub returns-in-Err-Fault-Over-clause-over : goal.returns-in-Err-Fault-Over-clause-over
+returns-in-Err-Fault-Over-clause-over c = λ _.
+    let e : read_at true c.args.bytes.now ≡ Err fault.Over = by_fault c.in-Err-Fault-Over.field-0 c.in-Err-Fault-Over.field-0-0 fault.Over (read_at true c.args.bytes.now) c.in-Err-Fault-Over.field-0-is c.in-Err-Fault-Over.field-0-0-is c.in-Err-Fault-Over.ensures in
+    passes c.args.bytes.now e
+
+pub returns-in-Err-Fault-Over-clause-none_within :
+    goal.returns-in-Err-Fault-Over-clause-none_within
+returns-in-Err-Fault-Over-clause-none_within c = λ _.
+    let e : read_at true c.args.bytes.now ≡ Err fault.Over = by_fault c.in-Err-Fault-Over.field-0 c.in-Err-Fault-Over.field-0-0 fault.Over (read_at true c.args.bytes.now) c.in-Err-Fault-Over.field-0-is c.in-Err-Fault-Over.field-0-0-is c.in-Err-Fault-Over.ensures in
+    none_within c.args.bytes.now e
