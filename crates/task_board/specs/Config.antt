@@ -1,12 +1,12 @@
 -- Which process a config asks for (OCI Runtime Specification 1.0, config.md), as a function of its JSON value.
-use Rattle.std.specs.Prelude.{ℕ, ◌+◌, List, [], ◌∷◌, Bool, true, false, not, ◌&&◌, nat_le, nat_eq, codes, length, take, if◌then◌else◌, Option, Some, None, is_some, is_none, option_and_then, unwrap_or}
+use Rattle.std.specs.Prelude.{ℕ, ◌+◌, List, [], ◌∷◌, Bool, true, false, not, ◌&&◌, nat_le, nat_eq, bytes_eq, codes, length, take, if◌then◌else◌, Option, Some, None, is_some, is_none, option_and_then, unwrap_or}
 use Rattle.std.specs.List.{list_all, list_any}
 use Rattle.serde_json.specs.Data.{Data, null, boolean, number, string, array, object, Items, no_items, item, Members, no_members, member}
 use Rattle.serde_json.specs.Find.{get, as_str}
 use Rattle.serde_json.specs.Read.{read}
 use Rattle.serde_json.specs.Written.{has_float}
 use Rattle.step_machine.specs.declared.process.Process.{Process}
-use Rattle.task_board.specs.Identifiers.{are_same, is_digest}
+use Rattle.task_board.specs.Identifiers.{is_digest}
 
 -- the member of that name, null where there is none
 abbrev pub member_at : List ℕ → Data → Data
@@ -18,7 +18,7 @@ text_at name d = option_and_then as_str (get name d)
 
 abbrev pub begins_text : List ℕ → Option (List ℕ) → Bool
 begins_text front None = false
-begins_text front (Some text) = are_same (take (length front) text) front
+begins_text front (Some text) = bytes_eq (take (length front) text) front
 
 abbrev pub is_nul : ℕ → Bool
 is_nul byte = nat_eq byte 0

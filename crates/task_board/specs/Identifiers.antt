@@ -1,13 +1,8 @@
 -- The ids of tasks, and the digests of contents (FIPS 180-4).
-use Rattle.std.specs.Prelude.{ℕ, List, [], ◌∷◌, ◌++◌, Bool, false, ◌||◌, ◌&&◌, nat_le, nat_lt, nat_eq, codes, length, drop, take}
+use Rattle.std.specs.Prelude.{ℕ, List, [], ◌∷◌, ◌++◌, Bool, false, ◌||◌, ◌&&◌, nat_le, nat_lt, nat_eq, bytes_eq, codes, length, drop, take}
 use Rattle.std.specs.List.{list_all}
-use Rattle.std.specs.Cmp.Lexicographic.{pointwise}
 use Rattle.sha2.specs.Sha256.{sha256}
 use Rattle.hex.specs.Hex.{encode_lower}
-
--- whether two texts, or two lists of bytes, are the same
-abbrev pub are_same : List ℕ → List ℕ → Bool
-are_same = pointwise nat_eq
 
 abbrev pub is_letter_or_digit : ℕ → Bool
 is_letter_or_digit c = (nat_le 48 c && nat_le c 57) || (nat_le 65 c && nat_le c 90) || (nat_le 97 c && nat_le c 122)
@@ -27,7 +22,7 @@ is_lower_hex c = (nat_le 48 c && nat_le c 57) || (nat_le 97 c && nat_le c 102)
 
 -- sha256: and 64 hexadecimal digits
 abbrev pub is_digest : List ℕ → Bool
-is_digest text = nat_eq (length text) 71 && are_same (take 7 text) (codes "sha256:") && list_all is_lower_hex (drop 7 text)
+is_digest text = nat_eq (length text) 71 && bytes_eq (take 7 text) (codes "sha256:") && list_all is_lower_hex (drop 7 text)
 
 abbrev pub digest_of : List ℕ → List ℕ
 digest_of bytes = codes "sha256:" ++ encode_lower (sha256 bytes)

@@ -1,8 +1,8 @@
 //! The ids of tasks, and the digests of contents.
 
-ghost use Rattle.std.specs.Prelude.{◌≡◌, IfOk, codes};
+ghost use Rattle.std.specs.Prelude.{◌≡◌, IfOk, codes, bytes_eq};
 ghost use Rattle.std.specs.List.{list_all};
-ghost use Rattle.task_board.specs.Identifiers.{is_id, is_digest, is_id_character, is_letter_or_digit, is_lower_hex, digest_of, are_same};
+ghost use Rattle.task_board.specs.Identifiers.{is_id, is_digest, is_id_character, is_letter_or_digit, is_lower_hex, digest_of};
 
 use sha2::{Digest, Sha256};
 use std::alloc::{AllocError, Global};
@@ -50,7 +50,7 @@ fn are_lower_hex(bytes: &[u8]) -> bool
 }
 
 fn is_sha256(head: &[u8]) -> bool
-    ensures { result ≡ are_same head.now (codes "sha256:") }
+    ensures { result ≡ bytes_eq head.now (codes "sha256:") }
 {
     head == b"sha256:".as_slice()
 }

@@ -1,11 +1,19 @@
 //! The board of tasks: requests and their replies, and the events that it goes through.
 #![tactic(auto)]
 
+mod board;
 mod config;
+mod contents;
 mod event;
+mod home;
 mod identifier;
+mod loan;
+mod open;
+mod prepared;
 mod request;
 mod status;
+mod task;
+mod tasks;
 
 pub use event::{Event, EventReply};
 pub use identifier::{digest_of, is_digest, is_id};
