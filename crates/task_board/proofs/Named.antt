@@ -8,7 +8,7 @@ use Rattle.task_board.specs.declared.request.Reply.TheVariants as reply
 use Rattle.task_board.specs.declared.status.Status.{Status}
 use Rattle.task_board.specs.declared.status.Status.TheVariants.{Created}
 use Rattle.task_board.specs.Identifiers.{is_id}
-use Rattle.task_board.specs.State.{Task, Slots, State, slot_of, task_in, task_of, set_slot, with_task}
+use Rattle.task_board.specs.State.{Task, Slots, State, slot_of, task_in, task_of, set_slot, with_task, with_slot}
 use Rattle.task_board.specs.Step.{Answers, Decided, Openable, Starts, started, start_refusal, task_refusal}
 
 -- in that slot there is a task of that id
@@ -49,10 +49,6 @@ of_slot id ts (Some k) t s e =
 -- the task with an id has it
 pub named : (id : List ℕ) (ts : Slots) (t : Task) → task_of id ts ≡ Some t → t.id ≡ id
 named id ts t e = of_slot id ts (slot_of id ts) t refl e
-
--- the board with another task in a slot
-abbrev pub with_slot : State → ℕ → Task → State
-with_slot s k t = record { contents = s.contents; leases = s.leases; tasks = slice_set s.tasks k (Some t); creates = s.creates }
 
 pub in_slot : (s : State) (id : List ℕ) (k : ℕ) (t : Task) → slot_of id s.tasks ≡ Some k → t.id ≡ id → with_task s t ≡ with_slot s k t
 in_slot s id k t slot is =

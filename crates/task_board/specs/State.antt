@@ -97,6 +97,10 @@ set_slot (Some k) t ts = slice_set ts k (Some t)
 abbrev pub with_task : State → Task → State
 with_task s t = record { contents = s.contents; leases = s.leases; tasks = set_slot (slot_of t.id s.tasks) t s.tasks; creates = s.creates }
 
+-- the board with another task in a slot
+abbrev pub with_slot : State → ℕ → Task → State
+with_slot s k t = record { contents = s.contents; leases = s.leases; tasks = slice_set s.tasks k (Some t); creates = s.creates }
+
 -- a task comes into a slot that was empty, and nothing else changes but the count of creates
 pub record Enters (s : State) (t : Task) (then_s : State) : Type 0 where
   pub slot : ℕ

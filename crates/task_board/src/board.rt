@@ -6,7 +6,9 @@ ghost use Rattle.wasm_ast.specs.declared.module.Module.{Module};
 ghost use Rattle.task_board.specs.declared.request.Request.{Request as AskedValue};
 ghost use Rattle.task_board.specs.declared.request.Request.TheVariants as Asked;
 ghost use Rattle.task_board.specs.Identifiers.{digest_of};
-ghost use Rattle.task_board.specs.State.{IsEmpty, content_in, created_task, slot_of, task_in, task_of};
+ghost use Rattle.task_board.specs.Loans.{Fits};
+ghost use Rattle.task_board.specs.Tickets.{ticket_of, CanLend, Lends, ComesHome, ticket_for};
+ghost use Rattle.task_board.specs.State.{Task as TaskValue, IsEmpty, content_in, created_task, slot_of, task_in, task_of};
 ghost use Rattle.task_board.specs.Step.{Answers, Openable, CannotOpen, id_refusal, create_refusal, put_refusal};
 ghost use Rattle.task_board.specs.Plans.{Prepares, Plans, PlansTask, PutPrepared, CreatePrepared, asked, TakesNoMemory};
 
@@ -20,6 +22,7 @@ use crate::request::{Reply, Request, TaskState};
 use crate::status::Status;
 use crate::task::Task;
 use crate::tasks::slot_of;
+use crate::ticket::Ticket;
 use slab::Slab;
 use std::alloc::Global;
 use std::marker::Model;
@@ -335,5 +338,71 @@ impl Board {
             Ok(prepared) => self.apply(prepared),
             Err(refusal) => Err(refusal),
         }
+    }
+
+    /// A ticket of the task with an id. None where no task has it.
+    pub fn ticket(&self, id: &str) -> Option<Ticket>
+        ensures { result ≡ ticket_of id.now self.now.tasks }
+    {
+        let slot = slot_of(&self.tasks, id)?;
+        let task = self.tasks.get(slot)?;
+        Some(Ticket {
+            slot,
+            incarnation: task.incarnation(),
+        })
+    }
+
+    /// Lends the machine of the ticket's task for a slice of so many turns. None, and nothing has
+    /// changed, exactly where that task is gone, of another incarnation, not running, or out. No memory
+    /// is taken.
+    pub fn take(&mut self, ticket: Ticket, budget: u64) -> Option<Loan>
+        requires { (1 ≤ budget) × (budget ≤ 1000000) }
+        ensures some { IfSome result (λ l. Lends self.old ticket budget l self.new) }
+        ensures same { IfNone result (self.new ≡ self.old) }
+        ensures none { IfNone result ((t : TaskValue) → CanLend ticket self.old.tasks t → ⊥) }
+    {
+        let task = self.tasks.get_mut(ticket.slot)?;
+        if task.incarnation() != ticket.incarnation {
+            return None;
+        }
+        task.lend(ticket.slot, budget)
+    }
+
+    /// Whether the task of the loan's slot and incarnation is out and has its id, first turn, budget,
+    /// stored bytes, process and breakpoints.
+    pub fn fits(&self, loan: &Loan) -> bool
+        ensures fits { result ≡ true → Fits loan.now self.now.tasks }
+        ensures unfit { result ≡ false → Fits loan.now self.now.tasks → ⊥ }
+    {
+        match self.tasks.get(loan.slot()) {
+            Some(task) => task.fits(loan),
+            None => false,
+        }
+    }
+
+    /// Takes a slice that has been run home. One that does not fit is ended, and changes nothing. A
+    /// ticket of the task comes exactly where the loan fits and the task is running afterwards. No
+    /// memory is taken.
+    pub fn give_back(&mut self, loan: Loan) -> Option<Ticket>
+        requires { loan.ran ≡ true }
+        ensures home { Fits loan self.old.tasks → ComesHome self.old loan self.new }
+        ensures unfit { (Fits loan self.old.tasks → ⊥) → (self.new ≡ self.old) × (result ≡ None) }
+        ensures ticket { Fits loan self.old.tasks → result ≡ ticket_for loan.slot (task_in self.new.tasks loan.slot) }
+    {
+        if !self.fits(&loan) {
+            loan.end();
+            return None;
+        }
+        let slot = loan.slot();
+        let Some(task) = self.tasks.get_mut(slot) else {
+            loan.end();
+            return None;
+        };
+        task.receive(loan);
+        if task.status() != Status::Running {
+            return None;
+        }
+        let incarnation = task.incarnation();
+        Some(Ticket { slot, incarnation })
     }
 }

@@ -14,8 +14,13 @@ mod request;
 mod status;
 mod task;
 mod tasks;
+mod ticket;
 
+pub use board::Board;
 pub use event::{Event, EventReply};
 pub use identifier::{digest_of, is_digest, is_id};
+pub use loan::Loan;
+pub use prepared::Prepared;
 pub use request::{Reply, Request, TaskState};
 pub use status::{ExitRecord, Status};
+pub use ticket::Ticket;

@@ -1,0 +1,8 @@
+//! Tickets.
+
+/// A ticket of a task: its slot, and how many creates its board had accepted before it.
+#[derive(Clone, Copy, PartialEq, Eq, Debug)]
+pub struct Ticket {
+    pub slot: usize,
+    pub incarnation: u64,
+}
