@@ -2,3 +2,4 @@ pub mod Homes
 pub mod Slots
 pub mod Opens
 pub mod Named
+pub mod Out
