@@ -10,3 +10,5 @@ pub mod Follows
 pub mod Starts
 pub mod Slicing
 pub mod Cutting
+pub mod Piles
+pub mod Valids

@@ -6,7 +6,7 @@ use Rattle.wasm_ast.specs.declared.values.FuncType.{FuncType}
 use Rattle.wasm_ast.specs.declared.module.Import.{Import}
 use Rattle.wasm_ast.specs.declared.module.ExportKind.TheVariants as kind
 use Rattle.wasm_ast.specs.declared.module.Module.{Module}
-use Rattle.wasm_ast.specs.Syntax.{no_result, one_result, i32_const, call, block, loop, choice, br, leave, Ops, stop, next}
+use Rattle.wasm_ast.specs.Syntax.{Op, discard, no_result, one_result, i32_const, call, block, loop, choice, br, leave, Ops, stop, next}
 use Rattle.step_machine.specs.declared.process.Process.{Process}
 use Rattle.step_machine.specs.declared.places.Place.{Place}
 use Rattle.step_machine.specs.Tree.{Store, Tree, seq, done, more, frame, items_of, State, running, Config}
@@ -88,3 +88,11 @@ nested (suc n) t = seq [] (more (frame 1 2 [] (nested n t)) done)
 -- the innermost of so many frames is about to call function 2
 abbrev pub deep : ℕ → Config
 deep n = record { store = empty_store; state = running (nested n (seq [] (items_of 0 (next (call 2) stop)))) }
+
+abbrev pub repeated : ℕ → Op → Ops → Ops
+repeated zero o os = os
+repeated (suc n) o os = next o (repeated n o os)
+
+-- so many times i32.const 0, and then as many times drop
+abbrev pub pile : ℕ → Module
+pile n = with_entry (repeated n (i32_const 0) (repeated n discard stop))

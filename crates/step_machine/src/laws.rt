@@ -10,7 +10,8 @@ ghost use Rattle.step_machine.specs.Tree.{Config, exited, trapped, is_halted, is
 ghost use Rattle.step_machine.specs.Turns.{from, numbered, turn};
 ghost use Rattle.step_machine.specs.Opening.{after, ended, is_within};
 ghost use Rattle.step_machine.specs.Slices.{at_break, turns_made, slices_made, slice_end};
-ghost use Rattle.step_machine.specs.Worked.{bare_process, exit_seven, branch_out, endless, two_ways, call_and_return, empty_entry, place, entered, entered_at, deep};
+ghost use Rattle.step_machine.specs.Typing.{ValidModule};
+ghost use Rattle.step_machine.specs.Worked.{bare_process, exit_seven, branch_out, endless, two_ways, call_and_return, empty_entry, place, entered, entered_at, deep, pile};
 ghost use Rattle.step_machine.specs.declared.ends.End.TheVariants as ends;
 ghost use Rattle.step_machine.specs.declared.ends.SliceEnd.TheVariants as slice;
 ghost use Rattle.step_machine.specs.declared.places.Place.{Place};
@@ -123,3 +124,36 @@ pub fn limits_are_tested()
     ensures within { (m : Module) → is_within m ≡ true → Within m }
     ensures tested { (m : Module) → Within m → is_within m ≡ true }
 {}
+
+/// A body of so many `i32.const 0` and then as many `drop` returns at the turn of its last drop, where
+/// there are at most 65,536 of each. Where there are more, the turn of the 65,537th constant traps.
+pub fn piles_are_limited()
+    ensures fits { (p : Process) (n : ℕ) → n ≤ 65536 → ended (after (pile n) p (n + n)).state ≡ Some ends.Returned }
+    ensures beyond { (p : Process) (n limit : ℕ)
+        → limit ≡ 65536
+        → limit < n
+        → (after (pile n) p (limit + 1)).state ≡ trapped trap.Exhausted }
+{
+}
+
+/// The worked modules are valid: the typing rules hold of a call, of a branch out of a block, behind
+/// which the stack is free, and of a loop.
+pub fn worked_modules_are_valid()
+    ensures exit { ValidModule exit_seven }
+    ensures branch { ValidModule branch_out }
+    ensures endless { ValidModule endless }
+{
+}
+
+/// A slice ends behind the turn that leads to a breakpoint, and not before its first turn; without a
+/// breakpoint it uses its budget up; the task's own end goes before the budget.
+pub fn slices_end()
+    ensures at_the_break { turns_made endless bare_process 0 (place 1 0 ∷ []) 10 ≡ 2 }
+    ensures by_break { slice_end endless bare_process 0 (place 1 0 ∷ []) 10 ≡ slice.Break }
+    ensures all { turns_made endless bare_process 0 [] 10 ≡ 10 }
+    ensures by_budget { slice_end endless bare_process 0 [] 10 ≡ slice.Budget }
+    ensures at_the_end { turns_made exit_seven bare_process 0 [] 10 ≡ 2 }
+    ensures by_exit { slice_end exit_seven bare_process 0 [] 2 ≡ slice.Exited 7 }
+    ensures halted { turns_made exit_seven bare_process 2 [] 10 ≡ 0 }
+{
+}
