@@ -1,8 +1,8 @@
 -- A pile of constants, and as many drops.
-use Rattle.std.proofs.Common.{◌≡◌, ℕ, zero, suc, ◌+◌, ◌-◌, ◌<◌, ◌≤◌, ◌^◌, ◌==◌, List, [], ◌∷◌, length, Bool, true, false, Option, Some, None, subst, refl, sym, ap, ◌∙◌, arith}
+use Rattle.std.proofs.Common.{◌≡◌, ℕ, zero, suc, ◌+◌, ◌<◌, ◌≤◌, ◌^◌, ◌==◌, List, [], ◌∷◌, length, false, Some, refl, sym, ap, ◌∙◌, arith}
 use Rattle.std.proofs.lemmas.Bool.Decides.{nat_tests}
 use Rattle.wasm_ast.specs.declared.values.Value.{Value}
-use Rattle.wasm_ast.specs.declared.values.Value.TheVariants.{I32, I64}
+use Rattle.wasm_ast.specs.declared.values.Value.TheVariants.{I32}
 use Rattle.wasm_ast.specs.declared.trap.Trap.TheVariants as trap
 use Rattle.wasm_ast.specs.Syntax.{Op, i32_const, discard, Ops, stop, next}
 use Rattle.step_machine.specs.declared.process.Process.{Process}
@@ -70,10 +70,10 @@ module _ (p : Process) (n : ℕ) where
       let z : 0 + n ≡ n = omega arith in
       let long : length (heap n []) ≡ n = omega (arith, heap_long n []) in
       let whole : after (pile n) p (n + n) ≡ config s (running (seq [] done)) =
-          from-add prog 0 n n (initial (pile n) p)
-          ∙ (ap (λ c. from prog (0 + n) (from prog 0 c n) n) opened
-          ∙ (ap (λ c. from prog (0 + n) c n) (pushes prog s n 0 0 [] drop_all (omega arith) (omega arith))
-          ∙ drops prog s n (0 + n) (0 + n) (heap n []) (omega arith) long h)) in
+      from-add prog 0 n n (initial (pile n) p)
+      ∙ (ap (λ c. from prog (0 + n) (from prog 0 c n) n) opened
+      ∙ (ap (λ c. from prog (0 + n) c n) (pushes prog s n 0 0 [] drop_all (omega arith) (omega arith))
+      ∙ drops prog s n (0 + n) (0 + n) (heap n []) (omega arith) long h)) in
       ap (λ (c : Config). ended c.state) whole
 
   pub traps : (limit b : ℕ) → limit ≡ 65536 → n ≡ limit + suc b → (after (pile n) p (limit + 1)).state ≡ trapped trap.Exhausted
@@ -82,11 +82,11 @@ module _ (p : Process) (n : ℕ) where
       let rest = repeated b (i32_const 0) drop_all in
       let split : repeated n (i32_const 0) drop_all ≡ repeated limit (i32_const 0) (next (i32_const 0) rest) = ap (λ x. repeated x (i32_const 0) drop_all) long ∙ longer limit b (i32_const 0) drop_all in
       let filled : from prog 0 (initial (pile n) p) limit ≡ settled prog (at prog s (heap limit []) (0 + limit) (next (i32_const 0) rest)) =
-          ap (λ c. from prog 0 c limit) (opened ∙ ap (λ os. settled prog (at prog s [] 0 os)) split) ∙ pushes prog s limit 0 0 [] (next (i32_const 0) rest) (omega arith) (omega arith) in
+      ap (λ c. from prog 0 c limit) (opened ∙ ap (λ os. settled prog (at prog s [] 0 os)) split) ∙ pushes prog s limit 0 0 [] (next (i32_const 0) rest) (omega arith) (omega arith) in
       let full : length (heap limit []) ≡ limit = omega (arith, heap_long limit []) in
       let last : from prog 0 (initial (pile n) p) (limit + 1) ≡ config s (trapped trap.Exhausted) =
-          from-add prog 0 limit 1 (initial (pile n) p)
-          ∙ (ap (numbered prog (suc (0 + limit))) filled
-          ∙ (usual prog s (0 + limit) (heap limit []) (0 + limit) (i32_const 0) rest (omega arith)
-          ∙ reduction.too_many prog s 1 (0 + limit) [] (heap limit []) rest 0 (omega arith))) in
+      from-add prog 0 limit 1 (initial (pile n) p)
+      ∙ (ap (numbered prog (suc (0 + limit))) filled
+      ∙ (usual prog s (0 + limit) (heap limit []) (0 + limit) (i32_const 0) rest (omega arith)
+      ∙ reduction.too_many prog s 1 (0 + limit) [] (heap limit []) rest 0 (omega arith))) in
       ap (λ (c : Config). c.state) last

@@ -1,5 +1,5 @@
 -- The worked modules are valid.
-use Rattle.std.proofs.Common.{◌≡◌, ◌≢◌, ℕ, ◌+◌, ◌<◌, ◌≤◌, List, [], ◌∷◌, length, All, Some, codes, refl, arith}
+use Rattle.std.proofs.Common.{◌<◌, ◌≤◌, [], ◌∷◌, length, All, codes, refl, arith}
 use Rattle.wasm_ast.specs.declared.values.ValType.TheVariants.{I32}
 use Rattle.wasm_ast.specs.declared.values.FuncType.{FuncType}
 use Rattle.wasm_ast.specs.declared.module.Import.{Import}
@@ -8,8 +8,8 @@ use Rattle.wasm_ast.specs.declared.module.Export.{Export}
 use Rattle.wasm_ast.specs.declared.module.Module.{Module}
 use Rattle.wasm_ast.specs.declared.module.ExportKind.TheVariants as kind
 use Rattle.wasm_ast.specs.Syntax.{i32_const, Ops, stop, next}
-use Rattle.step_machine.specs.Typing.{Context, Typed, body_context, ValidFunc, IsThere, ValidModule}
-use Rattle.step_machine.specs.Worked.{from_i32, to_i32, nothing_to_nothing, exit_import, with_bodies, with_entry, exit_seven, branch_out, endless}
+use Rattle.step_machine.specs.Typing.{Typed, body_context, ValidFunc, IsThere, ValidModule}
+use Rattle.step_machine.specs.Worked.{from_i32, to_i32, nothing_to_nothing, exit_import, with_entry, exit_seven, branch_out, endless}
 use Rattle.step_machine.proofs.Within.{joined}
 
 none : {X : Type 0} (P : X → Type 0) → All P []

@@ -133,8 +133,7 @@ pub fn piles_are_limited()
         → limit ≡ 65536
         → limit < n
         → (after (pile n) p (limit + 1)).state ≡ trapped trap.Exhausted }
-{
-}
+{}
 
 /// The worked modules are valid: the typing rules hold of a call, of a branch out of a block, behind
 /// which the stack is free, and of a loop.
@@ -142,8 +141,7 @@ pub fn worked_modules_are_valid()
     ensures exit { ValidModule exit_seven }
     ensures branch { ValidModule branch_out }
     ensures endless { ValidModule endless }
-{
-}
+{}
 
 /// A slice ends behind the turn that leads to a breakpoint, and not before its first turn; without a
 /// breakpoint it uses its budget up; the task's own end goes before the budget.
@@ -155,5 +153,4 @@ pub fn slices_end()
     ensures at_the_end { turns_made exit_seven bare_process 0 [] 10 ≡ 2 }
     ensures by_exit { slice_end exit_seven bare_process 0 [] 2 ≡ slice.Exited 7 }
     ensures halted { turns_made exit_seven bare_process 2 [] 10 ≡ 0 }
-{
-}
+{}
