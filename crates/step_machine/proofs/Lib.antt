@@ -12,3 +12,4 @@ pub mod Slicing
 pub mod Cutting
 pub mod Piles
 pub mod Valids
+pub mod Contexts

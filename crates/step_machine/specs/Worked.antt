@@ -1,5 +1,5 @@
--- Worked programs, which laws on public functions run.
-use Rattle.std.specs.Prelude.{ℕ, zero, suc, List, [], ◌∷◌, codes}
+-- Worked programs, and the words in which laws on public functions speak.
+use Rattle.std.specs.Prelude.{ℕ, zero, suc, Bool, true, false, List, [], ◌∷◌, codes}
 use Rattle.wasm_ast.specs.declared.values.ValType.TheVariants.{I32}
 use Rattle.wasm_ast.specs.declared.values.Value.{Value}
 use Rattle.wasm_ast.specs.declared.values.FuncType.{FuncType}
@@ -9,7 +9,8 @@ use Rattle.wasm_ast.specs.declared.module.Module.{Module}
 use Rattle.wasm_ast.specs.Syntax.{Op, discard, no_result, one_result, i32_const, call, block, loop, choice, br, leave, Ops, stop, next}
 use Rattle.step_machine.specs.declared.process.Process.{Process}
 use Rattle.step_machine.specs.declared.places.Place.{Place}
-use Rattle.step_machine.specs.Tree.{Store, Tree, seq, done, more, frame, items_of, State, running, Config}
+use Rattle.step_machine.specs.Tree.{Store, Target, Tree, seq, Items, done, more, label, frame, branch, ret, items_of, State, running, Config}
+use Rattle.step_machine.specs.Reduce.{Env, Reduced, to}
 
 -- a process without arguments
 abbrev pub bare_process : Process
@@ -96,3 +97,21 @@ repeated (suc n) o os = next o (repeated n o os)
 -- so many times i32.const 0, and then as many times drop
 abbrev pub pile : ℕ → Module
 pile n = with_entry (repeated n (i32_const 0) (repeated n discard stop))
+
+-- ---- evaluation contexts (4.2.13)
+
+-- a tree that makes a reduction of its own: it has not come to its end, and is not about to branch out
+-- or to return
+abbrev pub acts : Tree → Bool
+acts (seq vs done) = false
+acts (seq vs (more (branch l) is)) = false
+acts (seq vs (more ret is)) = false
+acts (seq vs (more i is)) = true
+
+-- the same tree inside a label, with these operands below and these items behind it
+abbrev pub in_label : List Value → (arity place : ℕ) → Target → Items → Env → Tree → Reduced
+in_label vs n k g is e t = to e (seq vs (more (label n k g t) is))
+
+-- the same tree inside a frame, whose locals are its own
+abbrev pub in_frame : List Value → List Value → (arity func : ℕ) → Items → Env → Tree → Reduced
+in_frame outer vs n f is e t = to (record { store = e.store; locals = outer }) (seq vs (more (frame n f e.locals t) is))

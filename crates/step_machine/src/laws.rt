@@ -6,12 +6,13 @@ ghost use Rattle.wasm_ast.specs.declared.values.Value.TheVariants as value;
 ghost use Rattle.wasm_ast.specs.declared.trap.Trap.TheVariants as trap;
 ghost use Rattle.wasm_ast.specs.Syntax.{i32_const, discard, stop, next};
 ghost use Rattle.step_machine.specs.Program.{Program, program};
-ghost use Rattle.step_machine.specs.Tree.{Config, exited, trapped, is_halted, is_settled};
+ghost use Rattle.step_machine.specs.Tree.{Store, Target, Tree, seq, Items, more, label, frame, Config, exited, trapped, is_halted, is_settled};
+ghost use Rattle.step_machine.specs.Reduce.{Env, inside, reduce};
 ghost use Rattle.step_machine.specs.Turns.{from, numbered, turn};
 ghost use Rattle.step_machine.specs.Opening.{after, ended, is_within};
 ghost use Rattle.step_machine.specs.Slices.{at_break, turns_made, slices_made, slice_end};
 ghost use Rattle.step_machine.specs.Typing.{ValidModule};
-ghost use Rattle.step_machine.specs.Worked.{bare_process, exit_seven, branch_out, endless, two_ways, call_and_return, empty_entry, place, entered, entered_at, deep, pile};
+ghost use Rattle.step_machine.specs.Worked.{bare_process, exit_seven, branch_out, endless, two_ways, call_and_return, empty_entry, place, entered, entered_at, deep, pile, acts, in_label, in_frame};
 ghost use Rattle.step_machine.specs.declared.ends.End.TheVariants as ends;
 ghost use Rattle.step_machine.specs.declared.ends.SliceEnd.TheVariants as slice;
 ghost use Rattle.step_machine.specs.declared.places.Place.{Place};
@@ -153,4 +154,16 @@ pub fn slices_end()
     ensures at_the_end { turns_made exit_seven bare_process 0 [] 10 ≡ 2 }
     ensures by_exit { slice_end exit_seven bare_process 0 [] 2 ≡ slice.Exited 7 }
     ensures halted { turns_made exit_seven bare_process 2 [] 10 ≡ 0 }
+{}
+
+/// The reduction of a tree inside a label or a frame is one of the whole (4.2.13): all but that tree
+/// stays, and a frame's locals are those inside it.
+pub fn reductions_go_inside()
+    ensures label { (p : Program) (e : Env) (vs : List Value) (n k : ℕ) (g : Target) (t : Tree) (is : Items)
+        → acts t ≡ true
+        → reduce p e (seq vs (more (label n k g t) is)) ≡ inside (reduce p e t) (in_label vs n k g is) }
+    ensures frame { (p : Program) (r : Store) (outer ls vs : List Value) (n f : ℕ) (t : Tree) (is : Items)
+        → acts t ≡ true
+        → reduce p (record { store = r; locals = outer }) (seq vs (more (frame n f ls t) is))
+        ≡ inside (reduce p (record { store = r; locals = ls }) t) (in_frame outer vs n f is) }
 {}
