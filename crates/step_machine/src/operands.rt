@@ -43,6 +43,7 @@ impl Operands {
         self.words.len()
     }
 
+    /// Puts a word on top. That there is room is the caller's condition; no memory is taken.
     #[inline(always)]
     pub fn push(&mut self, word: u64)
         requires { length self.old < 65536 }
