@@ -13,3 +13,4 @@ pub mod Cutting
 pub mod Piles
 pub mod Valids
 pub mod Contexts
+pub mod Names

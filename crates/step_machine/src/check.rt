@@ -1,6 +1,6 @@
 //! The validation algorithm (appendix A.3): a pass over each body with the types of its operand stack.
 
-ghost use Rattle.std.specs.Prelude.{◌≡◌, ◌⊎◌, ◌+◌, ◌<◌, ◌≤◌, ◌++◌, ◌≢◌, ◌∷◌, List, IsTrue, OnOk, OnErr, Err, Some, false, [], All, length, map, reverse, option_copied, MatchOption, None, slice_get, ◌↔◌};
+ghost use Rattle.std.specs.Prelude.{◌≡◌, ◌⊎◌, ◌+◌, ◌<◌, ◌≤◌, ◌++◌, ◌≢◌, ◌∷◌, List, IsTrue, IfOk, OnOk, OnErr, Err, Some, false, [], All, length, map, reverse, option_copied, MatchOption, None, slice_get, ◌↔◌};
 ghost use Rattle.wasm_ast.specs.declared.refusal.Refusal.TheVariants as refusal;
 ghost use Rattle.wasm_ast.specs.declared.values.ValType.{ValType};
 ghost use Rattle.wasm_ast.specs.declared.values.FuncType.{FuncType};
@@ -11,7 +11,8 @@ ghost use Rattle.step_machine.specs.Opening.{type_at};
 ghost use Rattle.step_machine.specs.Typing.{Context, Typed, OpTyped, ValidFunc, ValidModule, IsThere, AllDifferent};
 ghost use Rattle.step_machine.specs.Reaches.{ReachesOp, Reaches, CallsImports};
 
-use std::alloc::Global;
+use std::alloc::{AllocError, Global};
+use std::collections::BTreeMap;
 use wasm_ast::{Export, ExportKind, Func, FuncType, Import, Instr, Module, Refusal, Text, ValType};
 
 /// Whether a module is valid, with each call an import's: `Invalid` where it is not, `NoMemory` where
@@ -28,11 +29,14 @@ pub fn check_module(alloc: Global, unchecked: &Module) -> Result<(), Refusal>
             unchecked.imports.len(),
             unchecked.funcs.len(),
         )
-        || !names_differ(unchecked.exports.as_slice())
     {
         return Err(Refusal::Invalid);
     }
-    check_funcs(alloc, unchecked, unchecked.funcs.as_slice())
+    match names_differ(alloc, unchecked.exports.as_slice()) {
+        Ok(true) => check_funcs(alloc, unchecked, unchecked.funcs.as_slice()),
+        Ok(false) => Err(Refusal::Invalid),
+        Err(_) => Err(Refusal::NoMemory),
+    }
 }
 
 /// A function type has at most one result (3.2.2).
@@ -80,28 +84,17 @@ fn is_there(kind: ExportKind, index: usize, imports: usize, funcs: usize) -> boo
     }
 }
 
-/// The names of exports differ (3.4.10).
-fn names_differ(exports: &[Export]) -> bool
-    ensures { IsTrue result → AllDifferent (map (λ e. e.name) exports.now) }
+/// The names of exports differ (3.4.10). An error where there is no room to find out.
+fn names_differ(alloc: Global, exports: &[Export]) -> Result<bool, AllocError>
+    ensures { IfOk result (λ differ. IsTrue differ → AllDifferent (map (λ e. e.name) exports.now)) }
 {
-    for at in 0..exports.len() {
-        if is_named_in(&exports[at].name, &exports[at + 1..]) {
-            return false;
-        }
-    }
-    true
-}
-
-/// Whether one of these exports has that name.
-fn is_named_in(name: &Text, exports: &[Export]) -> bool
-    ensures { result ≡ false → All (λ x. name.now ≢ x) (map (λ e. e.name) exports.now) }
-{
+    let mut seen = BTreeMap::new(alloc);
     for export in exports {
-        if export.name.is(name) {
-            return true;
+        if seen.insert(export.name.as_str(), ())?.is_some() {
+            return Ok(false);
         }
     }
-    false
+    Ok(true)
 }
 
 fn check_funcs(alloc: Global, unchecked: &Module, funcs: &[Func]) -> Result<(), Refusal>

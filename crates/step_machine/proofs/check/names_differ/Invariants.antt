@@ -1,6 +1,10 @@
-use Rattle.std.proofs.Common.{map, drop}
+use Rattle.std.proofs.Common.{All, map, take}
 use Rattle.step_machine.specs.Typing.{AllDifferent}
+use Rattle.step_machine.proofs.Names.{Seen}
 use Rattle.step_machine.proofs.check.names_differ.Given as goal
 
-abbrev pub invariant-loop-at : goal.invariant-loop-at
-invariant-loop-at l = AllDifferent (map (λ e. e.name) (drop l.at l.exports)) → AllDifferent (map (λ e. e.name) l.exports)
+abbrev pub invariant-loop-export : goal.invariant-loop-export
+invariant-loop-export l = record {
+  differ : AllDifferent (map (λ e. e.name) (take l.export-index l.exports));
+  keys : All (Seen l.seen) (map (λ e. e.name) (take l.export-index l.exports));
+}
