@@ -9,3 +9,4 @@ pub mod Comes
 pub mod ModuleComes
 pub mod Decodes
 pub mod Shortest
+pub mod Runs

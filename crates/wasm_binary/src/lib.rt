@@ -11,6 +11,7 @@ use std::alloc::Global;
 use wasm_ast::{Module, Refusal};
 
 mod code;
+mod encoding;
 mod entries;
 mod fault;
 mod numbers;

@@ -12,7 +12,7 @@ use crate::types::{func_types, name};
 use std::alloc::Global;
 use wasm_ast::{Export, Func, FuncType, Import, Module, Sequence};
 
-const PREAMBLE: [u8; 8] = [0x00, 0x61, 0x73, 0x6D, 0x01, 0x00, 0x00, 0x00];
+pub const PREAMBLE: [u8; 8] = [0x00, 0x61, 0x73, 0x6D, 0x01, 0x00, 0x00, 0x00];
 
 /// The most bytes of a module.
 pub const MOST_BYTES: usize = 262_144;
