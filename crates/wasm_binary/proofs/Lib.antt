@@ -10,3 +10,4 @@ pub mod ModuleComes
 pub mod Decodes
 pub mod Shortest
 pub mod Runs
+pub mod Canon

@@ -3,9 +3,11 @@
 
 ghost use Rattle.std.specs.Prelude.{◌≡◌, ℕ, ◌≤◌, List, length, IfOk, IfErr, ◌⊎◌};
 ghost use Rattle.wasm_ast.specs.declared.module.Module.{Module};
+ghost use Rattle.wasm_ast.specs.Ranged.{Ranged};
 ghost use Rattle.wasm_ast.specs.Limits.{Within};
 ghost use Rattle.wasm_binary.specs.Grammar.{Spells};
 ghost use Rattle.wasm_binary.specs.Limits.{Over};
+ghost use Rattle.wasm_binary.specs.Canonical.{canon, FitsLimits, IsSpellable};
 
 use std::alloc::Global;
 use wasm_ast::{Module, Refusal};
@@ -47,7 +49,39 @@ pub fn decode(alloc: Global, bytes: &[u8]) -> Result<Module, Refusal>
     }
 }
 
+/// The canonical spelling of a module: shortest numbers, locals in longest runs of one type, no custom
+/// section and no empty section.
+///
+/// `Limit` exactly where the module or this spelling of it passes a limit; `NoMemory` where memory is
+/// refused.
+pub fn encode(alloc: Global, module: &Module) -> Result<Vec<u8>, Refusal>
+    ensures canonical { IfOk result (λ v. v.items ≡ canon «module».now) }
+    ensures fits { IfOk result (λ _. FitsLimits «module».now) }
+    ensures limit { result ≡ Err Refusal.Limit → FitsLimits «module».now → ⊥ }
+    ensures causes { IfErr result (λ e. (e ≡ Refusal.Limit) ⊎ (e ≡ Refusal.NoMemory)) }
+{
+    if !module.is_within_limits() {
+        return Err(Refusal::Limit);
+    }
+    match encoding::spelling(alloc, module) {
+        Ok(bytes) => {
+            if bytes.len() > sections::MOST_BYTES {
+                Err(Refusal::Limit)
+            } else {
+                Ok(bytes)
+            }
+        }
+        Err(_) => Err(Refusal::NoMemory),
+    }
+}
+
 /// Bytes spell at most one module.
 pub fn spells_one()
     ensures { (bytes : List ℕ) (m n : Module) → Spells bytes m → Spells bytes n → m ≡ n }
+{}
+
+/// The canonical spelling of a module that fits spells it. So what `encode` gives, `decode` reads as
+/// that module.
+pub fn canonical_spells()
+    ensures { (m : Module) → Ranged m → FitsLimits m → IsSpellable m → Spells (canon m) m }
 {}
