@@ -36,7 +36,7 @@ unsigned_spells (suc more) bits n rest lt pos few = elim (cases_lt n 128) [
   | inl s ↦ rw (lt-ltb n 128 s) (inl (s, (lt, refl), refl))
   | inr l ↦
       let big : 7 < bits = bits_left_from bits n lt l in
-      rw (le-ltb n 128 l) (inr (omega arith, big, n / 128, unsigned_spells more (bits - 7) (n / 128) rest (high_bits bits n big lt) (omega arith) (omega arith), omega arith))
+      rw (le-ltb n 128 l) (inr (omega arith, omega arith, big, n / 128, unsigned_spells more (bits - 7) (n / 128) rest (high_bits bits n big lt) (omega arith) (omega arith), omega arith))
 ]
 
 pub number_spells : (n : ℕ) (rest : List ℕ) → n < 2 ^ 32 → numbers.IsU32 (number n ++ rest) n rest
@@ -67,7 +67,7 @@ signed_case : (more bits n : ℕ) (rest : List ℕ) → n < 2 ^ bits → bits �
 signed_case more bits n rest lt few true e high = last_spells bits n rest lt (inl e)
 signed_case more bits n rest lt few false e high =
     let big : 7 < bits = bits_left bits (not_last bits n lt e) in
-    inr (omega arith, big, n / 128, high big, omega arith)
+    inr (omega arith, omega arith, big, n / 128, high big, omega arith)
 
 signed_spells : (more bits n : ℕ) (rest : List ℕ) → n < 2 ^ bits → 0 < bits → bits ≤ 7 * more + 7 → IsSigned bits (signed more bits n ++ rest) n rest
 unfolding signed

@@ -1,5 +1,6 @@
 -- What reading gives is spelled so: of a value that it answers, and of a limit that it passes.
 use Rattle.std.proofs.Common.{◌≡◌, ℕ, zero, suc, ◌+◌, ◌-◌, ◌*◌, ◌^◌, ◌<◌, ◌≤◌, Bool, true, false, cond, ltb, eqb, List, [], ◌∷◌, ◌++◌, length, take, drop, replicate, Result, Ok, Err, refl, sym, ap, subst, ◌∙◌, append_assoc, arith, inl, inr}
+use Rattle.std.specs.Prelude.{◌&&◌}
 use Rattle.std.specs.Str.{is_utf8}
 use Rattle.std.proofs.lemmas.Bool.{ltb-true, ltb-false, eqb-true}
 use Rattle.std.proofs.lemmas.List.{take-append-drop, length-take, length-take-le, nil_from_length}
@@ -51,6 +52,12 @@ tells_if false h k = k refl
 pub tells_bad : {X : Type 0} {P : X → Type 0} {Q : Type 0} → Tells {X = X} P Q (Err Bad)
 tells_bad = record { told = tt }
 
+both_true : (a b : Bool) → (a && b) ≡ true → (a ≡ true) × (b ≡ true)
+both_true true true e = (refl, refl)
+both_true true false e = absurd cc
+both_true false true e = absurd cc
+both_true false false e = absurd cc
+
 -- ---- bytes and numbers
 
 pub begins_is : (b : ℕ) (bytes : List ℕ) → begins_with b bytes ≡ true → bytes ≡ b ∷ drop 1 bytes
@@ -72,8 +79,8 @@ unfolding unsigned_at
 unsigned_tells bits [] = tells_bad
 unsigned_tells bits (b ∷ bs) = tells_if (ltb b 128)
     (λ lt. tells_then (last_unsigned_tells bits b) (λ n hn. tells_ok (n, bs) (inl (ltb-true b 128 lt, hn, refl))) never)
-    (λ ge. tells_need (ltb 7 bits) (λ e. tells_then (unsigned_tells (bits - 7) bs) (λ high hh.
-    tells_ok (128 * high.0 + (b - 128), high.1) (inr (ltb-false b 128 ge, ltb-true 7 bits e, high.0, hh, refl))) never))
+    (λ ge. tells_need (ltb b 256 && ltb 7 bits) (λ both. let e = both_true (ltb b 256) (ltb 7 bits) both in tells_then (unsigned_tells (bits - 7) bs) (λ high hh.
+    tells_ok (128 * high.0 + (b - 128), high.1) (inr (ltb-false b 128 ge, ltb-true b 256 e.0, ltb-true 7 bits e.1, high.0, hh, refl))) never))
 
 last_signed_tells : (bits b : ℕ) → b < 128 → Tells (λ n. IsLastSigned bits b n) ⊥ (last_signed_at bits b)
 unfolding last_signed_at
@@ -89,8 +96,8 @@ unfolding signed_at
 signed_tells bits [] = tells_bad
 signed_tells bits (b ∷ bs) = tells_if (ltb b 128)
     (λ lt. tells_then (last_signed_tells bits b (ltb-true b 128 lt)) (λ n hn. tells_ok (n, bs) (inl (ltb-true b 128 lt, hn, refl))) never)
-    (λ ge. tells_need (ltb 7 bits) (λ e. tells_then (signed_tells (bits - 7) bs) (λ high hh.
-    tells_ok (128 * high.0 + (b - 128), high.1) (inr (ltb-false b 128 ge, ltb-true 7 bits e, high.0, hh, refl))) never))
+    (λ ge. tells_need (ltb b 256 && ltb 7 bits) (λ both. let e = both_true (ltb b 256) (ltb 7 bits) both in tells_then (signed_tells (bits - 7) bs) (λ high hh.
+    tells_ok (128 * high.0 + (b - 128), high.1) (inr (ltb-false b 128 ge, ltb-true b 256 e.0, ltb-true 7 bits e.1, high.0, hh, refl))) never))
 
 pub u32_tells : (bytes : List ℕ) → Tells (λ x. IsU32 bytes x.0 x.1) ⊥ (u32_at bytes)
 unfolding u32_at
