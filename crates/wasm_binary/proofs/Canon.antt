@@ -1,24 +1,23 @@
 -- The canonical spelling spells its module.
-use Rattle.std.proofs.Common.{◌≡◌, ℕ, zero, suc, ◌+◌, ◌-◌, ◌*◌, ◌/◌, ◌%◌, ◌^◌, ◌<◌, ◌≤◌, Bool, true, false, cond, ltb, List, [], ◌∷◌, ◌++◌, length, map, replicate, refl, sym, ap, subst, ◌∙◌, append_assoc, arith, inl, inr}
-use Rattle.std.specs.Prelude.{IsUtf8, All, ◌⊎◌}
+use Rattle.std.proofs.Common.{◌≡◌, ℕ, zero, suc, ◌+◌, ◌-◌, ◌*◌, ◌/◌, ◌%◌, ◌^◌, ◌<◌, ◌≤◌, Bool, true, false, cond, ltb, List, [], ◌∷◌, ◌++◌, length, replicate, refl, sym, ap, subst, ◌∙◌, append_assoc, arith, inl, inr}
+use Rattle.std.specs.Prelude.{IsUtf8, ◌⊎◌}
 use Rattle.std.specs.List.{flat_map, AllByRecursion}
 use Rattle.std.proofs.Math.Pow.{pow_mono}
 use Rattle.std.proofs.lemmas.Bool.{cases_lt, lt-ltb, le-ltb, ltb-true, ltb-false}
 use Rattle.std.proofs.lemmas.List.{append-nil, length-append, length-replicate}
 use Rattle.std.proofs.lemmas.List.Elements.{recursion_from_All}
 use Rattle.wasm_ast.specs.declared.values.ValType.{ValType}
-use Rattle.wasm_ast.specs.declared.values.ValType.TheVariants.{I32, I64}
 use Rattle.wasm_ast.specs.declared.values.FuncType.{FuncType}
 use Rattle.wasm_ast.specs.declared.module.Import.{Import}
 use Rattle.wasm_ast.specs.declared.module.Func.{Func}
 use Rattle.wasm_ast.specs.declared.module.Export.{Export}
 use Rattle.wasm_ast.specs.declared.module.Module.{Module}
 use Rattle.wasm_ast.specs.Syntax.{Op, i32_const, discard, call, block, loop, choice, br, leave, Ops, stop, next}
-use Rattle.wasm_ast.specs.Ranged.{IsU32, RangedOp, RangedOps, RangedImport, RangedFunc, RangedExport, Ranged}
-use Rattle.wasm_ast.specs.Limits.{params_of, FuncWithin, Within}
+use Rattle.wasm_ast.specs.Ranged.{RangedOp, RangedOps, RangedImport, RangedFunc, RangedExport, Ranged}
+use Rattle.wasm_ast.specs.Limits.{FuncWithin}
 use Rattle.wasm_binary.specs.Numbers as numbers
 use Rattle.wasm_binary.specs.Numbers.{IsUnsigned, IsLastSigned, IsSigned}
-use Rattle.wasm_binary.specs.Grammar.{Form, AreItems, IsVector, IsSized, IsName, IsValType, IsFuncType, IsOp, AreOps, IsExpression, IsRun, locals_of, AreLocals, IsCode, IsEntry, kind_byte, IsImport, IsExport, AreCustom, IsSection, preamble, indices_of, Spells}
+use Rattle.wasm_binary.specs.Grammar.{Form, AreItems, IsVector, IsSized, IsName, IsValType, IsFuncType, IsOp, AreOps, IsRun, locals_of, IsCode, IsEntry, kind_byte, IsImport, IsExport, IsSection, preamble, indices_of, Spells}
 use Rattle.wasm_binary.specs.Canonical.{unsigned, last_signed, is_last_signed, signed, number, vector, sized, name, val_type, func_type, op, ops, runs_of, run, code, entry, import_entry, export_entry, section, canon, FitsLimits, IsSpellableOp, AreSpellableOps, IsSpellable}
 use Rattle.wasm_binary.proofs.Powers.{small}
 use Rattle.wasm_binary.proofs.Shortest.{bits_left, not_last, high_bits}

@@ -1,6 +1,6 @@
 -- What is spelled comes out of reading, but where a limit is passed.
-use Rattle.std.proofs.Common.{◌≡◌, ℕ, zero, suc, ◌+◌, ◌-◌, ◌*◌, ◌^◌, ◌<◌, ◌≤◌, Bool, true, false, cond, ltb, eqb, List, [], ◌∷◌, ◌++◌, length, take, drop, Result, Ok, Err, refl, sym, ap, subst, ◌∙◌, arith, inl, inr}
-use Rattle.std.specs.Prelude.{◌⊎◌, ◌&&◌}
+use Rattle.std.proofs.Common.{◌≡◌, ℕ, zero, suc, ◌+◌, ◌-◌, ◌*◌, ◌^◌, ◌<◌, ◌≤◌, Bool, true, false, cond, List, [], ◌∷◌, ◌++◌, length, Result, Ok, Err, refl, sym, ap, subst, ◌∙◌, arith, inl, inr}
+use Rattle.std.specs.Prelude.{◌&&◌}
 use Rattle.std.proofs.lemmas.Bool.{lt-ltb, le-ltb, eq-eqb}
 use Rattle.std.proofs.lemmas.List.{take_at, drop_at, length-append}
 use Rattle.std.proofs.lemmas.Str.{is_utf8-from_IsUtf8}
@@ -14,8 +14,8 @@ use Rattle.wasm_ast.specs.declared.module.Export.{Export}
 use Rattle.wasm_ast.specs.Syntax.{Op, i32_const, discard, call, block, loop, choice, br, leave, Ops, stop, next, ops_of}
 use Rattle.wasm_binary.specs.declared.fault.Fault.{Fault}
 use Rattle.wasm_binary.specs.declared.fault.Fault.TheVariants.{Bad, Over}
-use Rattle.wasm_binary.specs.Numbers.{IsLastUnsigned, IsUnsigned, IsLastSigned, IsSigned, IsU32}
-use Rattle.wasm_binary.specs.Grammar.{Form, AreItems, IsVector, IsSized, IsName, type_byte, IsValType, IsFuncType, IsOp, AreOps, IsExpression, IsImport, kind_byte, IsExport}
+use Rattle.wasm_binary.specs.Numbers.{IsUnsigned, IsLastSigned, IsSigned, IsU32}
+use Rattle.wasm_binary.specs.Grammar.{Form, AreItems, IsVector, IsSized, IsName, IsValType, IsFuncType, IsOp, IsExpression, IsImport, kind_byte, IsExport}
 use Rattle.wasm_binary.specs.Reading.{◌>>=◌, Read, need, byte_at, begins_with, unsigned_at, last_unsigned_at, signed_at, last_signed_at, u32_at, part_at, behind, sized_at, items_at, vector_at, name_at, type_of, type_at, func_type_at, op_of_byte, op_at, ops_at, expression_at, import_at, export_at}
 
 abbrev pub Came : {X : Type 0} → Type 0 → X → Result X Fault → Type 0

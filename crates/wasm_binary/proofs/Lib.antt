@@ -11,3 +11,4 @@ pub mod Decodes
 pub mod Shortest
 pub mod Runs
 pub mod Canon
+pub mod InRange

@@ -1,24 +1,21 @@
 -- The same of code, sections and modules, where limits are asked. A reading that is not limited asks
 -- none, so that what is spelled comes out of it in any case.
-use Rattle.std.proofs.Common.{◌≡◌, ℕ, zero, suc, ◌+◌, ◌-◌, ◌<◌, ◌≤◌, Bool, true, false, ltb, eqb, List, [], ◌∷◌, ◌++◌, length, take, drop, map, replicate, Result, Ok, Err, refl, sym, ap, subst, ◌∙◌, arith, inl, inr}
-use Rattle.std.specs.Prelude.{◌⊎◌, ◌&&◌}
-use Rattle.std.specs.Str.{bytes_eq}
-use Rattle.std.specs.List.{All, AllByRecursion}
-use Rattle.std.proofs.lemmas.Bool.{lt-ltb, le-ltb, eq-eqb, eqb-true}
-use Rattle.std.proofs.lemmas.List.{length-append, length-replicate, take_at, drop_at}
+use Rattle.std.proofs.Common.{◌≡◌, ℕ, zero, suc, ◌+◌, ◌<◌, ◌≤◌, Bool, true, false, ltb, eqb, List, [], ◌∷◌, ◌++◌, length, drop, replicate, Result, Ok, Err, refl, sym, ap, subst, arith, inl, inr}
+use Rattle.std.specs.Prelude.{◌&&◌}
+use Rattle.std.specs.List.{AllByRecursion}
+use Rattle.std.proofs.lemmas.Bool.{le-ltb, eq-eqb, eqb-true}
+use Rattle.std.proofs.lemmas.List.{length-append, length-replicate}
 use Rattle.std.proofs.lemmas.List.Elements.{recursion_from_All}
 use Rattle.wasm_ast.specs.declared.values.ValType.{ValType}
 use Rattle.wasm_ast.specs.declared.values.FuncType.{FuncType}
-use Rattle.wasm_ast.specs.declared.module.Import.{Import}
 use Rattle.wasm_ast.specs.declared.module.Func.{Func}
-use Rattle.wasm_ast.specs.declared.module.Export.{Export}
 use Rattle.wasm_ast.specs.declared.module.Module.{Module}
 use Rattle.wasm_ast.specs.Limits.{params_of, FuncWithin, Within}
 use Rattle.wasm_binary.specs.declared.fault.Fault.{Fault}
 use Rattle.wasm_binary.specs.declared.fault.Fault.TheVariants.{Bad, Over}
 use Rattle.wasm_binary.specs.Numbers.{IsU32}
-use Rattle.wasm_binary.specs.Grammar.{Form, AreItems, IsVector, IsSized, IsRun, locals_of, AreLocals, IsCode, IsEntry, IsFuncType, IsImport, IsExport, IsNamed, IsCustom, AreCustom, IsSection, preamble, indices_of, Spells}
-use Rattle.wasm_binary.specs.Reading.{◌>>=◌, Read, need, u32_at, type_at, begins_with, sized_at, items_at, vector_at, name_at, runs_at, locals_at, expression_at, code_at, codes_at, named_at, custom_at, customs_at, after_customs, section_at, functions_at, code_vector_at, func_type_at, import_at, export_at, preamble_at, Head, head_at, module_at, read_at}
+use Rattle.wasm_binary.specs.Grammar.{Form, AreItems, IsVector, IsSized, IsRun, locals_of, AreLocals, IsCode, IsEntry, IsFuncType, IsImport, IsExport, IsNamed, IsCustom, AreCustom, preamble, indices_of, Spells}
+use Rattle.wasm_binary.specs.Reading.{Read, u32_at, begins_with, vector_at, runs_at, locals_at, code_at, codes_at, named_at, custom_at, customs_at, after_customs, section_at, functions_at, code_vector_at, func_type_at, import_at, export_at, preamble_at, head_at, module_at, read_at}
 use Rattle.wasm_binary.proofs.ModuleTells.{SectionOf}
 use Rattle.wasm_binary.proofs.Comes.{Comes, Always, always, comes_ok, comes_then, comes_need, comes_first, comes_second, comes_within, begins_cons, u32_comes, type_comes, sized_comes, sized_takes, items_comes, vector_comes, name_comes, func_type_comes, expression_comes, import_comes, export_comes}
 

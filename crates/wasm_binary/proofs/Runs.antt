@@ -1,5 +1,5 @@
 -- Longest runs of locals, and instructions one after the other.
-use Rattle.std.proofs.Common.{◌≡◌, ℕ, ◌+◌, ◌<◌, ◌≤◌, ◌^◌, Bool, true, false, List, [], ◌∷◌, ◌++◌, length, take, map, get_or, replicate, fold, refl, sym, ap, ◌∙◌, append_assoc, cond, arith}
+use Rattle.std.proofs.Common.{◌≡◌, ℕ, ◌+◌, ◌<◌, ◌^◌, Bool, true, false, List, [], ◌∷◌, ◌++◌, length, take, map, get_or, replicate, fold, refl, sym, ap, ◌∙◌, append_assoc, cond, arith}
 use Rattle.std.proofs.lemmas.List.{append-nil, replicate_more, take_more, map-append, length-take}
 use Rattle.wasm_ast.specs.declared.values.ValType.{ValType}
 use Rattle.wasm_ast.specs.declared.values.ValType.TheVariants.{I32, I64}

@@ -1,18 +1,17 @@
 -- What reading gives is spelled so: of a value that it answers, and of a limit that it passes.
-use Rattle.std.proofs.Common.{◌≡◌, ℕ, zero, suc, ◌+◌, ◌-◌, ◌*◌, ◌^◌, ◌<◌, ◌≤◌, Bool, true, false, cond, ltb, eqb, List, [], ◌∷◌, ◌++◌, length, take, drop, replicate, Result, Ok, Err, refl, sym, ap, subst, ◌∙◌, append_assoc, arith, inl, inr}
+use Rattle.std.proofs.Common.{◌≡◌, ℕ, zero, suc, ◌+◌, ◌-◌, ◌*◌, ◌^◌, ◌<◌, ◌≤◌, Bool, true, false, cond, ltb, eqb, List, [], ◌∷◌, ◌++◌, length, take, drop, Result, Ok, Err, refl, sym, ap, subst, arith, inl, inr}
 use Rattle.std.specs.Prelude.{◌&&◌}
 use Rattle.std.specs.Str.{is_utf8}
 use Rattle.std.proofs.lemmas.Bool.{ltb-true, ltb-false, eqb-true}
-use Rattle.std.proofs.lemmas.List.{take-append-drop, length-take, length-take-le, nil_from_length}
+use Rattle.std.proofs.lemmas.List.{take-append-drop, length-take-le, nil_from_length}
 use Rattle.std.proofs.lemmas.Str.{IsUtf8-from_is_utf8}
-use Rattle.wasm_ast.specs.declared.values.ValType.{ValType}
 use Rattle.wasm_ast.specs.declared.values.ValType.TheVariants.{I32, I64}
 use Rattle.wasm_ast.specs.declared.module.ExportKind.TheVariants as kinds
-use Rattle.wasm_ast.specs.Syntax.{Op, i32_const, discard, call, ops_of}
+use Rattle.wasm_ast.specs.Syntax.{i32_const, discard, call, ops_of}
 use Rattle.wasm_binary.specs.declared.fault.Fault.{Fault}
 use Rattle.wasm_binary.specs.declared.fault.Fault.TheVariants.{Bad, Over}
 use Rattle.wasm_binary.specs.Numbers.{IsLastUnsigned, IsUnsigned, IsLastSigned, IsSigned, IsU32}
-use Rattle.wasm_binary.specs.Grammar.{Form, AreItems, IsVector, IsSized, IsName, type_byte, IsValType, IsFuncType, IsOp, AreOps, IsExpression, IsImport, IsExport}
+use Rattle.wasm_binary.specs.Grammar.{Form, AreItems, IsVector, IsSized, IsName, type_byte, IsValType, IsFuncType, IsOp, IsExpression, IsImport, IsExport}
 use Rattle.wasm_binary.specs.Limits.{Within_size}
 use Rattle.wasm_binary.specs.Reading.{◌>>=◌, Read, need, byte_at, begins_with, unsigned_at, last_unsigned_at, signed_at, last_signed_at, u32_at, part_at, behind, sized_at, items_at, vector_at, name_at, type_of, type_at, func_type_at, op_of_byte, op_at, ops_at, expression_at, import_at, export_at}
 

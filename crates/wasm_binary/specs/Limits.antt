@@ -2,7 +2,7 @@
 -- a number or a sum over a limit of modules. Nothing is asked of what stands behind that number. Of a
 -- section or a body that is not read to its end, the size may be wrong: what stands within it, or
 -- within the bytes where they end before, is what is read.
-use Rattle.std.specs.Prelude.{◌≡◌, ℕ, ◌+◌, ◌<◌, List, [], ◌∷◌, ◌++◌, length, take, Some, slice_get, ◌⊎◌}
+use Rattle.std.specs.Prelude.{◌≡◌, ℕ, ◌+◌, ◌<◌, List, ◌∷◌, ◌++◌, length, take, Some, slice_get, ◌⊎◌}
 use Rattle.wasm_ast.specs.declared.values.ValType.{ValType}
 use Rattle.wasm_ast.specs.declared.values.FuncType.{FuncType}
 use Rattle.wasm_ast.specs.declared.module.Import.{Import}

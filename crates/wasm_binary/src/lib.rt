@@ -30,6 +30,7 @@ use fault::{Fault, ReadError};
 /// or reach a number or a sum over a limit; `NoMemory` where memory is refused.
 pub fn decode(alloc: Global, bytes: &[u8]) -> Result<Module, Refusal>
     ensures spelled { IfOk result (λ m. Spells bytes.now m) }
+    ensures ranged { IfOk result (λ m. Ranged m) }
     ensures within { IfOk result (λ m. Within m × (length bytes.now ≤ 262144)) }
     // What is spelled within the limits is read, unless memory is refused.
     ensures read { (m : Module) → Spells bytes.now m → Within m → length bytes.now ≤ 262144
@@ -78,6 +79,11 @@ pub fn encode(alloc: Global, module: &Module) -> Result<Vec<u8>, Refusal>
 /// Bytes spell at most one module.
 pub fn spells_one()
     ensures { (bytes : List ℕ) (m n : Module) → Spells bytes m → Spells bytes n → m ≡ n }
+{}
+
+/// The numbers of a module that bytes spell are in range.
+pub fn spells_ranged()
+    ensures { (bytes : List ℕ) (m : Module) → Spells bytes m → Ranged m }
 {}
 
 /// The canonical spelling of a module that fits spells it. So what `encode` gives, `decode` reads as

@@ -1,8 +1,9 @@
-use Rattle.std.proofs.Common.{◌≡◌, Ok, Err, true, ap, inl, sym}
+use Rattle.std.proofs.Common.{◌≡◌, Ok, Err, true, ap, inl}
 use Rattle.wasm_ast.specs.declared.module.Module.{Module}
 use Rattle.wasm_binary.specs.declared.fault.Fault.TheVariants as fault
 use Rattle.wasm_binary.specs.Reading.{read_at}
 use Rattle.wasm_binary.proofs.Decodes.{by_fault, decoded, passes, not_spelled, none_within, one_module}
+use Rattle.wasm_binary.proofs.InRange.{spelled_ranged}
 use Rattle.wasm_binary.proofs.decode.Goals as goal
 
 pub returns-in-Ok-clause-spelled : goal.returns-in-Ok-clause-spelled
@@ -40,3 +41,6 @@ pub returns-in-Err-Fault-Over-clause-none_within :
 returns-in-Err-Fault-Over-clause-none_within c = λ _.
     let e : read_at true c.args.bytes.now ≡ Err fault.Over = by_fault c.in-Err-Fault-Over.field-0 c.in-Err-Fault-Over.field-0-0 fault.Over (read_at true c.args.bytes.now) c.in-Err-Fault-Over.field-0-is c.in-Err-Fault-Over.field-0-0-is c.in-Err-Fault-Over.ensures in
     none_within c.args.bytes.now e
+
+pub returns-in-Ok-clause-ranged : goal.returns-in-Ok-clause-ranged
+returns-in-Ok-clause-ranged c = spelled_ranged c.args.bytes.now c.in-Ok.module (decoded c.args.bytes.now c.in-Ok.module c.in-Ok.ensures).0
