@@ -12,3 +12,4 @@ pub mod Shortest
 pub mod Runs
 pub mod Canon
 pub mod InRange
+pub mod Overs

@@ -12,7 +12,7 @@ use Rattle.wasm_binary.specs.declared.fault.Fault.{Fault}
 use Rattle.wasm_binary.specs.declared.fault.Fault.TheVariants.{Bad, Over}
 use Rattle.wasm_binary.specs.Numbers.{IsLastUnsigned, IsUnsigned, IsLastSigned, IsSigned, IsU32}
 use Rattle.wasm_binary.specs.Grammar.{Form, AreItems, IsVector, IsSized, IsName, type_byte, IsValType, IsFuncType, IsOp, IsExpression, IsImport, IsExport}
-use Rattle.wasm_binary.specs.Limits.{Within_size}
+use Rattle.wasm_binary.specs.Limits.{WithinSize}
 use Rattle.wasm_binary.specs.Reading.{◌>>=◌, Read, need, byte_at, begins_with, unsigned_at, last_unsigned_at, signed_at, last_signed_at, u32_at, part_at, behind, sized_at, items_at, vector_at, name_at, type_of, type_at, func_type_at, op_of_byte, op_at, ops_at, expression_at, import_at, export_at}
 
 abbrev pub Told : {X : Type 0} → (X → Type 0) → Type 0 → Result X Fault → Type 0
@@ -117,7 +117,7 @@ behind_tells size left bytes = tells_need (eqb (length left) 0) (λ e. tells_if 
     (λ ge. tells_ok (drop size bytes) (nil_from_length left (eqb-true (length left) 0 e), sym (take-append-drop size bytes), length-take-le size bytes (ltb-false (length bytes) size ge))))
 
 pub sized_tells : {X : Type 0} (IsX : Form X) (Q : List ℕ → Type 0) (read : List ℕ → Read X) → ((part : List ℕ) → Tells (λ x. IsX part x.0 x.1) (Q part) (read part))
-    → (bytes : List ℕ) → Tells (λ x. IsSized IsX bytes x.0 x.1) (Within_size Q bytes) (sized_at read bytes)
+    → (bytes : List ℕ) → Tells (λ x. IsSized IsX bytes x.0 x.1) (WithinSize Q bytes) (sized_at read bytes)
 unfolding sized_at
 sized_tells IsX Q read tells bytes = tells_then (u32_tells bytes) (λ n hn. tells_then (tells (take n.0 n.1)) (λ x hx. tells_then (behind_tells n.0 x.1 n.1) (λ rest hr.
     tells_ok (x.0, rest) (take n.0 n.1, n.1, rw hr.2 hn, hr.1, subst (λ left. IsX (take n.0 n.1) x.0 left) hr.0 hx))

@@ -204,7 +204,7 @@ fn put_codes(alloc: Global, out: &mut Vec<u8>, items: &[Func]) -> Result<(), All
 
 /// The canonical spelling of a module, with no limit asked.
 pub fn spelling(alloc: Global, module: &Module) -> Result<Vec<u8>, AllocError>
-    ensures { IfOk result (λ v. v.items ≡ canon module.now) }
+    ensures { IfOk result (λ v. v.items ≡ canon «module».now) }
 {
     let mut out = Vec::from_slice(alloc, &PREAMBLE)?;
     put_types(alloc, &mut out, module.types.as_slice())?;

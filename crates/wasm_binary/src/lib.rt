@@ -26,8 +26,10 @@ use fault::{Fault, ReadError};
 
 /// The module that the bytes spell (5.5.16), with memory of its own.
 ///
-/// `BadModule` where they spell none; `Limit` where they spell none within the limits and are too many,
-/// or reach a number or a sum over a limit; `NoMemory` where memory is refused.
+/// `Limit` exactly where they are more than 262,144, or their front reaches a number or a sum over a
+/// limit; then they spell no module within the limits. Else `BadModule` exactly where they spell none.
+/// So the first fault from the front is answered. `NoMemory` may stand in place of any answer, where
+/// memory is refused.
 pub fn decode(alloc: Global, bytes: &[u8]) -> Result<Module, Refusal>
     ensures spelled { IfOk result (λ m. Spells bytes.now m) }
     ensures ranged { IfOk result (λ m. Ranged m) }
@@ -37,6 +39,7 @@ pub fn decode(alloc: Global, bytes: &[u8]) -> Result<Module, Refusal>
         → (result ≡ Ok m) ⊎ (result ≡ Err Refusal.NoMemory) }
     ensures bad { result ≡ Err Refusal.BadModule → (m : Module) → Spells bytes.now m → ⊥ }
     ensures over { result ≡ Err Refusal.Limit → Over bytes.now }
+    ensures limit { Over bytes.now → (result ≡ Err Refusal.Limit) ⊎ (result ≡ Err Refusal.NoMemory) }
     ensures none_within { result ≡ Err Refusal.Limit
         → (m : Module) → Spells bytes.now m → Within m → length bytes.now ≤ 262144 → ⊥ }
     ensures causes { IfErr result (λ e.
@@ -79,6 +82,12 @@ pub fn encode(alloc: Global, module: &Module) -> Result<Vec<u8>, Refusal>
 /// Bytes spell at most one module.
 pub fn spells_one()
     ensures { (bytes : List ℕ) (m n : Module) → Spells bytes m → Spells bytes n → m ≡ n }
+{}
+
+/// Bytes that pass a limit spell no module within the limits, or are too many.
+pub fn over_spells_none_within()
+    ensures { (bytes : List ℕ) → Over bytes
+        → (m : Module) → Spells bytes m → Within m → length bytes ≤ 262144 → ⊥ }
 {}
 
 /// The numbers of a module that bytes spell are in range.
