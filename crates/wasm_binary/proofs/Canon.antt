@@ -119,7 +119,7 @@ func_type_spells t rest u few =
       vector val_type t.params ++ vector val_type t.results ++ rest,
       vector val_type t.results ++ rest,
       refl,
-      rw append_assoc (vector_spells IsValType val_type (λ t. Unit {0}) type_spells type_some t.params (vector val_type t.results ++ rest) (all_types t.params) (omega arith)),
+      rw (append_assoc (vector val_type t.params) (vector val_type t.results) rest) (vector_spells IsValType val_type (λ t. Unit {0}) type_spells type_some t.params (vector val_type t.results ++ rest) (all_types t.params) (omega arith)),
       vector_spells IsValType val_type (λ t. Unit {0}) type_spells type_some t.results rest (all_types t.results) (omega arith),
     )
 
@@ -162,13 +162,12 @@ all_runs (r ∷ runs) few =
 
 code_spells : (imports : ℕ) (f : Func) → RangedFunc f → AreSpellableOps imports f.body → length f.locals ≤ 1024 → length (code f) ≤ 262144 → IsCode imports (code f) f []
 code_spells imports f small spellable few short =
-    let runs : List (ℕ × ValType) = runs_of f.locals in
     let whole : length (code f) ≡ length (vector run (runs_of f.locals)) + length (ops f.body ++ 0x0B ∷ []) =
     ap length (append_assoc (vector run (runs_of f.locals)) (ops f.body) (0x0B ∷ [])) ∙ length-append (vector run (runs_of f.locals)) (ops f.body ++ 0x0B ∷ []) in (
       ops f.body ++ 0x0B ∷ [],
       (
         runs_of f.locals,
-        rw append_assoc (vector_spells IsRun run (λ r. r.0 < 2 ^ 32) run_spells run_some (runs_of f.locals) (ops f.body ++ 0x0B ∷ []) (all_runs (runs_of f.locals) (omega (arith, ap length (locals_runs f.locals)))) (omega arith)),
+        rw (append_assoc (vector run (runs_of f.locals)) (ops f.body) (0x0B ∷ [])) (vector_spells IsRun run (λ r. r.0 < 2 ^ 32) run_spells run_some (runs_of f.locals) (ops f.body ++ 0x0B ∷ []) (all_runs (runs_of f.locals) (omega (arith, ap length (locals_runs f.locals)))) (omega arith)),
         sym (locals_runs f.locals),
       ),
       ops_spells imports f.body (0x0B ∷ []) small.1 spellable,
