@@ -6,7 +6,9 @@ ghost use Rattle.wasm_ast.specs.Syntax.{ops_of};
 ghost use Rattle.wasm_binary.specs.Grammar.{locals_of, preamble, indices_of};
 ghost use Rattle.wasm_binary.specs.Canonical.{vector, number, sized, same_type, add_local, runs_of, run, ops, code, entry, func_type, import_entry, export_entry, section, canon};
 
-use crate::sections::PREAMBLE;
+use crate::marks::{
+    CODE_SECTION, END, EXPORT_SECTION, FUNCTION_SECTION, IMPORT_SECTION, PREAMBLE, TYPE_SECTION,
+};
 use crate::writing::{
     put_export, put_func_type, put_import, put_instr, put_number, put_sized, put_val_type,
 };
@@ -79,7 +81,7 @@ fn code_of(alloc: Global, func: &Func) -> Result<Vec<u8>, AllocError>
     let runs = runs_of(alloc, func.locals.as_slice())?;
     put_runs(&mut out, &runs)?;
     put_instrs(&mut out, func.body.as_slice())?;
-    out.push(0x0B)?;
+    out.push(END)?;
     Ok(out)
 }
 
@@ -159,7 +161,7 @@ fn put_types(alloc: Global, out: &mut Vec<u8>, items: &[FuncType]) -> Result<(),
         return Ok(());
     }
     let part = types_part(alloc, items)?;
-    put_section(out, 1, &part)
+    put_section(out, TYPE_SECTION, &part)
 }
 
 fn put_imports(alloc: Global, out: &mut Vec<u8>, items: &[Import]) -> Result<(), AllocError>
@@ -169,7 +171,7 @@ fn put_imports(alloc: Global, out: &mut Vec<u8>, items: &[Import]) -> Result<(),
         return Ok(());
     }
     let part = imports_part(alloc, items)?;
-    put_section(out, 2, &part)
+    put_section(out, IMPORT_SECTION, &part)
 }
 
 fn put_functions(alloc: Global, out: &mut Vec<u8>, items: &[Func]) -> Result<(), AllocError>
@@ -179,7 +181,7 @@ fn put_functions(alloc: Global, out: &mut Vec<u8>, items: &[Func]) -> Result<(),
         return Ok(());
     }
     let part = functions_part(alloc, items)?;
-    put_section(out, 3, &part)
+    put_section(out, FUNCTION_SECTION, &part)
 }
 
 fn put_exports(alloc: Global, out: &mut Vec<u8>, items: &[Export]) -> Result<(), AllocError>
@@ -189,7 +191,7 @@ fn put_exports(alloc: Global, out: &mut Vec<u8>, items: &[Export]) -> Result<(),
         return Ok(());
     }
     let part = exports_part(alloc, items)?;
-    put_section(out, 7, &part)
+    put_section(out, EXPORT_SECTION, &part)
 }
 
 fn put_codes(alloc: Global, out: &mut Vec<u8>, items: &[Func]) -> Result<(), AllocError>
@@ -199,7 +201,7 @@ fn put_codes(alloc: Global, out: &mut Vec<u8>, items: &[Func]) -> Result<(), All
         return Ok(());
     }
     let part = codes_part(alloc, items)?;
-    put_section(out, 10, &part)
+    put_section(out, CODE_SECTION, &part)
 }
 
 /// The canonical spelling of a module, with no limit asked.

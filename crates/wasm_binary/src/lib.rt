@@ -16,6 +16,7 @@ mod code;
 mod encoding;
 mod entries;
 mod fault;
+mod marks;
 mod numbers;
 mod ops;
 mod sections;
@@ -69,7 +70,7 @@ pub fn encode(alloc: Global, module: &Module) -> Result<Vec<u8>, Refusal>
     }
     match encoding::spelling(alloc, module) {
         Ok(bytes) => {
-            if bytes.len() > sections::MOST_BYTES {
+            if bytes.len() > marks::MOST_BYTES {
                 Err(Refusal::Limit)
             } else {
                 Ok(bytes)
