@@ -13,3 +13,4 @@ pub mod Runs
 pub mod Canon
 pub mod InRange
 pub mod Overs
+pub mod Least

@@ -1,6 +1,6 @@
 -- The canonical spelling of a module: shortest numbers, locals in longest runs of one type, no custom
 -- section and no empty section.
-use Rattle.std.specs.Prelude.{ℕ, zero, suc, ◌+◌, ◌-◌, ◌*◌, ◌/◌, ◌%◌, ◌^◌, ◌<◌, ◌≤◌, List, [], ◌∷◌, ◌++◌, length, fold, All, IsUtf8, Bool, true, false, nat_lt, if◌then◌else◌}
+use Rattle.std.specs.Prelude.{◌≢◌, ℕ, zero, suc, ◌+◌, ◌-◌, ◌*◌, ◌/◌, ◌%◌, ◌^◌, ◌<◌, ◌≤◌, List, [], ◌∷◌, ◌++◌, length, fold, All, IsUtf8, Bool, true, false, nat_lt, if◌then◌else◌}
 use Rattle.std.specs.List.{flat_map}
 use Rattle.wasm_ast.specs.declared.values.ValType.{ValType}
 use Rattle.wasm_ast.specs.declared.values.ValType.TheVariants.{I32, I64}
@@ -78,6 +78,12 @@ add_local (run ∷ next_run ∷ runs) t = run ∷ add_local (next_run ∷ runs) 
 -- locals in longest runs of one type
 abbrev pub runs_of : List ValType → List (ℕ × ValType)
 runs_of locals = fold add_local [] locals
+
+-- no run is empty, and no two of one type stand side by side
+abbrev pub AreLongest : List (ℕ × ValType) → Type 0
+AreLongest [] = Unit {0}
+AreLongest (r ∷ []) = 0 < r.0
+AreLongest (r ∷ next_run ∷ runs) = (0 < r.0) × (r.1 ≢ next_run.1) × AreLongest (next_run ∷ runs)
 
 abbrev pub run : ℕ × ValType → List ℕ
 run r = number r.0 ++ val_type r.1

@@ -1,13 +1,15 @@
 //! The binary format of modules.
 #![tactic(auto)]
 
-ghost use Rattle.std.specs.Prelude.{◌≡◌, ℕ, ◌≤◌, List, length, IfOk, IfErr, ◌⊎◌};
+ghost use Rattle.std.specs.Prelude.{◌≡◌, ℕ, ◌+◌, ◌≤◌, List, length, IfOk, IfErr, ◌⊎◌};
 ghost use Rattle.wasm_ast.specs.declared.module.Module.{Module};
 ghost use Rattle.wasm_ast.specs.Ranged.{Ranged};
 ghost use Rattle.wasm_ast.specs.Limits.{Within};
-ghost use Rattle.wasm_binary.specs.Grammar.{Spells};
+ghost use Rattle.wasm_ast.specs.declared.values.ValType.{ValType};
+ghost use Rattle.wasm_binary.specs.Numbers.{IsU32, IsSigned};
+ghost use Rattle.wasm_binary.specs.Grammar.{Spells, locals_of};
 ghost use Rattle.wasm_binary.specs.Limits.{Over};
-ghost use Rattle.wasm_binary.specs.Canonical.{canon, FitsLimits, IsSpellable};
+ghost use Rattle.wasm_binary.specs.Canonical.{canon, FitsLimits, IsSpellable, number, signed, runs_of, AreLongest};
 
 use std::alloc::Global;
 use wasm_ast::{Module, Refusal};
@@ -100,4 +102,18 @@ pub fn spells_ranged()
 /// that module.
 pub fn canonical_spells()
     ensures { (m : Module) → Ranged m → FitsLimits m → IsSpellable m → Spells (canon m) m }
+{}
+
+/// A canonical number is the shortest spelling of that number.
+pub fn canonical_numbers_are_shortest()
+    ensures unsigned { (bytes : List ℕ) (n : ℕ) (rest : List ℕ) → IsU32 bytes n rest
+        → length (number n) + length rest ≤ length bytes }
+    ensures signed { (bytes : List ℕ) (n : ℕ) (rest : List ℕ) → IsSigned 32 bytes n rest
+        → length (signed 4 32 n) + length rest ≤ length bytes }
+{}
+
+/// Canonical runs are of the same locals, none is empty, and no two of one type stand side by side.
+pub fn canonical_runs_are_longest()
+    ensures same { (locals : List ValType) → locals_of (runs_of locals) ≡ locals }
+    ensures longest { (locals : List ValType) → AreLongest (runs_of locals) }
 {}
