@@ -1,0 +1,3 @@
+pub mod Shape
+pub mod Request
+pub mod Fields
