@@ -1,3 +1,4 @@
 pub mod Shape
 pub mod Request
 pub mod Fields
+pub mod Reply

@@ -3,7 +3,10 @@
 
 mod event;
 mod fields;
+mod line;
+mod reply;
 mod request;
 
 pub use event::event_of;
+pub use line::{bad_request_line, event_line_of, line_of, no_memory_line};
 pub use request::request_of;
