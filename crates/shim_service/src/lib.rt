@@ -6,7 +6,9 @@ mod fields;
 mod line;
 mod reply;
 mod request;
+mod words;
 
 pub use event::event_of;
 pub use line::{bad_request_line, event_line_of, line_of, no_memory_line};
 pub use request::request_of;
+pub use words::{Command, Fault, command_of};
