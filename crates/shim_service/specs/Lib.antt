@@ -2,3 +2,4 @@ pub mod Shape
 pub mod Request
 pub mod Fields
 pub mod Reply
+pub mod Words
