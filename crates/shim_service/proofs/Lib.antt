@@ -1,3 +1,4 @@
 pub mod Counting
 pub mod Asking
 pub mod Reading
+pub mod Single
