@@ -2,7 +2,7 @@
 use Rattle.std.proofs.Common.{◌≡◌, ℕ, List, codes, Option, Some, None, Result, Ok, Err, cond, bytes_eq, sym, ap, ◌∙◌, refl}
 use Rattle.hex.specs.Hex.{decode_of}
 use Rattle.hex.specs.declared.error.FromHexError.{FromHexError}
-use Rattle.serde_json.specs.Data.{Data, null, boolean, number, string, array, object, Members, member, no_members, Num, unsigned}
+use Rattle.serde_json.specs.Data.{Data, number, string, object, Members, member, no_members, unsigned}
 use Rattle.task_board.specs.declared.event.Event.{Event}
 use Rattle.task_board.specs.declared.event.Event.TheVariants.{Call, Take, Return}
 use Rattle.task_board.specs.declared.request.Request.TheVariants.{Put, Create, Start, State, Wait}

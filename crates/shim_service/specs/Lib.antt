@@ -3,3 +3,4 @@ pub mod Request
 pub mod Fields
 pub mod Reply
 pub mod Words
+pub mod Examples

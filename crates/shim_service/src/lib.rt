@@ -10,7 +10,7 @@ mod request;
 mod words;
 
 pub use event::event_of;
-pub use laws::{one_event_to_a_line, requests_are_events};
+pub use laws::{examples, one_event_to_a_line, requests_are_events};
 pub use line::{bad_request_line, event_line_of, line_of, no_memory_line};
 pub use request::request_of;
 pub use words::{Command, Fault, command_of};
