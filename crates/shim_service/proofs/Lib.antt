@@ -2,3 +2,5 @@ pub mod Counting
 pub mod Asking
 pub mod Reading
 pub mod Single
+pub mod Splitting
+pub mod Scripts

@@ -4,3 +4,4 @@ pub mod Fields
 pub mod Reply
 pub mod Words
 pub mod Examples
+pub mod Lines

@@ -5,6 +5,7 @@ mod event;
 mod fields;
 mod laws;
 mod line;
+mod replay;
 mod reply;
 mod request;
 mod words;
