@@ -4,3 +4,4 @@ pub mod Reading
 pub mod Single
 pub mod Splitting
 pub mod Scripts
+pub mod Incoming

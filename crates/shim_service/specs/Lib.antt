@@ -5,3 +5,4 @@ pub mod Reply
 pub mod Words
 pub mod Examples
 pub mod Lines
+pub mod Input

@@ -3,6 +3,7 @@
 
 mod event;
 mod fields;
+mod input;
 mod laws;
 mod line;
 mod replay;

@@ -1,6 +1,6 @@
 use Rattle.std.proofs.Common.{ap, Err}
 use Rattle.std.proofs.lemmas.Result.{on_ok_weaker}
-use Rattle.shim_service.proofs.Scripts.{adds_event, adds_bad, adds_unread}
+use Rattle.shim_service.proofs.Scripts.{adds_event, adds_bad}
 use Rattle.shim_service.proofs.replay.Script.read.Goals as goal
 
 pub returns-in-Ok-clause-ok : goal.returns-in-Ok-clause-ok
