@@ -5,3 +5,4 @@ pub mod Single
 pub mod Splitting
 pub mod Scripts
 pub mod Incoming
+pub mod Answering

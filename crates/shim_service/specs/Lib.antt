@@ -6,3 +6,4 @@ pub mod Words
 pub mod Examples
 pub mod Lines
 pub mod Input
+pub mod Serving

@@ -47,3 +47,11 @@ answers (mark.Event ∷ marks) [] = answers marks []
 answers (mark.Event ∷ marks) (reply ∷ replies) = line_text (event_data reply) ++ answers marks replies
 answers (mark.Bad ∷ marks) replies = line_text (refusal_data BadRequest) ++ answers marks replies
 answers (mark.Unread ∷ marks) replies = line_text (refusal_data NoMemory) ++ answers marks replies
+
+-- the bytes are the answers to the lines, from what was made of each and some replies to the events
+pub record AreAnswers (bytes out : List ℕ) : Type 0 where
+  pub marks : List Mark
+  pub events : List Event
+  pub replies : List EventReply
+  pub read : AreRead (lines_of bytes) marks events
+  pub written : out ≡ answers marks replies

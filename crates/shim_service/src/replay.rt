@@ -2,12 +2,12 @@
 
 ghost use Rattle.std.specs.Prelude.{◌≡◌, ◌<◌, ◌∷◌, ◌++◌, [], IfOk, IfErr, OnOk, OnErr, length, vec_len, List};
 ghost use Rattle.shim_service.specs.declared.replay.Mark.{Mark};
-ghost use Rattle.shim_service.specs.Lines.{lines_of, AreRead, Adds, answers};
+ghost use Rattle.shim_service.specs.Lines.{lines_of, AreRead, Adds, AreAnswers, answers};
 
 use crate::event::event_of;
 use crate::line::{bad_request_line, event_line_of, no_memory_line};
 use std::alloc::Global;
-use task_board::{Event, EventReply};
+use task_board::{Event, EventReply, run_events};
 use wasm_ast::Refusal;
 
 // What was made of a line.
@@ -139,4 +139,20 @@ fn answers_of(alloc: Global, marks: &[Mark], replies: &[EventReply]) -> Result<V
         left = write_answer(alloc, *mark, left, &mut out)?;
     }
     Ok(out)
+}
+
+/// The answers to the lines of a script, a line each, in their order. Its lines are run as one list of
+/// events on a board of their own.
+///
+/// `NoMemory` where memory was refused but for the reading of a line, which is answered so; and no
+/// other refusal.
+pub fn replay_lines(alloc: Global, bytes: &[u8]) -> Result<Vec<u8>, Refusal>
+    ensures ok { IfOk result (λ v. AreAnswers bytes.now v.items) }
+    ensures errors { IfErr result (λ e. e ≡ Refusal.NoMemory) }
+{
+    let Script { marks, events } = script_of(alloc, bytes)?;
+    let Ok(replies) = run_events(alloc, events) else {
+        return Err(Refusal::NoMemory);
+    };
+    answers_of(alloc, marks.as_slice(), replies.as_slice())
 }
