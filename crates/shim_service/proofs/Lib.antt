@@ -6,3 +6,4 @@ pub mod Splitting
 pub mod Scripts
 pub mod Incoming
 pub mod Answering
+pub mod Lending

@@ -1,10 +1,11 @@
 //! Answers lines as they come.
 
-ghost use Rattle.std.specs.Prelude.{◌≡◌, ◌⊎◌, List, ℕ, [], IsTrue, Err};
+ghost use Rattle.std.specs.Prelude.{◌≡◌, ◌⊎◌, List, ℕ, [], IsTrue, Err, MatchBool};
 ghost use Rattle.std.specs.Io.KnownBytes.{Appends};
+ghost use Rattle.task_board.specs.declared.request.Request.TheVariants as Asked;
 ghost use Rattle.shim_service.specs.Reply.{json_of, line_text};
 ghost use Rattle.shim_service.specs.Input.{IsKept};
-ghost use Rattle.shim_service.specs.Serving.{Answers, Writes, Serves};
+ghost use Rattle.shim_service.specs.Serving.{OneSlice, IsIdle, RunsTask, Calls, Answers, Writes, Serves};
 
 use crate::input::{Chunk, Line, next_line};
 use crate::line::{line_of, no_memory_line};
@@ -12,37 +13,60 @@ use crate::request::request_of;
 use std::alloc::Global;
 use std::io::{Read, Write};
 use task_board::{Board, Reply, Request};
-use wasm_ast::Refusal;
+use wasm_ast::{Refusal, Text};
 
 // How many turns a slice has at most.
 const SLICE: u64 = 10_000;
 
+// Runs a slice of a task, and says whether one could go out.
+fn run_slice(board: &mut Board, id: &str) -> bool
+    ensures { MatchBool result (OneSlice id.now board.old board.new)
+        ((board.new ≡ board.old) × IsIdle id.now board.old) }
+{
+    let Some(ticket) = board.ticket(id) else {
+        return false;
+    };
+    let Some(mut loan) = board.take(ticket, SLICE) else {
+        return false;
+    };
+    loan.run();
+    let _ticket = board.give_back(loan);
+    true
+}
+
 // Runs a task, slice by slice, until it is not running.
-fn run_task(board: &mut Board, id: &str) {
-    let mut next = board.ticket(id);
+fn run_task(board: &mut Board, id: &str)
+    ensures { RunsTask id.now board.old board.new }
+{
     for _ in 0..u64::MAX {
-        let Some(ticket) = next else {
+        if !run_slice(board, id) {
             return;
-        };
-        let Some(mut loan) = board.take(ticket, SLICE) else {
-            return;
-        };
-        loan.run();
-        next = board.give_back(loan);
+        }
     }
 }
 
+// Runs a task, and then makes the call.
+fn wait(board: &mut Board, id: Text) -> Result<Reply, Refusal>
+    ensures { Calls board.old (Asked.Wait id) result board.new }
+{
+    run_task(board, id.as_str());
+    board.call(Request::Wait { id })
+}
+
 // Makes a call. A wait runs its task first.
-fn call(board: &mut Board, request: Request) -> Result<Reply, Refusal> {
-    if let Request::Wait { id } = &request {
-        run_task(board, id.as_str());
+fn call(board: &mut Board, request: Request) -> Result<Reply, Refusal>
+    ensures { Calls board.old request result board.new }
+{
+    match request {
+        Request::Wait { id } => wait(board, id),
+        other => board.call(other),
     }
-    board.call(request)
 }
 
 // What a line is answered.
 fn answer_of(alloc: Global, board: &mut Board, line: &Line) -> Result<Reply, Refusal>
-    ensures { (text : List ℕ) → IsKept line.now.is_long line.now.kept.items text → Answers text result }
+    ensures { (text : List ℕ) → IsKept line.now.is_long line.now.kept.items text
+        → Answers board.old text result board.new }
 {
     if line.is_long {
         return Err(Refusal::BadRequest);
@@ -81,7 +105,8 @@ pub fn serve_lines<R: Read, W: Write>(
     reader: &mut R,
     writer: &mut W,
 ) -> bool
-    ensures { IsTrue result → Serves (R.remaining reader.old) (W.contents writer.old) (W.contents writer.new) }
+    ensures { IsTrue result → Serves board.old (R.remaining reader.old) (W.contents writer.old)
+        (W.contents writer.new) board.new }
 {
     let Ok(mut chunk) = Chunk::new(alloc) else {
         return false;

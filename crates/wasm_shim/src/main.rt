@@ -41,7 +41,10 @@ fn serve(rt: &HostRuntime) -> ExitCode {
     if serve_lines(alloc, &mut board, &mut input, &mut output) {
         ExitCode::SUCCESS
     } else {
-        failed(rt, "standard input or output failed, or a line found no room")
+        failed(
+            rt,
+            "standard input or output failed, or a line found no room",
+        )
     }
 }
 

@@ -4,4 +4,4 @@ use Rattle.shim_service.proofs.serve.serve_lines.Given as goal
 
 abbrev pub invariant-loop : goal.invariant-loop
 invariant-loop g l =
-    Serving (g.R.Read.remaining l.fn.reader) (prepend_known l.chunk (g.R.Read.remaining l.reader)) (g.W.Write.contents l.fn.writer) (g.W.Write.contents l.writer)
+    Serving l.fn.board (g.R.Read.remaining l.fn.reader) (prepend_known l.chunk (g.R.Read.remaining l.reader)) (g.W.Write.contents l.fn.writer) (g.W.Write.contents l.writer) l.board
