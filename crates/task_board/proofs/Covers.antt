@@ -1,10 +1,10 @@
 -- Of each task that is out the loan stays among those that are kept.
-use Rattle.std.proofs.Common.{◌≡◌, ◌≢◌, ℕ, zero, suc, ◌+◌, ◌<◌, List, [], ◌∷◌, ◌++◌, take, drop, length, get_or, set, slice_set, Bool, true, false, eqb, Option, Some, None, option_map, option_and_then, slice_get, inl, inr, ◌⊎◌, refl, sym, ap, ◌∙◌, subst, arith}
+use Rattle.std.proofs.Common.{◌≡◌, ◌≢◌, ℕ, zero, suc, List, [], ◌∷◌, ◌++◌, set, Bool, true, false, eqb, Option, Some, None, slice_get, inl, inr, ◌⊎◌, refl, sym, ap, ◌∙◌, subst}
 use Rattle.std.specs.List.{remove}
 use Rattle.std.proofs.lemmas.Bool.Decides.{Decides-eqb}
 use Rattle.task_board.specs.State.{Task, Slots, task_in, set_slot}
-use Rattle.task_board.specs.Loans.{Lent, FitsTask, Fits}
-use Rattle.task_board.specs.Events.{IsFitting, FitsAt, NoneFits, SomeFits, Covered}
+use Rattle.task_board.specs.Loans.{Lent, FitsTask}
+use Rattle.task_board.specs.Events.{IsFitting, NoneFits, SomeFits, Covered}
 
 -- a write leaves what stood there, or is there
 pub at_set : (ts : Slots) (k : ℕ) (x : Option Task) (j : ℕ) → (task_in (set ts k x) j ≡ task_in ts j) ⊎ (task_in (set ts k x) j ≡ x)

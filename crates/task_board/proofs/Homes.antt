@@ -1,5 +1,5 @@
 -- Where the machine of a task is.
-use Rattle.std.proofs.Common.{◌≡◌, ℕ, ◌+◌, Bool, true, false, true≢false, ◌||◌, Option, Some, None, refl, sym, ap, ap₂, ◌∙◌, subst, List}
+use Rattle.std.proofs.Common.{◌≡◌, ℕ, ◌+◌, true, false, true≢false, ◌||◌, Option, Some, None, refl, sym, ap, ap₂, ◌∙◌, subst, List}
 use Rattle.std.specs.Arc.{arc_value}
 use Rattle.wasm_ast.specs.declared.module.Module.{Module}
 use Rattle.step_machine.specs.declared.process.Process.{Process}

@@ -6,3 +6,4 @@ pub mod Out
 pub mod Covers
 pub mod Steps
 pub mod Runs
+pub mod Moving

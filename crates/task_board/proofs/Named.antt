@@ -1,11 +1,9 @@
 -- Tasks by their ids.
-use Rattle.std.proofs.Common.{◌≡◌, ◌≢◌, ℕ, zero, suc, ◌+◌, List, [], ◌∷◌, Bool, true, false, cond, not, bytes_eq, Option, Some, None, option_map, option_and_then, Result, Ok, Err, refl, sym, ap, ap₂, ◌∙◌, subst, slice_set, Bor, IfSome, option_copied}
+use Rattle.std.proofs.Common.{◌≡◌, ℕ, suc, List, [], ◌∷◌, Bool, true, false, cond, bytes_eq, Option, Some, None, option_map, option_and_then, Ok, refl, sym, ap, ap₂, ◌∙◌, subst, Bor, IfSome, option_copied}
 use Rattle.std.proofs.lemmas.Slice.Eq.{bytes_eq-Decides}
 use Rattle.wasm_ast.specs.declared.module.Module.{Module}
 use Rattle.task_board.specs.declared.request.Request.TheVariants as request
-use Rattle.task_board.specs.declared.request.Reply.{Reply}
 use Rattle.task_board.specs.declared.request.Reply.TheVariants as reply
-use Rattle.task_board.specs.declared.status.Status.{Status}
 use Rattle.task_board.specs.declared.status.Status.TheVariants.{Created}
 use Rattle.task_board.specs.Identifiers.{is_id}
 use Rattle.task_board.specs.State.{Task, Slots, State, slot_of, task_in, task_of, set_slot, with_task, with_slot}

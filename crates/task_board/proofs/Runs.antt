@@ -11,7 +11,7 @@ use Rattle.task_board.specs.declared.request.Reply.TheVariants as reply
 use Rattle.task_board.specs.declared.request.TaskState.{TaskState}
 use Rattle.step_machine.specs.declared.process.Process.{Process}
 use Rattle.task_board.specs.Identifiers.{digest_of}
-use Rattle.task_board.specs.State.{Task, Slots, State, slot_of, task_in, task_of, set_slot, created_task}
+use Rattle.task_board.specs.State.{Task, State, slot_of, task_of, set_slot, created_task}
 use Rattle.task_board.specs.Loans.{Lent}
 use Rattle.task_board.specs.Events.{Happens, Covered}
 use Rattle.task_board.specs.Step.{Answers, Decided, Creates, Opened, Starts, started, Shows, with_content, task_refusal, put_refusal, create_refusal, start_refusal, wait_refusal, no_refusal, Step, Unless, is_no_memory, met_no_memory, Run}

@@ -1,5 +1,5 @@
 -- Slots beside the entries of a slab.
-use Rattle.std.proofs.Common.{◌≡◌, ℕ, zero, suc, ◌+◌, List, [], ◌∷◌, Bool, true, false, cond, bytes_eq, Option, Some, None, option_map, refl, sym, ap, ◌∙◌, arith}
+use Rattle.std.proofs.Common.{◌≡◌, ℕ, suc, ◌+◌, List, [], ◌∷◌, Bool, true, false, cond, bytes_eq, Option, Some, None, option_map, refl, ap, ◌∙◌, arith}
 use Rattle.slab.specs.Slab.{entries_from}
 use Rattle.task_board.specs.State.{Task, Slots, slot_of}
 

@@ -1,25 +1,18 @@
 -- What the board's calls do, as events.
-use Rattle.std.proofs.Common.{◌≡◌, ◌≢◌, ℕ, zero, suc, ◌+◌, ◌≤◌, List, [], ◌∷◌, ◌++◌, Bool, true, false, true≢false, ◌&&◌, nat_le, cond, Option, Some, None, option_map, option_and_then, Result, Ok, Err, inl, inr, ◌⊎◌, refl, sym, ap, ◌∙◌, subst, arith, slice_set}
+use Rattle.std.proofs.Common.{◌≡◌, ℕ, ◌≤◌, List, [], ◌∷◌, ◌++◌, Bool, true, false, ◌&&◌, nat_le, cond, Option, Some, None, option_map, option_and_then, refl, sym, ap, ◌∙◌, subst, arith}
 use Rattle.std.specs.Prelude.{slice_get}
 use Rattle.std.specs.List.{remove}
 use Rattle.std.proofs.lemmas.Bool.Decides.{nat_tests}
-use Rattle.wasm_ast.specs.declared.module.Module.{Module}
-use Rattle.wasm_ast.specs.declared.refusal.Refusal.{Refusal}
 use Rattle.task_board.specs.declared.ticket.Ticket.{Ticket}
-use Rattle.task_board.specs.declared.event.Event.{Event}
 use Rattle.task_board.specs.declared.event.Event.TheVariants as event
-use Rattle.task_board.specs.declared.event.EventReply.{EventReply}
 use Rattle.task_board.specs.declared.event.EventReply.TheVariants as answer
-use Rattle.task_board.specs.declared.request.Request.{Request}
-use Rattle.task_board.specs.declared.request.Request.TheVariants as request
-use Rattle.task_board.specs.declared.request.Reply.{Reply}
-use Rattle.task_board.specs.State.{Task, Slots, State, slot_of, task_in, task_of, set_slot, with_task, with_slot}
-use Rattle.task_board.specs.Loans.{Lent, loan_of, FitsTask, Fits}
+use Rattle.task_board.specs.State.{Task, Slots, State, slot_of, task_in, task_of, with_task, with_slot}
+use Rattle.task_board.specs.Loans.{Lent, loan_of, FitsTask}
 use Rattle.task_board.specs.Tickets.{ticket_to, ticket_of, CanLend, Lends, ComesHome}
-use Rattle.task_board.specs.Events.{Happens, IsFitting, NoneFits, SomeFits, Covered}
-use Rattle.task_board.specs.Step.{Answers, Decided, Creates, Opened, Starts, started, can_go_out, with_out, lent, taken, out_of, Returns, returned, Step, Unless, met_no_memory, Run}
-use Rattle.task_board.proofs.Named.{Found, found, named, in_slot}
-use Rattle.task_board.proofs.Covers.{set_there, covered_kept, at_home_stays, enters_stays, covered_more, covered_less, not_both}
+use Rattle.task_board.specs.Events.{NoneFits, Covered}
+use Rattle.task_board.specs.Step.{can_go_out, with_out, lent, taken, out_of, Returns, returned, Step}
+use Rattle.task_board.proofs.Named.{named, in_slot}
+use Rattle.task_board.proofs.Covers.{covered_more, covered_less, not_both}
 
 -- what a ticket of an id is of
 pub record IsOf (id : List ℕ) (ts : Slots) (ticket : Ticket) (t : Task) : Type 0 where

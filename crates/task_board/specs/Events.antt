@@ -1,9 +1,9 @@
 -- Events and the slices that are out between them.
-use Rattle.std.specs.Prelude.{◌≡◌, ℕ, Bool, true, false, List, [], ◌∷◌, ◌⊎◌, Option, Some, None, slice_get}
+use Rattle.std.specs.Prelude.{◌≡◌, ℕ, List, [], ◌∷◌, ◌⊎◌, Some, slice_get}
 use Rattle.task_board.specs.declared.event.Event.{Event}
 use Rattle.task_board.specs.declared.event.EventReply.{EventReply}
 use Rattle.task_board.specs.State.{Task, Slots, State, task_in}
-use Rattle.task_board.specs.Loans.{Lent, FitsTask, Fits}
+use Rattle.task_board.specs.Loans.{Lent, Fits}
 use Rattle.task_board.specs.Step.{Step, Unless, met_no_memory}
 
 -- an event happens, or it met want of memory and nothing has changed

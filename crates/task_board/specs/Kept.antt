@@ -1,5 +1,5 @@
 -- What the code keeps of a task, and of a slice that is out, beside what a call can see.
-use Rattle.std.specs.Prelude.{◌≡◌, ℕ, ◌+◌, List, Bool, true, ◌||◌, Option, Some, None}
+use Rattle.std.specs.Prelude.{◌≡◌, ℕ, ◌+◌, List, true, ◌||◌, Option, Some, None}
 use Rattle.std.specs.Arc.{arc_value}
 use Rattle.wasm_ast.specs.declared.module.Module.{Module}
 use Rattle.step_machine.specs.declared.process.Process.{Process}
@@ -8,7 +8,6 @@ use Rattle.step_machine.specs.declared.ends.SliceEnd.{SliceEnd}
 use Rattle.step_machine.specs.Ran.{Ran}
 use Rattle.step_machine.specs.Slices.{turns_made, slice_end}
 use Rattle.task_board.specs.declared.home.Home.{Home}
-use Rattle.task_board.specs.declared.status.Status.{Status}
 use Rattle.task_board.specs.Machines.{IsMachine}
 use Rattle.task_board.specs.State.{Task}
 use Rattle.task_board.specs.Loans.{Lent}

@@ -1,5 +1,5 @@
 -- The abstract board: what a call can see of contents, leases and tasks.
-use Rattle.std.specs.Prelude.{◌≡◌, ◌≢◌, ℕ, zero, suc, ◌+◌, ◌++◌, List, [], ◌∷◌, length, count_by, bytes_eq, slice_index_or, slice_set, Bool, false, if◌then◌else◌, Option, Some, None, is_some, option_map, option_and_then}
+use Rattle.std.specs.Prelude.{◌≡◌, ◌≢◌, ℕ, suc, ◌+◌, List, [], ◌∷◌, bytes_eq, slice_index_or, slice_set, Bool, false, if◌then◌else◌, Option, Some, None, option_map, option_and_then}
 use Rattle.step_machine.specs.declared.process.Process.{Process}
 use Rattle.step_machine.specs.declared.places.Place.{Place}
 use Rattle.task_board.specs.declared.status.Status.{Status}

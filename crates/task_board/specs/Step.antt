@@ -13,7 +13,6 @@ use Rattle.step_machine.specs.declared.ends.End.TheVariants as ends
 use Rattle.step_machine.specs.declared.ends.SliceEnd.{SliceEnd}
 use Rattle.step_machine.specs.declared.ends.SliceEnd.TheVariants as slice
 use Rattle.step_machine.specs.Typing.{ValidModule}
-use Rattle.step_machine.specs.Tree as machine
 use Rattle.step_machine.specs.Opening.{after, ended, opening_refusal}
 use Rattle.step_machine.specs.Slices.{at_break, turns_made, slice_end}
 use Rattle.task_board.specs.declared.event.Event.{Event}
@@ -31,7 +30,7 @@ use Rattle.task_board.specs.declared.status.ExitRecord.{ExitRecord}
 use Rattle.task_board.specs.declared.status.ExitRecord.TheVariants as exit
 use Rattle.task_board.specs.Identifiers.{is_id, digest_of}
 use Rattle.task_board.specs.Config.{process_read}
-use Rattle.task_board.specs.State.{Content, Task, created_task, State, content_in, task_of, with_task, Enters}
+use Rattle.task_board.specs.State.{Task, created_task, State, content_in, task_of, with_task, Enters}
 
 -- ---- the lifecycle
 

@@ -3,7 +3,7 @@ use Rattle.std.specs.Prelude.{◌≡◌, ℕ, List, Bool, true, false, Option, S
 use Rattle.wasm_ast.specs.declared.module.Module.{Module}
 use Rattle.task_board.specs.declared.ticket.Ticket.{Ticket}
 use Rattle.task_board.specs.State.{Task, Slots, State, slot_of, task_in, with_slot}
-use Rattle.task_board.specs.Loans.{Lent, loan_of, FitsTask, Fits}
+use Rattle.task_board.specs.Loans.{Lent, loan_of, FitsTask}
 use Rattle.task_board.specs.Step.{Openable, can_go_out, with_out, returned, is_running}
 
 abbrev pub ticket_to : ℕ → Task → Ticket

@@ -1,4 +1,4 @@
-use Rattle.std.proofs.Common.{sym, subst}
+use Rattle.std.proofs.Common.{subst}
 use Rattle.task_board.specs.Loans.{Lent}
 use Rattle.task_board.specs.Events.{IsFitting}
 use Rattle.task_board.proofs.Out.{none_more}

@@ -1,9 +1,6 @@
-use Rattle.std.proofs.Common.{◌≡◌, ◌∙◌, ◌<◌, Some, sym, ap, subst, refl, List, arith, rules, length, vec_len}
-use Rattle.std.specs.Prelude.{slice_get}
-use Rattle.std.specs.List.{remove}
-use Rattle.task_board.specs.Loans.{Lent, Fits}
-use Rattle.task_board.specs.State.{Slots}
-use Rattle.task_board.specs.Tickets.{ticket_of, ComesHome}
+use Rattle.std.proofs.Common.{◌≡◌, ◌∙◌, Some, sym, subst, refl, List, arith, rules}
+use Rattle.task_board.specs.Loans.{Lent}
+use Rattle.task_board.specs.Tickets.{ticket_of}
 use Rattle.task_board.specs.Events.{NoneFits, FitsAt, Covered}
 use Rattle.task_board.proofs.Steps.{ticket_is_of, not_out, comes, comes_covered}
 use Rattle.task_board.proofs.Out.{fits_within, fits_taken, fits_run}

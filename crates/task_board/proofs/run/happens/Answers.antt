@@ -1,6 +1,3 @@
-use Rattle.std.proofs.Common.{◌≡◌, sym, ap, subst}
-use Rattle.task_board.specs.State.{State}
-use Rattle.task_board.specs.Events.{Covered}
 use Rattle.task_board.proofs.Runs.{call_covered}
 use Rattle.task_board.proofs.run.happens.Goals as goal
 

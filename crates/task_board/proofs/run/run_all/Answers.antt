@@ -1,4 +1,4 @@
-use Rattle.std.proofs.Common.{◌≡◌, ◌++◌, ◌∷◌, [], List, sym, subst}
+use Rattle.std.proofs.Common.{◌++◌, ◌∷◌, [], List, sym, subst}
 use Rattle.task_board.specs.declared.event.EventReply.{EventReply}
 use Rattle.task_board.specs.Step.{Run}
 use Rattle.task_board.proofs.Runs.{run_more}

@@ -1,4 +1,4 @@
-use Rattle.std.proofs.Common.{◌≡◌, ◌∙◌, ◌++◌, ◌∷◌, [], ◌≤◌, Some, sym, ap, subst, arith, List, rules}
+use Rattle.std.proofs.Common.{◌≡◌, ◌++◌, ◌∷◌, [], ◌≤◌, Some, sym, subst, arith, List, rules}
 use Rattle.task_board.specs.Loans.{Lent}
 use Rattle.task_board.specs.Tickets.{ticket_of}
 use Rattle.task_board.specs.Events.{Covered}

@@ -1,4 +1,4 @@
-use Rattle.std.proofs.Common.{◌≡◌, sym, ap, ◌∙◌}
+use Rattle.std.proofs.Common.{sym, ap, ◌∙◌}
 use Rattle.task_board.proofs.Slots.{named_among, named_is}
 use Rattle.task_board.proofs.tasks.slot_of.Goals as goal
 

@@ -1,9 +1,9 @@
-use Rattle.std.proofs.Common.{◌≡◌, ◌∙◌, sym, ap, subst, Ok, Some, [], true, rules}
+use Rattle.std.proofs.Common.{◌≡◌, sym, subst, Ok, Some, [], true, rules}
 use Rattle.task_board.specs.declared.request.Request.TheVariants as request
 use Rattle.task_board.specs.declared.request.Reply.TheVariants as reply
 use Rattle.task_board.specs.declared.status.Status.TheVariants.{Created}
 use Rattle.task_board.specs.Identifiers.{is_id}
-use Rattle.task_board.specs.State.{State, Task, slot_of, task_in, with_slot}
+use Rattle.task_board.specs.State.{State, slot_of, task_in, with_slot}
 use Rattle.task_board.specs.Step.{Answers}
 use Rattle.task_board.proofs.Named.{start_done}
 use Rattle.task_board.proofs.board.Board.start.Goals as goal

@@ -1,5 +1,4 @@
-use Rattle.std.proofs.Common.{◌≡◌, ◌∙◌, sym, ap}
-use Rattle.task_board.specs.State.{State}
+use Rattle.std.proofs.Common.{◌∙◌, sym}
 use Rattle.task_board.proofs.Named.{named_there}
 use Rattle.task_board.proofs.board.Board.task_of.Goals as goal
 

@@ -1,4 +1,4 @@
-use Rattle.std.proofs.Common.{◌≡◌, sym, ◌∙◌}
+use Rattle.std.proofs.Common.{sym, ◌∙◌}
 use Rattle.task_board.specs.Shown.{task_of}
 use Rattle.task_board.proofs.Homes.{goes_out}
 use Rattle.task_board.proofs.task.Task.lend.Goals as goal
