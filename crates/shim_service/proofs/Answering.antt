@@ -8,7 +8,7 @@ use Rattle.task_board.specs.declared.request.Request.{Request}
 use Rattle.shim_service.specs.Request.{IsRequest}
 use Rattle.shim_service.specs.Input.{IsKept, TakesLine}
 use Rattle.shim_service.specs.Lines.{lines_of}
-use Rattle.shim_service.specs.Serving.{Answer, OneSlice, Slices, IsIdle, RunsTask, Answers, Writes, IsAnswered, Session, joined}
+use Rattle.shim_service.specs.Serving.{Answer, Answers, Writes, IsAnswered, Session, joined}
 use Rattle.task_board.specs.State.{State}
 
 pub answers_refused : (s : State) (line : List ℕ) (e : Refusal) → (◌≡◌ {A = Result Request Refusal} (Err e) (Err BadRequest) → (r : Request) → IsRequest line r → ⊥)

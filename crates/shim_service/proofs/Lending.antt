@@ -1,5 +1,5 @@
 -- A slice that has just gone out fits.
-use Rattle.std.proofs.Common.{◌≡◌, ℕ, zero, suc, List, [], ◌∷◌, Option, None, Some, true, slice_index_or, slice_set, sym, ap, ◌∙◌, refl, subst}
+use Rattle.std.proofs.Common.{◌≡◌, ℕ, zero, suc, [], ◌∷◌, Some, true, slice_set, sym, ap, ◌∙◌, refl}
 use Rattle.task_board.specs.declared.ticket.Ticket.{Ticket}
 use Rattle.task_board.specs.Loans.{Lent, loan_of, FitsTask, Fits}
 use Rattle.task_board.specs.State.{State, Task, Slots, task_in}

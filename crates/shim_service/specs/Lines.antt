@@ -3,6 +3,8 @@ use Rattle.std.specs.Prelude.{◌≡◌, ℕ, List, [], ◌∷◌, ◌++◌, ◌
 use Rattle.task_board.specs.declared.event.Event.{Event}
 use Rattle.task_board.specs.declared.event.EventReply.{EventReply}
 use Rattle.wasm_ast.specs.declared.refusal.Refusal.TheVariants.{BadRequest, NoMemory}
+use Rattle.task_board.specs.State.{State, IsEmpty}
+use Rattle.task_board.specs.Step.{Run}
 use Rattle.shim_service.specs.Request.{IsEvent}
 use Rattle.shim_service.specs.Reply.{event_data, refusal_data, line_text}
 use Rattle.shim_service.specs.declared.replay.Mark.{Mark}
@@ -48,10 +50,15 @@ answers (mark.Event ∷ marks) (reply ∷ replies) = line_text (event_data reply
 answers (mark.Bad ∷ marks) replies = line_text (refusal_data BadRequest) ++ answers marks replies
 answers (mark.Unread ∷ marks) replies = line_text (refusal_data NoMemory) ++ answers marks replies
 
--- the bytes are the answers to the lines, from what was made of each and some replies to the events
+-- The bytes are the answers to the lines: what was made of each line gives some events, these happen one
+-- after another from a board to which nothing has happened, and their replies are written in order
 pub record AreAnswers (bytes out : List ℕ) : Type 0 where
   pub marks : List Mark
   pub events : List Event
   pub replies : List EventReply
+  pub first : State
+  pub last : State
   pub read : AreRead (lines_of bytes) marks events
+  pub empty : IsEmpty first
+  pub run : Run first events replies last
   pub written : out ≡ answers marks replies

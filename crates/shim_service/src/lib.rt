@@ -1,4 +1,5 @@
-//! Lines to requests, and replies to lines.
+//! Between bytes and the board: lines to requests and events, replies to lines, the command line, scripts
+//! and streams of lines.
 #![tactic(auto)]
 
 mod event;

@@ -151,8 +151,6 @@ pub fn replay_lines(alloc: Global, bytes: &[u8]) -> Result<Vec<u8>, Refusal>
     ensures errors { IfErr result (λ e. e ≡ Refusal.NoMemory) }
 {
     let Script { marks, events } = script_of(alloc, bytes)?;
-    let Ok(replies) = run_events(alloc, events) else {
-        return Err(Refusal::NoMemory);
-    };
+    let replies = run_events(alloc, events)?;
     answers_of(alloc, marks.as_slice(), replies.as_slice())
 }

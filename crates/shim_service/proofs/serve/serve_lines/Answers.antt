@@ -1,4 +1,5 @@
 use Rattle.std.proofs.Common.{ap, refl, Ok}
+use Rattle.std.specs.Io.KnownBytes.{prepend_known}
 use Rattle.shim_service.proofs.Answering.{serving_none, serving_more}
 use Rattle.shim_service.proofs.serve.serve_lines.Goals as goal
 
@@ -9,4 +10,7 @@ pub loop-preserved : goal.loop-preserved
 loop-preserved g c =
     let came = c.in-Ok-true.ensures.line (ap Ok c.in-Ok-true.field-0-test) in
     let wrote = c.if-not-write_answer.ensures refl in
-    serving_more _ _ _ _ _ _ _ _ _ came.0 wrote.0 c.answer_of-answer.result c.loop.invariant came.2 (c.answer_of-answer.ensures came.0 came.1) wrote.1 wrote.2
+    serving_more c.args.board.now (g.R.Read.remaining c.args.reader.now) (prepend_known c.loop.chunk (g.R.Read.remaining c.loop.reader))
+    (prepend_known c.next_line.new.chunk (g.R.Read.remaining c.next_line.new.reader)) (g.W.Write.contents c.args.writer.now) (g.W.Write.contents c.loop.writer)
+    (g.W.Write.contents c.write_answer.new.writer) c.loop.board c.answer_of-answer.new.board came.0 wrote.0 c.answer_of-answer.result c.loop.invariant came.2
+    (c.answer_of-answer.ensures came.0 came.1) wrote.1 wrote.2
