@@ -3,3 +3,6 @@ pub mod Slots
 pub mod Opens
 pub mod Named
 pub mod Out
+pub mod Covers
+pub mod Steps
+pub mod Runs

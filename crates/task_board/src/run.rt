@@ -1,10 +1,13 @@
 //! Whole lists of events.
 
-ghost use Rattle.std.specs.Prelude.{◌≡◌, ◌+◌, ◌<◌, IfOk, OnErr, IfSome, IfNone, MatchOption, Some, None, Ok, Err, length, vec_len, true, false};
+ghost use Rattle.std.specs.Prelude.{◌≡◌, ◌+◌, ◌<◌, ◌++◌, ◌∷◌, [], IfOk, OnOk, OnErr, IfSome, IfNone, MatchOption, Some, None, Ok, Err, length, vec_len, true, false};
 ghost use Rattle.task_board.specs.State.{State, IsEmpty};
 ghost use Rattle.task_board.specs.Loans.{Fits};
 ghost use Rattle.task_board.specs.Events.{Happens, Covered, IsFitting, FitsAt, NoneFits};
-ghost use Rattle.task_board.specs.Step.{Run};
+ghost use Rattle.task_board.specs.Step.{Step, Run};
+ghost use Rattle.task_board.specs.declared.event.Event.TheVariants as happening;
+ghost use Rattle.task_board.specs.declared.event.EventReply.{EventReply as AnswerValue};
+ghost use Rattle.task_board.specs.declared.event.EventReply.TheVariants as answer;
 
 use crate::board::Board;
 use crate::event::{Event, EventReply};
@@ -41,7 +44,11 @@ fn end_all(mut loans: Vec<Loan>) {
 }
 
 // A slice of the task with this id goes out, where it can.
-fn take(board: &mut Board, loans: &mut Vec<Loan>, id: Text, budget: u64) -> Result<bool, Refusal> {
+fn take(board: &mut Board, loans: &mut Vec<Loan>, id: Text, budget: u64) -> Result<bool, Refusal>
+    ensures taken { IfOk result (λ b. Step board.old (happening.Take id budget) (answer.Taken b) board.new) }
+    ensures covered { OnOk result (Covered loans.old.items board.old.tasks → Covered loans.new.items board.new.tasks) }
+    ensures err { OnErr result (result ≡ Err Refusal.NoMemory) }
+{
     if budget < 1 || budget > MOST_BUDGET {
         return Ok(false);
     }
@@ -59,7 +66,11 @@ fn take(board: &mut Board, loans: &mut Vec<Loan>, id: Text, budget: u64) -> Resu
 }
 
 // The slice of the task with this id is run and comes home, where it is out.
-fn give_back(board: &mut Board, loans: &mut Vec<Loan>, id: Text) -> bool {
+fn give_back(board: &mut Board, loans: &mut Vec<Loan>, id: Text) -> bool
+    requires { Covered loans.old.items board.old.tasks }
+    ensures returned { Step board.old (happening.Return id) (answer.Returned result) board.new }
+    ensures covered { Covered loans.new.items board.new.tasks }
+{
     let Some(ticket) = board.ticket(id.as_str()) else {
         return false;
     };
@@ -73,11 +84,47 @@ fn give_back(board: &mut Board, loans: &mut Vec<Loan>, id: Text) -> bool {
 }
 
 // One event.
-fn happens(board: &mut Board, loans: &mut Vec<Loan>, event: Event) -> Result<EventReply, Refusal> {
+fn happens(board: &mut Board, loans: &mut Vec<Loan>, event: Event) -> Result<EventReply, Refusal>
+    requires { Covered loans.old.items board.old.tasks }
+    ensures happens { IfOk result (λ r. Happens board.old event r board.new) }
+    ensures covered { OnOk result (Covered loans.new.items board.new.tasks) }
+    ensures err { OnErr result (result ≡ Err Refusal.NoMemory) }
+{
     match event {
         Event::Call(request) => Ok(EventReply::Called(board.call(request))),
-        Event::Take(id, budget) => Ok(EventReply::Taken(take(board, loans, id, budget)?)),
+        Event::Take(id, budget) => match take(board, loans, id, budget) {
+            Ok(taken) => Ok(EventReply::Taken(taken)),
+            Err(refusal) => Err(refusal),
+        },
         Event::Return(id) => Ok(EventReply::Returned(give_back(board, loans, id))),
+    }
+}
+
+fn keep(replies: &mut Vec<EventReply>, reply: EventReply) -> Result<(), Refusal>
+    ensures ok { OnOk result (replies.new.items ≡ replies.old.items ++ reply ∷ []) }
+    ensures err { OnErr result (result ≡ Err Refusal.NoMemory) }
+{
+    match replies.push(reply) {
+        Ok(()) => Ok(()),
+        Err(_) => Err(Refusal::NoMemory),
+    }
+}
+
+// One event more.
+fn go_on(
+    board: &mut Board,
+    loans: &mut Vec<Loan>,
+    replies: &mut Vec<EventReply>,
+    event: Event,
+) -> Result<(), Refusal>
+    requires { Covered loans.old.items board.old.tasks }
+    ensures happens { OnOk result ((r : AnswerValue) × (replies.new.items ≡ replies.old.items ++ r ∷ []) × Happens board.old event r board.new) }
+    ensures covered { OnOk result (Covered loans.new.items board.new.tasks) }
+    ensures err { OnErr result (result ≡ Err Refusal.NoMemory) }
+{
+    match happens(board, loans, event) {
+        Ok(reply) => keep(replies, reply),
+        Err(refusal) => Err(refusal),
     }
 }
 
@@ -86,15 +133,18 @@ fn run_all(
     board: &mut Board,
     loans: &mut Vec<Loan>,
     events: Vec<Event>,
-) -> Result<Vec<EventReply>, Refusal> {
+) -> Result<Vec<EventReply>, Refusal>
+    requires { Covered loans.old.items board.old.tasks }
+    ensures run { IfOk result (λ v. Run board.old events.items v.items board.new) }
+    ensures err { OnErr result (result ≡ Err Refusal.NoMemory) }
+{
     let Ok(mut replies) = Vec::with_capacity(alloc, events.len()) else {
         return Err(Refusal::NoMemory);
     };
     for event in events {
-        let reply = happens(board, loans, event)?;
-        if replies.push(reply).is_err() {
+        let Ok(()) = go_on(board, loans, &mut replies, event) else {
             return Err(Refusal::NoMemory);
-        }
+        };
     }
     Ok(replies)
 }
@@ -102,8 +152,14 @@ fn run_all(
 /// Runs events from a board to which nothing has happened, and answers each. Slices that are still out
 /// at the end are ended with the board. `NoMemory` where the board, the replies or the slices that are
 /// out found no room.
-pub fn run_events(alloc: Global, events: Vec<Event>) -> Result<Vec<EventReply>, Refusal> {
-    let mut board = Board::new(alloc)?;
+pub fn run_events(alloc: Global, events: Vec<Event>) -> Result<Vec<EventReply>, Refusal>
+    ensures run { IfOk result (λ v. (first : State) × (last : State) × IsEmpty first × Run first events.items v.items last) }
+    ensures err { OnErr result (result ≡ Err Refusal.NoMemory) }
+{
+    let mut board = match Board::new(alloc) {
+        Ok(board) => board,
+        Err(refusal) => return Err(refusal),
+    };
     let mut loans = Vec::new(alloc);
     let replies = run_all(alloc, &mut board, &mut loans, events);
     end_all(loans);

@@ -1,6 +1,6 @@
 -- What is spelled comes out of reading, but where a limit is passed.
-use Rattle.std.proofs.Common.{◌≡◌, ℕ, zero, suc, ◌+◌, ◌-◌, ◌*◌, ◌^◌, ◌<◌, ◌≤◌, Bool, true, false, cond, ltb, eqb, List, [], ◌∷◌, ◌++◌, length, take, drop, Result, Ok, Err, refl, sym, ap, subst, ◌∙◌, arith, inl, inr}
-use Rattle.std.specs.Prelude.{◌⊎◌}
+use Rattle.std.proofs.Common.{◌≡◌, ℕ, zero, suc, ◌+◌, ◌-◌, ◌*◌, ◌^◌, ◌<◌, ◌≤◌, Bool, true, false, cond, List, [], ◌∷◌, ◌++◌, length, Result, Ok, Err, refl, sym, ap, subst, ◌∙◌, arith, inl, inr}
+use Rattle.std.specs.Prelude.{◌&&◌}
 use Rattle.std.proofs.lemmas.Bool.{lt-ltb, le-ltb, eq-eqb}
 use Rattle.std.proofs.lemmas.List.{take_at, drop_at, length-append}
 use Rattle.std.proofs.lemmas.Str.{is_utf8-from_IsUtf8}
@@ -14,8 +14,8 @@ use Rattle.wasm_ast.specs.declared.module.Export.{Export}
 use Rattle.wasm_ast.specs.Syntax.{Op, i32_const, discard, call, block, loop, choice, br, leave, Ops, stop, next, ops_of}
 use Rattle.wasm_binary.specs.declared.fault.Fault.{Fault}
 use Rattle.wasm_binary.specs.declared.fault.Fault.TheVariants.{Bad, Over}
-use Rattle.wasm_binary.specs.Numbers.{IsLastUnsigned, IsUnsigned, IsLastSigned, IsSigned, IsU32}
-use Rattle.wasm_binary.specs.Grammar.{Form, AreItems, IsVector, IsSized, IsName, type_byte, IsValType, IsFuncType, IsOp, AreOps, IsExpression, IsImport, kind_byte, IsExport}
+use Rattle.wasm_binary.specs.Numbers.{IsUnsigned, IsLastSigned, IsSigned, IsU32}
+use Rattle.wasm_binary.specs.Grammar.{Form, AreItems, IsVector, IsSized, IsName, IsValType, IsFuncType, IsOp, IsExpression, IsImport, kind_byte, IsExport}
 use Rattle.wasm_binary.specs.Reading.{◌>>=◌, Read, need, byte_at, begins_with, unsigned_at, last_unsigned_at, signed_at, last_signed_at, u32_at, part_at, behind, sized_at, items_at, vector_at, name_at, type_of, type_at, func_type_at, op_of_byte, op_at, ops_at, expression_at, import_at, export_at}
 
 abbrev pub Came : {X : Type 0} → Type 0 → X → Result X Fault → Type 0
@@ -58,6 +58,9 @@ Always = Unit {0}
 pub always : {W : Type 0} → W → Always
 always w = tt
 
+both : {a b : Bool} → a ≡ true → b ≡ true → (a && b) ≡ true
+both p q = rw (p, q) refl
+
 -- ---- bytes and numbers
 
 pub begins_cons : (b : ℕ) (bs : List ℕ) → begins_with b (b ∷ bs) ≡ true
@@ -70,7 +73,7 @@ unsigned_comes bits [] n rest h = absurd h
 unsigned_comes bits (b ∷ bs) n rest (inl h) =
     comes_first _ (lt-ltb b 128 h.0) (comes_then _ (comes_need (lt-ltb b (2 ^ bits) h.1.0) (comes_ok refl)) (comes_ok (λ i. (sym h.1.1 i, sym h.2 i))) always)
 unsigned_comes bits (b ∷ bs) n rest (inr h) =
-    comes_second _ (le-ltb b 128 h.0) (comes_need (lt-ltb 7 bits h.1) (comes_then _ (unsigned_comes (bits - 7) bs h.2 rest h.3) (comes_ok (λ i. (sym h.4 i, rest))) always))
+    comes_second _ (le-ltb b 128 h.0) (comes_need (both (lt-ltb b 256 h.1) (lt-ltb 7 bits h.2)) (comes_then _ (unsigned_comes (bits - 7) bs h.3 rest h.4) (comes_ok (λ i. (sym h.5 i, rest))) always))
 
 last_signed_comes : (bits b n : ℕ) → b < 128 → IsLastSigned bits b n → Comes Always n (last_signed_at bits b)
 unfolding last_signed_at
@@ -83,7 +86,7 @@ signed_comes bits [] n rest h = absurd h
 signed_comes bits (b ∷ bs) n rest (inl h) =
     comes_first _ (lt-ltb b 128 h.0) (comes_then _ (last_signed_comes bits b n h.0 h.1) (comes_ok (λ i. (n, sym h.2 i))) always)
 signed_comes bits (b ∷ bs) n rest (inr h) =
-    comes_second _ (le-ltb b 128 h.0) (comes_need (lt-ltb 7 bits h.1) (comes_then _ (signed_comes (bits - 7) bs h.2 rest h.3) (comes_ok (λ i. (sym h.4 i, rest))) always))
+    comes_second _ (le-ltb b 128 h.0) (comes_need (both (lt-ltb b 256 h.1) (lt-ltb 7 bits h.2)) (comes_then _ (signed_comes (bits - 7) bs h.3 rest h.4) (comes_ok (λ i. (sym h.5 i, rest))) always))
 
 pub u32_comes : (bytes : List ℕ) (n : ℕ) (rest : List ℕ) → IsU32 bytes n rest → Comes Always (n, rest) (u32_at bytes)
 unfolding u32_at
@@ -93,12 +96,12 @@ u32_comes bytes n rest h = unsigned_comes 32 bytes n rest h
 unsigned_takes : (bits : ℕ) (bytes : List ℕ) (n : ℕ) (rest : List ℕ) → IsUnsigned bits bytes n rest → length rest < length bytes
 unsigned_takes bits [] n rest h = absurd h
 unsigned_takes bits (b ∷ bs) n rest (inl h) = omega (arith, ap length h.2)
-unsigned_takes bits (b ∷ bs) n rest (inr h) = omega (arith, unsigned_takes (bits - 7) bs h.2 rest h.3)
+unsigned_takes bits (b ∷ bs) n rest (inr h) = omega (arith, unsigned_takes (bits - 7) bs h.3 rest h.4)
 
 signed_takes : (bits : ℕ) (bytes : List ℕ) (n : ℕ) (rest : List ℕ) → IsSigned bits bytes n rest → length rest < length bytes
 signed_takes bits [] n rest h = absurd h
 signed_takes bits (b ∷ bs) n rest (inl h) = omega (arith, ap length h.2)
-signed_takes bits (b ∷ bs) n rest (inr h) = omega (arith, signed_takes (bits - 7) bs h.2 rest h.3)
+signed_takes bits (b ∷ bs) n rest (inr h) = omega (arith, signed_takes (bits - 7) bs h.3 rest h.4)
 
 pub sized_takes : {X : Type 0} (IsX : Form X) (bytes : List ℕ) (x : X) (rest : List ℕ) → IsSized IsX bytes x rest → length rest < length bytes
 sized_takes IsX bytes x rest h = omega (arith, unsigned_takes 32 bytes (length h.0) h.1 h.2, ap length h.3, length-append h.0 rest)

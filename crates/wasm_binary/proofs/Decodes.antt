@@ -1,5 +1,5 @@
 -- What reading gives, in the words of the grammar.
-use Rattle.std.proofs.Common.{◌≡◌, ℕ, ◌≤◌, Bool, true, false, List, length, Result, Ok, Err, refl, sym, ap, subst, ◌∙◌}
+use Rattle.std.proofs.Common.{◌≡◌, ℕ, ◌≤◌, true, false, List, length, Result, Ok, Err, sym, ap, subst, ◌∙◌}
 use Rattle.wasm_ast.specs.declared.module.Module.{Module}
 use Rattle.wasm_ast.specs.Limits.{Within}
 use Rattle.wasm_binary.specs.declared.fault.Fault.{Fault}

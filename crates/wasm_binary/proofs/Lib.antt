@@ -9,3 +9,8 @@ pub mod Comes
 pub mod ModuleComes
 pub mod Decodes
 pub mod Shortest
+pub mod Runs
+pub mod Canon
+pub mod InRange
+pub mod Overs
+pub mod Least

@@ -1,24 +1,22 @@
 -- The same of code, sections and modules, where limits are asked. A reading that is not limited asks
 -- none, so that what is spelled comes out of it in any case.
-use Rattle.std.proofs.Common.{◌≡◌, ℕ, zero, suc, ◌+◌, ◌-◌, ◌<◌, ◌≤◌, Bool, true, false, ltb, eqb, List, [], ◌∷◌, ◌++◌, length, take, drop, map, replicate, Result, Ok, Err, refl, sym, ap, subst, ◌∙◌, arith, inl, inr}
-use Rattle.std.specs.Prelude.{◌⊎◌, ◌&&◌}
-use Rattle.std.specs.Str.{bytes_eq}
-use Rattle.std.specs.List.{All, AllByRecursion}
-use Rattle.std.proofs.lemmas.Bool.{lt-ltb, le-ltb, eq-eqb, eqb-true}
-use Rattle.std.proofs.lemmas.List.{length-append, length-replicate, take_at, drop_at}
+use Rattle.std.proofs.Common.{◌≡◌, ℕ, zero, suc, ◌+◌, ◌<◌, ◌≤◌, Bool, true, false, ltb, eqb, List, [], ◌∷◌, ◌++◌, length, drop, replicate, Result, Ok, Err, refl, sym, ap, subst, arith, inl, inr}
+use Rattle.std.specs.Prelude.{◌&&◌}
+use Rattle.std.specs.List.{AllByRecursion}
+use Rattle.std.proofs.lemmas.Bool.{le-ltb, eq-eqb, eqb-true}
+use Rattle.std.proofs.lemmas.List.{length-append, length-replicate}
 use Rattle.std.proofs.lemmas.List.Elements.{recursion_from_All}
 use Rattle.wasm_ast.specs.declared.values.ValType.{ValType}
 use Rattle.wasm_ast.specs.declared.values.FuncType.{FuncType}
 use Rattle.wasm_ast.specs.declared.module.Import.{Import}
 use Rattle.wasm_ast.specs.declared.module.Func.{Func}
-use Rattle.wasm_ast.specs.declared.module.Export.{Export}
 use Rattle.wasm_ast.specs.declared.module.Module.{Module}
 use Rattle.wasm_ast.specs.Limits.{params_of, FuncWithin, Within}
 use Rattle.wasm_binary.specs.declared.fault.Fault.{Fault}
 use Rattle.wasm_binary.specs.declared.fault.Fault.TheVariants.{Bad, Over}
 use Rattle.wasm_binary.specs.Numbers.{IsU32}
 use Rattle.wasm_binary.specs.Grammar.{Form, AreItems, IsVector, IsSized, IsRun, locals_of, AreLocals, IsCode, IsEntry, IsFuncType, IsImport, IsExport, IsNamed, IsCustom, AreCustom, IsSection, preamble, indices_of, Spells}
-use Rattle.wasm_binary.specs.Reading.{◌>>=◌, Read, need, u32_at, type_at, begins_with, sized_at, items_at, vector_at, name_at, runs_at, locals_at, expression_at, code_at, codes_at, named_at, custom_at, customs_at, after_customs, section_at, functions_at, code_vector_at, func_type_at, import_at, export_at, preamble_at, Head, head_at, module_at, read_at}
+use Rattle.wasm_binary.specs.Reading.{Read, u32_at, begins_with, vector_at, runs_at, locals_at, code_at, codes_at, named_at, custom_at, customs_at, after_customs, section_at, functions_at, code_vector_at, func_type_at, import_at, export_at, preamble_at, head_at, module_at, read_at}
 use Rattle.wasm_binary.proofs.ModuleTells.{SectionOf}
 use Rattle.wasm_binary.proofs.Comes.{Comes, Always, always, comes_ok, comes_then, comes_need, comes_first, comes_second, comes_within, begins_cons, u32_comes, type_comes, sized_comes, sized_takes, items_comes, vector_comes, name_comes, func_type_comes, expression_comes, import_comes, export_comes}
 
@@ -62,7 +60,7 @@ locals_comes limited params locals bytes rest h =
 
 -- ---- code
 
-code_comes : (limited : Bool) (imports params : ℕ) (f : Func) (bytes rest : List ℕ) → IsCode imports bytes f rest
+pub code_comes : (limited : Bool) (imports params : ℕ) (f : Func) (bytes rest : List ℕ) → IsCode imports bytes f rest
     → Comes (limited ≡ true → params + length f.locals ≤ 1024) (f, rest) (code_at limited imports params f.type_index bytes)
 unfolding code_at
 code_comes limited imports params f bytes rest h =
@@ -90,7 +88,7 @@ code_vector_comes limited types imports fs bytes rest h =
 -- ---- sections
 
 -- what does not begin as a section of this id or of a lower one
-abbrev Above : ℕ → List ℕ → Type 0
+abbrev pub Above : ℕ → List ℕ → Type 0
 Above id [] = Unit {0}
 Above id (b ∷ bs) = id < b
 
@@ -121,11 +119,11 @@ customs_comes (x ∷ xs) (suc n) bytes rest h above few =
     let k = custom_comes x bytes h.0 h.1 in
     comes_first _ k.1 (comes_then _ k.0 (customs_comes xs n h.0 rest h.2 above (omega (arith, k.2))) always)
 
-after_customs_comes : (bytes rest : List ℕ) → AreCustom bytes rest → Above 0 rest → Comes Always rest (after_customs bytes)
+pub after_customs_comes : (bytes rest : List ℕ) → AreCustom bytes rest → Above 0 rest → Comes Always rest (after_customs bytes)
 unfolding after_customs
 after_customs_comes bytes rest h above = customs_comes h.0 (length bytes) bytes rest h.1 above (omega arith)
 
-section_comes : {X : Type 0} (id : ℕ) (IsXs : Form (List X)) (W : Type 0) (read : List ℕ → Read (List X)) (xs : List X) → ((part : List ℕ) → IsXs part xs [] → Comes W (xs, []) (read part))
+pub section_comes : {X : Type 0} (id : ℕ) (IsXs : Form (List X)) (W : Type 0) (read : List ℕ → Read (List X)) (xs : List X) → ((part : List ℕ) → IsXs part xs [] → Comes W (xs, []) (read part))
     → (bytes rest : List ℕ) → SectionOf id IsXs bytes xs rest → Above id rest → Comes W (xs, rest) (section_at id read bytes)
 unfolding section_at
 section_comes id IsXs W read xs each bytes rest (inl h) above =
@@ -134,11 +132,11 @@ section_comes id IsXs W read xs each bytes rest (inl h) above =
 section_comes id IsXs W read xs each bytes rest (inr h) above =
     comes_second _ (above_not id id bytes (subst (Above id) h.1 above) (omega arith)) (comes_ok (λ i. (sym h.0 i, sym h.1 i)))
 
-section_above : {X : Type 0} (id j : ℕ) (IsXs : Form (List X)) (bytes : List ℕ) (xs : List X) (rest : List ℕ) → SectionOf id IsXs bytes xs rest → Above id rest → j < id → Above j bytes
+pub section_above : {X : Type 0} (id j : ℕ) (IsXs : Form (List X)) (bytes : List ℕ) (xs : List X) (rest : List ℕ) → SectionOf id IsXs bytes xs rest → Above id rest → j < id → Above j bytes
 section_above id j IsXs bytes xs rest (inl h) above lt = rw h.2 lt
 section_above id j IsXs bytes xs rest (inr h) above lt = subst (Above j) h.1 (above_less id j rest above (omega arith))
 
-functions_comes : {X : Type 0} (limited : Bool) (before : ℕ) (IsX : Form X) (read : List ℕ → Read X) → ((x : X) (part rest : List ℕ) → IsX part x rest → Comes Always (x, rest) (read part))
+pub functions_comes : {X : Type 0} (limited : Bool) (before : ℕ) (IsX : Form X) (read : List ℕ → Read X) → ((x : X) (part rest : List ℕ) → IsX part x rest → Comes Always (x, rest) (read part))
     → (xs : List X) (bytes rest : List ℕ) → IsVector IsX bytes xs rest → Comes (limited ≡ true → before + length xs ≤ 4096) (xs, rest) (functions_at limited before read bytes)
 unfolding functions_at
 functions_comes limited before IsX read each xs bytes rest h =
@@ -147,26 +145,34 @@ functions_comes limited before IsX read each xs bytes rest h =
 
 -- ---- modules
 
-preamble_comes : (bytes rest : List ℕ) → bytes ≡ preamble ++ rest → Comes Always rest (preamble_at bytes)
+pub preamble_comes : (bytes rest : List ℕ) → bytes ≡ preamble ++ rest → Comes Always rest (preamble_at bytes)
 unfolding preamble_at
 preamble_comes bytes rest h = rw h (comes_need refl (comes_ok refl))
 
+pub head_parts : (limited : Bool) (bytes sections from_types : List ℕ) (types : List FuncType) (from_imports : List ℕ) (imports : List Import) (from_functions indices from_exports : List ℕ)
+    → bytes ≡ preamble ++ sections → AreCustom sections from_types → IsSection 1 IsFuncType from_types types from_imports → IsSection 2 IsImport from_imports imports from_functions
+    → IsSection 3 IsU32 from_functions indices from_exports → Above 3 from_exports
+    → Comes (limited ≡ true → length imports + length indices ≤ 4096) (record { types = types; imports = imports; indices = indices }, from_exports) (head_at limited bytes)
+unfolding head_at
+head_parts limited bytes sections from_types types from_imports imports from_functions indices from_exports e c h1 h2 h3 above =
+    let above2 : Above 2 from_functions = section_above 3 2 (IsVector IsU32) from_functions indices from_exports h3 above (omega arith) in
+    let above1 : Above 1 from_imports = section_above 2 1 (IsVector IsImport) from_imports imports from_functions h2 above2 (omega arith) in
+    let above0 : Above 0 from_types = section_above 1 0 (IsVector IsFuncType) from_types types from_imports h1 above1 (omega arith) in
+    comes_then _ (preamble_comes bytes sections e)
+    (comes_then _ (after_customs_comes sections from_types c above0)
+    (comes_then _ (section_comes 1 (IsVector IsFuncType) Always (vector_at func_type_at) types (λ part k. vector_comes IsFuncType func_type_at func_type_comes types part [] k) from_types from_imports h1 above1)
+    (comes_then _ (section_comes 2 (IsVector IsImport) (limited ≡ true → 0 + length imports ≤ 4096) (functions_at limited 0 import_at) imports (λ part k. functions_comes limited 0 IsImport import_at import_comes imports part [] k) from_imports from_functions h2 above2)
+    (comes_then _ (section_comes 3 (IsVector IsU32) (limited ≡ true → length imports + length indices ≤ 4096) (functions_at limited (length imports) u32_at) indices (λ part k. functions_comes limited (length imports) IsU32 u32_at (λ n p r q. u32_comes p n r q) indices part [] k) from_functions from_exports h3 above)
+    (comes_ok refl)
+    (λ w. w))
+    (λ w l. let few = w l in omega arith))
+    always) always) always
+
 head_comes : (limited : Bool) (bytes : List ℕ) (m : Module) (s : Spells bytes m) → Above 3 s.from_exports
     → Comes (limited ≡ true → Within m) (record { types = m.types; imports = m.imports; indices = indices_of m.funcs }, s.from_exports) (head_at limited bytes)
-unfolding head_at
 head_comes limited bytes m s above =
-    let above2 : Above 2 s.from_functions = section_above 3 2 (IsVector IsU32) s.from_functions (indices_of m.funcs) s.from_exports s.functions above (omega arith) in
-    let above1 : Above 1 s.from_imports = section_above 2 1 (IsVector IsImport) s.from_imports m.imports s.from_functions s.imports above2 (omega arith) in
-    let above0 : Above 0 s.from_types = section_above 1 0 (IsVector IsFuncType) s.from_types m.types s.from_imports s.types above1 (omega arith) in
-    comes_then _ (preamble_comes bytes s.sections s.begins)
-    (comes_then _ (after_customs_comes s.sections s.from_types s.customs above0)
-    (comes_then _ (section_comes 1 (IsVector IsFuncType) Always (vector_at func_type_at) m.types (λ part k. vector_comes IsFuncType func_type_at func_type_comes m.types part [] k) s.from_types s.from_imports s.types above1)
-    (comes_then _ (section_comes 2 (IsVector IsImport) (limited ≡ true → 0 + length m.imports ≤ 4096) (functions_at limited 0 import_at) m.imports (λ part k. functions_comes limited 0 IsImport import_at import_comes m.imports part [] k) s.from_imports s.from_functions s.imports above2)
-    (comes_then _ (section_comes 3 (IsVector IsU32) (limited ≡ true → length m.imports + length (indices_of m.funcs) ≤ 4096) (functions_at limited (length m.imports) u32_at) (indices_of m.funcs) (λ part k. functions_comes limited (length m.imports) IsU32 u32_at (λ n p r q. u32_comes p n r q) (indices_of m.funcs) part [] k) s.from_functions s.from_exports s.functions above)
-    (comes_ok refl)
-    (λ w l. let few = (w l).functions in omega (arith, length_indices m.funcs)))
-    (λ w l. let few = (w l).functions in omega arith))
-    always) always) always
+    comes_weaker (head_parts limited bytes s.sections s.from_types m.types s.from_imports m.imports s.from_functions (indices_of m.funcs) s.from_exports s.begins s.customs s.types s.imports s.functions above)
+    (λ w l. let few = (w l).functions in omega (arith, length_indices m.funcs))
 
 module_comes : (limited : Bool) (bytes : List ℕ) (m : Module) → Spells bytes m → Comes (limited ≡ true → Within m) m (module_at limited bytes)
 unfolding module_at

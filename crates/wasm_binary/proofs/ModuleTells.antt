@@ -1,28 +1,25 @@
 -- The same of code, sections and modules, where limits are asked.
-use Rattle.std.proofs.Common.{◌≡◌, ℕ, zero, suc, ◌+◌, ◌-◌, ◌<◌, ◌≤◌, Bool, true, false, ltb, eqb, List, [], ◌∷◌, ◌++◌, length, take, drop, map, replicate, Result, Ok, Err, Some, refl, sym, ap, subst, ◌∙◌, append_assoc, arith, inl, inr, ⊎_elim}
+use Rattle.std.proofs.Common.{◌≡◌, ℕ, zero, suc, ◌+◌, ◌<◌, ◌≤◌, true, ltb, eqb, List, [], ◌∷◌, ◌++◌, length, take, drop, replicate, Ok, Err, Some, refl, sym, ap, subst, ◌∙◌, arith, inl, inr}
 use Rattle.std.specs.Prelude.{slice_get, ◌⊎◌}
 use Rattle.std.specs.Str.{bytes_eq}
-use Rattle.std.specs.List.{All, AllByRecursion}
+use Rattle.std.specs.List.{AllByRecursion}
 use Rattle.std.proofs.lemmas.Bool.{ltb-true, ltb-false, eqb-true}
 use Rattle.std.proofs.lemmas.List.{take-append-drop, length-append, length-replicate, nil_from_length}
 use Rattle.std.proofs.lemmas.List.Elements.{All-from_recursion}
 use Rattle.std.proofs.lemmas.Slice.Eq.{bytes_eq-Decides}
 use Rattle.wasm_ast.specs.declared.values.ValType.{ValType}
 use Rattle.wasm_ast.specs.declared.values.FuncType.{FuncType}
-use Rattle.wasm_ast.specs.declared.module.Import.{Import}
 use Rattle.wasm_ast.specs.declared.module.Func.{Func}
 use Rattle.wasm_ast.specs.declared.module.Export.{Export}
-use Rattle.wasm_ast.specs.declared.module.Module.{Module}
-use Rattle.wasm_ast.specs.Syntax.{Op, i32_const, discard, call, block, loop, choice, br, leave, Ops, stop, next}
+use Rattle.wasm_ast.specs.Syntax.{i32_const, discard, call, block, loop, choice, br, leave, Ops, stop, next}
 use Rattle.wasm_ast.specs.Limits.{ops_depth, params_of, FuncWithin, Within}
-use Rattle.wasm_binary.specs.declared.fault.Fault.{Fault}
-use Rattle.wasm_binary.specs.declared.fault.Fault.TheVariants.{Bad, Over}
+use Rattle.wasm_binary.specs.declared.fault.Fault.TheVariants.{Over}
 use Rattle.wasm_binary.specs.Numbers.{IsU32}
-use Rattle.wasm_binary.specs.Grammar.{Form, AreItems, IsVector, IsSized, IsName, IsRun, locals_of, AreLocals, AreOps, IsExpression, IsCode, IsEntry, IsFuncType, IsImport, IsExport, IsNamed, IsCustom, AreCustom, IsSection, preamble, indices_of, Spells}
-use Rattle.wasm_binary.specs.Limits.{Within_size, Opens, TooManyFunctions, TooManyLocals, SomeTooManyLocals, ReachesLimit}
+use Rattle.wasm_binary.specs.Grammar.{Form, AreItems, IsVector, IsSized, IsRun, locals_of, AreLocals, AreOps, IsCode, IsEntry, IsFuncType, IsImport, IsExport, IsNamed, IsCustom, AreCustom, IsSection, preamble, indices_of, Spells}
+use Rattle.wasm_binary.specs.Limits.{WithinSize, Opens, TooManyFunctions, TooManyLocals, SomeTooManyLocals, ReachesLimit}
 use Rattle.wasm_binary.specs.Limits as limits
-use Rattle.wasm_binary.specs.Reading.{◌>>=◌, Read, need, u32_at, type_at, begins_with, sized_at, items_at, vector_at, name_at, runs_at, locals_at, expression_at, code_at, codes_at, named_at, custom_at, customs_at, after_customs, section_at, functions_at, code_vector_at, func_type_at, import_at, export_at, preamble_at, Head, head_at, module_at, read_at}
-use Rattle.wasm_binary.proofs.Tells.{Tells, tells_ok, tells_then, tells_more, tells_need, tells_if, tells_bad, never, begins_is, u32_tells, type_tells, sized_tells, items_tells, vector_tells, name_tells, func_type_tells, expression_tells, import_tells, export_tells}
+use Rattle.wasm_binary.specs.Reading.{Read, u32_at, begins_with, vector_at, runs_at, locals_at, code_at, codes_at, named_at, custom_at, customs_at, after_customs, section_at, functions_at, code_vector_at, func_type_at, import_at, export_at, preamble_at, Head, head_at, module_at, read_at}
+use Rattle.wasm_binary.proofs.Tells.{Tells, tells_ok, tells_then, tells_more, tells_need, tells_if, never, begins_is, u32_tells, type_tells, sized_tells, items_tells, vector_tells, name_tells, func_type_tells, expression_tells, import_tells, export_tells}
 
 tells_over : {X : Type 0} {P : X → Type 0} {Q : Type 0} → Q → Tells {X = X} P Q (Err Over)
 tells_over q = record { told = q }
@@ -87,7 +84,7 @@ CodesRead types imports indices bytes fs rest = AreItems (IsEntry imports) bytes
 abbrev CodesOver : (types : List FuncType) → (imports : ℕ) → (indices : List ℕ) → List ℕ → Type 0
 CodesOver types imports indices bytes =
     (funcs : List Func) × (mid : List ℕ) × (index : ℕ) × AreItems (IsEntry imports) bytes funcs mid × (slice_get indices (length funcs) ≡ Some index)
-    × Within_size (TooManyLocals (params_of types index)) mid
+    × WithinSize (TooManyLocals (params_of types index)) mid
 
 codes_tells : (types : List FuncType) (imports : ℕ) (indices : List ℕ) (bytes : List ℕ) → Tells (λ x. CodesRead types imports indices bytes x.0 x.1) (CodesOver types imports indices bytes) (codes_at true types imports indices bytes)
 unfolding codes_at
@@ -108,7 +105,7 @@ unfolding code_vector_at
 code_vector_tells types imports indices bytes = tells_then (u32_tells bytes) (λ n hn. tells_need (eqb n.0 (length indices)) (λ e.
     tells_more (codes_tells types imports indices n.1)
     (λ x h. let k : n.0 ≡ length x.0 = eqb-true n.0 (length indices) e ∙ ap length (sym h.1) ∙ length_indices x.0 in ((n.1, rw (← k) hn, h.0), h.1, h.2))
-    (λ q. (n.0, n.1, q.0, q.1, q.2, hn, q.3, q.4, q.5)))) never
+    (λ q. (n.1, q.0, q.1, q.2, rw (← eqb-true n.0 (length indices) e) hn, q.3, q.4, q.5)))) never
 
 -- ---- sections
 

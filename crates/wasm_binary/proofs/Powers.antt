@@ -1,5 +1,5 @@
 -- Numbers by sevens of bits.
-use Rattle.std.proofs.Common.{◌≡◌, ℕ, ◌+◌, ◌-◌, ◌*◌, ◌^◌, ◌<◌, ◌≤◌, sym, ap, ◌∙◌, pow-add, arith}
+use Rattle.std.proofs.Common.{◌≡◌, ℕ, ◌+◌, ◌-◌, ◌*◌, ◌^◌, ◌<◌, ◌≤◌, ap, ◌∙◌, pow-add, arith}
 use Rattle.std.proofs.Math.Pow.{pow_mono}
 
 pub seven : (n : ℕ) → 7 ≤ n → 2 ^ n ≡ 128 * 2 ^ (n - 7)

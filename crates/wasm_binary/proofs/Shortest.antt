@@ -1,7 +1,7 @@
 -- The bytes of a shortest number, one after the other.
 use Rattle.std.proofs.Common.{◌≡◌, ℕ, zero, suc, ◌+◌, ◌-◌, ◌*◌, ◌/◌, ◌%◌, ◌^◌, ◌<◌, ◌≤◌, Bool, true, false, ltb, cond, List, [], ◌∷◌, ◌++◌, ◌∙◌, append_assoc, refl, sym, ap, inl, inr, arith}
 use Rattle.std.proofs.Math.Pow.{pow_mono}
-use Rattle.std.proofs.lemmas.Bool.{cases_lt, lt-ltb, le-ltb, ltb-true, ltb-false}
+use Rattle.std.proofs.lemmas.Bool.{cases_lt, le-ltb, ltb-true, ltb-false}
 use Rattle.wasm_binary.specs.Canonical.{unsigned, signed, last_signed, is_last_signed}
 use Rattle.wasm_binary.proofs.Powers.{seven}
 
@@ -48,9 +48,9 @@ not_last bits n lt h = not_case n (2 ^ bits) (ltb (2 * n) (2 ^ bits)) refl lt h
 
 pub bits_left : (bits : ℕ) → 128 < 2 ^ bits → 7 < bits
 bits_left bits h = elim (cases_lt 7 bits) [
-    | inl lt ↦ lt
-    | inr le ↦ let k : 2 ^ bits ≤ 2 ^ 7 = pow_mono le in absurd (omega arith)
-    ]
+  | inl lt ↦ lt
+  | inr le ↦ let k : 2 ^ bits ≤ 2 ^ 7 = pow_mono le in absurd (omega arith)
+]
 
 pub high_bits : (bits n : ℕ) → 7 < bits → n < 2 ^ bits → n / 128 < 2 ^ (bits - 7)
 high_bits bits n h lt = omega (arith, seven bits (omega arith))

@@ -1,5 +1,5 @@
 -- What stands first.
-use Rattle.std.proofs.Common.{◌≡◌, ℕ, List, drop, Bool, true, false, Option, Some, None, Bor, refl}
+use Rattle.std.proofs.Common.{◌≡◌, ℕ, List, drop, true, false, Option, Some, None, Bor, refl}
 use Rattle.std.specs.Prelude.{MatchOption}
 use Rattle.wasm_binary.specs.Reading.{begins_with}
 

@@ -1,18 +1,18 @@
 -- What reading gives is spelled so: of a value that it answers, and of a limit that it passes.
-use Rattle.std.proofs.Common.{◌≡◌, ℕ, zero, suc, ◌+◌, ◌-◌, ◌*◌, ◌^◌, ◌<◌, ◌≤◌, Bool, true, false, cond, ltb, eqb, List, [], ◌∷◌, ◌++◌, length, take, drop, replicate, Result, Ok, Err, refl, sym, ap, subst, ◌∙◌, append_assoc, arith, inl, inr}
+use Rattle.std.proofs.Common.{◌≡◌, ℕ, zero, suc, ◌+◌, ◌-◌, ◌*◌, ◌^◌, ◌<◌, ◌≤◌, Bool, true, false, cond, ltb, eqb, List, [], ◌∷◌, ◌++◌, length, take, drop, Result, Ok, Err, refl, sym, ap, subst, arith, inl, inr}
+use Rattle.std.specs.Prelude.{◌&&◌}
 use Rattle.std.specs.Str.{is_utf8}
 use Rattle.std.proofs.lemmas.Bool.{ltb-true, ltb-false, eqb-true}
-use Rattle.std.proofs.lemmas.List.{take-append-drop, length-take, length-take-le, nil_from_length}
+use Rattle.std.proofs.lemmas.List.{take-append-drop, length-take-le, nil_from_length}
 use Rattle.std.proofs.lemmas.Str.{IsUtf8-from_is_utf8}
-use Rattle.wasm_ast.specs.declared.values.ValType.{ValType}
 use Rattle.wasm_ast.specs.declared.values.ValType.TheVariants.{I32, I64}
 use Rattle.wasm_ast.specs.declared.module.ExportKind.TheVariants as kinds
-use Rattle.wasm_ast.specs.Syntax.{Op, i32_const, discard, call, ops_of}
+use Rattle.wasm_ast.specs.Syntax.{i32_const, discard, call, ops_of}
 use Rattle.wasm_binary.specs.declared.fault.Fault.{Fault}
 use Rattle.wasm_binary.specs.declared.fault.Fault.TheVariants.{Bad, Over}
 use Rattle.wasm_binary.specs.Numbers.{IsLastUnsigned, IsUnsigned, IsLastSigned, IsSigned, IsU32}
-use Rattle.wasm_binary.specs.Grammar.{Form, AreItems, IsVector, IsSized, IsName, type_byte, IsValType, IsFuncType, IsOp, AreOps, IsExpression, IsImport, IsExport}
-use Rattle.wasm_binary.specs.Limits.{Within_size}
+use Rattle.wasm_binary.specs.Grammar.{Form, AreItems, IsVector, IsSized, IsName, type_byte, IsValType, IsFuncType, IsOp, IsExpression, IsImport, IsExport}
+use Rattle.wasm_binary.specs.Limits.{WithinSize}
 use Rattle.wasm_binary.specs.Reading.{◌>>=◌, Read, need, byte_at, begins_with, unsigned_at, last_unsigned_at, signed_at, last_signed_at, u32_at, part_at, behind, sized_at, items_at, vector_at, name_at, type_of, type_at, func_type_at, op_of_byte, op_at, ops_at, expression_at, import_at, export_at}
 
 abbrev pub Told : {X : Type 0} → (X → Type 0) → Type 0 → Result X Fault → Type 0
@@ -51,6 +51,12 @@ tells_if false h k = k refl
 pub tells_bad : {X : Type 0} {P : X → Type 0} {Q : Type 0} → Tells {X = X} P Q (Err Bad)
 tells_bad = record { told = tt }
 
+both_true : (a b : Bool) → (a && b) ≡ true → (a ≡ true) × (b ≡ true)
+both_true true true e = (refl, refl)
+both_true true false e = absurd cc
+both_true false true e = absurd cc
+both_true false false e = absurd cc
+
 -- ---- bytes and numbers
 
 pub begins_is : (b : ℕ) (bytes : List ℕ) → begins_with b bytes ≡ true → bytes ≡ b ∷ drop 1 bytes
@@ -72,8 +78,8 @@ unfolding unsigned_at
 unsigned_tells bits [] = tells_bad
 unsigned_tells bits (b ∷ bs) = tells_if (ltb b 128)
     (λ lt. tells_then (last_unsigned_tells bits b) (λ n hn. tells_ok (n, bs) (inl (ltb-true b 128 lt, hn, refl))) never)
-    (λ ge. tells_need (ltb 7 bits) (λ e. tells_then (unsigned_tells (bits - 7) bs) (λ high hh.
-    tells_ok (128 * high.0 + (b - 128), high.1) (inr (ltb-false b 128 ge, ltb-true 7 bits e, high.0, hh, refl))) never))
+    (λ ge. tells_need (ltb b 256 && ltb 7 bits) (λ both. let e = both_true (ltb b 256) (ltb 7 bits) both in tells_then (unsigned_tells (bits - 7) bs) (λ high hh.
+    tells_ok (128 * high.0 + (b - 128), high.1) (inr (ltb-false b 128 ge, ltb-true b 256 e.0, ltb-true 7 bits e.1, high.0, hh, refl))) never))
 
 last_signed_tells : (bits b : ℕ) → b < 128 → Tells (λ n. IsLastSigned bits b n) ⊥ (last_signed_at bits b)
 unfolding last_signed_at
@@ -89,8 +95,8 @@ unfolding signed_at
 signed_tells bits [] = tells_bad
 signed_tells bits (b ∷ bs) = tells_if (ltb b 128)
     (λ lt. tells_then (last_signed_tells bits b (ltb-true b 128 lt)) (λ n hn. tells_ok (n, bs) (inl (ltb-true b 128 lt, hn, refl))) never)
-    (λ ge. tells_need (ltb 7 bits) (λ e. tells_then (signed_tells (bits - 7) bs) (λ high hh.
-    tells_ok (128 * high.0 + (b - 128), high.1) (inr (ltb-false b 128 ge, ltb-true 7 bits e, high.0, hh, refl))) never))
+    (λ ge. tells_need (ltb b 256 && ltb 7 bits) (λ both. let e = both_true (ltb b 256) (ltb 7 bits) both in tells_then (signed_tells (bits - 7) bs) (λ high hh.
+    tells_ok (128 * high.0 + (b - 128), high.1) (inr (ltb-false b 128 ge, ltb-true b 256 e.0, ltb-true 7 bits e.1, high.0, hh, refl))) never))
 
 pub u32_tells : (bytes : List ℕ) → Tells (λ x. IsU32 bytes x.0 x.1) ⊥ (u32_at bytes)
 unfolding u32_at
@@ -111,7 +117,7 @@ behind_tells size left bytes = tells_need (eqb (length left) 0) (λ e. tells_if 
     (λ ge. tells_ok (drop size bytes) (nil_from_length left (eqb-true (length left) 0 e), sym (take-append-drop size bytes), length-take-le size bytes (ltb-false (length bytes) size ge))))
 
 pub sized_tells : {X : Type 0} (IsX : Form X) (Q : List ℕ → Type 0) (read : List ℕ → Read X) → ((part : List ℕ) → Tells (λ x. IsX part x.0 x.1) (Q part) (read part))
-    → (bytes : List ℕ) → Tells (λ x. IsSized IsX bytes x.0 x.1) (Within_size Q bytes) (sized_at read bytes)
+    → (bytes : List ℕ) → Tells (λ x. IsSized IsX bytes x.0 x.1) (WithinSize Q bytes) (sized_at read bytes)
 unfolding sized_at
 sized_tells IsX Q read tells bytes = tells_then (u32_tells bytes) (λ n hn. tells_then (tells (take n.0 n.1)) (λ x hx. tells_then (behind_tells n.0 x.1 n.1) (λ rest hr.
     tells_ok (x.0, rest) (take n.0 n.1, n.1, rw hr.2 hn, hr.1, subst (λ left. IsX (take n.0 n.1) x.0 left) hr.0 hx))

@@ -1,6 +1,6 @@
 -- The canonical spelling of a module: shortest numbers, locals in longest runs of one type, no custom
 -- section and no empty section.
-use Rattle.std.specs.Prelude.{◌≡◌, ℕ, zero, suc, ◌+◌, ◌-◌, ◌*◌, ◌/◌, ◌%◌, ◌^◌, ◌≤◌, List, [], ◌∷◌, ◌++◌, length, map, fold, Bool, true, false, nat_lt, if◌then◌else◌}
+use Rattle.std.specs.Prelude.{◌≢◌, ℕ, zero, suc, ◌+◌, ◌-◌, ◌*◌, ◌/◌, ◌%◌, ◌^◌, ◌<◌, ◌≤◌, List, [], ◌∷◌, ◌++◌, length, fold, All, IsUtf8, Bool, true, false, nat_lt, if◌then◌else◌}
 use Rattle.std.specs.List.{flat_map}
 use Rattle.wasm_ast.specs.declared.values.ValType.{ValType}
 use Rattle.wasm_ast.specs.declared.values.ValType.TheVariants.{I32, I64}
@@ -79,6 +79,12 @@ add_local (run ∷ next_run ∷ runs) t = run ∷ add_local (next_run ∷ runs) 
 abbrev pub runs_of : List ValType → List (ℕ × ValType)
 runs_of locals = fold add_local [] locals
 
+-- no run is empty, and no two of one type stand side by side
+abbrev pub AreLongest : List (ℕ × ValType) → Type 0
+AreLongest [] = Unit {0}
+AreLongest (r ∷ []) = 0 < r.0
+AreLongest (r ∷ next_run ∷ runs) = (0 < r.0) × (r.1 ≢ next_run.1) × AreLongest (next_run ∷ runs)
+
 abbrev pub run : ℕ × ValType → List ℕ
 run r = number r.0 ++ val_type r.1
 
@@ -107,3 +113,24 @@ canon m =
 -- what has a canonical spelling within the limits
 abbrev pub FitsLimits : Module → Type 0
 FitsLimits m = Within m × (length (canon m) ≤ 262144)
+
+-- what has a spelling so far: names are UTF-8, and instructions are those that the grammar has
+
+abbrev pub IsSpellableOp : (imports : ℕ) → Op → Type 0
+IsSpellableOp imports (i32_const n) = Unit {0}
+IsSpellableOp imports discard = Unit {0}
+IsSpellableOp imports (call f) = f < imports
+IsSpellableOp imports (block t body) = ⊥
+IsSpellableOp imports (loop t body) = ⊥
+IsSpellableOp imports (choice t first_arm second_arm) = ⊥
+IsSpellableOp imports (br l) = ⊥
+IsSpellableOp imports leave = ⊥
+
+abbrev pub AreSpellableOps : (imports : ℕ) → Ops → Type 0
+AreSpellableOps imports stop = Unit {0}
+AreSpellableOps imports (next o os) = IsSpellableOp imports o × AreSpellableOps imports os
+
+pub record IsSpellable (m : Module) : Type 0 where
+  pub imports : All (λ i. IsUtf8 i.module × IsUtf8 i.name) m.imports
+  pub exports : All (λ e. IsUtf8 e.name) m.exports
+  pub bodies : All (λ f. AreSpellableOps (length m.imports) f.body) m.funcs

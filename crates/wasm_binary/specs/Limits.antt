@@ -2,7 +2,7 @@
 -- a number or a sum over a limit of modules. Nothing is asked of what stands behind that number. Of a
 -- section or a body that is not read to its end, the size may be wrong: what stands within it, or
 -- within the bytes where they end before, is what is read.
-use Rattle.std.specs.Prelude.{◌≡◌, ℕ, ◌+◌, ◌<◌, List, [], ◌∷◌, ◌++◌, length, take, Some, slice_get, ◌⊎◌}
+use Rattle.std.specs.Prelude.{◌≡◌, ℕ, ◌+◌, ◌<◌, List, ◌∷◌, ◌++◌, length, take, Some, slice_get, ◌⊎◌}
 use Rattle.wasm_ast.specs.declared.values.ValType.{ValType}
 use Rattle.wasm_ast.specs.declared.values.FuncType.{FuncType}
 use Rattle.wasm_ast.specs.declared.module.Import.{Import}
@@ -13,12 +13,12 @@ use Rattle.wasm_binary.specs.Numbers.{IsU32}
 use Rattle.wasm_binary.specs.Grammar.{AreItems, IsFuncType, IsImport, IsExport, IsRun, locals_of, IsEntry, AreCustom, IsSection, preamble}
 
 -- behind a size: of the bytes that it takes, as many as there are
-abbrev pub Within_size : (List ℕ → Type 0) → List ℕ → Type 0
-Within_size P bytes = (size : ℕ) × (mid : List ℕ) × IsU32 bytes size mid × P (take size mid)
+abbrev pub WithinSize : (List ℕ → Type 0) → List ℕ → Type 0
+WithinSize P bytes = (size : ℕ) × (mid : List ℕ) × IsU32 bytes size mid × P (take size mid)
 
 -- the section of this id begins here
 abbrev pub Opens : (id : ℕ) → (List ℕ → Type 0) → List ℕ → Type 0
-Opens id P bytes = (from : List ℕ) × (bytes ≡ id ∷ from) × Within_size P from
+Opens id P bytes = (from : List ℕ) × (bytes ≡ id ∷ from) × WithinSize P from
 
 -- a count that makes, with so many before it, more functions than a module may have
 abbrev pub TooManyFunctions : (before : ℕ) → List ℕ → Type 0
@@ -33,12 +33,12 @@ TooManyLocals params bytes =
     × IsU32 bytes count from × AreItems IsRun from runs mid × (length runs < count) × IsU32 mid n rest
     × (1024 < params + length (locals_of runs) + n))
 
--- codes of functions with these types: some are whole, and the next one has too many locals
+-- as many codes as type indices, of which some are whole, and the next one has too many locals
 abbrev pub SomeTooManyLocals : (types : List FuncType) → (imports : ℕ) → (indices : List ℕ) → List ℕ → Type 0
 SomeTooManyLocals types imports indices bytes =
-    (count : ℕ) × (from : List ℕ) × (funcs : List Func) × (mid : List ℕ) × (index : ℕ)
-    × IsU32 bytes count from × AreItems (IsEntry imports) from funcs mid × (slice_get indices (length funcs) ≡ Some index)
-    × Within_size (TooManyLocals (params_of types index)) mid
+    (from : List ℕ) × (funcs : List Func) × (mid : List ℕ) × (index : ℕ)
+    × IsU32 bytes (length indices) from × AreItems (IsEntry imports) from funcs mid × (slice_get indices (length funcs) ≡ Some index)
+    × WithinSize (TooManyLocals (params_of types index)) mid
 
 -- the sections in front of one that passes a limit
 pub record ReachesLimit (bytes : List ℕ) : Type 0 where

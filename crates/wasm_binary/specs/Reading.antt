@@ -60,7 +60,7 @@ unfoldable pub unsigned_at : (bits : ℕ) → List ℕ → Read ℕ
 unsigned_at bits [] = Err Bad
 unsigned_at bits (b ∷ bs) =
     if nat_lt b 128 then (last_unsigned_at bits b >>= λ n. Ok (n, bs))
-    else need (nat_lt 7 bits) Bad (unsigned_at (bits - 7) bs >>= λ high. Ok (128 * high.0 + (b - 128), high.1))
+    else need (nat_lt b 256 && nat_lt 7 bits) Bad (unsigned_at (bits - 7) bs >>= λ high. Ok (128 * high.0 + (b - 128), high.1))
 
 unfoldable pub last_signed_at : (bits : ℕ) → ℕ → Result ℕ Fault
 last_signed_at bits b =
@@ -71,7 +71,7 @@ unfoldable pub signed_at : (bits : ℕ) → List ℕ → Read ℕ
 signed_at bits [] = Err Bad
 signed_at bits (b ∷ bs) =
     if nat_lt b 128 then (last_signed_at bits b >>= λ n. Ok (n, bs))
-    else need (nat_lt 7 bits) Bad (signed_at (bits - 7) bs >>= λ high. Ok (128 * high.0 + (b - 128), high.1))
+    else need (nat_lt b 256 && nat_lt 7 bits) Bad (signed_at (bits - 7) bs >>= λ high. Ok (128 * high.0 + (b - 128), high.1))
 
 unfoldable pub u32_at : List ℕ → Read ℕ
 u32_at bytes = unsigned_at 32 bytes

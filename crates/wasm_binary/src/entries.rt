@@ -4,6 +4,7 @@ ghost use Rattle.std.specs.Prelude.{◌≡◌, true, length};
 ghost use Rattle.wasm_binary.specs.Reading.{Gives, items_at, vector_at, functions_at, import_at, export_at, u32_at};
 
 use crate::fault::{Fault, ReadError};
+use crate::marks::FUNC_KIND;
 use crate::numbers::{after, number};
 use crate::types::name;
 use std::alloc::Global;
@@ -15,7 +16,7 @@ fn import(alloc: Global, bytes: &[u8]) -> Result<(Import, &[u8]), ReadError>
 {
     let (module, rest) = name(bytes)?;
     let (field, rest) = name(rest)?;
-    let Some(rest) = after(0x00, rest) else {
+    let Some(rest) = after(FUNC_KIND, rest) else {
         return Err(ReadError::Fault(Fault::Bad));
     };
     let (type_index, rest) = number(rest)?;
@@ -87,7 +88,7 @@ fn export(alloc: Global, bytes: &[u8]) -> Result<(Export, &[u8]), ReadError>
     ensures { Gives (λ x. (x.0, x.1.now)) result (export_at bytes.now) }
 {
     let (name, rest) = name(bytes)?;
-    let Some(rest) = after(0x00, rest) else {
+    let Some(rest) = after(FUNC_KIND, rest) else {
         return Err(ReadError::Fault(Fault::Bad));
     };
     let (index, rest) = number(rest)?;

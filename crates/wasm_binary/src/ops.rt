@@ -5,6 +5,7 @@ ghost use Rattle.wasm_ast.specs.View.{op_of};
 ghost use Rattle.wasm_binary.specs.Reading.{Gives, op_of_byte, op_at, ops_at, expression_at};
 
 use crate::fault::{Fault, ReadError};
+use crate::marks::{CALL, DISCARD, END, I32_CONST};
 use crate::numbers::{after, byte, number, signed_number};
 use std::alloc::Global;
 use wasm_ast::{Body, Instr};
@@ -16,12 +17,12 @@ fn instr(imports: usize, bytes: &[u8]) -> Result<(Instr, &[u8]), ReadError>
 {
     let (opcode, rest) = byte(bytes)?;
     match opcode {
-        0x41 => {
+        I32_CONST => {
             let (n, rest) = signed_number(rest)?;
             Ok((Instr::I32Const(n), rest))
         }
-        0x1A => Ok((Instr::Discard, rest)),
-        0x10 => {
+        DISCARD => Ok((Instr::Discard, rest)),
+        CALL => {
             let (f, rest) = number(rest)?;
             if (f as usize) < imports {
                 Ok((Instr::Call(f), rest))
@@ -40,7 +41,7 @@ fn instrs(alloc: Global, imports: usize, bytes: &[u8]) -> Result<(Vec<Instr>, &[
     let mut items = Vec::new(alloc);
     let mut rest = bytes;
     for _ in 0..bytes.len() {
-        if let Some(behind) = after(0x0B, rest) {
+        if let Some(behind) = after(END, rest) {
             return Ok((items, behind));
         }
         let (item, next) = instr(imports, rest)?;

@@ -1,21 +1,19 @@
 //! Sections and modules (5.5).
 
 ghost use Rattle.std.specs.Prelude.{◌≡◌, true, length, take, drop};
-ghost use Rattle.wasm_binary.specs.Reading.{front_of};
-ghost use Rattle.wasm_binary.specs.Reading.{Gives, begins_with, vector_at, sized_at, functions_at, named_at, func_type_at, import_at, export_at, u32_at, code_vector_at, custom_at, customs_at, after_customs, section_at, preamble_at, head_at, module_at, read_at};
+ghost use Rattle.wasm_binary.specs.Reading.{Gives, front_of, vector_at, sized_at, functions_at, named_at, func_type_at, import_at, export_at, u32_at, code_vector_at, custom_at, customs_at, after_customs, section_at, preamble_at, head_at, module_at, read_at};
 
 use crate::code::codes;
 use crate::entries::{exports, imports, indices};
 use crate::fault::{Fault, ReadError};
+use crate::marks::{
+    CODE_SECTION, CUSTOM_SECTION, EXPORT_SECTION, FUNCTION_SECTION, IMPORT_SECTION, MOST_BYTES,
+    PREAMBLE, TYPE_SECTION,
+};
 use crate::numbers::{after, behind, clip, number};
 use crate::types::{func_types, name};
 use std::alloc::Global;
 use wasm_ast::{Export, Func, FuncType, Import, Module, Sequence};
-
-const PREAMBLE: [u8; 8] = [0x00, 0x61, 0x73, 0x6D, 0x01, 0x00, 0x00, 0x00];
-
-/// The most bytes of a module.
-pub const MOST_BYTES: usize = 262_144;
 
 #[tactic(auto, unfolding(crate::specs::Reading::custom_at, crate::specs::Reading::sized_at, crate::specs::Reading::named_at))]
 fn custom(bytes: &[u8]) -> Result<&[u8], ReadError>
@@ -32,7 +30,7 @@ fn customs(bytes: &[u8]) -> Result<&[u8], ReadError>
 {
     let mut rest = bytes;
     for _ in 0..bytes.len() {
-        let Some(from_size) = after(0x00, rest) else {
+        let Some(from_size) = after(CUSTOM_SECTION, rest) else {
             return Ok(rest);
         };
         rest = custom(from_size)?;
@@ -44,7 +42,7 @@ fn customs(bytes: &[u8]) -> Result<&[u8], ReadError>
 fn type_section(alloc: Global, bytes: &[u8]) -> Result<(Vec<FuncType>, &[u8]), ReadError>
     ensures { Gives (λ x. (x.0.items, x.1.now)) result (section_at 1 (vector_at func_type_at) bytes.now) }
 {
-    let Some(rest) = after(1, bytes) else {
+    let Some(rest) = after(TYPE_SECTION, bytes) else {
         return Ok((Vec::new(alloc), bytes));
     };
     let (size, rest) = number(rest)?;
@@ -57,7 +55,7 @@ fn type_section(alloc: Global, bytes: &[u8]) -> Result<(Vec<FuncType>, &[u8]), R
 fn import_section(alloc: Global, bytes: &[u8]) -> Result<(Vec<Import>, &[u8]), ReadError>
     ensures { Gives (λ x. (x.0.items, x.1.now)) result (section_at 2 (functions_at true 0 import_at) bytes.now) }
 {
-    let Some(rest) = after(2, bytes) else {
+    let Some(rest) = after(IMPORT_SECTION, bytes) else {
         return Ok((Vec::new(alloc), bytes));
     };
     let (size, rest) = number(rest)?;
@@ -74,7 +72,7 @@ fn function_section(
 ) -> Result<(Vec<u32>, &[u8]), ReadError>
     ensures { Gives (λ x. (x.0.items, x.1.now)) result (section_at 3 (functions_at true imports u32_at) bytes.now) }
 {
-    let Some(rest) = after(3, bytes) else {
+    let Some(rest) = after(FUNCTION_SECTION, bytes) else {
         return Ok((Vec::new(alloc), bytes));
     };
     let (size, rest) = number(rest)?;
@@ -87,7 +85,7 @@ fn function_section(
 fn export_section(alloc: Global, bytes: &[u8]) -> Result<(Vec<Export>, &[u8]), ReadError>
     ensures { Gives (λ x. (x.0.items, x.1.now)) result (section_at 7 (vector_at export_at) bytes.now) }
 {
-    let Some(rest) = after(7, bytes) else {
+    let Some(rest) = after(EXPORT_SECTION, bytes) else {
         return Ok((Vec::new(alloc), bytes));
     };
     let (size, rest) = number(rest)?;
@@ -107,7 +105,7 @@ fn code_section<'a>(
     ensures { Gives (λ x. (x.0.items, x.1.now)) result
         (section_at 10 (code_vector_at true types.now imports indices.now) bytes.now) }
 {
-    let Some(rest) = after(10, bytes) else {
+    let Some(rest) = after(CODE_SECTION, bytes) else {
         return Ok((Vec::new(alloc), bytes));
     };
     let (size, rest) = number(rest)?;

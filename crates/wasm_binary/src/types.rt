@@ -4,6 +4,7 @@ ghost use Rattle.std.specs.Prelude.{◌≡◌, length, take};
 ghost use Rattle.wasm_binary.specs.Reading.{Gives, items_at, vector_at, name_at, type_of, type_at, func_type_at};
 
 use crate::fault::{Fault, ReadError};
+use crate::marks::{FUNC_TYPE, I32, I64};
 use crate::numbers::{after, byte, number};
 use std::alloc::Global;
 use wasm_ast::{FuncType, Sequence, ValType};
@@ -32,8 +33,8 @@ pub fn val_type(bytes: &[u8]) -> Result<(ValType, &[u8]), ReadError>
 {
     let (first, rest) = byte(bytes)?;
     match first {
-        0x7F => Ok((ValType::I32, rest)),
-        0x7E => Ok((ValType::I64, rest)),
+        I32 => Ok((ValType::I32, rest)),
+        I64 => Ok((ValType::I64, rest)),
         _ => Err(ReadError::Fault(Fault::Bad)),
     }
 }
@@ -67,7 +68,7 @@ fn val_types(alloc: Global, bytes: &[u8]) -> Result<(Vec<ValType>, &[u8]), ReadE
 fn func_type(alloc: Global, bytes: &[u8]) -> Result<(FuncType, &[u8]), ReadError>
     ensures { Gives (λ x. (x.0, x.1.now)) result (func_type_at bytes.now) }
 {
-    let Some(rest) = after(0x60, bytes) else {
+    let Some(rest) = after(FUNC_TYPE, bytes) else {
         return Err(ReadError::Fault(Fault::Bad));
     };
     let (params, rest) = val_types(alloc, rest)?;

@@ -6,6 +6,7 @@ ghost use Rattle.wasm_ast.specs.View.{op_of};
 ghost use Rattle.wasm_binary.specs.Grammar.{type_byte};
 ghost use Rattle.wasm_binary.specs.Canonical.{unsigned, signed, last_signed, is_last_signed, number, vector, sized, name, val_type, func_type, op, import_entry, export_entry};
 
+use crate::marks::{CALL, DISCARD, FUNC_KIND, FUNC_TYPE, I32, I32_CONST, I64};
 use std::alloc::AllocError;
 use wasm_ast::{Export, ExportKind, FuncType, Import, Instr, Text, ValType};
 
@@ -86,8 +87,8 @@ pub fn put_val_type(out: &mut Vec<u8>, t: ValType) -> Result<(), AllocError>
     ensures { OnOk result (out.new.items ≡ out.old.items ++ val_type t) }
 {
     let byte = match t {
-        ValType::I32 => 0x7F,
-        ValType::I64 => 0x7E,
+        ValType::I32 => I32,
+        ValType::I64 => I64,
     };
     out.push(byte)?;
     Ok(())
@@ -107,7 +108,7 @@ fn put_val_types(out: &mut Vec<u8>, items: &[ValType]) -> Result<(), AllocError>
 pub fn put_func_type(out: &mut Vec<u8>, t: &FuncType) -> Result<(), AllocError>
     ensures { OnOk result (out.new.items ≡ out.old.items ++ func_type t.now) }
 {
-    out.push(0x60)?;
+    out.push(FUNC_TYPE)?;
     put_val_types(out, t.params.as_slice())?;
     put_val_types(out, t.results.as_slice())
 }
@@ -118,15 +119,15 @@ pub fn put_instr(out: &mut Vec<u8>, instr: Instr) -> Result<(), AllocError>
 {
     match instr {
         Instr::I32Const(n) => {
-            out.push(0x41)?;
+            out.push(I32_CONST)?;
             put_signed(out, 4, 32, u64::from(n))
         }
         Instr::Discard => {
-            out.push(0x1A)?;
+            out.push(DISCARD)?;
             Ok(())
         }
         Instr::Call(f) => {
-            out.push(0x10)?;
+            out.push(CALL)?;
             put_number(out, u64::from(f))
         }
     }
@@ -138,7 +139,7 @@ pub fn put_import(out: &mut Vec<u8>, import: &Import) -> Result<(), AllocError>
 {
     put_name(out, &import.module)?;
     put_name(out, &import.name)?;
-    out.push(0x00)?;
+    out.push(FUNC_KIND)?;
     put_number(out, u64::from(import.type_index))
 }
 
@@ -148,7 +149,7 @@ pub fn put_export(out: &mut Vec<u8>, export: &Export) -> Result<(), AllocError>
 {
     put_name(out, &export.name)?;
     let kind = match export.kind {
-        ExportKind::Func => 0x00,
+        ExportKind::Func => FUNC_KIND,
     };
     out.push(kind)?;
     put_number(out, u64::from(export.index))

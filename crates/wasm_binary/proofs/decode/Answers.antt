@@ -1,8 +1,11 @@
-use Rattle.std.proofs.Common.{◌≡◌, Ok, Err, true, ap, inl, sym}
+use Rattle.std.proofs.Common.{Result, ◌∙◌, ◌≡◌, Ok, Err, true, ap, sym, inl}
 use Rattle.wasm_ast.specs.declared.module.Module.{Module}
+use Rattle.wasm_binary.specs.declared.fault.Fault.{Fault}
 use Rattle.wasm_binary.specs.declared.fault.Fault.TheVariants as fault
 use Rattle.wasm_binary.specs.Reading.{read_at}
 use Rattle.wasm_binary.proofs.Decodes.{by_fault, decoded, passes, not_spelled, none_within, one_module}
+use Rattle.wasm_binary.proofs.InRange.{spelled_ranged}
+use Rattle.wasm_binary.proofs.Overs.{read_over}
 use Rattle.wasm_binary.proofs.decode.Goals as goal
 
 pub returns-in-Ok-clause-spelled : goal.returns-in-Ok-clause-spelled
@@ -40,3 +43,17 @@ pub returns-in-Err-Fault-Over-clause-none_within :
 returns-in-Err-Fault-Over-clause-none_within c = λ _.
     let e : read_at true c.args.bytes.now ≡ Err fault.Over = by_fault c.in-Err-Fault-Over.field-0 c.in-Err-Fault-Over.field-0-0 fault.Over (read_at true c.args.bytes.now) c.in-Err-Fault-Over.field-0-is c.in-Err-Fault-Over.field-0-0-is c.in-Err-Fault-Over.ensures in
     none_within c.args.bytes.now e
+
+pub returns-in-Ok-clause-ranged : goal.returns-in-Ok-clause-ranged
+returns-in-Ok-clause-ranged c = spelled_ranged c.args.bytes.now c.in-Ok.module (decoded c.args.bytes.now c.in-Ok.module c.in-Ok.ensures).0
+
+pub returns-in-Ok-clause-limit : goal.returns-in-Ok-clause-limit
+returns-in-Ok-clause-limit c = λ over.
+    let e : ◌≡◌ {A = Result Module Fault} (Ok c.in-Ok.module) (Err fault.Over) = sym c.in-Ok.ensures ∙ read_over c.args.bytes.now over in
+    absurd cc
+
+pub returns-in-Err-Fault-Bad-clause-limit : goal.returns-in-Err-Fault-Bad-clause-limit
+returns-in-Err-Fault-Bad-clause-limit c = λ over.
+    let e : read_at true c.args.bytes.now ≡ Err fault.Bad = by_fault c.in-Err-Fault-Bad.field-0 c.in-Err-Fault-Bad.field-0-0 fault.Bad (read_at true c.args.bytes.now) c.in-Err-Fault-Bad.field-0-is c.in-Err-Fault-Bad.field-0-0-is c.in-Err-Fault-Bad.ensures in
+    let k : ◌≡◌ {A = Result Module Fault} (Err fault.Bad) (Err fault.Over) = sym e ∙ read_over c.args.bytes.now over in
+    absurd cc

@@ -1,4 +1,4 @@
-use Rattle.std.proofs.Common.{◌≡◌, true, get_or, refl}
+use Rattle.std.proofs.Common.{true, get_or, refl}
 use Rattle.std.proofs.lemmas.Result.{err_from_is_err_and}
 use Rattle.wasm_binary.specs.Reading.{codes_at}
 use Rattle.wasm_binary.proofs.Loops.{code_goes_on, code_fails, codes_done}

@@ -1,4 +1,4 @@
-use Rattle.std.proofs.Common.{◌≡◌, ◌≤◌, ◌<◌, ◌+◌, true, arith}
+use Rattle.std.proofs.Common.{true, arith}
 use Rattle.std.proofs.lemmas.Result.{err_from_is_err_and}
 use Rattle.wasm_binary.specs.Reading.{runs_at}
 use Rattle.wasm_binary.proofs.Loops.{run_goes_on, run_count_fails, run_over, run_type_fails, runs_done}

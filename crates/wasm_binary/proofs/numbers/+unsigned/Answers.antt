@@ -1,4 +1,4 @@
-use Rattle.std.proofs.Common.{◌<◌, ◌^◌, ◌+◌, ◌*◌, ◌-◌, arith}
+use Rattle.std.proofs.Common.{◌<◌, ◌^◌, arith}
 use Rattle.wasm_binary.proofs.Powers.{fits, within}
 use Rattle.wasm_binary.proofs.numbers.+unsigned.Goals as goal
 

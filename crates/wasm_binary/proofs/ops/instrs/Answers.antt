@@ -1,8 +1,8 @@
-use Rattle.std.proofs.Common.{◌≡◌, ◌++◌, ◌∷◌, [], map, length, false}
+use Rattle.std.proofs.Common.{◌≡◌, ◌++◌, ◌∷◌, [], map, length}
 use Rattle.std.proofs.lemmas.Result.{err_from_is_err_and}
 use Rattle.std.proofs.lemmas.List.{map_push}
 use Rattle.wasm_ast.specs.View.{op_of}
-use Rattle.wasm_binary.specs.Reading.{begins_with, ops_at}
+use Rattle.wasm_binary.specs.Reading.{ops_at}
 use Rattle.wasm_binary.proofs.Loops.{op_goes_on, op_fails, ops_end, ops_run_out}
 use Rattle.wasm_binary.proofs.Starts.{not_after}
 use Rattle.wasm_binary.proofs.ops.instrs.Goals as goal

@@ -1,4 +1,4 @@
-use Rattle.std.proofs.Common.{◌≡◌, ◌/◌, ◌-◌, ◌%◌, ◌+◌, ◌^◌, ◌<◌, ◌++◌, ◌∷◌, [], ℕ, List, sym, ap, ◌∙◌, append_assoc, arith}
+use Rattle.std.proofs.Common.{◌/◌, ◌-◌, ◌%◌, ◌+◌, ◌^◌, ◌<◌, sym, arith}
 use Rattle.std.proofs.lemmas.Result.{IfOk-equal}
 use Rattle.wasm_binary.specs.Canonical.{signed}
 use Rattle.wasm_binary.proofs.Shortest.{signed_more, pushed, not_last, bits_left, high_bits}

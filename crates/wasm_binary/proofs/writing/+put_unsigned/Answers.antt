@@ -1,4 +1,4 @@
-use Rattle.std.proofs.Common.{◌≡◌, ◌/◌, ◌-◌, ◌%◌, ◌+◌, ◌++◌, ◌∷◌, [], ℕ, List, sym, ap, ◌∙◌, append_assoc, arith}
+use Rattle.std.proofs.Common.{◌/◌, ◌-◌, ◌%◌, ◌+◌, arith}
 use Rattle.std.proofs.lemmas.Result.{IfOk-equal}
 use Rattle.wasm_binary.specs.Canonical.{unsigned}
 use Rattle.wasm_binary.proofs.Shortest.{unsigned_more, pushed}

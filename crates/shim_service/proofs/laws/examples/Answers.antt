@@ -1,0 +1,35 @@
+use Rattle.std.proofs.Common.{refl, arith, codes}
+use Rattle.std.specs.Fmt.{digits}
+use Rattle.std.specs.Str.{is_utf8, chars}
+use Rattle.std.proofs.lemmas.Str.{IsUtf8-from_is_utf8}
+use Rattle.hex.proofs.OnLiterals.{hex_on_literals}
+use Rattle.serde_json.proofs.OnLiterals.{serde_json_on_literals}
+use Rattle.shim_service.proofs.laws.examples.Goals as goal
+
+pub returns-clause-put : goal.returns-clause-put
+unfolding serde_json_on_literals hex_on_literals is_utf8 chars
+returns-clause-put c = record {
+  value = _;
+  reads = record { short = omega arith; utf8 = IsUtf8-from_is_utf8 (codes "{\"op\":\"put\",\"hex\":\"00fF\"}") refl; value = refl };
+  asks = record { hex = _; keys = refl; spells = record { digits = _; text = refl; decodes = refl } };
+}
+
+pub returns-clause-twice : goal.returns-clause-twice
+unfolding serde_json_on_literals is_utf8 chars
+returns-clause-twice c = record {
+  value = _;
+  reads = record { short = omega arith; utf8 = IsUtf8-from_is_utf8 (codes "{\"op\":\"start\",\"id\":\"a\",\"op\":\"state\"}") refl; value = refl };
+  asks = refl;
+}
+
+pub returns-clause-take : goal.returns-clause-take
+unfolding serde_json_on_literals is_utf8 chars
+returns-clause-take c = record {
+  value = _;
+  reads = record { short = omega arith; utf8 = IsUtf8-from_is_utf8 (codes "{\"op\":\"take\",\"id\":\"a\",\"budget\":100}") refl; value = refl };
+  asks = record { keys = refl; least = omega arith; most = omega arith };
+}
+
+pub returns-clause-stopped : goal.returns-clause-stopped
+unfolding serde_json_on_literals digits
+returns-clause-stopped c = refl

@@ -1,0 +1,5 @@
+use Rattle.shim_service.proofs.Single.{one_event}
+use Rattle.shim_service.proofs.laws.one_event_to_a_line.Goals as goal
+
+pub returns : goal.returns
+returns c = one_event

@@ -1,0 +1,25 @@
+-- Lines that are read and written so.
+use Rattle.std.specs.Prelude.{◌≡◌, [], ◌∷◌, Some, Ok, codes}
+use Rattle.task_board.specs.declared.event.Event.TheVariants.{Call, Take}
+use Rattle.task_board.specs.declared.request.Request.TheVariants as request
+use Rattle.task_board.specs.declared.request.Reply.TheVariants as reply
+use Rattle.task_board.specs.declared.status.ExitRecord.TheVariants.{Exit}
+use Rattle.task_board.specs.declared.status.Status.TheVariants.{Stopped}
+use Rattle.shim_service.specs.Request.{IsEvent}
+use Rattle.shim_service.specs.Reply.{json_of, line_text}
+
+-- digits of either case
+abbrev pub PutExample : Type 0
+PutExample = IsEvent (codes "{\"op\":\"put\",\"hex\":\"00fF\"}") (Call (request.Put (0 ∷ 255 ∷ [])))
+
+-- of a key that stands twice the last value counts
+abbrev pub TwiceExample : Type 0
+TwiceExample = IsEvent (codes "{\"op\":\"start\",\"id\":\"a\",\"op\":\"state\"}") (Call (request.State (codes "a")))
+
+abbrev pub TakeExample : Type 0
+TakeExample = IsEvent (codes "{\"op\":\"take\",\"id\":\"a\",\"budget\":100}") (Take (codes "a") 100)
+
+abbrev pub StoppedExample : Type 0
+StoppedExample =
+    line_text (json_of (Ok (reply.State (record { id = codes "a"; n = 2; status = Stopped; end = Some (Exit 7) }))))
+    ≡ codes "{\"cause\":\"exit\",\"exit\":7,\"id\":\"a\",\"n\":2,\"ok\":true,\"status\":\"stopped\"}\n"
