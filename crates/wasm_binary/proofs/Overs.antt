@@ -1,7 +1,7 @@
 -- Where the front of the bytes passes a limit, a limited reading answers so.
-use Rattle.std.proofs.Common.{◌≡◌, ℕ, zero, suc, ◌+◌, ◌<◌, ◌≤◌, Bool, true, false, cond, ltb, eqb, List, [], ◌∷◌, ◌++◌, length, take, drop, replicate, Result, Ok, Err, Some, refl, sym, ap, subst, ◌∙◌, arith, inl, inr}
-use Rattle.std.specs.Prelude.{slice_get, ◌⊎◌, ◌&&◌}
-use Rattle.std.proofs.lemmas.Bool.{cases_lt, lt-ltb, le-ltb, eq-eqb}
+use Rattle.std.proofs.Common.{◌≡◌, ℕ, zero, suc, ◌+◌, ◌<◌, ◌≤◌, Bool, true, false, cond, ltb, List, [], ◌∷◌, ◌++◌, length, take, replicate, Result, Ok, Err, Some, refl, sym, ap, subst, ◌∙◌, arith, inl, inr}
+use Rattle.std.specs.Prelude.{slice_get}
+use Rattle.std.proofs.lemmas.Bool.{lt-ltb, eq-eqb}
 use Rattle.std.proofs.lemmas.List.{length-append, length-replicate}
 use Rattle.std.proofs.lemmas.Option.{same_Some}
 use Rattle.wasm_ast.specs.declared.values.ValType.{ValType}
@@ -9,15 +9,14 @@ use Rattle.wasm_ast.specs.declared.values.FuncType.{FuncType}
 use Rattle.wasm_ast.specs.declared.module.Func.{Func}
 use Rattle.wasm_ast.specs.declared.module.Import.{Import}
 use Rattle.wasm_ast.specs.declared.module.Export.{Export}
-use Rattle.wasm_ast.specs.declared.module.Module.{Module}
 use Rattle.wasm_ast.specs.Limits.{params_of}
 use Rattle.wasm_binary.specs.declared.fault.Fault.{Fault}
 use Rattle.wasm_binary.specs.declared.fault.Fault.TheVariants.{Bad, Over}
 use Rattle.wasm_binary.specs.Numbers.{IsU32}
-use Rattle.wasm_binary.specs.Grammar.{AreItems, IsVector, IsRun, IsValType, locals_of, IsCode, IsEntry, IsFuncType, IsImport, IsExport, AreCustom, IsSection}
+use Rattle.wasm_binary.specs.Grammar.{AreItems, IsVector, IsRun, IsValType, locals_of, IsCode, IsEntry, IsFuncType, IsImport, IsExport, IsSection}
 use Rattle.wasm_binary.specs.Limits.{WithinSize, Opens, TooManyFunctions, TooManyLocals, SomeTooManyLocals, ReachesLimit}
 use Rattle.wasm_binary.specs.Limits as limits
-use Rattle.wasm_binary.specs.Reading.{◌>>=◌, Read, need, begins_with, u32_at, type_at, sized_at, vector_at, runs_at, locals_at, expression_at, code_at, codes_at, section_at, functions_at, code_vector_at, func_type_at, import_at, export_at, after_customs, preamble_at, head_at, module_at, read_at}
+use Rattle.wasm_binary.specs.Reading.{◌>>=◌, Read, u32_at, type_at, sized_at, vector_at, runs_at, locals_at, code_at, codes_at, section_at, functions_at, code_vector_at, func_type_at, import_at, export_at, after_customs, preamble_at, head_at, module_at, read_at}
 use Rattle.wasm_binary.proofs.Comes.{Comes, Always, begins_cons, u32_comes, type_comes, sized_comes, vector_comes, func_type_comes, import_comes, export_comes}
 use Rattle.wasm_binary.proofs.ModuleComes.{Above, section_above, section_comes, functions_comes, code_comes, preamble_comes, after_customs_comes, head_parts}
 
