@@ -1,0 +1,198 @@
+//! A script of requests for a machine on which memory may be refused at any growth.
+//!
+//! What is refused for memory is tried again at once, and only the answers without those refusals are
+//! printed: a refusal for memory changes nothing, so they are the same however often memory was refused.
+//! How often that was goes to standard error. Requests that take no memory are made only once.
+#![tactic(auto)]
+
+use shim_service::{line_of, request_of};
+use std::process::ExitCode;
+use task_board::{Board, Reply, Request};
+use wasm_ast::Refusal;
+
+/// How often a call is made at most.
+const TRIES: u64 = 100;
+
+/// Stores a module whose entry calls `proc_exit` with 7.
+const PUT_EXIT_SEVEN: &str =
+    r#"{"op":"put","hex":"0061736d0100000001080260017f0060000002240116776173695f736e617073686f745f70726576696577310970726f635f65786974000003020101070a01065f737461727400010a08010600410710000b"}"#;
+
+/// Stores a module with no entry.
+const PUT_NO_ENTRY: &str = r#"{"op":"put","hex":"0061736d01000000"}"#;
+
+/// Stores the first module without its last byte.
+const PUT_CUT_SHORT: &str =
+    r#"{"op":"put","hex":"0061736d0100000001080260017f0060000002240116776173695f736e617073686f745f70726576696577310970726f635f65786974000003020101070a01065f737461727400010a0801060041071000"}"#;
+
+/// Stores a module whose entry leaves a value.
+const PUT_INVALID: &str =
+    r#"{"op":"put","hex":"0061736d0100000001080260017f0060000002240116776173695f736e617073686f745f70726576696577310970726f635f65786974000003020101070a01065f737461727400010a0601040041070b"}"#;
+
+const CREATE_A: &str =
+    r#"{"op":"create","id":"a","config":"{\"ociVersion\":\"1.0.2\",\"process\":{\"args\":[\"a\"],\"cwd\":\"/\"},\"annotations\":{\"dev.shim.module\":\"sha256:2194f0d23626e6104d4a7a891350fbd0e82a54a29dd596a672d41474e9b6ee0a\"}}"}"#;
+
+const CREATE_NO_ENTRY: &str =
+    r#"{"op":"create","id":"b","config":"{\"ociVersion\":\"1.0.2\",\"process\":{\"args\":[\"a\"],\"cwd\":\"/\"},\"annotations\":{\"dev.shim.module\":\"sha256:93a44bbb96c751218e4c00d479e4c14358122a389acca16205b1e4d0dc5f9476\"}}"}"#;
+
+const CREATE_CUT_SHORT: &str =
+    r#"{"op":"create","id":"b","config":"{\"ociVersion\":\"1.0.2\",\"process\":{\"args\":[\"a\"],\"cwd\":\"/\"},\"annotations\":{\"dev.shim.module\":\"sha256:1f1ad1cebb0e45369a20f1ffda3da01c9779f844895a58e39ee69ebab768ecc2\"}}"}"#;
+
+const CREATE_INVALID: &str =
+    r#"{"op":"create","id":"b","config":"{\"ociVersion\":\"1.0.2\",\"process\":{\"args\":[\"a\"],\"cwd\":\"/\"},\"annotations\":{\"dev.shim.module\":\"sha256:52d823b59bfc8240241114aa4200f6b5bad2d999333a9dfe886f0452c66c9040\"}}"}"#;
+
+const CREATE_NO_CONTENT: &str =
+    r#"{"op":"create","id":"b","config":"{\"ociVersion\":\"1.0.2\",\"process\":{\"args\":[\"a\"],\"cwd\":\"/\"},\"annotations\":{\"dev.shim.module\":\"sha256:6e340b9cffb37a989ca544e6bb780a2c78901d3fb33738768511a30617afa01d\"}}"}"#;
+
+const CREATE_NO_CONFIG: &str = r#"{"op":"create","id":"b","config":"{}"}"#;
+
+const CREATE_B: &str =
+    r#"{"op":"create","id":"b","config":"{\"ociVersion\":\"1.0.2\",\"process\":{\"args\":[\"a\"],\"cwd\":\"/\"},\"annotations\":{\"dev.shim.module\":\"sha256:2194f0d23626e6104d4a7a891350fbd0e82a54a29dd596a672d41474e9b6ee0a\"}}"}"#;
+
+const START_A: &str = r#"{"op":"start","id":"a"}"#;
+
+const STATE_A: &str = r#"{"op":"state","id":"a"}"#;
+
+const WAIT_A: &str = r#"{"op":"wait","id":"a"}"#;
+
+/// What is asked before the first slice.
+const FIRST: [&str; 6] = [
+    PUT_EXIT_SEVEN,
+    PUT_EXIT_SEVEN,
+    CREATE_A,
+    CREATE_A,
+    START_A,
+    STATE_A,
+];
+
+/// What is asked after a slice.
+const AFTER: [&str; 2] = [STATE_A, WAIT_A];
+
+/// What is asked last: one create after creates that are refused for other reasons.
+const LAST: [&str; 9] = [
+    PUT_NO_ENTRY,
+    CREATE_NO_ENTRY,
+    PUT_CUT_SHORT,
+    CREATE_CUT_SHORT,
+    PUT_INVALID,
+    CREATE_INVALID,
+    CREATE_NO_CONTENT,
+    CREATE_NO_CONFIG,
+    CREATE_B,
+];
+
+/// The board, and how often memory was refused so far.
+#[derive(Drop)]
+struct Session<'a> {
+    rt: &'a HostRuntime,
+    board: Board,
+    refused: u64,
+}
+
+// A board, and how often memory was refused for it.
+fn open(rt: &HostRuntime) -> Option<Session<'_>> {
+    for refused in 0..TRIES {
+        if let Ok(board) = Board::new(rt.alloc()) {
+            return Some(Session { rt, board, refused });
+        }
+    }
+    None
+}
+
+// Whether the request takes no memory.
+fn is_quiet(request: &Request) -> bool {
+    matches!(
+        request,
+        Request::Start { .. } | Request::State { .. } | Request::Wait { .. }
+    )
+}
+
+impl Session<'_> {
+    // What the line is answered. None where it was refused for memory, and takes some.
+    fn try_line(&mut self, line: &str) -> Option<Result<Reply, Refusal>> {
+        let request = match request_of(self.rt.alloc(), line.as_bytes()) {
+            Ok(request) => request,
+            Err(Refusal::NoMemory) => return None,
+            Err(refusal) => return Some(Err(refusal)),
+        };
+        let quiet = is_quiet(&request);
+        match self.board.call(request) {
+            Err(Refusal::NoMemory) if !quiet => None,
+            answer => Some(answer),
+        }
+    }
+
+    // What the line is answered once memory is not refused.
+    fn answer(&mut self, line: &str) -> Result<Reply, Refusal> {
+        for _ in 0..TRIES {
+            if let Some(answer) = self.try_line(line) {
+                return answer;
+            }
+            self.refused = self.refused.saturating_add(1);
+        }
+        Err(Refusal::NoMemory)
+    }
+
+    // Prints the line of an answer.
+    fn print(&mut self, answer: &Result<Reply, Refusal>) {
+        for _ in 0..TRIES {
+            if let Ok(line) = line_of(self.rt.alloc(), answer) {
+                let _printed = print!(self.rt; "{line}");
+                return;
+            }
+            self.refused = self.refused.saturating_add(1);
+        }
+    }
+
+    // Makes requests, and prints what they are answered.
+    fn ask(&mut self, lines: &[&str]) {
+        for line in lines {
+            let answer = self.answer(line);
+            self.print(&answer);
+        }
+    }
+
+    // Prints which create made the task with an id.
+    fn tell(&self, id: &str) {
+        let _printed = match self.board.ticket(id) {
+            Some(ticket) => {
+                let incarnation = ticket.incarnation;
+                println!(self.rt; "{id}: incarnation {incarnation}")
+            }
+            None => println!(self.rt; "{id}: no task"),
+        };
+    }
+
+    // Runs a slice of one turn, and prints whether the task goes on.
+    fn slice(&mut self, id: &str) {
+        let Some(ticket) = self.board.ticket(id) else {
+            return;
+        };
+        let Some(mut loan) = self.board.take(ticket, 1) else {
+            return;
+        };
+        loan.run();
+        let again = self.board.give_back(loan);
+        let _printed = if again == Some(ticket) {
+            println!(self.rt; "{id}: one turn, and it goes on")
+        } else {
+            println!(self.rt; "{id}: one turn, and it does not go on")
+        };
+    }
+}
+
+fn main(rt: HostRuntime) -> ExitCode {
+    let Some(mut session) = open(&rt) else {
+        return ExitCode::FAILURE;
+    };
+    session.ask(&FIRST);
+    session.tell("a");
+    session.slice("a");
+    session.ask(&AFTER);
+    session.slice("a");
+    session.ask(&AFTER);
+    session.ask(&LAST);
+    session.tell("b");
+    let refused = session.refused;
+    let _told = eprintln!(rt; "refused for memory: {refused}");
+    ExitCode::SUCCESS
+}
