@@ -1,0 +1,14 @@
+//! Tests over the public calls of all crates: that each can succeed, with answers that were worked out by
+//! hand, and what no contract says.
+#![tactic(auto)]
+
+#[cfg(test)]
+mod boards;
+#[cfg(test)]
+mod commands;
+#[cfg(test)]
+mod lines;
+#[cfg(test)]
+mod modules;
+#[cfg(test)]
+mod streams;

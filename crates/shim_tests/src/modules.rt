@@ -1,0 +1,180 @@
+//! Modules are read, written and run.
+
+use std::alloc::{AllocError, Global};
+use std::test::Fail;
+use step_machine::{Breaks, Machine, Process, SliceEnd, validate};
+use wasm_ast::{Export, Func, Import, Instr, Module, Refusal, Sequence, Text};
+use wasm_binary::{decode, encode};
+
+/// A module whose entry is `i32.const 7 call $exit`, in 82 bytes.
+const EXIT_SEVEN: &str =
+    "0061736d0100000001080260017f0060000002240116776173695f736e617073686f745f70726576696577310970726f635f65786974000003020101070a01065f737461727400010a08010600410710000b";
+
+/// The same module with the number 7 in five bytes.
+const SEVEN_IN_FIVE: &str =
+    "0061736d0100000001080260017f0060000002240116776173695f736e617073686f745f70726576696577310970726f635f65786974000003020101070a01065f737461727400010a0c010a0041878080800010000b";
+
+fn text(alloc: Global, text: &str) -> Result<Text, AllocError> {
+    Text::from_str(alloc, text)
+}
+
+// A process with one argument.
+fn process(alloc: Global) -> Result<Process, AllocError> {
+    let mut args = Vec::new(alloc);
+    args.push(text(alloc, "a")?)?;
+    Ok(Process {
+        module: text(alloc, "sha256:")?,
+        args: Sequence::new(args),
+        env: Sequence::new(Vec::new(alloc)),
+        cap: 16,
+        out: Sequence::new(Vec::new(alloc)),
+        err: Sequence::new(Vec::new(alloc)),
+    })
+}
+
+// The lists of a module, as the abstract syntax has them.
+fn show(alloc: Global, module: &Module) -> Result<String, Fail> {
+    let mut shown = String::new(alloc);
+    for found in module.types.as_slice() {
+        let params = found.params.as_slice();
+        let results = found.results.as_slice();
+        write!(shown, "type {params:?} to {results:?}; ")?;
+    }
+    for Import {
+        module,
+        name,
+        type_index,
+    } in module.imports.as_slice() {
+        write!(shown, "import {module} {name} {type_index}; ")?;
+    }
+    for Func {
+        type_index,
+        locals,
+        body,
+    } in module.funcs.as_slice() {
+        let locals = locals.as_slice();
+        let body = body.as_slice();
+        write!(shown, "func {type_index} {locals:?} {body:?}; ")?;
+    }
+    for Export { name, kind, index } in module.exports.as_slice() {
+        write!(shown, "export {name} {kind:?} {index}")?;
+    }
+    Ok(shown)
+}
+
+#[test]
+fn modules_are_read_and_written(rt: HostRuntime) -> Result<(), Fail> {
+    let alloc = rt.alloc();
+    for spelling in [EXIT_SEVEN, SEVEN_IN_FIVE] {
+        let bytes = hex::decode(alloc, spelling)?;
+        let module = decode(alloc, bytes.as_slice())?;
+        let shown = show(alloc, &module)?;
+        assert_eq!(rt;
+            shown.as_str(),
+            "type [I32] to []; type [] to []; \
+            import wasi_snapshot_preview1 proc_exit 0; \
+            func 1 [] [I32Const(7), Call(0)]; export _start Func 1"
+        );
+        let written = hex::encode(alloc, encode(alloc, &module)?)?;
+        assert_eq!(rt; written.as_str(), EXIT_SEVEN);
+    }
+    Ok(())
+}
+
+#[test]
+fn a_module_runs(rt: HostRuntime) -> Result<(), Fail> {
+    let alloc = rt.alloc();
+    let bytes = hex::decode(alloc, EXIT_SEVEN)?;
+    let valid = validate(alloc, decode(alloc, bytes.as_slice())?)?;
+    let breaks = Breaks::none(alloc)?;
+    let mut machine = Machine::new(alloc, valid, process(alloc)?)?;
+    assert_eq!(rt; machine.run(1, &breaks), SliceEnd::Budget);
+    assert_eq!(rt; machine.run(10, &breaks), SliceEnd::Exited(7));
+    assert_eq!(rt; machine.turns(), 2);
+    Ok(())
+}
+
+#[test]
+fn copies_are_the_same(rt: HostRuntime) -> Result<(), Fail> {
+    let alloc = rt.alloc();
+    let word = text(alloc, "ä \u{0}")?;
+    assert_eq!(rt; word.copy(alloc)?.as_str(), "ä \u{0}");
+    let bytes = Sequence::new(hex::decode(alloc, "00ff")?);
+    assert_eq!(rt; bytes.copy(alloc)?.as_slice(), [0, 255].as_slice());
+    let process = process(alloc)?;
+    let mut copy = process.copy(alloc)?;
+    assert!(rt; copy.is(&process));
+    copy.cap = 17;
+    assert!(rt; !copy.is(&process));
+    Ok(())
+}
+
+/// Bytes with a fault or a number over a limit, or both: the one that stands first from the front is
+/// answered.
+const FAULTS: [(&str, Refusal); 9] = [
+    // A body with an instruction that is none.
+    (
+        "0061736d0100000001080260017f0060000002240116776173695f736e617073686f745f70726576696577310970726f635f65786974000003020101070a01065f737461727400010a05010300ff0b",
+        Refusal::BadModule,
+    ),
+    // Too many locals, and such an instruction behind them.
+    (
+        "0061736d0100000001080260017f0060000002240116776173695f736e617073686f745f70726576696577310970726f635f65786974000003020101070a01065f737461727400010a0b010901ffffffff0f7fff0b",
+        Refusal::Limit,
+    ),
+    // A local of no type, and too many locals behind it.
+    (
+        "0061736d0100000001080260017f0060000002240116776173695f736e617073686f745f70726576696577310970726f635f65786974000003020101070a01065f737461727400010a0c010a02017dffffffff0f7f0b",
+        Refusal::BadModule,
+    ),
+    // Too many locals, and one of no type behind them.
+    (
+        "0061736d0100000001080260017f0060000002240116776173695f736e617073686f745f70726576696577310970726f635f65786974000003020101070a01065f737461727400010a0c010a02ffffffff0f7f017d0b",
+        Refusal::Limit,
+    ),
+    // 1,024 locals and one more, and an instruction that is none.
+    (
+        "0061736d0100000001080260017f0060000002240116776173695f736e617073686f745f70726576696577310970726f635f65786974000003020101070a01065f737461727400010a0a01080280087f017fff0b",
+        Refusal::Limit,
+    ),
+    // 1,024 locals, and an instruction that is none.
+    (
+        "0061736d0100000001080260017f0060000002240116776173695f736e617073686f745f70726576696577310970726f635f65786974000003020101070a01065f737461727400010a0801060180087fff0b",
+        Refusal::BadModule,
+    ),
+    // 4,097 functions, of which no type follows.
+    ("0061736d0100000001040160000003028120", Refusal::Limit),
+    // A type of no form, and 4,097 functions behind it.
+    ("0061736d0100000001040161000003028120", Refusal::BadModule),
+    // Another version, and 4,097 functions behind it.
+    ("0061736d0200000001040160000003028120", Refusal::BadModule),
+];
+
+#[test]
+fn the_first_fault_is_answered(rt: HostRuntime) -> Result<(), Fail> {
+    let alloc = rt.alloc();
+    for (spelling, refusal) in FAULTS {
+        let bytes = hex::decode(alloc, spelling)?;
+        assert_eq!(rt;
+            decode(alloc, bytes.as_slice()).err(),
+            Some(refusal),
+            "{spelling}"
+        );
+    }
+    Ok(())
+}
+
+// The length of the whole stands before all else.
+#[test]
+fn too_many_bytes(rt: HostRuntime) -> Result<(), Fail> {
+    let alloc = rt.alloc();
+    for (length, refusal) in [(262_144, Refusal::BadModule), (262_145, Refusal::Limit)] {
+        let bytes = vec![in alloc; 0u8; length]?;
+        assert_eq!(rt;
+            decode(alloc, bytes.as_slice()).err(),
+            Some(refusal),
+            "{length} bytes"
+        );
+    }
+    Ok(())
+}
