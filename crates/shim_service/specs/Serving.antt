@@ -79,9 +79,9 @@ pub record IsUnread (s : State) (answer : Answer) (then_s : State) : Type 0 wher
 abbrev pub Answers : State → List ℕ → Answer → State → Type 0
 Answers s line answer then_s = IsRefused s line answer then_s ⊎ (IsCalled s line answer then_s ⊎ IsUnread s answer then_s)
 
--- the text is the line of the answer; want of memory may come in its place
+-- the text is the line of the answer
 abbrev pub Writes : Answer → List ℕ → Type 0
-Writes answer text = (text ≡ line_text (json_of answer)) ⊎ (text ≡ line_text (json_of (Err NoMemory)))
+Writes answer text = text ≡ line_text (json_of answer)
 
 -- a line is answered by a text
 pub record IsAnswered (s : State) (line text : List ℕ) (then_s : State) : Type 0 where

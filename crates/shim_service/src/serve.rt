@@ -84,21 +84,26 @@ fn write_text<W: Write>(writer: &mut W, text: &str) -> bool
     writer.write_all(text.as_bytes()).is_ok() && writer.flush().is_ok()
 }
 
-// Writes the line of an answer, and says whether that went well.
+// Writes the line of an answer, and says whether that went well. That of `NoMemory` needs no memory; any
+// other that finds no room is not written, since its request has been made.
 fn write_answer<W: Write>(alloc: Global, answer: &Result<Reply, Refusal>, writer: &mut W) -> bool
     ensures { IsTrue result → (text : List ℕ) × Writes answer.now text
         × Appends (W.contents writer.old) (W.contents writer.new) text }
 {
+    if let Err(Refusal::NoMemory) = answer {
+        return write_text(writer, no_memory_line());
+    }
     match line_of(alloc, answer) {
         Ok(line) => write_text(writer, line.as_str()),
-        Err(_) => write_text(writer, no_memory_line()),
+        Err(_) => false,
     }
 }
 
 /// Answers each line of a reader by one line, written at once, until the reader is at its end: then
 /// it is true. A `wait` runs its task, in slices of 10,000 turns, until it is not running.
 ///
-/// False where the reader or the writer failed, or there was no room for a line that came in.
+/// False where the reader or the writer failed, or there was no room for a line that came in or for a
+/// reply; the last request may have been made then.
 pub fn serve_lines<R: Read, W: Write>(
     alloc: Global,
     board: &mut Board,
