@@ -1,6 +1,6 @@
 -- The limits of this profile on a module: 4,096 functions with imports, 1,024 locals to a function,
 -- parameters included, and 256 blocks one inside another.
-use Rattle.std.specs.Prelude.{ℕ, zero, suc, ◌+◌, ◌≤◌, max, List, length, All, Option, Some, None, slice_get}
+use Rattle.std.specs.Prelude.{ℕ, suc, ◌+◌, ◌≤◌, max, List, length, All, Option, Some, None, slice_get}
 use Rattle.wasm_ast.specs.declared.values.FuncType.{FuncType}
 use Rattle.wasm_ast.specs.declared.module.Func.{Func}
 use Rattle.wasm_ast.specs.declared.module.Module.{Module}
