@@ -19,16 +19,16 @@ use Rattle.task_board.specs.Step.{Openable, is_running, is_pausing, landing, wit
 pub record IsAtHome (t : Task) (h : Home) (m : Module) : Type 0 where
   pub openable : Openable t.bytes t.process m
   pub home : t.out ≡ None
-  pub is_machine : IsMachine h.machine m t.process t.turns
+  pub is_machine : IsMachine h.machine.value m t.process t.turns
   pub shared : IsShared h t.id t.bytes t.process t.breaks
 
 home_cases : (t : Task) (m : Module) (home : Option Home) (out : Option ℕ) (h : Home) → IsHome t m home out → home ≡ Some h
-    → (out ≡ None) × IsMachine h.machine m t.process t.turns × IsShared h t.id t.bytes t.process t.breaks
+    → (out ≡ None) × IsMachine h.machine.value m t.process t.turns × IsShared h t.id t.bytes t.process t.breaks
 home_cases t m None out h kept is = cc
 home_cases t m (Some g) (Some b) h kept is = absurd kept
 home_cases t m (Some g) None h kept is =
     let same : g ≡ h = cc in
-    let P : Home → Type 0 = λ x. IsMachine x.machine m t.process t.turns × IsShared x t.id t.bytes t.process t.breaks in
+    let P : Home → Type 0 = λ x. IsMachine x.machine.value m t.process t.turns × IsShared x t.id t.bytes t.process t.breaks in
     let moved = subst P same kept in
     (refl, moved.0, moved.1)
 
@@ -50,10 +50,10 @@ not_away t home kept quiet none =
 -- a slice that has been run, by its task
 pub record IsReceived (t : Task) (h : Home) (e : SliceEnd) (budget : ℕ) (m : Module) : Type 0 where
   pub openable : Openable t.bytes t.process m
-  pub is_machine : IsMachine h.machine m t.process (t.turns + turns_made m t.process t.turns t.breaks budget)
+  pub is_machine : IsMachine h.machine.value m t.process (t.turns + turns_made m t.process t.turns t.breaks budget)
   pub ends : e ≡ slice_end m t.process t.turns t.breaks budget
 
-pub received : (l : Lent) (t : Task) (h : Home) (e : SliceEnd) → IsLoan l h.machine (Some e) → FitsTask l t → (m : Module) × IsReceived t h e l.budget m
+pub received : (l : Lent) (t : Task) (h : Home) (e : SliceEnd) → IsLoan l h.machine.value (Some e) → FitsTask l t → (m : Module) × IsReceived t h e l.budget m
 received l t h e loan fits = (
   loan.0,
   record {
@@ -72,13 +72,13 @@ shared_home l t h s f = record {
 }
 
 -- the count of the machine that came home
-pub counted : (t : Task) (h : Home) (e : SliceEnd) (budget : ℕ) (m : Module) (turns : ℕ) → IsReceived t h e budget m → turns ≡ h.machine.turns
+pub counted : (t : Task) (h : Home) (e : SliceEnd) (budget : ℕ) (m : Module) (turns : ℕ) → IsReceived t h e budget m → turns ≡ h.machine.value.turns
     → turns ≡ t.turns + turns_made m t.process t.turns t.breaks budget
 counted t h e budget m turns r is = is ∙ ap (λ (x : Ran). x.turns) r.is_machine
 
-pub at_count : (t : Task) (h : Home) (e : SliceEnd) (budget : ℕ) (m : Module) (turns : ℕ) → IsReceived t h e budget m → turns ≡ h.machine.turns → IsMachine h.machine m t.process turns
+pub at_count : (t : Task) (h : Home) (e : SliceEnd) (budget : ℕ) (m : Module) (turns : ℕ) → IsReceived t h e budget m → turns ≡ h.machine.value.turns → IsMachine h.machine.value m t.process turns
 at_count t h e budget m turns r is =
-    subst (λ (n : ℕ). IsMachine h.machine m t.process n) (sym (counted t h e budget m turns r is)) r.is_machine
+    subst (λ (n : ℕ). IsMachine h.machine.value m t.process n) (sym (counted t h e budget m turns r is)) r.is_machine
 
 abbrev pub at_turns : Task → ℕ → Task
 at_turns t n = record {
@@ -96,18 +96,18 @@ at_turns t n = record {
 
 -- the task as its slice leaves it
 pub landed : (t : Task) (h : Home) (e : SliceEnd) (budget : ℕ) (m : Module) (turns : ℕ) (s : Status × Option ExitRecord)
-    → IsReceived t h e budget m → turns ≡ h.machine.turns → s ≡ landing e t.signal t.status
+    → IsReceived t h e budget m → turns ≡ h.machine.value.turns → s ≡ landing e t.signal t.status
     → with_status (at_turns t turns) s ≡ returned m t budget
 landed t h e budget m turns s r is lands =
     ap₂ (λ (n : ℕ) (x : Status × Option ExitRecord). with_status (at_turns t n) x) (counted t h e budget m turns r is) (lands ∙ ap (λ (x : SliceEnd). landing x t.signal t.status) r.ends)
 
 -- what goes with a slice stands for its task
 pub goes_out : (t : Task) (home : Option Home) (h : Home) → IsKept t home → home ≡ Some h
-    → (m : Module) × Openable (arc_value h.bytes) (arc_value h.process) m × IsMachine h.machine m (arc_value h.process) t.turns
+    → (m : Module) × Openable (arc_value (arc_value h.shared).bytes) (arc_value h.shared).process m × IsMachine h.machine.value m (arc_value h.shared).process t.turns
 goes_out t home h kept is =
     let found = at_home t home h kept is in
     let s = found.1.shared in (
       found.0,
-      subst (λ (p : Process). Openable (arc_value h.bytes) p found.0) (sym s.same_process) (subst (λ (b : List ℕ). Openable b t.process found.0) (sym s.same_bytes) found.1.openable),
-      subst (λ (p : Process). IsMachine h.machine found.0 p t.turns) (sym s.same_process) found.1.is_machine,
+      subst (λ (p : Process). Openable (arc_value (arc_value h.shared).bytes) p found.0) (sym s.same_process) (subst (λ (b : List ℕ). Openable b t.process found.0) (sym s.same_bytes) found.1.openable),
+      subst (λ (p : Process). IsMachine h.machine.value found.0 p t.turns) (sym s.same_process) found.1.is_machine,
     )

@@ -15,9 +15,9 @@ use Rattle.task_board.specs.Step.{Openable, is_running, is_pausing}
 
 -- what is shared with a worker is the task's own
 pub record IsShared (h : Home) (id bytes : List ℕ) (p : Process) (breaks : List Place) : Type 0 where
-  pub same_id : arc_value h.id ≡ id
-  pub same_bytes : arc_value h.bytes ≡ bytes
-  pub same_process : arc_value h.process ≡ p
+  pub same_id : (arc_value h.shared).id ≡ id
+  pub same_bytes : arc_value (arc_value h.shared).bytes ≡ bytes
+  pub same_process : (arc_value h.shared).process ≡ p
   pub same_breaks : arc_value h.breaks ≡ breaks
 
 -- a task is out, and then it is running or pausing; or it is at home, with a machine of its module at its count
@@ -25,7 +25,7 @@ abbrev pub IsHome : Task → Module → Option Home → Option ℕ → Type 0
 IsHome t m None (Some budget) = (is_running t.status || is_pausing t.status) ≡ true
 IsHome t m None None = ⊥
 IsHome t m (Some h) (Some budget) = ⊥
-IsHome t m (Some h) None = IsMachine h.machine m t.process t.turns × IsShared h t.id t.bytes t.process t.breaks
+IsHome t m (Some h) None = IsMachine h.machine.value m t.process t.turns × IsShared h t.id t.bytes t.process t.breaks
 
 abbrev pub IsKept : Task → Option Home → Type 0
 IsKept t home = (m : Module) × Openable t.bytes t.process m × IsHome t m home t.out

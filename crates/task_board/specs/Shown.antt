@@ -13,9 +13,9 @@ lent_of l = record {
   incarnation = l.incarnation;
   turns = l.turns;
   budget = l.budget;
-  id = arc_value l.home.id;
-  bytes = arc_value l.home.bytes;
-  process = arc_value l.home.process;
+  id = (arc_value l.home.shared).id;
+  bytes = arc_value (arc_value l.home.shared).bytes;
+  process = (arc_value l.home.shared).process;
   breaks = arc_value l.home.breaks;
   ran = is_some l.outcome;
 }
@@ -27,19 +27,19 @@ lent_by slot incarnation turns budget h = record {
   incarnation = incarnation;
   turns = turns;
   budget = budget;
-  id = arc_value h.id;
-  bytes = arc_value h.bytes;
-  process = arc_value h.process;
+  id = (arc_value h.shared).id;
+  bytes = arc_value (arc_value h.shared).bytes;
+  process = (arc_value h.shared).process;
   breaks = arc_value h.breaks;
   ran = false;
 }
 
 abbrev pub task_of : task.Inside → Task
 task_of t = record {
-  id = arc_value t.id;
+  id = (arc_value t.shared).id;
   incarnation = t.incarnation;
-  bytes = arc_value t.bytes;
-  process = arc_value t.process;
+  bytes = arc_value (arc_value t.shared).bytes;
+  process = (arc_value t.shared).process;
   turns = t.turns;
   status = t.status;
   breaks = arc_value t.breaks;

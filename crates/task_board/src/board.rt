@@ -10,10 +10,12 @@ ghost use Rattle.task_board.specs.Loans.{Fits};
 ghost use Rattle.task_board.specs.Tickets.{ticket_of, CanLend, Lends, ComesHome, ticket_for};
 ghost use Rattle.task_board.specs.State.{Task as TaskValue, IsEmpty, content_in, created_task, slot_of, task_in, task_of};
 ghost use Rattle.task_board.specs.Step.{Answers, Openable, CannotOpen, id_refusal, create_refusal, put_refusal};
+ghost use Rattle.task_board.specs.Machines.{IsMachine};
 ghost use Rattle.task_board.specs.Plans.{Prepares, Plans, PlansTask, PutPrepared, CreatePrepared, asked, TakesNoMemory};
 
 use crate::config::read_config;
 use crate::contents::{Content, content_of};
+use crate::home::Shared;
 use crate::identifier::{digest_of, is_id};
 use crate::loan::Loan;
 use crate::open::machine_of;
@@ -24,10 +26,10 @@ use crate::task::Task;
 use crate::tasks::slot_of;
 use crate::ticket::Ticket;
 use slab::Slab;
-use std::alloc::Global;
+use std::alloc::{AllocError, Global};
 use std::marker::Model;
 use std::sync::Arc;
-use step_machine::Process;
+use step_machine::{Machine, Process};
 use wasm_ast::{Bytes, Refusal, Text};
 
 /// How many tasks a board may have.
@@ -157,6 +159,23 @@ impl Board {
         }
     }
 
+    // The task that is to come from stored bytes, with its machine.
+    fn created(
+        &self,
+        id: Text,
+        process: Process,
+        bytes: &Arc<Bytes>,
+        machine: Box<Machine>,
+    ) -> Result<Plan, AllocError>
+        requires { (m : Module) × Openable (arc_value bytes.now) process m × IsMachine machine.value m process 0 }
+        ensures { IfOk result (λ p. PlansTask self.now id (arc_value bytes.now) process p) }
+    {
+        let answered = id.copy(self.alloc)?;
+        let shared = Shared::new(id, bytes, process)?;
+        let task = Task::new(self.alloc, shared, self.creates, machine)?;
+        Ok(Plan::Create { task, id: answered })
+    }
+
     // The task that is to come from stored bytes.
     fn prepare_task(&self, id: Text, process: Process, bytes: &Arc<Bytes>) -> Result<Plan, Refusal>
         ensures ok { IfOk result (λ p. PlansTask self.now id (arc_value bytes.now) process p) }
@@ -169,14 +188,8 @@ impl Board {
                 _ => return Ok(Plan::Refused(refusal)),
             },
         };
-        let Ok(shared) = Arc::try_clone(bytes) else {
-            return Err(Refusal::NoMemory);
-        };
-        let Ok(answered) = id.copy(self.alloc) else {
-            return Err(Refusal::NoMemory);
-        };
-        match Task::new(self.alloc, id, self.creates, shared, process, machine) {
-            Ok(task) => Ok(Plan::Create { task, id: answered }),
+        match self.created(id, process, bytes, machine) {
+            Ok(plan) => Ok(plan),
             Err(_) => Err(Refusal::NoMemory),
         }
     }

@@ -35,13 +35,13 @@ impl Model for Loan {
 
     ghost view = { lent_of };
 
-    ghost invariant = { λ l. IsLoan (lent_of l) l.home.machine l.outcome };
+    ghost invariant = { λ l. IsLoan (lent_of l) l.home.machine.value l.outcome };
 }
 
 impl Loan {
     /// A slice that goes out.
     pub fn new(slot: usize, incarnation: u64, turns: u64, budget: u64, home: Home) -> Loan
-        requires { IsLoan (lent_by slot incarnation turns budget home) home.machine None }
+        requires { IsLoan (lent_by slot incarnation turns budget home) home.machine.value None }
         ensures { result ≡ lent_by slot incarnation turns budget home }
     {
         Loan {
@@ -93,12 +93,12 @@ impl Loan {
         ensures fits { result ≡ true → AreSame self.now id.now incarnation turns out bytes.now process.now breaks.now }
         ensures unfit { result ≡ false → AreSame self.now id.now incarnation turns out bytes.now process.now breaks.now → ⊥ }
     {
-        self.home.id.is(id)
+        self.home.shared.id.is(id)
             && self.incarnation == incarnation
             && self.turns == turns
             && out == Some(self.budget)
-            && self.home.bytes.is(bytes)
-            && self.home.process.is(process)
+            && self.home.shared.bytes.is(bytes)
+            && self.home.shared.process.is(process)
             && self.home.breaks.is(breaks)
     }
 
@@ -106,7 +106,7 @@ impl Loan {
     pub fn into_parts(self) -> (Home, SliceEnd)
         requires { self.ran ≡ true }
         ensures shared { IsShared result.0 self.id self.bytes self.process self.breaks }
-        ensures slice { IsLoan self result.0.machine (Some result.1) }
+        ensures slice { IsLoan self result.0.machine.value (Some result.1) }
     {
         let Loan {
             slot: _,

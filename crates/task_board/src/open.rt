@@ -25,15 +25,29 @@ fn valid_of(alloc: Global, bytes: &[u8]) -> Result<Valid, Refusal>
     }
 }
 
-/// A machine of the module that the bytes spell, under a process, which has made no turn. Each refusal
-/// is a reason why none can be opened; `NoMemory` where there was no room for it.
-pub fn machine_of(alloc: Global, bytes: &[u8], process: &Process) -> Result<Machine, Refusal>
+// A machine of the module that the bytes spell, under a process, which has made no turn.
+fn opened(alloc: Global, bytes: &[u8], process: &Process) -> Result<Machine, Refusal>
     ensures ok { IfOk result (λ r. (m : Module) × Openable bytes.now process.now m × IsMachine r m process.now 0) }
     ensures refused { (e : Reason) → result ≡ Err e → e ≢ reason.NoMemory → CannotOpen bytes.now process.now e }
 {
     match valid_of(alloc, bytes) {
         Ok(valid) => match process.copy(alloc) {
             Ok(copy) => Machine::new(alloc, valid, copy),
+            Err(_) => Err(Refusal::NoMemory),
+        },
+        Err(refusal) => Err(refusal),
+    }
+}
+
+/// A machine of the module that the bytes spell, under a process, which has made no turn. Each refusal
+/// is a reason why none can be opened; `NoMemory` where there was no room for it.
+pub fn machine_of(alloc: Global, bytes: &[u8], process: &Process) -> Result<Box<Machine>, Refusal>
+    ensures ok { IfOk result (λ r. (m : Module) × Openable bytes.now process.now m × IsMachine r.value m process.now 0) }
+    ensures refused { (e : Reason) → result ≡ Err e → e ≢ reason.NoMemory → CannotOpen bytes.now process.now e }
+{
+    match opened(alloc, bytes, process) {
+        Ok(machine) => match Box::new(alloc, machine) {
+            Ok(machine) => Ok(machine),
             Err(_) => Err(Refusal::NoMemory),
         },
         Err(refusal) => Err(refusal),

@@ -8,7 +8,7 @@ ghost use Rattle.task_board.specs.State.{created_task};
 ghost use Rattle.task_board.specs.Machines.{IsMachine};
 ghost use Rattle.task_board.specs.Loans.{Lent, loan_of, FitsTask};
 
-use crate::home::Home;
+use crate::home::{Home, Shared};
 use crate::loan::Loan;
 use crate::request::TaskState;
 use crate::status::{ExitRecord, Status};
@@ -21,10 +21,8 @@ use wasm_ast::{Bytes, Text};
 /// A task. Contracts see what a call can see of it.
 #[derive(Drop)]
 pub struct Task {
-    id: Arc<Text>,
+    shared: Arc<Shared>,
     incarnation: u64,
-    bytes: Arc<Bytes>,
-    process: Arc<Process>,
     turns: u64,
     status: Status,
     breaks: Arc<Breaks>,
@@ -51,24 +49,19 @@ impl Task {
     /// A created task with a machine that has made no turn. An error where there is no room for it.
     pub fn new(
         alloc: Global,
-        id: Text,
+        shared: Shared,
         incarnation: u64,
-        bytes: Arc<Bytes>,
-        process: Process,
-        machine: Machine,
+        machine: Box<Machine>,
     ) -> Result<Task, AllocError>
-        requires { (m : Module) × Openable (arc_value bytes) process m × IsMachine machine m process 0 }
-        ensures { IfOk result (λ t. t ≡ created_task id incarnation (arc_value bytes) process) }
+        requires { (m : Module) × Openable (arc_value shared.bytes) shared.process m × IsMachine machine.value m shared.process 0 }
+        ensures { IfOk result (λ t. t ≡ created_task shared.id incarnation (arc_value shared.bytes) shared.process) }
     {
-        let id = Arc::new(alloc, id)?;
-        let process = Arc::new(alloc, process)?;
-        let breaks = Arc::new(alloc, Breaks::none(alloc)?)?;
-        let home = Home::share(machine, &id, &bytes, &process, &breaks)?;
+        let shared = Arc::new(alloc, shared)?;
+        let home = Home::new(alloc, machine, &shared)?;
+        let breaks = Arc::try_clone(&home.breaks)?;
         Ok(Task {
-            id,
+            shared,
             incarnation,
-            bytes,
-            process,
             turns: 0,
             status: Status::Created,
             breaks,
@@ -83,7 +76,7 @@ impl Task {
     pub fn id(&self) -> &Text
         ensures { result.now ≡ self.now.id }
     {
-        &self.id
+        &self.shared.id
     }
 
     /// The status.
@@ -156,12 +149,12 @@ impl Task {
         ensures unfit { result ≡ false → FitsTask loan.now self.now → ⊥ }
     {
         loan.is_of(
-            &self.id,
+            &self.shared.id,
             self.incarnation,
             self.turns,
             self.out,
-            &self.bytes,
-            &self.process,
+            &self.shared.bytes,
+            &self.shared.process,
             &self.breaks,
         )
     }
