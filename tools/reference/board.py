@@ -1,0 +1,241 @@
+"""Lines, configs and the board: what each line is answered."""
+import hashlib
+import json
+import re
+
+from reference import wasm
+
+MOST_LINE, MOST_CONTENTS, MOST_TASKS, MOST_DEPTH = 1_048_576, 256, 64, 127
+NAMES = {1: "BadRequest", 2: "BadId", 3: "Exists", 4: "NotFound", 5: "NoContent", 7: "BadModule", 8: "Invalid",
+         9: "Limit", 10: "BadConfig", 11: "WrongStatus", 12: "Busy", 14: "TooMany", 21: "NoEntry", 22: "BadImport"}
+ID = re.compile(r"[A-Za-z0-9][A-Za-z0-9._-]{0,63}\Z")
+DIGEST = re.compile(r"sha256:[0-9a-f]{64}\Z")
+HEX = re.compile(r"([0-9A-Fa-f]{2})*\Z")
+
+
+class NoJson(Exception):
+    """The text is no JSON value."""
+
+
+class Fraction:
+    """A number that is read as neither a u64 nor an i64."""
+
+
+def whole(text):
+    value = int(text) if len(text) < 400 else 10**400
+    if value >= 2**64 or value < -2**63 or text.startswith("-0"):
+        return fraction(text)
+    return value
+
+
+def fraction(text):
+    if float(text) in (float("inf"), float("-inf")):
+        raise NoJson
+    return Fraction()
+
+
+def no_constant(_text):
+    raise NoJson
+
+
+def is_scalar_text(value):
+    return not any(0xD800 <= ord(character) < 0xE000 for character in value)
+
+
+def members(pairs):
+    for key, value in pairs:
+        if not is_scalar_text(key) or not all_scalar(value):
+            raise NoJson
+    return dict(pairs)
+
+
+def all_scalar(value):
+    if isinstance(value, str):
+        return is_scalar_text(value)
+    return all(map(all_scalar, value)) if isinstance(value, list) else True
+
+
+def depth_of(text):
+    """How many arrays and objects stand open at most; texts are passed over."""
+    bare = re.sub(r'"(\\.|[^"\\])*"?', "", text, flags=re.DOTALL)
+    depth = most = 0
+    for character in bare:
+        depth += (character in "[{") - (character in "]}")
+        most = max(most, depth)
+    return most
+
+
+def parse(text):
+    if text.startswith("\ufeff") or depth_of(text) > MOST_DEPTH:
+        raise NoJson
+    try:
+        value = json.loads(text, parse_int=whole, parse_float=fraction, parse_constant=no_constant,
+                           object_pairs_hook=members)
+    except (ValueError, RecursionError):
+        raise NoJson from None
+    if not all_scalar(value):
+        raise NoJson
+    return value
+
+
+def has_fraction(value):
+    if isinstance(value, dict):
+        return any(map(has_fraction, value.values()))
+    return any(map(has_fraction, value)) if isinstance(value, list) else isinstance(value, Fraction)
+
+
+def request_of(line, in_replay):
+    """The members of a request or, in a replay, of an event line; None where the line is neither."""
+    try:
+        value = parse(line.decode("utf-8"))
+    except (UnicodeDecodeError, NoJson):
+        return None
+    if len(line) > MOST_LINE or not isinstance(value, dict) or not isinstance(value.get("op"), str):
+        return None
+    keys = {"put": ["hex"], "create": ["config", "id"], "start": ["id"], "state": ["id"], "wait": ["id"]}
+    if in_replay:
+        keys |= {"return": ["id"], "take": ["budget", "id"]}
+    wanted = keys.get(value["op"])
+    if wanted is None or set(value) != {"op", *wanted}:
+        return None
+    if not all(isinstance(value[key], str) for key in wanted if key != "budget"):
+        return None
+    if "hex" in wanted and not HEX.match(value["hex"]):
+        return None
+    if "budget" in wanted and not (type(value["budget"]) is int and 1 <= value["budget"] <= 1_000_000):
+        return None
+    return value
+
+
+def module_named(text):
+    """The digest that a config names; None where it is no config."""
+    try:
+        value = parse(text)
+    except NoJson:
+        return None
+    if not isinstance(value, dict) or has_fraction(value) or "linux" in value:
+        return None
+    version, process, notes = (value.get(key) for key in ("ociVersion", "process", "annotations"))
+    if not isinstance(version, str) or not version.startswith("1."):
+        return None
+    if not isinstance(process, dict) or "env" in process or not isinstance(notes, dict):
+        return None
+    args, cwd, digest = process.get("args"), process.get("cwd"), notes.get("dev.shim.module")
+    if not isinstance(args, list) or not 1 <= len(args) <= 64 or not all(isinstance(arg, str) for arg in args):
+        return None
+    if not isinstance(cwd, str) or not cwd.startswith("/") or "\0" in "".join(args) + cwd:
+        return None
+    if sum(len(arg.encode()) + 1 for arg in args) > 65_536:
+        return None
+    if not all(isinstance(note, str) for note in notes.values()):
+        return None
+    return digest if digest is not None and DIGEST.match(digest) else None
+
+
+class Refused(Exception):
+    def __init__(self, number):
+        super().__init__(number)
+        self.number = number
+
+
+class Task:
+    def __init__(self, data):
+        self.data, self.turns, self.status, self.out, self.end = data, 0, "created", None, None
+
+    def start(self):
+        self.status = "running"
+        self.run(0)
+
+    def run(self, budget):
+        end = wasm.ends(self.data)
+        self.turns = min(end["n"], self.turns + budget)
+        if self.turns == end["n"]:
+            self.status, self.end = "stopped", end
+
+    def state(self, name):
+        return {"id": name, "n": self.turns, "ok": True, "status": self.status, **(self.end or {})}
+
+
+class Board:
+    def __init__(self, in_replay):
+        self.in_replay, self.contents, self.tasks = in_replay, {}, {}
+
+    def answer(self, line):
+        """The line that a line is answered."""
+        request = request_of(line, self.in_replay)
+        try:
+            if request is None:
+                raise Refused(1)
+            reply = getattr(self, request.pop("op") + "_")(**request)
+        except Refused as refused:
+            reply = {"error": NAMES[refused.number], "number": refused.number, "ok": False}
+        return json.dumps(reply, separators=(",", ":"), sort_keys=True, ensure_ascii=False).encode()
+
+    def put_(self, hex):
+        data = bytes.fromhex(hex)
+        digest = "sha256:" + hashlib.sha256(data).hexdigest()
+        if len(data) > wasm.MOST_BYTES:
+            raise Refused(9)
+        if digest in self.contents:
+            raise Refused(3)
+        if len(self.contents) >= MOST_CONTENTS:
+            raise Refused(14)
+        self.contents[digest] = data
+        return {"digest": digest, "ok": True, "size": len(data)}
+
+    def create_(self, config, id):
+        if not ID.match(id):
+            raise Refused(2)
+        if id in self.tasks:
+            raise Refused(3)
+        if len(self.tasks) >= MOST_TASKS:
+            raise Refused(14)
+        digest = module_named(config)
+        if digest is None:
+            raise Refused(10)
+        if digest not in self.contents:
+            raise Refused(5)
+        for number in wasm.refusals_of(self.contents[digest]):
+            raise Refused(number)
+        self.tasks[id] = Task(self.contents[digest])
+        return {"id": id, "ok": True, "status": "created"}
+
+    def task(self, name):
+        if not ID.match(name):
+            raise Refused(2)
+        if name not in self.tasks:
+            raise Refused(4)
+        return self.tasks[name]
+
+    def start_(self, id):
+        task = self.task(id)
+        if task.status != "created":
+            raise Refused(11)
+        task.start()
+        return {"id": id, "ok": True, "status": task.status}
+
+    def state_(self, id):
+        return self.task(id).state(id)
+
+    def wait_(self, id):
+        task = self.task(id)
+        if task.status == "running" and self.in_replay:
+            raise Refused(12)
+        if task.status == "running":
+            task.run(10**15)
+        return task.state(id)
+
+    def take_(self, budget, id):
+        task = self.tasks.get(id)
+        is_taken = task is not None and task.status == "running" and task.out is None
+        if is_taken:
+            task.out = budget
+        return {"ok": True, "taken": is_taken}
+
+    def return_(self, id):
+        task = self.tasks.get(id)
+        is_out = task is not None and task.out is not None
+        if is_out:
+            task.run(task.out)
+            task.out = None
+        return {"ok": True, "returned": is_out}
