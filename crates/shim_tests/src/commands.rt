@@ -2,6 +2,7 @@
 
 use shim_service::{Command, Fault, command_of};
 use std::alloc::{AllocError, Global};
+use std::process::Abort;
 use std::test::Fail;
 
 const HELP: &str = "Run WebAssembly modules as container tasks
@@ -82,15 +83,35 @@ fn found(alloc: Global, line: &str) -> Result<(&'static str, String), Fail> {
     }
 }
 
-#[test]
-fn words_are_commands(rt: HostRuntime) -> Result<(), Fail> {
-    let alloc = rt.alloc();
-    for (line, does, text) in LINES {
-        let (done, told) = found(alloc, line)?;
-        assert_eq!(rt; done, does, "{line}");
-        assert_eq!(rt; told.as_str(), text, "{line}");
-    }
+// Whether a text is the one that is wanted of a command line.
+fn check_text(rt: &impl Abort, line: &str, told: &str, wanted: &str) {
+    assert_eq!(rt; told, wanted, "{line}");
+}
+
+// Whether a command line is what it should be, with the text that it should have.
+fn check_line(
+    rt: &impl Abort,
+    alloc: Global,
+    line: &str,
+    does: &str,
+    text: &str,
+) -> Result<(), Fail> {
+    let (done, told) = found(alloc, line)?;
+    check_text(rt, line, done, does);
+    check_text(rt, line, told.as_str(), text);
+    Ok(())
+}
+
+fn check_memory(rt: &impl Abort, alloc: Global) -> Result<(), Fail> {
     let fault = Fault::Memory.to_string(alloc)?;
     assert_eq!(rt; fault.as_str(), "out of memory");
     Ok(())
+}
+
+#[test]
+fn words_are_commands(rt: HostRuntime) -> Result<(), Fail> {
+    for (line, does, text) in LINES {
+        check_line(&rt, rt.alloc(), line, does, text)?;
+    }
+    check_memory(&rt, rt.alloc())
 }
