@@ -1,5 +1,6 @@
 //! Requests and events on a board.
 
+use crate::checks::{check_count, check_text};
 use shim_service::{event_line_of, line_of};
 use std::alloc::{AllocError, Global};
 use std::process::Abort;
@@ -69,7 +70,8 @@ fn check_answer(
     answer: &Result<Reply, Refusal>,
     line: &str,
 ) -> Result<(), Fail> {
-    assert_eq!(rt; line_of(alloc, answer)?.as_str(), line);
+    let found = line_of(alloc, answer)?;
+    check_text(rt, "the line of an answer", found.as_str(), line);
     Ok(())
 }
 
@@ -126,7 +128,7 @@ fn event(alloc: Global, step: Step) -> Result<Event, Fail> {
 }
 
 /// The steps of a whole run.
-const STEPS: [Step; 13] = [
+const STEPS: &[Step] = &[
     Step::Put,
     Step::Create,
     Step::Start,
@@ -146,13 +148,13 @@ const STEPS: [Step; 13] = [
 fn events(alloc: Global) -> Result<Vec<Event>, Fail> {
     let mut events = Vec::new(alloc);
     for step in STEPS {
-        events.push(event(alloc, step)?)?;
+        events.push(event(alloc, *step)?)?;
     }
     Ok(events)
 }
 
 /// What they are answered.
-const ANSWERS: [&str; 13] = [
+const ANSWERS: &[&str] = &[
     IS_PUT,
     IS_CREATED,
     IS_STARTED,
@@ -170,12 +172,12 @@ const ANSWERS: [&str; 13] = [
 
 // Whether an event was answered by this line.
 fn check_reply(rt: &impl Abort, alloc: Global, reply: &EventReply, line: &str) -> Result<(), Fail> {
-    assert_eq!(rt; event_line_of(alloc, reply)?.as_str(), line);
+    let found = event_line_of(alloc, reply)?;
+    check_text(rt, "the line of an event", found.as_str(), line);
     Ok(())
 }
 
 fn check_replies(rt: &impl Abort, alloc: Global, replies: &[EventReply]) -> Result<(), Fail> {
-    assert_eq!(rt; replies.len(), ANSWERS.len());
     for (reply, line) in replies.iter().zip(ANSWERS) {
         check_reply(rt, alloc, reply, line)?;
     }
@@ -186,5 +188,6 @@ fn check_replies(rt: &impl Abort, alloc: Global, replies: &[EventReply]) -> Resu
 fn events_are_run(rt: HostRuntime) -> Result<(), Fail> {
     let alloc = rt.alloc();
     let replies = run_events(alloc, events(alloc)?)?;
+    check_count(&rt, replies.len(), ANSWERS.len());
     check_replies(&rt, alloc, replies.as_slice())
 }

@@ -1,5 +1,6 @@
 //! Command lines, and the texts of help and of faults.
 
+use crate::checks::check_text;
 use shim_service::{Command, Fault, command_of};
 use std::alloc::{AllocError, Global};
 use std::process::Abort;
@@ -50,7 +51,7 @@ For more information, try '--help'.
 ";
 
 /// Command lines behind the program's name, and what they are.
-const LINES: [(&str, &str, &str); 10] = [
+const LINES: &[(&str, &str, &str)] = &[
     ("serve", "serves", ""),
     ("replay script", "replays", "script"),
     ("--version", "shows", "wasm-shim 0.1.0\n"),
@@ -83,11 +84,6 @@ fn found(alloc: Global, line: &str) -> Result<(&'static str, String), Fail> {
     }
 }
 
-// Whether a text is the one that is wanted of a command line.
-fn check_text(rt: &impl Abort, line: &str, told: &str, wanted: &str) {
-    assert_eq!(rt; told, wanted, "{line}");
-}
-
 // Whether a command line is what it should be, with the text that it should have.
 fn check_line(
     rt: &impl Abort,
@@ -104,13 +100,13 @@ fn check_line(
 
 fn check_memory(rt: &impl Abort, alloc: Global) -> Result<(), Fail> {
     let fault = Fault::Memory.to_string(alloc)?;
-    assert_eq!(rt; fault.as_str(), "out of memory");
+    check_text(rt, "no memory", fault.as_str(), "out of memory");
     Ok(())
 }
 
 #[test]
 fn words_are_commands(rt: HostRuntime) -> Result<(), Fail> {
-    for (line, does, text) in LINES {
+    for &(line, does, text) in LINES {
         check_line(&rt, rt.alloc(), line, does, text)?;
     }
     check_memory(&rt, rt.alloc())

@@ -1,5 +1,6 @@
 //! Lines that no client should send: each has its answer, and the line behind it is answered as ever.
 
+use crate::checks::check_text;
 use crate::streams::{Feed, Sheet, serves};
 use shim_service::replay_lines;
 use std::alloc::{AllocError, Global};
@@ -18,7 +19,7 @@ const NOT_TAKEN: &str = "{\"ok\":true,\"taken\":false}\n";
 const STATE: &str = "{\"op\":\"state\",\"id\":\"zz\"}";
 
 /// Lines, and what they are answered.
-const LINES: [(&[u8], &str); 37] = [
+const LINES: &[(&[u8], &str)] = &[
     // Nothing, spaces, bytes that are no text.
     (b"", BAD_REQUEST),
     (b"  ", BAD_REQUEST),
@@ -70,7 +71,7 @@ const LINES: [(&[u8], &str); 37] = [
 ];
 
 /// Long lines: a text, another that stands so many times, and a last one; and what they are answered.
-const LONG: [(&str, &str, usize, &str, &str); 12] = [
+const LONG: &[(&str, &str, usize, &str, &str)] = &[
     // 1,048,576 bytes and one more.
     (STATE, " ", 1_048_552, "", NOT_FOUND),
     (STATE, " ", 1_048_553, "", BAD_REQUEST),
@@ -102,7 +103,7 @@ const LONG: [(&str, &str, usize, &str, &str); 12] = [
 ];
 
 /// The budgets of takes from a task that is not there.
-const BUDGETS: [(&str, &str); 14] = [
+const BUDGETS: &[(&str, &str)] = &[
     ("1", NOT_TAKEN),
     ("1000000", NOT_TAKEN),
     ("0", BAD_REQUEST),
@@ -154,41 +155,55 @@ fn served(rt: &impl Abort, alloc: Global, lines: &[u8]) -> Result<Sheet, Fail> {
     Ok(sheet)
 }
 
-// Whether the bytes are the text that is wanted of these lines.
-fn check_text(rt: &impl Abort, what: &str, bytes: &[u8], wanted: &str) -> Result<(), Fail> {
-    assert_eq!(rt; str::from_utf8(bytes)?, wanted, "{what}");
-    Ok(())
+// Whether a served line is the one that is wanted.
+fn check_line(rt: &impl Abort, of: &str, served: &str, k: usize, wanted: &str) {
+    assert_eq!(rt;
+        served.lines().nth(k),
+        Some(wanted),
+        "{of}, served line {k}"
+    );
 }
 
-// Whether each line is the one that is wanted. The first that is not is named.
-fn check_each_line(rt: &impl Abort, bytes: &[u8], wanted: &str) -> Result<(), Fail> {
+// Whether the bytes served are the text that is wanted. The first line that differs is named.
+fn check_served(rt: &impl Abort, of: &str, bytes: &[u8], wanted: &str) -> Result<(), Fail> {
     let served = str::from_utf8(bytes)?;
     for (k, line) in wanted.lines().enumerate() {
-        assert_eq!(rt; served.lines().nth(k), Some(line), "served line {k}");
+        check_line(rt, of, served, k, line);
     }
+    check_text(rt, of, served, wanted);
     Ok(())
 }
 
-fn check_served(rt: &impl Abort, alloc: Global, script: &Script) -> Result<(), Fail> {
-    let sheet = served(rt, alloc, script.lines.as_slice())?;
-    check_each_line(rt, sheet.as_slice(), script.answers.as_str())?;
-    check_text(rt, "served", sheet.as_slice(), script.answers.as_str())
-}
-
-fn check_replayed(rt: &impl Abort, alloc: Global, script: &Script) -> Result<(), Fail> {
-    let replayed = replay_lines(alloc, script.lines.as_slice())?;
-    check_text(rt, "replayed", replayed.as_slice(), script.answers.as_str())
+// Whether a replay of the lines is answered so.
+fn check_replay(
+    rt: &impl Abort,
+    alloc: Global,
+    of: &str,
+    lines: &[u8],
+    wanted: &str,
+) -> Result<(), Fail> {
+    let replayed = replay_lines(alloc, lines)?;
+    check_text(rt, of, str::from_utf8(replayed.as_slice())?, wanted);
+    Ok(())
 }
 
 // Serves and replays a script. The two answer alike.
 fn answers(rt: &impl Abort, alloc: Global, script: &Script) -> Result<(), Fail> {
-    check_served(rt, alloc, script)?;
-    check_replayed(rt, alloc, script)
+    let lines = script.lines.as_slice();
+    let sheet = served(rt, alloc, lines)?;
+    check_served(rt, "the script", sheet.as_slice(), script.answers.as_str())?;
+    check_replay(
+        rt,
+        alloc,
+        "the script, replayed",
+        lines,
+        script.answers.as_str(),
+    )
 }
 
 // Adds the lines that are no requests.
 fn add_lines(script: &mut Script) -> Result<(), AllocError> {
-    for (line, answer) in LINES {
+    for &(line, answer) in LINES {
         script.add(line, answer)?;
     }
     Ok(())
@@ -215,7 +230,7 @@ fn long_line(
 
 // Adds the long lines.
 fn add_long(alloc: Global, script: &mut Script) -> Result<(), Fail> {
-    for (before, text, count, behind, answer) in LONG {
+    for &(before, text, count, behind, answer) in LONG {
         let line = long_line(alloc, before, text, count, behind)?;
         script.add(line.as_bytes(), answer)?;
     }
@@ -234,39 +249,18 @@ fn take(alloc: Global, budget: &str) -> Result<String, Fail> {
     Ok(format!(in alloc; "{{\"op\":\"take\",\"id\":\"zz\",\"budget\":{budget}}}")?)
 }
 
-fn check_replayed_take(
-    rt: &impl Abort,
-    alloc: Global,
-    budget: &str,
-    answer: &str,
-) -> Result<(), Fail> {
+fn check_take(rt: &impl Abort, alloc: Global, budget: &str, answer: &str) -> Result<(), Fail> {
     let line = take(alloc, budget)?;
-    let replayed = replay_lines(alloc, line.as_bytes())?;
-    assert_eq!(rt;
-        str::from_utf8(replayed.as_slice())?,
-        answer,
-        "a budget of {budget}"
-    );
-    Ok(())
-}
-
-fn check_served_take(rt: &impl Abort, alloc: Global, budget: &str) -> Result<(), Fail> {
-    let line = take(alloc, budget)?;
+    check_replay(rt, alloc, budget, line.as_bytes(), answer)?;
     let sheet = served(rt, alloc, line.as_bytes())?;
-    assert_eq!(rt;
-        str::from_utf8(sheet.as_slice())?,
-        BAD_REQUEST,
-        "served, {budget}"
-    );
-    Ok(())
+    check_served(rt, budget, sheet.as_slice(), BAD_REQUEST)
 }
 
 // A slice is taken in a replay only.
 #[test]
 fn budgets(rt: HostRuntime) -> Result<(), Fail> {
-    for (budget, answer) in BUDGETS {
-        check_replayed_take(&rt, rt.alloc(), budget, answer)?;
-        check_served_take(&rt, rt.alloc(), budget)?;
+    for &(budget, answer) in BUDGETS {
+        check_take(&rt, rt.alloc(), budget, answer)?;
     }
     Ok(())
 }

@@ -1,5 +1,6 @@
 //! Modules are read, written and run.
 
+use crate::checks::{check_bytes, check_text};
 use std::alloc::{AllocError, Global};
 use std::process::Abort;
 use std::test::Fail;
@@ -91,18 +92,16 @@ fn module_of(alloc: Global, spelling: &str) -> Result<Module, Fail> {
 
 fn check_shown(rt: &impl Abort, alloc: Global, module: &Module) -> Result<(), Fail> {
     let shown = show(alloc, module)?;
-    assert_eq!(rt;
-        shown.as_str(),
-        "type [I32] to []; type [] to []; \
+    let wanted = "type [I32] to []; type [] to []; \
         import wasi_snapshot_preview1 proc_exit 0; \
-        func 1 [] [I32Const(7), Call(0)]; export _start Func 1"
-    );
+        func 1 [] [I32Const(7), Call(0)]; export _start Func 1";
+    check_text(rt, "shown", shown.as_str(), wanted);
     Ok(())
 }
 
 fn check_written(rt: &impl Abort, alloc: Global, module: &Module) -> Result<(), Fail> {
     let written = hex::encode(alloc, encode(alloc, module)?)?;
-    assert_eq!(rt; written.as_str(), EXIT_SEVEN);
+    check_text(rt, "written", written.as_str(), EXIT_SEVEN);
     Ok(())
 }
 
@@ -158,13 +157,15 @@ fn a_module_runs(rt: HostRuntime) -> Result<(), Fail> {
 
 fn check_copy_of_text(rt: &impl Abort, alloc: Global) -> Result<(), Fail> {
     let word = text(alloc, "ä \u{0}")?;
-    assert_eq!(rt; word.copy(alloc)?.as_str(), "ä \u{0}");
+    let copy = word.copy(alloc)?;
+    check_text(rt, "a copy", copy.as_str(), "ä \u{0}");
     Ok(())
 }
 
 fn check_copy_of_bytes(rt: &impl Abort, alloc: Global) -> Result<(), Fail> {
     let bytes = Sequence::new(hex::decode(alloc, "00ff")?);
-    assert_eq!(rt; bytes.copy(alloc)?.as_slice(), [0, 255].as_slice());
+    let copy = bytes.copy(alloc)?;
+    check_bytes(rt, 0, copy.as_slice(), &[0, 255]);
     Ok(())
 }
 
@@ -196,7 +197,7 @@ fn copies_are_the_same(rt: HostRuntime) -> Result<(), Fail> {
 
 /// Bytes with a fault or a number over a limit, or both: the one that stands first from the front is
 /// answered.
-const FAULTS: [(&str, Refusal); 9] = [
+const FAULTS: &[(&str, Refusal)] = &[
     // A body with an instruction that is none.
     (
         "0061736d0100000001080260017f0060000002240116776173695f736e617073686f745f70726576696577310970726f635f65786974000003020101070a01065f737461727400010a05010300ff0b",
@@ -236,16 +237,21 @@ const FAULTS: [(&str, Refusal); 9] = [
 ];
 
 // Whether decoding is refused so.
-fn check_refusal(rt: &impl Abort, alloc: Global, bytes: &[u8], refusal: Refusal, what: &str) {
-    assert_eq!(rt; decode(alloc, bytes).err(), Some(refusal), "{what}");
+fn check_refusal(rt: &impl Abort, alloc: Global, of: &str, bytes: &[u8], refusal: Refusal) {
+    let length = bytes.len();
+    assert_eq!(rt;
+        decode(alloc, bytes).err(),
+        Some(refusal),
+        "{of}, {length} bytes"
+    );
 }
 
 #[test]
 fn the_first_fault_is_answered(rt: HostRuntime) -> Result<(), Fail> {
     let alloc = rt.alloc();
-    for (spelling, refusal) in FAULTS {
+    for &(spelling, refusal) in FAULTS {
         let bytes = hex::decode(alloc, spelling)?;
-        check_refusal(&rt, alloc, bytes.as_slice(), refusal, spelling);
+        check_refusal(&rt, alloc, spelling, bytes.as_slice(), refusal);
     }
     Ok(())
 }
@@ -256,11 +262,7 @@ fn too_many_bytes(rt: HostRuntime) -> Result<(), Fail> {
     let alloc = rt.alloc();
     for (length, refusal) in [(262_144, Refusal::BadModule), (262_145, Refusal::Limit)] {
         let bytes = vec![in alloc; 0u8; length]?;
-        assert_eq!(rt;
-            decode(alloc, bytes.as_slice()).err(),
-            Some(refusal),
-            "{length} bytes"
-        );
+        check_refusal(&rt, alloc, "zeros", bytes.as_slice(), refusal);
     }
     Ok(())
 }

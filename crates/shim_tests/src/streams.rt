@@ -1,5 +1,6 @@
 //! Streams that fail, and streams that give a byte at a time.
 
+use crate::checks::check_bytes;
 use shim_service::serve_lines;
 use std::alloc::Global;
 use std::io;
@@ -116,8 +117,9 @@ pub fn serves(alloc: Global, feed: &mut Feed<'_>, sheet: &mut Sheet) -> Result<b
     Ok(serve_lines(alloc, &mut board, feed, sheet))
 }
 
-fn check_sheet(rt: &impl Abort, sheet: &Sheet, wanted: &[u8], at: usize) {
-    assert_eq!(rt; sheet.as_slice(), wanted, "at {at}");
+// Whether serving came to the reader's end, where it should have.
+fn check_end(rt: &impl Abort, at: usize, ended: bool, wanted: bool) {
+    assert_eq!(rt; ended, wanted, "at {at}");
 }
 
 // The first lines of a text.
@@ -134,16 +136,21 @@ fn first_lines(text: &str, count: usize) -> &str {
     text
 }
 
+// What is answered to the lines that are whole in these bytes of the script.
+fn answers_to(head: &[u8]) -> &'static str {
+    let lines = head.iter().filter(|byte| **byte == b'\n').count();
+    first_lines(ANSWERS, lines)
+}
+
 // A reader gives these bytes of the script and fails.
 fn check_reader(rt: &impl Abort, alloc: Global, head: &[u8]) -> Result<(), Fail> {
     let at = head.len();
     let mut feed = Feed::new(head);
     feed.fails = true;
     let mut sheet = Sheet::new(alloc, usize::MAX);
-    let ends = serves(alloc, &mut feed, &mut sheet)?;
-    assert!(rt; !ends, "at {at}");
-    let lines = head.iter().filter(|byte| **byte == b'\n').count();
-    check_sheet(rt, &sheet, first_lines(ANSWERS, lines).as_bytes(), at);
+    check_end(rt, at, serves(alloc, &mut feed, &mut sheet)?, false);
+    let wanted = answers_to(head);
+    check_bytes(rt, at, sheet.as_slice(), wanted.as_bytes());
     Ok(())
 }
 
@@ -162,9 +169,8 @@ fn check_writer(rt: &impl Abort, alloc: Global, head: &[u8], all: bool) -> Resul
     let room = head.len();
     let mut sheet = Sheet::new(alloc, room);
     let mut feed = Feed::new(SCRIPT.as_bytes());
-    let ends = serves(alloc, &mut feed, &mut sheet)?;
-    assert_eq!(rt; ends, all, "at {room}");
-    check_sheet(rt, &sheet, head, room);
+    check_end(rt, room, serves(alloc, &mut feed, &mut sheet)?, all);
+    check_bytes(rt, room, sheet.as_slice(), head);
     Ok(())
 }
 
@@ -186,7 +192,12 @@ fn a_reader_gives_single_bytes(rt: HostRuntime) -> Result<(), Fail> {
     feed.piece = 1;
     feed.interrupts = true;
     let mut sheet = Sheet::new(alloc, usize::MAX);
-    assert!(rt; serves(alloc, &mut feed, &mut sheet)?);
-    assert_eq!(rt; sheet.as_slice(), ANSWERS.as_bytes());
+    check_end(
+        &rt,
+        SCRIPT.len(),
+        serves(alloc, &mut feed, &mut sheet)?,
+        true,
+    );
+    check_bytes(&rt, SCRIPT.len(), sheet.as_slice(), ANSWERS.as_bytes());
     Ok(())
 }
