@@ -1,10 +1,12 @@
 //! Requests and events on a board.
 
+use crate::checks::{check_count, check_text};
 use shim_service::{event_line_of, line_of};
 use std::alloc::{AllocError, Global};
+use std::process::Abort;
 use std::test::Fail;
-use task_board::{Board, Event, Request, run_events};
-use wasm_ast::{Sequence, Text};
+use task_board::{Board, Event, EventReply, Reply, Request, run_events};
+use wasm_ast::{Refusal, Sequence, Text};
 
 /// A module whose entry is `i32.const 7 call $exit`.
 const EXIT_SEVEN: &str =
@@ -41,43 +43,118 @@ fn create(alloc: Global) -> Result<Request, AllocError> {
     Ok(Request::Create { config, id })
 }
 
+fn start(alloc: Global) -> Result<Request, AllocError> {
+    let id = id(alloc)?;
+    Ok(Request::Start { id })
+}
+
+fn state(alloc: Global) -> Result<Request, AllocError> {
+    let id = id(alloc)?;
+    Ok(Request::State { id })
+}
+
+fn wait(alloc: Global) -> Result<Request, AllocError> {
+    let id = id(alloc)?;
+    Ok(Request::Wait { id })
+}
+
+fn new_board(alloc: Global) -> Result<Box<Board>, Fail> {
+    let board = Board::new(alloc)?;
+    Ok(Box::new(alloc, board)?)
+}
+
+// Whether a request was answered by this line.
+fn check_answer(
+    rt: &impl Abort,
+    alloc: Global,
+    answer: &Result<Reply, Refusal>,
+    line: &str,
+) -> Result<(), Fail> {
+    let found = line_of(alloc, answer)?;
+    check_text(rt, "the line of an answer", found.as_str(), line);
+    Ok(())
+}
+
+fn put_is_applied(rt: &impl Abort, alloc: Global, board: &mut Board) -> Result<(), Fail> {
+    let prepared = board.prepare(put(alloc)?)?;
+    let answer = board.apply(prepared);
+    check_answer(rt, alloc, &answer, IS_PUT)
+}
+
+fn create_is_applied(rt: &impl Abort, alloc: Global, board: &mut Board) -> Result<(), Fail> {
+    let prepared = board.prepare(create(alloc)?)?;
+    let answer = board.apply(prepared);
+    check_answer(rt, alloc, &answer, IS_CREATED)
+}
+
+fn start_is_called(rt: &impl Abort, alloc: Global, board: &mut Board) -> Result<(), Fail> {
+    let answer = board.call(start(alloc)?);
+    check_answer(rt, alloc, &answer, IS_STARTED)
+}
+
 // A valid module is accepted, by prepare and apply as by call.
 #[test]
 fn requests_are_prepared_and_applied(rt: HostRuntime) -> Result<(), Fail> {
     let alloc = rt.alloc();
-    let mut board = Board::new(alloc)?;
-    let prepared = board.prepare(put(alloc)?)?;
-    let answer = board.apply(prepared);
-    assert_eq!(rt; line_of(alloc, &answer)?.as_str(), IS_PUT);
-    let prepared = board.prepare(create(alloc)?)?;
-    let answer = board.apply(prepared);
-    assert_eq!(rt; line_of(alloc, &answer)?.as_str(), IS_CREATED);
-    let answer = board.call(Request::Start { id: id(alloc)? });
-    assert_eq!(rt; line_of(alloc, &answer)?.as_str(), IS_STARTED);
-    Ok(())
+    let mut board = new_board(alloc)?;
+    put_is_applied(&rt, alloc, &mut board)?;
+    create_is_applied(&rt, alloc, &mut board)?;
+    start_is_called(&rt, alloc, &mut board)
 }
+
+/// An event of a run.
+#[derive(Clone, Copy)]
+enum Step {
+    Put,
+    Create,
+    Start,
+    State,
+    Wait,
+    Take(u64),
+    Return,
+}
+
+// The event of a step, of the one task.
+fn event(alloc: Global, step: Step) -> Result<Event, Fail> {
+    match step {
+        Step::Put => Ok(Event::Call(put(alloc)?)),
+        Step::Create => Ok(Event::Call(create(alloc)?)),
+        Step::Start => Ok(Event::Call(start(alloc)?)),
+        Step::State => Ok(Event::Call(state(alloc)?)),
+        Step::Wait => Ok(Event::Call(wait(alloc)?)),
+        Step::Take(budget) => Ok(Event::Take(id(alloc)?, budget)),
+        Step::Return => Ok(Event::Return(id(alloc)?)),
+    }
+}
+
+/// The steps of a whole run.
+const STEPS: &[Step] = &[
+    Step::Put,
+    Step::Create,
+    Step::Start,
+    Step::Take(1),
+    Step::Return,
+    Step::State,
+    Step::Take(0),
+    Step::Take(1_000_001),
+    Step::Take(1_000_000),
+    Step::Take(1),
+    Step::Return,
+    Step::Return,
+    Step::Wait,
+];
 
 // Events of a whole run.
 fn events(alloc: Global) -> Result<Vec<Event>, Fail> {
     let mut events = Vec::new(alloc);
-    events.push(Event::Call(put(alloc)?))?;
-    events.push(Event::Call(create(alloc)?))?;
-    events.push(Event::Call(Request::Start { id: id(alloc)? }))?;
-    events.push(Event::Take(id(alloc)?, 1))?;
-    events.push(Event::Return(id(alloc)?))?;
-    events.push(Event::Call(Request::State { id: id(alloc)? }))?;
-    events.push(Event::Take(id(alloc)?, 0))?;
-    events.push(Event::Take(id(alloc)?, 1_000_001))?;
-    events.push(Event::Take(id(alloc)?, 1_000_000))?;
-    events.push(Event::Take(id(alloc)?, 1))?;
-    events.push(Event::Return(id(alloc)?))?;
-    events.push(Event::Return(id(alloc)?))?;
-    events.push(Event::Call(Request::Wait { id: id(alloc)? }))?;
+    for step in STEPS {
+        events.push(event(alloc, *step)?)?;
+    }
     Ok(events)
 }
 
 /// What they are answered.
-const ANSWERS: [&str; 13] = [
+const ANSWERS: &[&str] = &[
     IS_PUT,
     IS_CREATED,
     IS_STARTED,
@@ -93,13 +170,24 @@ const ANSWERS: [&str; 13] = [
     HAS_EXITED,
 ];
 
+// Whether an event was answered by this line.
+fn check_reply(rt: &impl Abort, alloc: Global, reply: &EventReply, line: &str) -> Result<(), Fail> {
+    let found = event_line_of(alloc, reply)?;
+    check_text(rt, "the line of an event", found.as_str(), line);
+    Ok(())
+}
+
+fn check_replies(rt: &impl Abort, alloc: Global, replies: &[EventReply]) -> Result<(), Fail> {
+    for (reply, line) in replies.iter().zip(ANSWERS) {
+        check_reply(rt, alloc, reply, line)?;
+    }
+    Ok(())
+}
+
 #[test]
 fn events_are_run(rt: HostRuntime) -> Result<(), Fail> {
     let alloc = rt.alloc();
     let replies = run_events(alloc, events(alloc)?)?;
-    assert_eq!(rt; replies.len(), ANSWERS.len());
-    for (reply, line) in replies.iter().zip(ANSWERS) {
-        assert_eq!(rt; event_line_of(alloc, reply)?.as_str(), line);
-    }
-    Ok(())
+    check_count(&rt, replies.len(), ANSWERS.len());
+    check_replies(&rt, alloc, replies.as_slice())
 }

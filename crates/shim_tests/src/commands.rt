@@ -1,7 +1,9 @@
 //! Command lines, and the texts of help and of faults.
 
+use crate::checks::check_text;
 use shim_service::{Command, Fault, command_of};
 use std::alloc::{AllocError, Global};
+use std::process::Abort;
 use std::test::Fail;
 
 const HELP: &str = "Run WebAssembly modules as container tasks
@@ -49,7 +51,7 @@ For more information, try '--help'.
 ";
 
 /// Command lines behind the program's name, and what they are.
-const LINES: [(&str, &str, &str); 10] = [
+const LINES: &[(&str, &str, &str)] = &[
     ("serve", "serves", ""),
     ("replay script", "replays", "script"),
     ("--version", "shows", "wasm-shim 0.1.0\n"),
@@ -82,15 +84,30 @@ fn found(alloc: Global, line: &str) -> Result<(&'static str, String), Fail> {
     }
 }
 
+// Whether a command line is what it should be, with the text that it should have.
+fn check_line(
+    rt: &impl Abort,
+    alloc: Global,
+    line: &str,
+    does: &str,
+    text: &str,
+) -> Result<(), Fail> {
+    let (done, told) = found(alloc, line)?;
+    check_text(rt, line, done, does);
+    check_text(rt, line, told.as_str(), text);
+    Ok(())
+}
+
+fn check_memory(rt: &impl Abort, alloc: Global) -> Result<(), Fail> {
+    let fault = Fault::Memory.to_string(alloc)?;
+    check_text(rt, "no memory", fault.as_str(), "out of memory");
+    Ok(())
+}
+
 #[test]
 fn words_are_commands(rt: HostRuntime) -> Result<(), Fail> {
-    let alloc = rt.alloc();
-    for (line, does, text) in LINES {
-        let (done, told) = found(alloc, line)?;
-        assert_eq!(rt; done, does, "{line}");
-        assert_eq!(rt; told.as_str(), text, "{line}");
+    for &(line, does, text) in LINES {
+        check_line(&rt, rt.alloc(), line, does, text)?;
     }
-    let fault = Fault::Memory.to_string(alloc)?;
-    assert_eq!(rt; fault.as_str(), "out of memory");
-    Ok(())
+    check_memory(&rt, rt.alloc())
 }

@@ -1,11 +1,11 @@
 //! Lines that no client should send: each has its answer, and the line behind it is answered as ever.
 
-use crate::streams::{Feed, Sheet};
-use shim_service::{replay_lines, serve_lines};
+use crate::checks::check_text;
+use crate::streams::{Feed, Sheet, serves};
+use shim_service::replay_lines;
 use std::alloc::{AllocError, Global};
 use std::process::Abort;
 use std::test::Fail;
-use task_board::Board;
 
 const BAD_REQUEST: &str = "{\"error\":\"BadRequest\",\"number\":1,\"ok\":false}\n";
 
@@ -19,7 +19,7 @@ const NOT_TAKEN: &str = "{\"ok\":true,\"taken\":false}\n";
 const STATE: &str = "{\"op\":\"state\",\"id\":\"zz\"}";
 
 /// Lines, and what they are answered.
-const LINES: [(&[u8], &str); 37] = [
+const LINES: &[(&[u8], &str)] = &[
     // Nothing, spaces, bytes that are no text.
     (b"", BAD_REQUEST),
     (b"  ", BAD_REQUEST),
@@ -71,7 +71,7 @@ const LINES: [(&[u8], &str); 37] = [
 ];
 
 /// Long lines: a text, another that stands so many times, and a last one; and what they are answered.
-const LONG: [(&str, &str, usize, &str, &str); 12] = [
+const LONG: &[(&str, &str, usize, &str, &str)] = &[
     // 1,048,576 bytes and one more.
     (STATE, " ", 1_048_552, "", NOT_FOUND),
     (STATE, " ", 1_048_553, "", BAD_REQUEST),
@@ -103,7 +103,7 @@ const LONG: [(&str, &str, usize, &str, &str); 12] = [
 ];
 
 /// The budgets of takes from a task that is not there.
-const BUDGETS: [(&str, &str); 14] = [
+const BUDGETS: &[(&str, &str)] = &[
     ("1", NOT_TAKEN),
     ("1000000", NOT_TAKEN),
     ("0", BAD_REQUEST),
@@ -146,71 +146,121 @@ impl Script {
     }
 }
 
+// What a board of its own writes where it serves these lines, which it does to their end.
+fn served(rt: &impl Abort, alloc: Global, lines: &[u8]) -> Result<Sheet, Fail> {
+    let mut sheet = Sheet::new(alloc, usize::MAX);
+    let mut feed = Feed::new(lines);
+    let ends = serves(alloc, &mut feed, &mut sheet)?;
+    assert!(rt; ends);
+    Ok(sheet)
+}
+
+// Whether a served line is the one that is wanted.
+fn check_line(rt: &impl Abort, of: &str, served: &str, k: usize, wanted: &str) {
+    assert_eq!(rt;
+        served.lines().nth(k),
+        Some(wanted),
+        "{of}, served line {k}"
+    );
+}
+
+// Whether the bytes served are the text that is wanted. The first line that differs is named.
+fn check_served(rt: &impl Abort, of: &str, bytes: &[u8], wanted: &str) -> Result<(), Fail> {
+    let served = str::from_utf8(bytes)?;
+    for (k, line) in wanted.lines().enumerate() {
+        check_line(rt, of, served, k, line);
+    }
+    check_text(rt, of, served, wanted);
+    Ok(())
+}
+
+// Whether a replay of the lines is answered so.
+fn check_replay(
+    rt: &impl Abort,
+    alloc: Global,
+    of: &str,
+    lines: &[u8],
+    wanted: &str,
+) -> Result<(), Fail> {
+    let replayed = replay_lines(alloc, lines)?;
+    check_text(rt, of, str::from_utf8(replayed.as_slice())?, wanted);
+    Ok(())
+}
+
 // Serves and replays a script. The two answer alike.
 fn answers(rt: &impl Abort, alloc: Global, script: &Script) -> Result<(), Fail> {
-    let mut board = Board::new(alloc)?;
-    let mut sheet = Sheet::new(alloc, usize::MAX);
-    let mut feed = Feed::new(script.lines.as_slice());
-    assert!(rt; serve_lines(alloc, &mut board, &mut feed, &mut sheet));
-    let served = str::from_utf8(sheet.as_slice())?;
-    let replayed = replay_lines(alloc, script.lines.as_slice())?;
-    let replayed = str::from_utf8(replayed.as_slice())?;
-    for (k, line) in script.answers.as_str().lines().enumerate() {
-        assert_eq!(rt; served.lines().nth(k), Some(line), "served line {k}");
+    let lines = script.lines.as_slice();
+    let sheet = served(rt, alloc, lines)?;
+    check_served(rt, "the script", sheet.as_slice(), script.answers.as_str())?;
+    check_replay(
+        rt,
+        alloc,
+        "the script, replayed",
+        lines,
+        script.answers.as_str(),
+    )
+}
+
+// Adds the lines that are no requests.
+fn add_lines(script: &mut Script) -> Result<(), AllocError> {
+    for &(line, answer) in LINES {
+        script.add(line, answer)?;
     }
-    assert_eq!(rt; served, script.answers.as_str());
-    assert_eq!(rt; replayed, script.answers.as_str());
     Ok(())
 }
 
 #[test]
 fn lines_that_are_no_requests(rt: HostRuntime) -> Result<(), Fail> {
     let mut script = Script::new(rt.alloc());
-    for (line, answer) in LINES {
-        script.add(line, answer)?;
-    }
+    add_lines(&mut script)?;
     answers(&rt, rt.alloc(), &script)
+}
+
+// A text, another that stands so many times, and a last one.
+fn long_line(
+    alloc: Global,
+    before: &str,
+    text: &str,
+    count: usize,
+    behind: &str,
+) -> Result<String, Fail> {
+    let many = text.repeat(alloc, count)?;
+    Ok(format!(in alloc; "{before}{many}{behind}")?)
+}
+
+// Adds the long lines.
+fn add_long(alloc: Global, script: &mut Script) -> Result<(), Fail> {
+    for &(before, text, count, behind, answer) in LONG {
+        let line = long_line(alloc, before, text, count, behind)?;
+        script.add(line.as_bytes(), answer)?;
+    }
+    Ok(())
 }
 
 #[test]
 fn long_lines(rt: HostRuntime) -> Result<(), Fail> {
-    let alloc = rt.alloc();
-    let mut script = Script::new(alloc);
-    for (before, text, count, behind, answer) in LONG {
-        let many = text.repeat(alloc, count)?;
-        let line = format!(in alloc; "{before}{many}{behind}")?;
-        script.add(line.as_bytes(), answer)?;
-    }
+    let mut script = Script::new(rt.alloc());
+    add_long(rt.alloc(), &mut script)?;
     answers(&rt, rt.alloc(), &script)
+}
+
+// A take with this budget, from a task that is not there.
+fn take(alloc: Global, budget: &str) -> Result<String, Fail> {
+    Ok(format!(in alloc; "{{\"op\":\"take\",\"id\":\"zz\",\"budget\":{budget}}}")?)
+}
+
+fn check_take(rt: &impl Abort, alloc: Global, budget: &str, answer: &str) -> Result<(), Fail> {
+    let line = take(alloc, budget)?;
+    check_replay(rt, alloc, budget, line.as_bytes(), answer)?;
+    let sheet = served(rt, alloc, line.as_bytes())?;
+    check_served(rt, budget, sheet.as_slice(), BAD_REQUEST)
 }
 
 // A slice is taken in a replay only.
 #[test]
 fn budgets(rt: HostRuntime) -> Result<(), Fail> {
-    let alloc = rt.alloc();
-    for (budget, answer) in BUDGETS {
-        let line = format!(in alloc; "{{\"op\":\"take\",\"id\":\"zz\",\"budget\":{budget}}}")?;
-        let replayed = replay_lines(alloc, line.as_bytes())?;
-        assert_eq!(rt;
-            str::from_utf8(replayed.as_slice())?,
-            answer,
-            "a budget of {budget}"
-        );
-        let mut board = Board::new(alloc)?;
-        let mut sheet = Sheet::new(alloc, usize::MAX);
-        assert!(rt;
-            serve_lines(
-                alloc,
-                &mut board,
-                &mut Feed::new(line.as_bytes()),
-                &mut sheet
-            )
-        );
-        assert_eq!(rt;
-            str::from_utf8(sheet.as_slice())?,
-            BAD_REQUEST,
-            "served, {budget}"
-        );
+    for &(budget, answer) in BUDGETS {
+        check_take(&rt, rt.alloc(), budget, answer)?;
     }
     Ok(())
 }

@@ -1,9 +1,11 @@
 //! Modules are read, written and run.
 
+use crate::checks::{check_bytes, check_text};
 use std::alloc::{AllocError, Global};
+use std::process::Abort;
 use std::test::Fail;
-use step_machine::{Breaks, Machine, Process, SliceEnd, validate};
-use wasm_ast::{Export, Func, Import, Instr, Module, Refusal, Sequence, Text};
+use step_machine::{Breaks, Machine, Process, SliceEnd, Valid, validate};
+use wasm_ast::{Export, Func, FuncType, Import, Instr, Module, Refusal, Sequence, Text};
 use wasm_binary::{decode, encode};
 
 /// A module whose entry is `i32.const 7 call $exit`, in 82 bytes.
@@ -32,86 +34,170 @@ fn process(alloc: Global) -> Result<Process, AllocError> {
     })
 }
 
-// The lists of a module, as the abstract syntax has them.
-fn show(alloc: Global, module: &Module) -> Result<String, Fail> {
-    let mut shown = String::new(alloc);
-    for found in module.types.as_slice() {
+fn show_types(shown: &mut String, types: &[FuncType]) -> Result<(), Fail> {
+    for found in types {
         let params = found.params.as_slice();
         let results = found.results.as_slice();
         write!(shown, "type {params:?} to {results:?}; ")?;
     }
+    Ok(())
+}
+
+fn show_imports(shown: &mut String, imports: &[Import]) -> Result<(), Fail> {
     for Import {
         module,
         name,
         type_index,
-    } in module.imports.as_slice() {
+    } in imports {
         write!(shown, "import {module} {name} {type_index}; ")?;
     }
+    Ok(())
+}
+
+fn show_funcs(shown: &mut String, funcs: &[Func]) -> Result<(), Fail> {
     for Func {
         type_index,
         locals,
         body,
-    } in module.funcs.as_slice() {
+    } in funcs {
         let locals = locals.as_slice();
         let body = body.as_slice();
         write!(shown, "func {type_index} {locals:?} {body:?}; ")?;
     }
-    for Export { name, kind, index } in module.exports.as_slice() {
+    Ok(())
+}
+
+fn show_exports(shown: &mut String, exports: &[Export]) -> Result<(), Fail> {
+    for Export { name, kind, index } in exports {
         write!(shown, "export {name} {kind:?} {index}")?;
     }
+    Ok(())
+}
+
+// The lists of a module, as the abstract syntax has them.
+fn show(alloc: Global, module: &Module) -> Result<String, Fail> {
+    let mut shown = String::new(alloc);
+    show_types(&mut shown, module.types.as_slice())?;
+    show_imports(&mut shown, module.imports.as_slice())?;
+    show_funcs(&mut shown, module.funcs.as_slice())?;
+    show_exports(&mut shown, module.exports.as_slice())?;
     Ok(shown)
+}
+
+// The module that is spelled so in hexadecimal digits.
+fn module_of(alloc: Global, spelling: &str) -> Result<Module, Fail> {
+    let bytes = hex::decode(alloc, spelling)?;
+    Ok(decode(alloc, bytes.as_slice())?)
+}
+
+fn check_shown(rt: &impl Abort, alloc: Global, module: &Module) -> Result<(), Fail> {
+    let shown = show(alloc, module)?;
+    let wanted = "type [I32] to []; type [] to []; \
+        import wasi_snapshot_preview1 proc_exit 0; \
+        func 1 [] [I32Const(7), Call(0)]; export _start Func 1";
+    check_text(rt, "shown", shown.as_str(), wanted);
+    Ok(())
+}
+
+fn check_written(rt: &impl Abort, alloc: Global, module: &Module) -> Result<(), Fail> {
+    let written = hex::encode(alloc, encode(alloc, module)?)?;
+    check_text(rt, "written", written.as_str(), EXIT_SEVEN);
+    Ok(())
+}
+
+fn check_module(rt: &impl Abort, alloc: Global, spelling: &str) -> Result<(), Fail> {
+    let module = module_of(alloc, spelling)?;
+    check_shown(rt, alloc, &module)?;
+    check_written(rt, alloc, &module)
 }
 
 #[test]
 fn modules_are_read_and_written(rt: HostRuntime) -> Result<(), Fail> {
-    let alloc = rt.alloc();
     for spelling in [EXIT_SEVEN, SEVEN_IN_FIVE] {
-        let bytes = hex::decode(alloc, spelling)?;
-        let module = decode(alloc, bytes.as_slice())?;
-        let shown = show(alloc, &module)?;
-        assert_eq!(rt;
-            shown.as_str(),
-            "type [I32] to []; type [] to []; \
-            import wasi_snapshot_preview1 proc_exit 0; \
-            func 1 [] [I32Const(7), Call(0)]; export _start Func 1"
-        );
-        let written = hex::encode(alloc, encode(alloc, &module)?)?;
-        assert_eq!(rt; written.as_str(), EXIT_SEVEN);
+        check_module(&rt, rt.alloc(), spelling)?;
     }
     Ok(())
 }
 
+fn valid_module(alloc: Global) -> Result<Valid, Fail> {
+    let module = module_of(alloc, EXIT_SEVEN)?;
+    Ok(validate(alloc, module)?)
+}
+
+fn open(alloc: Global, valid: Valid) -> Result<Machine, Fail> {
+    let process = process(alloc)?;
+    Ok(Machine::new(alloc, valid, process)?)
+}
+
+fn new_machine(alloc: Global) -> Result<Box<Machine>, Fail> {
+    let valid = valid_module(alloc)?;
+    let machine = open(alloc, valid)?;
+    Ok(Box::new(alloc, machine)?)
+}
+
+fn check_slice(
+    rt: &impl Abort,
+    machine: &mut Machine,
+    breaks: &Breaks,
+    budget: u64,
+    end: SliceEnd,
+) {
+    assert_eq!(rt; machine.run(budget, breaks), end);
+}
+
 #[test]
 fn a_module_runs(rt: HostRuntime) -> Result<(), Fail> {
-    let alloc = rt.alloc();
-    let bytes = hex::decode(alloc, EXIT_SEVEN)?;
-    let valid = validate(alloc, decode(alloc, bytes.as_slice())?)?;
-    let breaks = Breaks::none(alloc)?;
-    let mut machine = Machine::new(alloc, valid, process(alloc)?)?;
-    assert_eq!(rt; machine.run(1, &breaks), SliceEnd::Budget);
-    assert_eq!(rt; machine.run(10, &breaks), SliceEnd::Exited(7));
+    let mut machine = new_machine(rt.alloc())?;
+    let breaks = Breaks::none(rt.alloc())?;
+    check_slice(&rt, &mut machine, &breaks, 1, SliceEnd::Budget);
+    check_slice(&rt, &mut machine, &breaks, 10, SliceEnd::Exited(7));
     assert_eq!(rt; machine.turns(), 2);
     Ok(())
 }
 
-#[test]
-fn copies_are_the_same(rt: HostRuntime) -> Result<(), Fail> {
-    let alloc = rt.alloc();
+fn check_copy_of_text(rt: &impl Abort, alloc: Global) -> Result<(), Fail> {
     let word = text(alloc, "ä \u{0}")?;
-    assert_eq!(rt; word.copy(alloc)?.as_str(), "ä \u{0}");
+    let copy = word.copy(alloc)?;
+    check_text(rt, "a copy", copy.as_str(), "ä \u{0}");
+    Ok(())
+}
+
+fn check_copy_of_bytes(rt: &impl Abort, alloc: Global) -> Result<(), Fail> {
     let bytes = Sequence::new(hex::decode(alloc, "00ff")?);
-    assert_eq!(rt; bytes.copy(alloc)?.as_slice(), [0, 255].as_slice());
+    let copy = bytes.copy(alloc)?;
+    check_bytes(rt, 0, copy.as_slice(), &[0, 255]);
+    Ok(())
+}
+
+fn new_process(alloc: Global) -> Result<Box<Process>, AllocError> {
     let process = process(alloc)?;
-    let mut copy = process.copy(alloc)?;
+    Ok(Box::new(alloc, process)?)
+}
+
+fn copy_process(alloc: Global, process: &Process) -> Result<Box<Process>, AllocError> {
+    let copy = process.copy(alloc)?;
+    Ok(Box::new(alloc, copy)?)
+}
+
+fn check_copy_of_process(rt: &impl Abort, alloc: Global) -> Result<(), Fail> {
+    let process = new_process(alloc)?;
+    let mut copy = copy_process(alloc, &process)?;
     assert!(rt; copy.is(&process));
     copy.cap = 17;
     assert!(rt; !copy.is(&process));
     Ok(())
 }
 
+#[test]
+fn copies_are_the_same(rt: HostRuntime) -> Result<(), Fail> {
+    check_copy_of_text(&rt, rt.alloc())?;
+    check_copy_of_bytes(&rt, rt.alloc())?;
+    check_copy_of_process(&rt, rt.alloc())
+}
+
 /// Bytes with a fault or a number over a limit, or both: the one that stands first from the front is
 /// answered.
-const FAULTS: [(&str, Refusal); 9] = [
+const FAULTS: &[(&str, Refusal)] = &[
     // A body with an instruction that is none.
     (
         "0061736d0100000001080260017f0060000002240116776173695f736e617073686f745f70726576696577310970726f635f65786974000003020101070a01065f737461727400010a05010300ff0b",
@@ -150,16 +236,22 @@ const FAULTS: [(&str, Refusal); 9] = [
     ("0061736d0200000001040160000003028120", Refusal::BadModule),
 ];
 
+// Whether decoding is refused so.
+fn check_refusal(rt: &impl Abort, alloc: Global, of: &str, bytes: &[u8], refusal: Refusal) {
+    let length = bytes.len();
+    assert_eq!(rt;
+        decode(alloc, bytes).err(),
+        Some(refusal),
+        "{of}, {length} bytes"
+    );
+}
+
 #[test]
 fn the_first_fault_is_answered(rt: HostRuntime) -> Result<(), Fail> {
     let alloc = rt.alloc();
-    for (spelling, refusal) in FAULTS {
+    for &(spelling, refusal) in FAULTS {
         let bytes = hex::decode(alloc, spelling)?;
-        assert_eq!(rt;
-            decode(alloc, bytes.as_slice()).err(),
-            Some(refusal),
-            "{spelling}"
-        );
+        check_refusal(&rt, alloc, spelling, bytes.as_slice(), refusal);
     }
     Ok(())
 }
@@ -170,11 +262,7 @@ fn too_many_bytes(rt: HostRuntime) -> Result<(), Fail> {
     let alloc = rt.alloc();
     for (length, refusal) in [(262_144, Refusal::BadModule), (262_145, Refusal::Limit)] {
         let bytes = vec![in alloc; 0u8; length]?;
-        assert_eq!(rt;
-            decode(alloc, bytes.as_slice()).err(),
-            Some(refusal),
-            "{length} bytes"
-        );
+        check_refusal(&rt, alloc, "zeros", bytes.as_slice(), refusal);
     }
     Ok(())
 }

@@ -1,9 +1,11 @@
 //! Streams that fail, and streams that give a byte at a time.
 
+use crate::checks::check_bytes;
 use shim_service::serve_lines;
 use std::alloc::Global;
 use std::io;
 use std::io::{ErrorKind, Read, Write};
+use std::process::Abort;
 use std::test::Fail;
 use task_board::Board;
 
@@ -109,10 +111,15 @@ impl Write for Sheet {
     }
 }
 
-// Whether a board of its own serves the reader to its end.
-fn serves(alloc: Global, feed: &mut Feed<'_>, sheet: &mut Sheet) -> Result<bool, Fail> {
+/// Whether a board of its own serves the reader to its end.
+pub fn serves(alloc: Global, feed: &mut Feed<'_>, sheet: &mut Sheet) -> Result<bool, Fail> {
     let mut board = Board::new(alloc)?;
     Ok(serve_lines(alloc, &mut board, feed, sheet))
+}
+
+// Whether serving came to the reader's end, where it should have.
+fn check_end(rt: &impl Abort, at: usize, ended: bool, wanted: bool) {
+    assert_eq!(rt; ended, wanted, "at {at}");
 }
 
 // The first lines of a text.
@@ -129,41 +136,52 @@ fn first_lines(text: &str, count: usize) -> &str {
     text
 }
 
+// What is answered to the lines that are whole in these bytes of the script.
+fn answers_to(head: &[u8]) -> &'static str {
+    let lines = head.iter().filter(|byte| **byte == b'\n').count();
+    first_lines(ANSWERS, lines)
+}
+
+// A reader gives these bytes of the script and fails.
+fn check_reader(rt: &impl Abort, alloc: Global, head: &[u8]) -> Result<(), Fail> {
+    let at = head.len();
+    let mut feed = Feed::new(head);
+    feed.fails = true;
+    let mut sheet = Sheet::new(alloc, usize::MAX);
+    check_end(rt, at, serves(alloc, &mut feed, &mut sheet)?, false);
+    let wanted = answers_to(head);
+    check_bytes(rt, at, sheet.as_slice(), wanted.as_bytes());
+    Ok(())
+}
+
 // Where the reader fails, the lines before are answered, and what had come of the next one is not.
 #[test]
 fn a_reader_fails_anywhere(rt: HostRuntime) -> Result<(), Fail> {
-    let alloc = rt.alloc();
     for at in 0..SCRIPT.len() {
         let (head, _) = SCRIPT.as_bytes().split_at(at);
-        let mut feed = Feed::new(head);
-        feed.fails = true;
-        let mut sheet = Sheet::new(alloc, usize::MAX);
-        assert!(rt; !serves(alloc, &mut feed, &mut sheet)?, "at {at}");
-        let lines = head.iter().filter(|byte| **byte == b'\n').count();
-        assert_eq!(rt;
-            sheet.as_slice(),
-            first_lines(ANSWERS, lines).as_bytes(),
-            "at {at}"
-        );
+        check_reader(&rt, rt.alloc(), head)?;
     }
+    Ok(())
+}
+
+// A writer has room for these bytes of the answers, which are all or not.
+fn check_writer(rt: &impl Abort, alloc: Global, head: &[u8], all: bool) -> Result<(), Fail> {
+    let room = head.len();
+    let mut sheet = Sheet::new(alloc, room);
+    let mut feed = Feed::new(SCRIPT.as_bytes());
+    check_end(rt, room, serves(alloc, &mut feed, &mut sheet)?, all);
+    check_bytes(rt, room, sheet.as_slice(), head);
     Ok(())
 }
 
 // Where the writer fails, what was written before stands as it was.
 #[test]
 fn a_writer_fails_anywhere(rt: HostRuntime) -> Result<(), Fail> {
-    let alloc = rt.alloc();
     for room in 0..ANSWERS.len() {
-        let mut sheet = Sheet::new(alloc, room);
-        let mut feed = Feed::new(SCRIPT.as_bytes());
-        assert!(rt; !serves(alloc, &mut feed, &mut sheet)?, "at {room}");
         let (head, _) = ANSWERS.as_bytes().split_at(room);
-        assert_eq!(rt; sheet.as_slice(), head, "at {room}");
+        check_writer(&rt, rt.alloc(), head, false)?;
     }
-    let mut sheet = Sheet::new(alloc, ANSWERS.len());
-    assert!(rt; serves(alloc, &mut Feed::new(SCRIPT.as_bytes()), &mut sheet)?);
-    assert_eq!(rt; sheet.as_slice(), ANSWERS.as_bytes());
-    Ok(())
+    check_writer(&rt, rt.alloc(), ANSWERS.as_bytes(), true)
 }
 
 // A byte at a time, and an interruption before each, make no difference.
@@ -174,7 +192,12 @@ fn a_reader_gives_single_bytes(rt: HostRuntime) -> Result<(), Fail> {
     feed.piece = 1;
     feed.interrupts = true;
     let mut sheet = Sheet::new(alloc, usize::MAX);
-    assert!(rt; serves(alloc, &mut feed, &mut sheet)?);
-    assert_eq!(rt; sheet.as_slice(), ANSWERS.as_bytes());
+    check_end(
+        &rt,
+        SCRIPT.len(),
+        serves(alloc, &mut feed, &mut sheet)?,
+        true,
+    );
+    check_bytes(&rt, SCRIPT.len(), sheet.as_slice(), ANSWERS.as_bytes());
     Ok(())
 }
