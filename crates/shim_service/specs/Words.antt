@@ -22,9 +22,13 @@ serve_shape = record (new_shape (codes "serve")) { has_version = true }
 abbrev pub replay_shape : Shape
 replay_shape = record (new_shape (codes "replay")) { rules = file_rule ∷ []; has_version = true }
 
--- the program, which wants one of the two
+-- the program without its commands, of which it wants one
+abbrev pub bare_program : App
+bare_program = record { top = record (new_shape (codes "wasm-shim")) { has_version = true; subcommand_required = true }; subs = [] }
+
+-- the program
 abbrev pub program : App
-program = with_subcommand (with_subcommand (record { top = record (new_shape (codes "wasm-shim")) { has_version = true; subcommand_required = true }; subs = [] }) serve_shape) replay_shape
+program = with_subcommand (with_subcommand bare_program serve_shape) replay_shape
 
 -- the command that the words name, and its FILE
 abbrev pub command_in : List Text → Option (Text × Option Text)

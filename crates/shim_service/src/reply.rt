@@ -9,18 +9,19 @@ use std::alloc::{AllocError, Global};
 use task_board::{EventReply, ExitRecord, Reply, Status, TaskState};
 use wasm_ast::{Refusal, Trap};
 
+// The value of the refusal of a text that denotes no module.
+fn text_refusal_value(alloc: Global, line: u64, column: u64) -> Result<Value, AllocError>
+    ensures { IfOk result (λ v. view v ≡ refusal_data (Refusal.BadText line column)) }
+{
+    json!(in alloc; {"column": column, "error": "BadText", "line": line, "number": 18, "ok": false})
+}
+
 // The value of a refusal.
 fn refusal_value(alloc: Global, refusal: &Refusal) -> Result<Value, AllocError>
     ensures { IfOk result (λ v. view v ≡ refusal_data refusal.now) }
 {
     match refusal {
-        Refusal::BadText { line, column } => json!(in alloc; {
-            "column": *column,
-            "error": refusal.name(),
-            "line": *line,
-            "number": refusal.number(),
-            "ok": false
-        }),
+        Refusal::BadText { line, column } => text_refusal_value(alloc, *line, *column),
         _ => json!(in alloc; {"error": refusal.name(), "number": refusal.number(), "ok": false}),
     }
 }

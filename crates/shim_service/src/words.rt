@@ -6,7 +6,7 @@ ghost use Rattle.clap.specs.Simple.{app_of, shape_of, subcommand_rows_of};
 ghost use Rattle.clap.specs.Values.{kind_of};
 ghost use Rattle.clap.specs.Walk.{first_of, rows_of};
 ghost use Rattle.clap.specs.declared.builder.command.Command.TheViews.{out-Command as fields_of};
-ghost use Rattle.shim_service.specs.Words.{serve_shape, replay_shape, program, Name, AreFaulty, IsChosen, IsShown, IsOfWords};
+ghost use Rattle.shim_service.specs.Words.{serve_shape, replay_shape, bare_program, program, Name, AreFaulty, IsChosen, IsShown, IsOfWords};
 
 use clap::error::ErrorKind;
 use clap::{Arg, ArgMatches, Command as Parser};
@@ -60,17 +60,23 @@ fn replay_parser<'a>(alloc: Global) -> Result<Parser<'a>, AllocError>
     replay.arg(file)
 }
 
+// The program's name and options, without its commands.
+fn bare_parser<'a>(alloc: Global) -> Parser<'a>
+    ensures { app_of result ≡ bare_program }
+{
+    Parser::new(alloc, "wasm-shim")
+        .about("Run WebAssembly modules as container tasks")
+        .version(VERSION)
+        .subcommand_required(true)
+}
+
 // The words of the program.
 fn parser<'a>(alloc: Global) -> Result<Parser<'a>, AllocError>
     ensures { IfOk result (λ p. app_of p ≡ program) }
 {
-    let program = Parser::new(alloc, "wasm-shim")
-        .about("Run WebAssembly modules as container tasks")
-        .version(VERSION)
-        .subcommand_required(true);
-    program
-        .subcommand(serve_parser(alloc))?
-        .subcommand(replay_parser(alloc)?)
+    let replay = replay_parser(alloc)?;
+    let with_serve = bare_parser(alloc).subcommand(serve_parser(alloc))?;
+    with_serve.subcommand(replay)
 }
 
 // What is done where the words did not name a command with its words.
