@@ -1,6 +1,8 @@
 pub mod Syntax
-pub mod Code
-pub mod View
+pub mod Types
 pub mod Ranged
-pub mod Names
 pub mod Limits
+pub mod Reaches
+pub mod Names
+pub mod View
+pub mod Inside

@@ -1,22 +1,33 @@
--- The limits of this profile on a module: 4,096 functions with imports, 1,024 locals to a function,
--- parameters included, and 256 blocks one inside another.
-use Rattle.std.specs.Prelude.{ℕ, suc, ◌+◌, ◌≤◌, max, List, length, All, Option, Some, None, slice_get}
+-- The limits of this profile on modules, and when a module is within them.
+use Rattle.std.specs.Prelude.{ℕ, suc, ◌+◌, ◌≤◌, max, nat_le, List, [], ◌∷◌, length, All, Bool, true, ◌&&◌, Option, Some, None, slice_get}
 use Rattle.wasm_ast.specs.declared.values.FuncType.{FuncType}
 use Rattle.wasm_ast.specs.declared.module.Func.{Func}
 use Rattle.wasm_ast.specs.declared.module.Module.{Module}
-use Rattle.wasm_ast.specs.Syntax.{Op, i32_const, discard, call, block, loop, choice, br, leave, Ops, stop, next}
+use Rattle.wasm_ast.specs.Syntax.{Op, simple, block, loop, if', Ops, stop, next}
 
--- how many blocks stand one inside another
+-- the bytes of a module
+abbrev pub max_module_bytes : ℕ
+max_module_bytes = 262144
+
+-- functions of a module, imports included
+abbrev pub max_functions : ℕ
+max_functions = 4096
+
+-- locals of a function, parameters included
+abbrev pub max_locals : ℕ
+max_locals = 1024
+
+-- blocks that are open at once
+abbrev pub max_nesting : ℕ
+max_nesting = 256
+
+-- how many blocks are open at once
 abbrev mutual
   pub depth : Op → ℕ
-  depth (i32_const n) = 0
-  depth discard = 0
-  depth (call f) = 0
-  depth (block t body) = suc (ops_depth body)
-  depth (loop t body) = suc (ops_depth body)
-  depth (choice t first_arm second_arm) = suc (max (ops_depth first_arm) (ops_depth second_arm))
-  depth (br l) = 0
-  depth leave = 0
+  depth (simple s) = 0
+  depth (block type body) = suc (ops_depth body)
+  depth (loop type body) = suc (ops_depth body)
+  depth (if' type then_arm else_arm) = suc (max (ops_depth then_arm) (ops_depth else_arm))
 
   pub ops_depth : Ops → ℕ
   ops_depth stop = 0
@@ -31,9 +42,21 @@ abbrev pub params_of : List FuncType → ℕ → ℕ
 params_of types i = params_in (slice_get types i)
 
 pub record FuncWithin (types : List FuncType) (f : Func) : Type 0 where
-  pub locals : params_of types f.type_index + length f.locals ≤ 1024
-  pub nesting : ops_depth f.body ≤ 256
+  pub locals : params_of types f.type_index + length f.locals ≤ max_locals
+  pub nesting : ops_depth f.body ≤ max_nesting
 
 pub record Within (m : Module) : Type 0 where
-  pub functions : length m.imports + length m.funcs ≤ 4096
+  pub functions : length m.imports + length m.funcs ≤ max_functions
   pub funcs : All (FuncWithin m.types) m.funcs
+
+-- the same as a test
+abbrev pub is_func_within : List FuncType → Func → Bool
+is_func_within types f =
+    nat_le (params_of types f.type_index + length f.locals) max_locals && nat_le (ops_depth f.body) max_nesting
+
+abbrev pub are_within : List FuncType → List Func → Bool
+are_within types [] = true
+are_within types (f ∷ fs) = is_func_within types f && are_within types fs
+
+abbrev pub is_within : Module → Bool
+is_within m = nat_le (length m.imports + length m.funcs) max_functions && are_within m.types m.funcs

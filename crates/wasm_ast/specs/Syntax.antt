@@ -1,27 +1,18 @@
 -- Instructions as the abstract syntax of modules has them (2.4), and their places.
 use Rattle.std.specs.Prelude.{ℕ, zero, suc, ◌+◌, ◌-◌, nat_lt, if◌then◌else◌, Option, Some, None, List, [], ◌∷◌}
-use Rattle.wasm_ast.specs.declared.values.ValType.{ValType}
+use Rattle.wasm_ast.specs.declared.instr.Simple.{Simple}
+use Rattle.wasm_ast.specs.declared.instr.BlockType.{BlockType}
 
--- the type of a block (2.4.5): at most one result, and no parameters
-pub data BlockType : Type 0 where
-  no_result : BlockType
-  one_result : ValType → BlockType
-
+-- an instruction without a body, or one of the three that have bodies (2.4.5)
 mutual
   pub data Op : Type 0 where
-    i32_const : ℕ → Op
-    -- drop
-    discard : Op
-    call : ℕ → Op
+    simple : Simple → Op
     block : BlockType → Ops → Op
     loop : BlockType → Ops → Op
-    -- if, with both its arms
-    choice : BlockType → Ops → Ops → Op
-    br : ℕ → Op
-    -- return
-    leave : Op
+    -- with both its arms
+    if' : BlockType → Ops → Ops → Op
 
-  -- a sequence of instructions
+  -- a sequence of instructions (2.4.6)
   pub data Ops : Type 0 where
     stop : Ops
     next : Op → Ops → Ops
@@ -29,32 +20,25 @@ mutual
 -- how many instructions, those inside blocks included
 abbrev mutual
   pub count : Op → ℕ
-  count (i32_const n) = 1
-  count discard = 1
-  count (call f) = 1
-  count (block t body) = 1 + ops_count body
-  count (loop t body) = 1 + ops_count body
-  count (choice t first_arm second_arm) = 1 + ops_count first_arm + ops_count second_arm
-  count (br l) = 1
-  count leave = 1
+  count (simple s) = 1
+  count (block type body) = 1 + ops_count body
+  count (loop type body) = 1 + ops_count body
+  count (if' type then_arm else_arm) = 1 + ops_count then_arm + ops_count else_arm
 
   pub ops_count : Ops → ℕ
   ops_count stop = 0
   ops_count (next o os) = count o + ops_count os
 
--- the instruction at a place: they are numbered in written order from 0, those inside blocks
--- included, and the else arm's behind the then arm's
+-- the instruction at a place: they are numbered in written order from 0, those inside blocks included,
+-- and the else arm's follow the then arm's
 abbrev mutual
   pub op_at : Op → ℕ → Option Op
   op_at o zero = Some o
-  op_at (i32_const n) (suc k) = None
-  op_at discard (suc k) = None
-  op_at (call f) (suc k) = None
-  op_at (block t body) (suc k) = ops_at body k
-  op_at (loop t body) (suc k) = ops_at body k
-  op_at (choice t first_arm second_arm) (suc k) = if nat_lt k (ops_count first_arm) then ops_at first_arm k else ops_at second_arm (k - ops_count first_arm)
-  op_at (br l) (suc k) = None
-  op_at leave (suc k) = None
+  op_at (simple s) (suc k) = None
+  op_at (block type body) (suc k) = ops_at body k
+  op_at (loop type body) (suc k) = ops_at body k
+  op_at (if' type then_arm else_arm) (suc k) =
+      if nat_lt k (ops_count then_arm) then ops_at then_arm k else ops_at else_arm (k - ops_count then_arm)
 
   pub ops_at : Ops → ℕ → Option Op
   ops_at stop k = None

@@ -1,9 +1,10 @@
--- The instructions that values of the code stand for.
-use Rattle.wasm_ast.specs.declared.module.Instr.{Instr}
-use Rattle.wasm_ast.specs.declared.module.Instr.TheVariants.{I32Const, Discard, Call}
-use Rattle.wasm_ast.specs.Syntax.{Op, i32_const, discard, call}
+-- The instructions that values of the code represent.
+use Rattle.wasm_ast.specs.declared.instr.Instr.{Instr}
+use Rattle.wasm_ast.specs.declared.instr.Instr.TheVariants.{Simple, Block, Loop, If}
+use Rattle.wasm_ast.specs.Syntax.{Op, simple, block, loop, if'}
 
 abbrev pub op_of : Instr → Op
-op_of (I32Const n) = i32_const n
-op_of Discard = discard
-op_of (Call f) = call f
+op_of (Simple s) = simple s
+op_of (Block type body) = block type body
+op_of (Loop type body) = loop type body
+op_of (If type then_arm else_arm) = if' type then_arm else_arm

@@ -4,17 +4,22 @@
 //! Sections are those of the WebAssembly Core Specification 1.0.
 #![tactic(auto)]
 
+mod instr;
+pub mod laws;
 mod module;
+mod place;
 mod refusal;
 mod sequence;
 mod text;
 mod trap;
 mod values;
 
+pub use instr::{BlockType, Body, Instr, Simple};
 pub use module::{
-    Body, Export, ExportKind, Func, Import, Instr, MOST_FUNCTIONS, MOST_LOCALS, MOST_NESTING,
+    Export, ExportKind, Func, Import, MAX_FUNCTIONS, MAX_LOCALS, MAX_MODULE_BYTES, MAX_NESTING,
     Module,
 };
+pub use place::Place;
 pub use refusal::Refusal;
 pub use sequence::{Bytes, Sequence};
 pub use text::Text;

@@ -1,111 +1,25 @@
-//! Modules and their instructions (2.4, 2.5).
+//! Modules (2.5).
 
-ghost use Rattle.std.specs.Prelude.{◌≡◌, map, All, true, false};
-ghost use Rattle.wasm_ast.specs.Syntax.{ops_of};
-ghost use Rattle.wasm_ast.specs.View.{op_of};
-ghost use Rattle.wasm_ast.specs.Limits.{Within, FuncWithin, ops_depth, params_of};
-ghost use Rattle.wasm_ast.specs.Ranged.{Ranged, RangedOp, RangedOps, RangedImport, RangedFunc, RangedExport};
+ghost use Rattle.std.specs.Prelude.{◌≡◌, All};
+ghost use Rattle.wasm_ast.specs.Limits.{params_of, is_func_within, are_within, is_within};
+ghost use Rattle.wasm_ast.specs.Ranged.{Ranged, RangedImport, RangedFunc, RangedExport, AreTexts, HasImportTexts, HasExportText};
 
+use crate::instr::Body;
 use crate::sequence::Sequence;
 use crate::text::Text;
 use crate::values::{FuncType, ValType};
-use std::marker::Model;
 
-/// How many functions a module may have, imports included.
-pub const MOST_FUNCTIONS: usize = 4096;
+/// Bytes that a module's binary form may have.
+pub const MAX_MODULE_BYTES: usize = 262_144;
 
-/// How many locals a function may have, parameters included.
-pub const MOST_LOCALS: usize = 1024;
+/// Functions that a module may have, imports included.
+pub const MAX_FUNCTIONS: usize = 4096;
 
-/// How many blocks may stand one inside another.
-pub const MOST_NESTING: usize = 256;
+/// Locals that a function may have, parameters included.
+pub const MAX_LOCALS: usize = 1024;
 
-/// An instruction (2.4).
-#[derive(Clone, Copy, PartialEq, Eq, Debug)]
-pub enum Instr {
-    /// `i32.const`
-    I32Const(u32),
-    /// `drop`
-    Discard,
-    /// `call` of the function with this index, imports counted first
-    Call(u32),
-}
-
-impl Instr {
-    /// That each number in the instruction is in its range.
-    pub fn ranged(&self)
-        ensures { RangedOp (op_of self.now) }
-    {
-        match self {
-            Instr::I32Const(n) | Instr::Call(n) => {
-                let _in_range = *n;
-            }
-            Instr::Discard => {}
-        }
-    }
-}
-
-/// A sequence of instructions (2.4.7). Contracts see the sequence of the abstract syntax.
-#[derive(Drop)]
-pub struct Body {
-    instrs: Vec<Instr>,
-}
-
-impl Model for Body {
-    ghost use Rattle.wasm_ast.specs.Syntax.{Ops};
-    ghost use Rattle.wasm_ast.specs.Code.{ops_code};
-
-    ghost Value = { Ops };
-
-    ghost coded = { ops_code };
-
-    ghost use Rattle.std.specs.Prelude.{map};
-    ghost use Rattle.wasm_ast.specs.Syntax.{ops_of};
-    ghost use Rattle.wasm_ast.specs.View.{op_of};
-
-    ghost view = { λ b. ops_of (map op_of b.instrs.items) };
-}
-
-impl Body {
-    /// The sequence of these instructions. No memory is taken.
-    pub fn new(instrs: Vec<Instr>) -> Body
-        ensures { result ≡ ops_of (map op_of instrs.items) }
-    {
-        Body { instrs }
-    }
-
-    /// The instructions.
-    pub fn as_slice(&self) -> &[Instr]
-        ensures { ops_of (map op_of result.now) ≡ self.now }
-    {
-        self.instrs.as_slice()
-    }
-
-    /// Gives the instructions back. No memory is taken.
-    pub fn into_vec(self) -> Vec<Instr>
-        ensures { ops_of (map op_of result.items) ≡ self }
-    {
-        let Body { instrs } = self;
-        instrs
-    }
-
-    /// How many blocks stand one inside another. No instruction of the profile has a body so far.
-    pub fn depth(&self) -> usize
-        ensures { result ≡ ops_depth self.now }
-    {
-        let _instrs = &self.instrs;
-        0
-    }
-
-    /// That each number in the instructions is in its range.
-    pub fn ranged(&self)
-        ensures { RangedOps self.now }
-    {
-        for instr in &self.instrs {
-            instr.ranged();
-        }
-    }
-}
+/// Blocks that may be open at once.
+pub const MAX_NESTING: usize = 256;
 
 /// An import of a function (2.5.11); the profile has no other kind.
 #[derive(Drop)]
@@ -116,11 +30,19 @@ pub struct Import {
 }
 
 impl Import {
-    /// That each number in it is in its range.
+    /// Shows that its type index is in range.
     pub fn ranged(&self)
         ensures { RangedImport self.now }
     {
         let _in_range = self.type_index;
+    }
+
+    // Shows that both names are UTF-8.
+    fn texts(&self)
+        ensures { HasImportTexts self.now }
+    {
+        self.module.is_utf8();
+        self.name.is_utf8();
     }
 }
 
@@ -134,7 +56,7 @@ pub struct Func {
 }
 
 impl Func {
-    /// That each number in it is in its range.
+    /// Shows that each number in it is in the range of its type.
     pub fn ranged(&self)
         ensures { RangedFunc self.now }
     {
@@ -158,11 +80,18 @@ pub struct Export {
 }
 
 impl Export {
-    /// That each number in it is in its range.
+    /// Shows that each number in it is in the range of its type.
     pub fn ranged(&self)
         ensures { RangedExport self.now }
     {
         let _in_range = self.index;
+    }
+
+    // Shows that its name is UTF-8.
+    fn texts(&self)
+        ensures { HasExportText self.now }
+    {
+        self.name.is_utf8();
     }
 }
 
@@ -177,17 +106,16 @@ pub struct Module {
 
 impl Module {
     /// Whether the module is within the profile's limits: 4,096 functions with imports, 1,024 locals to
-    /// a function, parameters included, and 256 blocks one inside another.
+    /// a function, parameters included, and 256 blocks that are open at once.
     pub fn is_within_limits(&self) -> bool
-        ensures within { result ≡ true → Within self.now }
-        ensures beyond { result ≡ false → Within self.now → ⊥ }
+        ensures { result ≡ is_within self.now }
     {
-        self.imports.len() <= MOST_FUNCTIONS
-            && self.funcs.len() <= MOST_FUNCTIONS - self.imports.len()
+        self.imports.len() <= MAX_FUNCTIONS
+            && self.funcs.len() <= MAX_FUNCTIONS - self.imports.len()
             && are_within(self.types.as_slice(), self.funcs.as_slice())
     }
 
-    /// That each number in the module is in its range.
+    /// Shows that each number in the module is in the range of its type.
     pub fn ranged(&self)
         ensures { Ranged self.now }
     {
@@ -195,9 +123,17 @@ impl Module {
         funcs_ranged(self.funcs.as_slice());
         exports_ranged(self.exports.as_slice());
     }
+
+    /// Shows that the names in the module are UTF-8.
+    pub fn texts(&self)
+        ensures { AreTexts self.now }
+    {
+        imports_are_texts(self.imports.as_slice());
+        exports_are_texts(self.exports.as_slice());
+    }
 }
 
-// How many parameters a function of the type with this index has.
+// How many parameters a function of the type with this index has: none where it names no type.
 fn params_of(types: &[FuncType], index: u32) -> usize
     ensures { result ≡ params_of types.now index }
 {
@@ -207,22 +143,20 @@ fn params_of(types: &[FuncType], index: u32) -> usize
     }
 }
 
-fn is_within(types: &[FuncType], func: &Func) -> bool
-    ensures within { result ≡ true → FuncWithin types.now func.now }
-    ensures beyond { result ≡ false → FuncWithin types.now func.now → ⊥ }
+fn is_func_within(types: &[FuncType], func: &Func) -> bool
+    ensures { result ≡ is_func_within types.now func.now }
 {
     let params = params_of(types, func.type_index);
-    params <= MOST_LOCALS
-        && func.locals.len() <= MOST_LOCALS - params
-        && func.body.depth() <= MOST_NESTING
+    params <= MAX_LOCALS
+        && func.locals.len() <= MAX_LOCALS - params
+        && func.body.fits_depth(MAX_NESTING)
 }
 
 fn are_within(types: &[FuncType], funcs: &[Func]) -> bool
-    ensures within { result ≡ true → All (FuncWithin types.now) funcs.now }
-    ensures beyond { result ≡ false → All (FuncWithin types.now) funcs.now → ⊥ }
+    ensures { result ≡ are_within types.now funcs.now }
 {
     for func in funcs {
-        if !is_within(types, func) {
+        if !is_func_within(types, func) {
             return false;
         }
     }
@@ -250,5 +184,21 @@ fn exports_ranged(exports: &[Export])
 {
     for export in exports {
         export.ranged();
+    }
+}
+
+fn imports_are_texts(imports: &[Import])
+    ensures { All HasImportTexts imports.now }
+{
+    for import in imports {
+        import.texts();
+    }
+}
+
+fn exports_are_texts(exports: &[Export])
+    ensures { All HasExportText exports.now }
+{
+    for export in exports {
+        export.texts();
     }
 }

@@ -3,6 +3,7 @@
 ghost use Rattle.std.specs.Prelude.{◌≡◌, Some};
 ghost use Rattle.wasm_ast.specs.Names.{refusal_number, refusal_name};
 
+use std::alloc::AllocError;
 use std::fmt;
 
 /// A refusal. Each has a number and a name, which never change.
@@ -10,7 +11,7 @@ use std::fmt;
 pub enum Refusal {
     /// The line is no request.
     BadRequest,
-    /// A task id, a lease id or a digest is of wrong form.
+    /// A task id, a lease id or a digest is malformed.
     BadId,
     /// That task, lease, member, content or breakpoint is there.
     Exists,
@@ -20,17 +21,17 @@ pub enum Refusal {
     NoContent,
     /// The content is held.
     InUse,
-    /// The bytes spell no module.
+    /// The bytes encode no module.
     BadModule,
     /// The module is not valid.
     Invalid,
     /// A limit of the profile is passed.
     Limit,
-    /// The config is not one that this shim takes.
+    /// The config is malformed, or asks for what this shim does not have.
     BadConfig,
     /// The task's status does not allow the call.
     WrongStatus,
-    /// The task's slice is out.
+    /// The task's machine is checked out.
     Busy,
     /// A place, stream, signal, count or range does not exist.
     OutOfRange,
@@ -38,9 +39,9 @@ pub enum Refusal {
     TooMany,
     /// The journal is full.
     JournalFull,
-    /// Other bytes stand under the same digest.
+    /// Other bytes are stored under the same digest.
     DigestConflict,
-    /// Memory was refused.
+    /// Memory ran out.
     NoMemory,
     /// The text denotes no module; line and column count from 1.
     BadText { line: u64, column: u64 },
@@ -117,6 +118,17 @@ impl Refusal {
             Refusal::BadImport => "BadImport",
             Refusal::SegmentOutOfBounds => "SegmentOutOfBounds",
         }
+    }
+}
+
+impl From<AllocError> for Refusal {
+    ghost use Rattle.std.specs.Prelude.{◌≡◌};
+    ghost use Rattle.wasm_ast.specs.declared.refusal.Refusal.TheVariants.{NoMemory};
+
+    ghost from_gives = { λ _ refusal. refusal ≡ NoMemory };
+
+    fn from(_error: AllocError) -> Refusal {
+        Refusal::NoMemory
     }
 }
 

@@ -1,11 +1,11 @@
-//! Lists that contracts see as their items, whatever room they have.
+//! Lists that contracts see as their items, whatever their capacity.
 
 ghost use Rattle.std.specs.Prelude.{◌≡◌, ◌↔◌, IsTrue, IfOk, length};
 
 use std::alloc::{AllocError, Global};
 use std::marker::Model;
 
-/// A list of items. Contracts see the items in their order, and not how much room there is for more.
+/// A list of items. Contracts see the items in their order, and not the spare capacity.
 #[derive(Drop)]
 pub struct Sequence<T> {
     items: Vec<T>,
@@ -54,7 +54,7 @@ impl<T> Sequence<T> {
 }
 
 impl Sequence<u8> {
-    /// The same bytes, in memory of their own. An error where there is no room for them.
+    /// The same bytes, in memory of their own. An error if memory runs out.
     pub fn copy(&self, alloc: Global) -> Result<Bytes, AllocError>
         ensures { IfOk result (λ b. b ≡ self.now) }
     {

@@ -1,12 +1,12 @@
 //! Texts that contracts see as their bytes.
 
-ghost use Rattle.std.specs.Prelude.{◌≡◌, ◌↔◌, IsTrue, IfOk, Some, string_bytes};
+ghost use Rattle.std.specs.Prelude.{◌≡◌, ◌↔◌, IsTrue, IfOk, Some, string_bytes, IsUtf8};
 
 use std::alloc::{AllocError, Global};
 use std::fmt;
 use std::marker::Model;
 
-/// A text. Contracts see its bytes in UTF-8, and not how much room there is for more.
+/// A text. Contracts see its bytes in UTF-8, and not its spare capacity.
 #[derive(Drop)]
 pub struct Text {
     text: String,
@@ -28,13 +28,20 @@ impl Text {
         Text { text }
     }
 
-    /// A copy of a text. An error where there is no room for it.
+    /// A copy of a text. An error if memory runs out.
     pub fn from_str(alloc: Global, text: &str) -> Result<Text, AllocError>
         ensures { IfOk result (λ t. t ≡ text.now) }
     {
         Ok(Text {
             text: String::from_str(alloc, text)?,
         })
+    }
+
+    /// Shows that its bytes are UTF-8.
+    pub fn is_utf8(&self)
+        ensures { IsUtf8 self.now }
+    {
+        let _text = self.text.as_str();
     }
 
     /// The text as a slice.
@@ -44,7 +51,7 @@ impl Text {
         self.text.as_str()
     }
 
-    /// The same text, in memory of its own. An error where there is no room for it.
+    /// The same text, in memory of its own. An error if memory runs out.
     pub fn copy(&self, alloc: Global) -> Result<Text, AllocError>
         ensures { IfOk result (λ t. t ≡ self.now) }
     {

@@ -1,6 +1,7 @@
-use Rattle.std.proofs.Common.{All, take}
-use Rattle.wasm_ast.specs.Limits.{FuncWithin}
+use Rattle.std.proofs.Common.{◌≡◌, drop}
+use Rattle.wasm_ast.specs.Limits.{are_within}
 use Rattle.wasm_ast.proofs.module.are_within.Given as goal
 
+-- the functions are within the limits as the rest of them are
 abbrev pub invariant-loop-func : goal.invariant-loop-func
-invariant-loop-func l = All (FuncWithin l.types) (take l.func-index l.funcs)
+invariant-loop-func l = are_within l.types (drop l.func-index l.funcs) ≡ are_within l.types l.funcs

@@ -1,6 +1,7 @@
-use Rattle.std.proofs.Common.{All, take}
+use Rattle.std.proofs.Common.{All, drop}
 use Rattle.wasm_ast.specs.Ranged.{RangedImport}
 use Rattle.wasm_ast.proofs.module.imports_ranged.Given as goal
 
+-- all are in range if the rest of them are
 abbrev pub invariant-loop-import : goal.invariant-loop-import
-invariant-loop-import l = All RangedImport (take l.import-index l.imports)
+invariant-loop-import l = All RangedImport (drop l.import-index l.imports) → All RangedImport l.imports
