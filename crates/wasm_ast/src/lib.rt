@@ -7,6 +7,7 @@
 mod instr;
 pub mod laws;
 mod module;
+mod operators;
 mod place;
 mod refusal;
 mod sequence;
@@ -19,6 +20,7 @@ pub use module::{
     Export, ExportKind, Func, Import, MAX_FUNCTIONS, MAX_LOCALS, MAX_MODULE_BYTES, MAX_NESTING,
     Module,
 };
+pub use operators::{BinaryOp, ConvertOp, RelationOp, TestOp, UnaryOp};
 pub use place::Place;
 pub use refusal::Refusal;
 pub use sequence::{Bytes, Sequence};
