@@ -5,4 +5,5 @@ pub mod Limits
 pub mod Reaches
 pub mod Names
 pub mod View
+pub mod Worked
 pub mod Inside
