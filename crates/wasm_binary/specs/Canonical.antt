@@ -1,75 +1,107 @@
--- The canonical spelling of a module: shortest numbers, locals in longest runs of one type, no custom
--- section and no empty section.
-use Rattle.std.specs.Prelude.{◌≢◌, ℕ, zero, suc, ◌+◌, ◌-◌, ◌*◌, ◌/◌, ◌%◌, ◌^◌, ◌<◌, ◌≤◌, List, [], ◌∷◌, ◌++◌, length, fold, All, IsUtf8, Bool, true, false, nat_lt, if◌then◌else◌}
+-- The canonical encoding of a module: shortest numbers, locals in longest runs of one type, no custom
+-- section, no empty section, and no empty else arm.
+use Rattle.std.specs.Prelude.{◌≢◌, ℕ, zero, suc, ◌+◌, ◌-◌, ◌*◌, ◌/◌, ◌%◌, ◌^◌, ◌<◌, ◌≤◌, List, [], ◌∷◌, ◌++◌, length, fold, All, Bool, true, false, nat_lt, nat_le, if◌then◌else◌}
 use Rattle.std.specs.List.{flat_map}
 use Rattle.wasm_ast.specs.declared.values.ValType.{ValType}
-use Rattle.wasm_ast.specs.declared.values.ValType.TheVariants.{I32, I64}
+use Rattle.wasm_ast.specs.declared.values.ValType.TheVariants as types
 use Rattle.wasm_ast.specs.declared.values.FuncType.{FuncType}
+use Rattle.wasm_ast.specs.declared.values.Value.TheVariants.{I32, I64}
+use Rattle.wasm_ast.specs.declared.instr.BlockType.{BlockType}
+use Rattle.wasm_ast.specs.declared.instr.BlockType.TheVariants.{Empty, One}
+use Rattle.wasm_ast.specs.declared.instr.Simple.{Simple}
+use Rattle.wasm_ast.specs.declared.instr.Simple.TheVariants.{Const, Drop, Br, Return, Call}
 use Rattle.wasm_ast.specs.declared.module.Import.{Import}
 use Rattle.wasm_ast.specs.declared.module.Func.{Func}
 use Rattle.wasm_ast.specs.declared.module.Export.{Export}
 use Rattle.wasm_ast.specs.declared.module.Module.{Module}
-use Rattle.wasm_ast.specs.Syntax.{Op, i32_const, discard, call, block, loop, choice, br, leave, Ops, stop, next}
-use Rattle.wasm_ast.specs.Limits.{Within}
-use Rattle.wasm_binary.specs.Grammar.{type_byte, kind_byte, preamble, indices_of}
+use Rattle.wasm_ast.specs.Syntax.{Op, simple, block, loop, if', Ops, stop, next}
+use Rattle.wasm_ast.specs.Limits.{max_module_bytes, Within}
+use Rattle.wasm_ast.specs.Reaches.{CallsImports}
+use Rattle.wasm_binary.specs.Opcodes.{func_type_byte, empty_byte, block_byte, loop_byte, if_byte, else_byte, end_byte, br_byte, return_byte, call_byte, drop_byte, i32_const_byte, i64_const_byte, func_kind_byte, type_section, import_section, function_section, export_section, code_section, preamble}
+use Rattle.wasm_binary.specs.Grammar.{type_byte, kind_byte, indices_of}
 
--- an unsigned number in so many bytes and one, or in fewer
-unfoldable pub unsigned : (more : ℕ) → ℕ → List ℕ
-unsigned zero n = n ∷ []
-unsigned (suc more) n = if nat_lt n 128 then n ∷ [] else (128 + n % 128) ∷ unsigned more (n / 128)
+-- ---- numbers
 
--- a signed number of so many bits, given as its two's complement in them: one that is not below 0 ends
--- in a byte below 64, and one below 0 in a byte from 64 up
+-- an unsigned number in the fewest bytes, one and at most this many more
+unfoldable pub canon_unsigned : (more : ℕ) → ℕ → List ℕ
+canon_unsigned zero n = n ∷ []
+canon_unsigned (suc more) n = if nat_lt n 128 then n ∷ [] else (128 + n % 128) ∷ canon_unsigned more (n / 128)
+
+-- A signed number is given as its two's complement in that many bits. The last byte of one that is not
+-- below 0 is below 64, and the last byte of one below 0 is from 64 to 127.
 abbrev pub last_signed : (bits : ℕ) → ℕ → ℕ
 last_signed bits n = if nat_lt (2 * n) (2 ^ bits) then n else (n + 128) - 2 ^ bits
 
+-- whether one byte holds it: it is from -64 to 63
 abbrev pub is_last_signed : (bits : ℕ) → ℕ → Bool
-is_last_signed bits n = if nat_lt (2 * n) (2 ^ bits) then nat_lt n 64 else nat_lt (2 ^ bits) (n + 65)
+is_last_signed bits n = if nat_lt (2 * n) (2 ^ bits) then nat_lt n 64 else nat_le (2 ^ bits) (n + 64)
 
-unfoldable pub signed : (more bits : ℕ) → ℕ → List ℕ
-signed zero bits n = last_signed bits n ∷ []
-signed (suc more) bits n =
-    if is_last_signed bits n then last_signed bits n ∷ [] else (128 + n % 128) ∷ signed more (bits - 7) (n / 128)
+unfoldable pub canon_signed : (more bits : ℕ) → ℕ → List ℕ
+canon_signed zero bits n = last_signed bits n ∷ []
+canon_signed (suc more) bits n =
+    if is_last_signed bits n then last_signed bits n ∷ [] else (128 + n % 128) ∷ canon_signed more (bits - 7) (n / 128)
 
-abbrev pub number : ℕ → List ℕ
-number n = unsigned 9 n
+abbrev pub canon_number : ℕ → List ℕ
+canon_number n = canon_unsigned 9 n
 
-abbrev pub vector : {X : Type 0} → (X → List ℕ) → List X → List ℕ
-vector spelling xs = number (length xs) ++ flat_map spelling xs
+-- ---- vectors, sizes and names
 
-abbrev pub sized : List ℕ → List ℕ
-sized part = number (length part) ++ part
+abbrev pub canon_vector : {X : Type 0} → (X → List ℕ) → List X → List ℕ
+canon_vector encoding xs = canon_number (length xs) ++ flat_map encoding xs
 
-abbrev pub name : List ℕ → List ℕ
-name bytes = number (length bytes) ++ bytes
+abbrev pub canon_sized : List ℕ → List ℕ
+canon_sized part = canon_number (length part) ++ part
 
-abbrev pub val_type : ValType → List ℕ
-val_type t = type_byte t ∷ []
+abbrev pub canon_name : List ℕ → List ℕ
+canon_name text = canon_sized text
 
-abbrev pub func_type : FuncType → List ℕ
-func_type t = 0x60 ∷ (vector val_type t.params ++ vector val_type t.results)
+-- ---- types
 
-abbrev pub op : Op → List ℕ
-op (i32_const n) = 0x41 ∷ signed 4 32 n
-op discard = 0x1A ∷ []
-op (call f) = 0x10 ∷ number f
-op (block t body) = []
-op (loop t body) = []
-op (choice t first_arm second_arm) = []
-op (br l) = []
-op leave = []
+abbrev pub canon_val_type : ValType → List ℕ
+canon_val_type t = type_byte t ∷ []
 
-abbrev pub ops : Ops → List ℕ
-ops stop = []
-ops (next o os) = op o ++ ops os
+abbrev pub canon_func_type : FuncType → List ℕ
+canon_func_type t = func_type_byte ∷ (canon_vector canon_val_type t.params ++ canon_vector canon_val_type t.results)
+
+abbrev pub canon_block_type : BlockType → List ℕ
+canon_block_type Empty = empty_byte ∷ []
+canon_block_type (One t) = canon_val_type t
+
+-- ---- instructions
+
+abbrev pub canon_simple : Simple → List ℕ
+canon_simple (Const (I32 n)) = i32_const_byte ∷ canon_signed 4 32 n
+canon_simple (Const (I64 n)) = i64_const_byte ∷ canon_signed 9 64 n
+canon_simple Drop = drop_byte ∷ []
+canon_simple (Br label) = br_byte ∷ canon_number label
+canon_simple Return = return_byte ∷ []
+canon_simple (Call f) = call_byte ∷ canon_number f
+
+-- what separates the arms of an if: nothing where the else arm is empty
+abbrev pub canon_else : Ops → List ℕ
+canon_else stop = []
+canon_else (next o os) = else_byte ∷ []
+
+abbrev mutual
+  pub canon_op : Op → List ℕ
+  canon_op (simple s) = canon_simple s
+  canon_op (block type body) = block_byte ∷ canon_block_type type ++ canon_ops body ++ end_byte ∷ []
+  canon_op (loop type body) = loop_byte ∷ canon_block_type type ++ canon_ops body ++ end_byte ∷ []
+  canon_op (if' type then_arm else_arm) =
+      if_byte ∷ canon_block_type type ++ canon_ops then_arm ++ canon_else else_arm ++ canon_ops else_arm ++ end_byte ∷ []
+
+  pub canon_ops : Ops → List ℕ
+  canon_ops stop = []
+  canon_ops (next o os) = canon_op o ++ canon_ops os
+
+-- ---- code
 
 abbrev pub same_type : ValType → ValType → Bool
-same_type I32 I32 = true
-same_type I32 I64 = false
-same_type I64 I32 = false
-same_type I64 I64 = true
+same_type types.I32 types.I32 = true
+same_type types.I64 types.I64 = true
+same_type t other = false
 
--- runs with a further local: it is of the last run where that is of its type, and else a run of its own
+-- runs and one more local: it joins the last run if it is of that type, and else is a run of its own
 abbrev pub add_local : List (ℕ × ValType) → ValType → List (ℕ × ValType)
 add_local [] t = (1, t) ∷ []
 add_local (run ∷ []) t = if same_type run.1 t then (run.0 + 1, run.1) ∷ [] else run ∷ (1, t) ∷ []
@@ -79,58 +111,67 @@ add_local (run ∷ next_run ∷ runs) t = run ∷ add_local (next_run ∷ runs) 
 abbrev pub runs_of : List ValType → List (ℕ × ValType)
 runs_of locals = fold add_local [] locals
 
--- no run is empty, and no two of one type stand side by side
+-- no run is empty, and no two of one type are next to each other
 abbrev pub AreLongest : List (ℕ × ValType) → Type 0
 AreLongest [] = Unit {0}
-AreLongest (r ∷ []) = 0 < r.0
-AreLongest (r ∷ next_run ∷ runs) = (0 < r.0) × (r.1 ≢ next_run.1) × AreLongest (next_run ∷ runs)
+AreLongest (run ∷ []) = 0 < run.0
+AreLongest (run ∷ next_run ∷ runs) = (0 < run.0) × (run.1 ≢ next_run.1) × AreLongest (next_run ∷ runs)
 
-abbrev pub run : ℕ × ValType → List ℕ
-run r = number r.0 ++ val_type r.1
+abbrev pub canon_run : ℕ × ValType → List ℕ
+canon_run run = canon_number run.0 ++ canon_val_type run.1
 
-abbrev pub code : Func → List ℕ
-code f = vector run (runs_of f.locals) ++ ops f.body ++ 0x0B ∷ []
+abbrev pub canon_code : Func → List ℕ
+canon_code f = canon_vector canon_run (runs_of f.locals) ++ canon_ops f.body ++ end_byte ∷ []
 
-abbrev pub entry : Func → List ℕ
-entry f = sized (code f)
+abbrev pub canon_entry : Func → List ℕ
+canon_entry f = canon_sized (canon_code f)
 
-abbrev pub import_entry : Import → List ℕ
-import_entry i = name i.module ++ name i.name ++ 0x00 ∷ number i.type_index
+-- ---- imports and exports
 
-abbrev pub export_entry : Export → List ℕ
-export_entry e = name e.name ++ kind_byte e.kind ∷ number e.index
+abbrev pub canon_import : Import → List ℕ
+canon_import i = canon_name i.module ++ canon_name i.name ++ func_kind_byte ∷ canon_number i.type_index
 
--- a section of this id, and none where it would be empty
-abbrev pub section : {X : Type 0} → ℕ → (X → List ℕ) → List X → List ℕ
-section id spelling [] = []
-section id spelling (x ∷ xs) = id ∷ sized (vector spelling (x ∷ xs))
+abbrev pub canon_export : Export → List ℕ
+canon_export e = canon_name e.name ++ kind_byte e.kind ∷ canon_number e.index
+
+-- ---- sections and modules
+
+-- the section of this id, and no byte for an empty vector
+abbrev pub canon_section : {X : Type 0} → ℕ → (X → List ℕ) → List X → List ℕ
+canon_section id encoding [] = []
+canon_section id encoding (x ∷ xs) = id ∷ canon_sized (canon_vector encoding (x ∷ xs))
 
 abbrev pub canon : Module → List ℕ
 canon m =
-    preamble ++ section 1 func_type m.types ++ section 2 import_entry m.imports ++ section 3 number (indices_of m.funcs)
-    ++ section 7 export_entry m.exports ++ section 10 entry m.funcs
+    preamble ++ canon_section type_section canon_func_type m.types ++ canon_section import_section canon_import m.imports
+    ++ canon_section function_section canon_number (indices_of m.funcs) ++ canon_section export_section canon_export m.exports
+    ++ canon_section code_section canon_entry m.funcs
 
--- what has a canonical spelling within the limits
+-- a module that is within the limits, and its canonical encoding too
 abbrev pub FitsLimits : Module → Type 0
-FitsLimits m = Within m × (length (canon m) ≤ 262144)
+FitsLimits m = Within m × (length (canon m) ≤ max_module_bytes)
 
--- what has a spelling so far: names are UTF-8, and instructions are those that the grammar has
+-- ---- what the grammar has an encoding of so far
 
-abbrev pub IsSpellableOp : (imports : ℕ) → Op → Type 0
-IsSpellableOp imports (i32_const n) = Unit {0}
-IsSpellableOp imports discard = Unit {0}
-IsSpellableOp imports (call f) = f < imports
-IsSpellableOp imports (block t body) = ⊥
-IsSpellableOp imports (loop t body) = ⊥
-IsSpellableOp imports (choice t first_arm second_arm) = ⊥
-IsSpellableOp imports (br l) = ⊥
-IsSpellableOp imports leave = ⊥
+abbrev pub HasSimpleForm : Simple → Type 0
+HasSimpleForm (Const (I32 n)) = Unit {0}
+HasSimpleForm (Const (I64 n)) = ⊥
+HasSimpleForm Drop = Unit {0}
+HasSimpleForm (Br label) = ⊥
+HasSimpleForm Return = ⊥
+HasSimpleForm (Call f) = Unit {0}
 
-abbrev pub AreSpellableOps : (imports : ℕ) → Ops → Type 0
-AreSpellableOps imports stop = Unit {0}
-AreSpellableOps imports (next o os) = IsSpellableOp imports o × AreSpellableOps imports os
+abbrev mutual
+  pub HasForm : Op → Type 0
+  HasForm (simple s) = HasSimpleForm s
+  HasForm (block type body) = ⊥
+  HasForm (loop type body) = ⊥
+  HasForm (if' type then_arm else_arm) = ⊥
 
-pub record IsSpellable (m : Module) : Type 0 where
-  pub imports : All (λ i. IsUtf8 i.module × IsUtf8 i.name) m.imports
-  pub exports : All (λ e. IsUtf8 e.name) m.exports
-  pub bodies : All (λ f. AreSpellableOps (length m.imports) f.body) m.funcs
+  pub HaveForms : Ops → Type 0
+  HaveForms stop = Unit {0}
+  HaveForms (next o os) = HasForm o × HaveForms os
+
+pub record HasEncoding (m : Module) : Type 0 where
+  pub bodies : All (λ f. HaveForms f.body) m.funcs
+  pub calls : CallsImports m

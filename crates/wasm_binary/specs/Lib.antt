@@ -1,5 +1,6 @@
 pub mod Numbers
+pub mod Opcodes
 pub mod Grammar
 pub mod Limits
-pub mod Reading
 pub mod Canonical
+pub mod Inside

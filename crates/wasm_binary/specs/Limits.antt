@@ -1,59 +1,85 @@
--- Bytes that pass a limit of the profile: they are too many, or their front, read case by case, reaches
--- a number or a sum over a limit of modules. Nothing is asked of what stands behind that number. Of a
--- section or a body that is not read to its end, the size may be wrong: what stands within it, or
--- within the bytes where they end before, is what is read.
-use Rattle.std.specs.Prelude.{◌≡◌, ℕ, ◌+◌, ◌<◌, List, ◌∷◌, ◌++◌, length, take, Some, slice_get, ◌⊎◌}
+-- Bytes that pass a limit of the profile: they are too many; or their front, read case by case, reaches a
+-- number, a sum or a depth over a limit of modules. Nothing is asked of what follows that number. The sizes of
+-- the section and of the body that contain it are not checked: what counts is within them and within the bytes.
+use Rattle.std.specs.Prelude.{◌≡◌, ℕ, zero, suc, ◌+◌, ◌<◌, List, ◌∷◌, length, take, All, Some, slice_get, ◌⊎◌}
 use Rattle.wasm_ast.specs.declared.values.ValType.{ValType}
-use Rattle.wasm_ast.specs.declared.values.FuncType.{FuncType}
-use Rattle.wasm_ast.specs.declared.module.Import.{Import}
 use Rattle.wasm_ast.specs.declared.module.Func.{Func}
-use Rattle.wasm_ast.specs.declared.module.Export.{Export}
-use Rattle.wasm_ast.specs.Limits.{params_of}
+use Rattle.wasm_ast.specs.declared.module.Module.{Module}
+use Rattle.wasm_ast.specs.Syntax.{Ops}
+use Rattle.wasm_ast.specs.Limits.{max_module_bytes, max_functions, max_locals, max_nesting, params_of}
+use Rattle.wasm_ast.specs.Reaches.{Reaches}
 use Rattle.wasm_binary.specs.Numbers.{IsU32}
-use Rattle.wasm_binary.specs.Grammar.{AreItems, IsFuncType, IsImport, IsExport, IsRun, locals_of, IsEntry, AreCustom, IsSection, preamble}
+use Rattle.wasm_binary.specs.Opcodes.{block_byte, loop_byte, if_byte, else_byte, import_section, function_section, code_section}
+use Rattle.wasm_binary.specs.Grammar.{Form, AreItems, AreOps, IsRun, locals_of, AreLocals, IsEntry, indices_of, UpToTypes, UpToImports, UpToExports}
 
--- behind a size: of the bytes that it takes, as many as there are
+-- ---- places that are read before they are whole
+
+-- after a size: of the bytes that it takes, those that are there
 abbrev pub WithinSize : (List ℕ → Type 0) → List ℕ → Type 0
 WithinSize P bytes = (size : ℕ) × (mid : List ℕ) × IsU32 bytes size mid × P (take size mid)
 
--- the section of this id begins here
-abbrev pub Opens : (id : ℕ) → (List ℕ → Type 0) → List ℕ → Type 0
-Opens id P bytes = (from : List ℕ) × (bytes ≡ id ∷ from) × WithinSize P from
+-- within the section of this id, which begins here
+abbrev pub InSection : (id : ℕ) → (List ℕ → Type 0) → List ℕ → Type 0
+InSection id P bytes = (from : List ℕ) × (bytes ≡ id ∷ from) × WithinSize P from
 
--- a count that makes, with so many before it, more functions than a module may have
-abbrev pub TooManyFunctions : (before : ℕ) → List ℕ → Type 0
-TooManyFunctions before bytes = (n : ℕ) × (mid : List ℕ) × IsU32 bytes n mid × (4096 < before + n)
+-- within a vector: some items are whole, and the next one begins so
+abbrev pub InVector : {X : Type 0} → Form X → (P : (count : ℕ) → (xs : List X) → List ℕ → Type 0) → List ℕ → Type 0
+InVector {X} IsX P bytes =
+    (count : ℕ) × (from : List ℕ) × (xs : List X) × (mid : List ℕ)
+    × IsU32 bytes count from × AreItems IsX from xs mid × (length xs < count) × P count xs mid
 
--- locals of which there are too many with so many parameters: no run is needed for that; or some runs
--- are whole, and the count of the next makes it so
-abbrev pub TooManyLocals : (params : ℕ) → List ℕ → Type 0
-TooManyLocals params bytes =
-    (1024 < params)
-    ⊎ ((count : ℕ) × (from : List ℕ) × (runs : List (ℕ × ValType)) × (mid : List ℕ) × (n : ℕ) × (rest : List ℕ)
-    × IsU32 bytes count from × AreItems IsRun from runs mid × (length runs < count) × IsU32 mid n rest
-    × (1024 < params + length (locals_of runs) + n))
+-- ---- what is over a limit
 
--- as many codes as type indices, of which some are whole, and the next one has too many locals
-abbrev pub SomeTooManyLocals : (types : List FuncType) → (imports : ℕ) → (indices : List ℕ) → List ℕ → Type 0
-SomeTooManyLocals types imports indices bytes =
-    (from : List ℕ) × (funcs : List Func) × (mid : List ℕ) × (index : ℕ)
-    × IsU32 bytes (length indices) from × AreItems (IsEntry imports) from funcs mid × (slice_get indices (length funcs) ≡ Some index)
-    × WithinSize (TooManyLocals (params_of types index)) mid
+-- a number that is over the limit together with this many before it
+abbrev pub NumberOver : (limit before : ℕ) → List ℕ → Type 0
+NumberOver limit before bytes = (n : ℕ) × (rest : List ℕ) × IsU32 bytes n rest × (limit < before + n)
 
--- the sections in front of one that passes a limit
-pub record ReachesLimit (bytes : List ℕ) : Type 0 where
-  pub sections : List ℕ
-  pub from_types : List ℕ
-  pub types : List FuncType
-  pub from_imports : List ℕ
-  pub begins : bytes ≡ preamble ++ sections
-  pub customs : AreCustom sections from_types
-  pub type_section : IsSection 1 IsFuncType from_types types from_imports
-  pub reaches : Opens 2 (TooManyFunctions 0) from_imports ⊎ ((imports : List Import) × (from_functions : List ℕ)
-      × IsSection 2 IsImport from_imports imports from_functions
-      × (Opens 3 (TooManyFunctions (length imports)) from_functions ⊎ ((indices : List ℕ) × (from_exports : List ℕ) × (exports : List Export) × (from_codes : List ℕ)
-      × IsSection 3 IsU32 from_functions indices from_exports × IsSection 7 IsExport from_exports exports from_codes
-      × Opens 10 (SomeTooManyLocals types (length imports) indices) from_codes)))
+-- locals of a function with this many parameters: the parameters are too many by themselves; or some runs
+-- are whole, and the count of the next one makes too many
+abbrev pub LocalsOver : (params : ℕ) → List ℕ → Type 0
+LocalsOver params bytes =
+    (max_locals < params)
+    ⊎ InVector IsRun (λ count runs. NumberOver max_locals (params + length (locals_of runs))) bytes
 
-abbrev pub Over : List ℕ → Type 0
-Over bytes = (262144 < length bytes) ⊎ ReachesLimit bytes
+-- the bytes begin with the opcode and the type of a block, a loop or an if, and its body follows: none has
+-- an encoding yet
+abbrev pub BeginsBlock : (bytes : List ℕ) → (body : List ℕ) → Type 0
+BeginsBlock bytes body = ⊥
+
+-- instructions where this many more blocks may be open, and one more than these opens: after whole
+-- instructions its opcode (its type is not read); or after whole instructions a block, whose body is so, or
+-- whose else arm is so
+unfoldable pub TooDeep : (more : ℕ) → List ℕ → Type 0
+TooDeep zero bytes =
+    (os : Ops) × (opcode : ℕ) × (rest : List ℕ) × AreOps bytes os (opcode ∷ rest)
+    × ((opcode ≡ block_byte) ⊎ (opcode ≡ loop_byte) ⊎ (opcode ≡ if_byte))
+TooDeep (suc more) bytes =
+    (os : Ops) × (mid : List ℕ) × (body : List ℕ) × AreOps bytes os mid × BeginsBlock mid body
+    × (TooDeep more body
+    ⊎ ((rest : List ℕ) × (mid ≡ if_byte ∷ rest) × (then_arm : Ops) × (else_arm : List ℕ)
+    × AreOps body then_arm (else_byte ∷ else_arm) × TooDeep more else_arm))
+
+-- the code of a function with this many parameters
+abbrev pub CodeOver : (params : ℕ) → List ℕ → Type 0
+CodeOver params bytes =
+    LocalsOver params bytes
+    ⊎ ((locals : List ValType) × (mid : List ℕ) × AreLocals bytes locals mid × TooDeep max_nesting mid)
+
+-- after whole entries, the code of the next function of m; calls of the whole ones reach imports
+abbrev pub EntryOver : (m : Module) → (count : ℕ) → (funcs : List Func) → List ℕ → Type 0
+EntryOver m count funcs bytes =
+    (index : ℕ) × (count ≡ length m.funcs) × (slice_get (indices_of m.funcs) (length funcs) ≡ Some index)
+    × All (λ f. Reaches (length m.imports) f.body) funcs × WithinSize (CodeOver (params_of m.types index)) bytes
+
+-- ---- bytes that pass a limit
+
+pub data Over (bytes : List ℕ) : Type 0 where
+  too_many_bytes : max_module_bytes < length bytes → Over bytes
+  too_many_imports : (m : Module) (rest : List ℕ) → UpToTypes bytes m rest
+      → InSection import_section (NumberOver max_functions 0) rest → Over bytes
+  -- with the imports
+  too_many_functions : (m : Module) (rest : List ℕ) → UpToImports bytes m rest
+      → InSection function_section (NumberOver max_functions (length m.imports)) rest → Over bytes
+  -- locals or open blocks
+  too_much_code : (m : Module) (rest : List ℕ) → UpToExports bytes m rest
+      → InSection code_section (InVector IsEntry (EntryOver m)) rest → Over bytes

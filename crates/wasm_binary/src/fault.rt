@@ -8,16 +8,16 @@ use std::alloc::{AllocError, AllocFailed};
 /// What is wrong with the bytes: the first fault from the front.
 #[derive(Clone, Copy, PartialEq, Eq, Debug)]
 pub enum Fault {
-    /// Nothing is spelled.
+    /// Nothing is encoded.
     Bad,
     /// A limit is passed.
     Over,
 }
 
-/// Why reading came to an end.
+/// Why reading ended early.
 #[derive(Clone, Copy, PartialEq, Eq, Debug)]
 pub enum ReadError {
-    /// Memory was refused.
+    /// Memory ran out.
     Memory,
     /// The bytes have this fault.
     Fault(Fault),

@@ -1,54 +1,59 @@
-//! The binary format of modules.
+//! The binary format of modules (section 5 of the WebAssembly Core Specification 1.0).
 #![tactic(auto)]
 
-ghost use Rattle.std.specs.Prelude.{◌≡◌, ℕ, ◌+◌, ◌≤◌, List, length, IfOk, IfErr, ◌⊎◌};
+ghost use Rattle.std.specs.Prelude.{◌≡◌, ◌≢◌, ℕ, ◌<◌, ◌≤◌, ◌++◌, List, length, IfOk, IfErr, ◌⊎◌};
 ghost use Rattle.wasm_ast.specs.declared.module.Module.{Module};
 ghost use Rattle.wasm_ast.specs.Ranged.{Ranged};
-ghost use Rattle.wasm_ast.specs.Limits.{Within};
-ghost use Rattle.wasm_ast.specs.declared.values.ValType.{ValType};
-ghost use Rattle.wasm_binary.specs.Numbers.{IsU32, IsSigned};
-ghost use Rattle.wasm_binary.specs.Grammar.{Spells, locals_of};
+ghost use Rattle.wasm_ast.specs.Limits.{Within, max_module_bytes};
+ghost use Rattle.wasm_binary.specs.Opcodes.{preamble};
+ghost use Rattle.wasm_binary.specs.Grammar.{Spells};
 ghost use Rattle.wasm_binary.specs.Limits.{Over};
-ghost use Rattle.wasm_binary.specs.Canonical.{canon, FitsLimits, IsSpellable, number, signed, runs_of, AreLongest};
+ghost use Rattle.wasm_binary.specs.Canonical.{canon, FitsLimits, HasEncoding};
 
 use std::alloc::Global;
-use wasm_ast::{Module, Refusal};
+use wasm_ast::{MAX_MODULE_BYTES, Module, Refusal};
 
 mod code;
-mod encoding;
-mod entries;
 mod fault;
-mod marks;
+mod imports_exports;
+mod instructions;
+pub mod laws;
 mod numbers;
-mod ops;
+mod opcodes;
 mod sections;
 mod types;
-mod writing;
+mod vectors;
+mod write_code;
+mod write_items;
+mod write_sections;
 
 use fault::{Fault, ReadError};
 
-/// The module that the bytes spell (5.5.16), with memory of its own.
+/// The module that the bytes encode (5.5.15), in memory of its own.
 ///
-/// `Limit` exactly where they are more than 262,144, or their front reaches a number or a sum over a
-/// limit; then they spell no module within the limits. Else `BadModule` exactly where they spell none.
-/// So the first fault from the front is answered. `NoMemory` may stand in place of any answer, where
-/// memory is refused.
+/// `Limit` if there are more than 262,144 bytes, or if their front reaches a number or a sum over a limit;
+/// then they encode no module within the limits. Else `BadModule` if they encode none. So the first fault
+/// from the front is answered. `NoMemory` may take the place of any answer if memory runs out, but for bytes
+/// that are too many or have no preamble.
 pub fn decode(alloc: Global, bytes: &[u8]) -> Result<Module, Refusal>
     ensures spelled { IfOk result (λ m. Spells bytes.now m) }
     ensures ranged { IfOk result (λ m. Ranged m) }
-    ensures within { IfOk result (λ m. Within m × (length bytes.now ≤ 262144)) }
-    // What is spelled within the limits is read, unless memory is refused.
-    ensures read { (m : Module) → Spells bytes.now m → Within m → length bytes.now ≤ 262144
+    ensures within { IfOk result (λ m. Within m × (length bytes.now ≤ max_module_bytes)) }
+    // What is encoded within the limits is read, unless memory runs out.
+    ensures read { (m : Module) → Spells bytes.now m → Within m → length bytes.now ≤ max_module_bytes
         → (result ≡ Ok m) ⊎ (result ≡ Err Refusal.NoMemory) }
     ensures bad { result ≡ Err Refusal.BadModule → (m : Module) → Spells bytes.now m → ⊥ }
+    ensures no_preamble { length bytes.now ≤ max_module_bytes
+        → ((rest : List ℕ) → bytes.now ≢ preamble ++ rest) → result ≡ Err Refusal.BadModule }
     ensures over { result ≡ Err Refusal.Limit → Over bytes.now }
     ensures limit { Over bytes.now → (result ≡ Err Refusal.Limit) ⊎ (result ≡ Err Refusal.NoMemory) }
+    ensures too_many { max_module_bytes < length bytes.now → result ≡ Err Refusal.Limit }
     ensures none_within { result ≡ Err Refusal.Limit
-        → (m : Module) → Spells bytes.now m → Within m → length bytes.now ≤ 262144 → ⊥ }
+        → (m : Module) → Spells bytes.now m → Within m → length bytes.now ≤ max_module_bytes → ⊥ }
     ensures causes { IfErr result (λ e.
         (e ≡ Refusal.BadModule) ⊎ (e ≡ Refusal.Limit) ⊎ (e ≡ Refusal.NoMemory)) }
 {
-    match sections::read(alloc, bytes) {
+    match sections::read_module(alloc, bytes) {
         Ok(module) => Ok(module),
         Err(ReadError::Memory) => Err(Refusal::NoMemory),
         Err(ReadError::Fault(Fault::Bad)) => Err(Refusal::BadModule),
@@ -56,64 +61,29 @@ pub fn decode(alloc: Global, bytes: &[u8]) -> Result<Module, Refusal>
     }
 }
 
-/// The canonical spelling of a module: shortest numbers, locals in longest runs of one type, no custom
-/// section and no empty section.
+/// The canonical encoding of a module: shortest numbers, locals in longest runs of one type, no custom
+/// section, no empty section and no empty else arm.
 ///
-/// `Limit` exactly where the module or this spelling of it passes a limit; `NoMemory` where memory is
-/// refused.
+/// `Limit` if the module is over a limit, or this encoding of it is too long; `NoMemory` if memory runs out,
+/// but for a module that is over a limit.
 pub fn encode(alloc: Global, module: &Module) -> Result<Vec<u8>, Refusal>
     ensures canonical { IfOk result (λ v. v.items ≡ canon «module».now) }
+    // This profile has no encoding of some instructions yet.
+    ensures spells { HasEncoding «module».now → IfOk result (λ v. Spells v.items «module».now) }
     ensures fits { IfOk result (λ _. FitsLimits «module».now) }
     ensures limit { result ≡ Err Refusal.Limit → FitsLimits «module».now → ⊥ }
+    ensures over { (Within «module».now → ⊥) → result ≡ Err Refusal.Limit }
     ensures causes { IfErr result (λ e. (e ≡ Refusal.Limit) ⊎ (e ≡ Refusal.NoMemory)) }
 {
+    module.ranged();
+    module.texts();
+    wasm_ast::laws::limits_are_tested(module);
     if !module.is_within_limits() {
         return Err(Refusal::Limit);
     }
-    match encoding::spelling(alloc, module) {
-        Ok(bytes) => {
-            if bytes.len() > marks::MOST_BYTES {
-                Err(Refusal::Limit)
-            } else {
-                Ok(bytes)
-            }
-        }
-        Err(_) => Err(Refusal::NoMemory),
+    let bytes = write_sections::canonical_bytes(alloc, module)?;
+    if bytes.len() > MAX_MODULE_BYTES {
+        return Err(Refusal::Limit);
     }
+    Ok(bytes)
 }
-
-/// Bytes spell at most one module.
-pub fn spells_one()
-    ensures { (bytes : List ℕ) (m n : Module) → Spells bytes m → Spells bytes n → m ≡ n }
-{}
-
-/// Bytes that pass a limit spell no module within the limits, or are too many.
-pub fn over_spells_none_within()
-    ensures { (bytes : List ℕ) → Over bytes
-        → (m : Module) → Spells bytes m → Within m → length bytes ≤ 262144 → ⊥ }
-{}
-
-/// The numbers of a module that bytes spell are in range.
-pub fn spells_ranged()
-    ensures { (bytes : List ℕ) (m : Module) → Spells bytes m → Ranged m }
-{}
-
-/// The canonical spelling of a module that fits spells it. So what `encode` gives, `decode` reads as
-/// that module.
-pub fn canonical_spells()
-    ensures { (m : Module) → Ranged m → FitsLimits m → IsSpellable m → Spells (canon m) m }
-{}
-
-/// A canonical number is the shortest spelling of that number.
-pub fn canonical_numbers_are_shortest()
-    ensures unsigned { (bytes : List ℕ) (n : ℕ) (rest : List ℕ) → IsU32 bytes n rest
-        → length (number n) + length rest ≤ length bytes }
-    ensures signed { (bytes : List ℕ) (n : ℕ) (rest : List ℕ) → IsSigned 32 bytes n rest
-        → length (signed 4 32 n) + length rest ≤ length bytes }
-{}
-
-/// Canonical runs are of the same locals, none is empty, and no two of one type stand side by side.
-pub fn canonical_runs_are_longest()
-    ensures same { (locals : List ValType) → locals_of (runs_of locals) ≡ locals }
-    ensures longest { (locals : List ValType) → AreLongest (runs_of locals) }
-{}

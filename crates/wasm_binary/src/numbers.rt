@@ -1,14 +1,14 @@
-//! Numbers (5.2.2), and parts of the input.
+//! Readers of bytes, of numbers (5.2.2) and of parts of the input.
 
 ghost use Rattle.std.specs.Prelude.{◌≡◌, ℕ, ◌<◌, ◌≤◌, ◌^◌, Bool, true, false, length, take, drop, MatchOption, IfOk};
-ghost use Rattle.wasm_binary.specs.Reading.{Gives, byte_at, begins_with, unsigned_at, last_unsigned_at, last_signed_at, signed_at, u32_at, behind};
+ghost use Rattle.wasm_binary.specs.Inside.Reading.{Gives, read_byte, begins_with, read_unsigned, read_last_unsigned, read_last_signed, read_signed, read_u32, skip_exact};
 
 use crate::fault::{Fault, ReadError};
 
 /// The first byte, and the rest.
-#[tactic(auto, unfolding(crate::specs::Reading::byte_at))]
-pub fn byte(bytes: &[u8]) -> Result<(u8, &[u8]), ReadError>
-    ensures value { Gives (λ x. (x.0, x.1.now)) result (byte_at bytes.now) }
+#[tactic(auto, unfolding(crate::specs::Inside::Reading::read_byte))]
+pub fn read_byte(bytes: &[u8]) -> Result<(u8, &[u8]), ReadError>
+    ensures value { Gives (λ x. (x.0, x.1.now)) result (read_byte bytes.now) }
     ensures small { IfOk result (λ x. x.0 < 2 ^ 8) }
 {
     match bytes {
@@ -17,9 +17,9 @@ pub fn byte(bytes: &[u8]) -> Result<(u8, &[u8]), ReadError>
     }
 }
 
-/// The rest behind this byte, where it is the first.
-#[tactic(auto, unfolding(crate::specs::Reading::begins_with))]
-pub fn after(byte: u8, bytes: &[u8]) -> Option<&[u8]>
+/// The rest after this byte, if it is the first.
+#[tactic(auto, unfolding(crate::specs::Inside::Reading::begins_with))]
+pub fn strip_byte(byte: u8, bytes: &[u8]) -> Option<&[u8]>
     ensures { MatchOption result (begins_with byte bytes.now ≡ false)
         (λ rest. (begins_with byte bytes.now ≡ true) × (rest.now ≡ drop 1 bytes.now)) }
 {
@@ -29,29 +29,29 @@ pub fn after(byte: u8, bytes: &[u8]) -> Option<&[u8]>
     }
 }
 
-/// An unsigned number of so many bits, and the rest.
-#[tactic(auto, unfolding(crate::specs::Reading::unsigned_at, crate::specs::Reading::byte_at))]
-pub fn unsigned(bits: u32, bytes: &[u8]) -> Result<(u64, &[u8]), ReadError>
+// An unsigned number of this many bits, and the rest.
+#[tactic(auto, unfolding(crate::specs::Inside::Reading::read_unsigned, crate::specs::Inside::Reading::read_byte))]
+fn read_unsigned(bits: u32, bytes: &[u8]) -> Result<(u64, &[u8]), ReadError>
     requires { (0 < bits) × (bits ≤ 64) }
-    ensures value { Gives (λ x. (x.0, x.1.now)) result (unsigned_at bits bytes.now) }
+    ensures value { Gives (λ x. (x.0, x.1.now)) result (read_unsigned bits bytes.now) }
     ensures small { IfOk result (λ x. x.0 < 2 ^ bits) }
 {
-    let (first, rest) = byte(bytes)?;
+    let (first, rest) = read_byte(bytes)?;
     if first < 128 {
-        let last = last_unsigned(bits, first)?;
+        let last = read_last_unsigned(bits, first)?;
         return Ok((last, rest));
     }
     if bits <= 7 {
         return Err(ReadError::Fault(Fault::Bad));
     }
-    let (high, rest) = unsigned(bits - 7, rest)?;
+    let (high, rest) = read_unsigned(bits - 7, rest)?;
     Ok((128 * high + (u64::from(first) - 128), rest))
 }
 
-#[tactic(auto, using(crate::proofs::Powers::small), unfolding(crate::specs::Reading::last_unsigned_at))]
-fn last_unsigned(bits: u32, byte: u8) -> Result<u64, ReadError>
+#[tactic(auto, using(crate::proofs::Powers::small), unfolding(crate::specs::Inside::Reading::read_last_unsigned))]
+fn read_last_unsigned(bits: u32, byte: u8) -> Result<u64, ReadError>
     requires { byte < 128 }
-    ensures value { Gives (λ x. x) result (last_unsigned_at bits byte) }
+    ensures value { Gives (λ x. x) result (read_last_unsigned bits byte) }
     ensures small { IfOk result (λ x. x < 2 ^ bits) }
 {
     let last = u64::from(byte);
@@ -65,29 +65,29 @@ fn last_unsigned(bits: u32, byte: u8) -> Result<u64, ReadError>
     }
 }
 
-/// A signed number of so many bits, at most 32, as its two's complement in them, and the rest.
-#[tactic(auto, unfolding(crate::specs::Reading::signed_at, crate::specs::Reading::byte_at))]
-pub fn signed(bits: u32, bytes: &[u8]) -> Result<(u64, &[u8]), ReadError>
+// A signed number of this many bits as its two's complement in them, and the rest.
+#[tactic(auto, unfolding(crate::specs::Inside::Reading::read_signed, crate::specs::Inside::Reading::read_byte))]
+fn read_signed(bits: u32, bytes: &[u8]) -> Result<(u64, &[u8]), ReadError>
     requires { (0 < bits) × (bits ≤ 32) }
-    ensures value { Gives (λ x. (x.0, x.1.now)) result (signed_at bits bytes.now) }
+    ensures value { Gives (λ x. (x.0, x.1.now)) result (read_signed bits bytes.now) }
     ensures small { IfOk result (λ x. x.0 < 2 ^ bits) }
 {
-    let (first, rest) = byte(bytes)?;
+    let (first, rest) = read_byte(bytes)?;
     if first < 128 {
-        let last = last_signed(bits, first)?;
+        let last = read_last_signed(bits, first)?;
         return Ok((last, rest));
     }
     if bits <= 7 {
         return Err(ReadError::Fault(Fault::Bad));
     }
-    let (high, rest) = signed(bits - 7, rest)?;
+    let (high, rest) = read_signed(bits - 7, rest)?;
     Ok((128 * high + (u64::from(first) - 128), rest))
 }
 
-#[tactic(auto, unfolding(crate::specs::Reading::last_signed_at))]
-fn last_signed(bits: u32, byte: u8) -> Result<u64, ReadError>
+#[tactic(auto, unfolding(crate::specs::Inside::Reading::read_last_signed))]
+fn read_last_signed(bits: u32, byte: u8) -> Result<u64, ReadError>
     requires { (0 < bits) × (bits ≤ 32) × (byte < 128) }
-    ensures value { Gives (λ x. x) result (last_signed_at bits byte) }
+    ensures value { Gives (λ x. x) result (read_last_signed bits byte) }
     ensures small { IfOk result (λ x. x < 2 ^ bits) }
 {
     let all = 1u64 << bits;
@@ -105,25 +105,25 @@ fn last_signed(bits: u32, byte: u8) -> Result<u64, ReadError>
     }
 }
 
-/// A number of 32 bits, and the rest.
-#[tactic(auto, unfolding(crate::specs::Reading::u32_at))]
-pub fn number(bytes: &[u8]) -> Result<(u32, &[u8]), ReadError>
-    ensures { Gives (λ x. (x.0, x.1.now)) result (u32_at bytes.now) }
+/// An unsigned number of 32 bits, and the rest.
+#[tactic(auto, unfolding(crate::specs::Inside::Reading::read_u32))]
+pub fn read_u32(bytes: &[u8]) -> Result<(u32, &[u8]), ReadError>
+    ensures { Gives (λ x. (x.0, x.1.now)) result (read_u32 bytes.now) }
 {
-    let (n, rest) = unsigned(32, bytes)?;
+    let (n, rest) = read_unsigned(32, bytes)?;
     Ok((n as u32, rest))
 }
 
-/// A signed number of 32 bits, as its two's complement, and the rest.
-pub fn signed_number(bytes: &[u8]) -> Result<(u32, &[u8]), ReadError>
-    ensures { Gives (λ x. (x.0, x.1.now)) result (signed_at 32 bytes.now) }
+/// A signed number of 32 bits as its two's complement, and the rest.
+pub fn read_s32(bytes: &[u8]) -> Result<(u32, &[u8]), ReadError>
+    ensures { Gives (λ x. (x.0, x.1.now)) result (read_signed 32 bytes.now) }
 {
-    let (n, rest) = signed(32, bytes)?;
+    let (n, rest) = read_signed(32, bytes)?;
     Ok((n as u32, rest))
 }
 
-/// So many bytes from the front, or all where there are fewer.
-pub fn clip(size: u32, bytes: &[u8]) -> &[u8]
+/// This number of bytes from the front, or all if there are fewer.
+pub fn at_most(size: u32, bytes: &[u8]) -> &[u8]
     ensures { result.now ≡ take size bytes.now }
 {
     let size = size as usize;
@@ -134,10 +134,10 @@ pub fn clip(size: u32, bytes: &[u8]) -> &[u8]
     }
 }
 
-/// The bytes behind a part of this size, of which nothing may be left.
-#[tactic(auto, unfolding(crate::specs::Reading::behind))]
-pub fn behind<'a>(size: u32, left: &[u8], bytes: &'a [u8]) -> Result<&'a [u8], ReadError>
-    ensures { Gives (λ x. x.now) result (behind size left.now bytes.now) }
+/// The bytes after a part of this size, of which nothing may be left.
+#[tactic(auto, unfolding(crate::specs::Inside::Reading::skip_exact))]
+pub fn skip_exact<'a>(size: u32, left: &[u8], bytes: &'a [u8]) -> Result<&'a [u8], ReadError>
+    ensures { Gives (λ x. x.now) result (skip_exact size left.now bytes.now) }
 {
     let size = size as usize;
     if !left.is_empty() || bytes.len() < size {

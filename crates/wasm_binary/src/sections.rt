@@ -1,130 +1,180 @@
-//! Sections and modules (5.5).
+//! Readers of sections and modules (5.5).
 
-ghost use Rattle.std.specs.Prelude.{◌≡◌, true, length, take, drop};
-ghost use Rattle.wasm_binary.specs.Reading.{Gives, front_of, vector_at, sized_at, functions_at, named_at, func_type_at, import_at, export_at, u32_at, code_vector_at, custom_at, customs_at, after_customs, section_at, preamble_at, head_at, module_at, read_at};
+ghost use Rattle.std.specs.Prelude.{◌≡◌, ◌≤◌, ℕ, List, Ok, true, length, take, drop};
+ghost use Rattle.wasm_ast.specs.Limits.{max_module_bytes};
+ghost use Rattle.wasm_binary.specs.declared.fault.ReadError.TheVariants.{Memory};
+ghost use Rattle.wasm_binary.specs.Inside.Reading.{Gives, Read, head_of, read_vector, read_sized, read_functions, read_custom_name, read_func_type, read_import, read_export, read_u32, read_codes, skip_custom, skip_some_customs, skip_customs, read_section, strip_preamble, read_head, read_sections, read_module};
 
-use crate::code::codes;
-use crate::entries::{exports, imports, indices};
+use crate::code::read_codes;
 use crate::fault::{Fault, ReadError};
-use crate::marks::{
-    CODE_SECTION, CUSTOM_SECTION, EXPORT_SECTION, FUNCTION_SECTION, IMPORT_SECTION, MOST_BYTES,
-    PREAMBLE, TYPE_SECTION,
+use crate::numbers::{at_most, read_u32, skip_exact, strip_byte};
+use crate::opcodes::{
+    CODE_SECTION, CUSTOM_SECTION, EXPORT_SECTION, FUNCTION_SECTION, IMPORT_SECTION, PREAMBLE,
+    TYPE_SECTION,
 };
-use crate::numbers::{after, behind, clip, number};
-use crate::types::{func_types, name};
+use crate::types::read_name;
+use crate::vectors::{read_functions, read_vector};
 use std::alloc::Global;
-use wasm_ast::{Export, Func, FuncType, Import, Module, Sequence};
+use wasm_ast::{Export, Func, FuncType, Import, MAX_MODULE_BYTES, Module, Sequence};
 
-#[tactic(auto, unfolding(crate::specs::Reading::custom_at, crate::specs::Reading::sized_at, crate::specs::Reading::named_at))]
-fn custom(bytes: &[u8]) -> Result<&[u8], ReadError>
-    ensures { Gives (λ x. x.now) result (custom_at bytes.now) }
+#[tactic(auto, unfolding(crate::specs::Inside::Reading::skip_custom, crate::specs::Inside::Reading::read_sized, crate::specs::Inside::Reading::read_custom_name))]
+fn skip_custom(bytes: &[u8]) -> Result<&[u8], ReadError>
+    ensures { Gives (λ x. x.now) result (skip_custom bytes.now) }
 {
-    let (size, rest) = number(bytes)?;
-    let (_, _) = name(clip(size, rest))?;
-    behind(size, &[], rest)
+    let (size, rest) = read_u32(bytes)?;
+    let (_, _) = read_name(at_most(size, rest))?;
+    skip_exact(size, &[], rest)
 }
 
-/// The rest behind all custom sections that stand first.
-fn customs(bytes: &[u8]) -> Result<&[u8], ReadError>
-    ensures { Gives (λ x. x.now) result (after_customs bytes.now) }
+// The rest after all custom sections that come first.
+fn skip_customs(bytes: &[u8]) -> Result<&[u8], ReadError>
+    ensures { Gives (λ x. x.now) result (skip_customs bytes.now) }
 {
     let mut rest = bytes;
     for _ in 0..bytes.len() {
-        let Some(from_size) = after(CUSTOM_SECTION, rest) else {
+        let Some(from_size) = strip_byte(CUSTOM_SECTION, rest) else {
             return Ok(rest);
         };
-        rest = custom(from_size)?;
+        rest = skip_custom(from_size)?;
     }
     Ok(rest)
 }
 
-#[tactic(auto, unfolding(crate::specs::Reading::section_at, crate::specs::Reading::sized_at))]
-fn type_section(alloc: Global, bytes: &[u8]) -> Result<(Vec<FuncType>, &[u8]), ReadError>
-    ensures { Gives (λ x. (x.0.items, x.1.now)) result (section_at 1 (vector_at func_type_at) bytes.now) }
-{
-    let Some(rest) = after(TYPE_SECTION, bytes) else {
-        return Ok((Vec::new(alloc), bytes));
-    };
-    let (size, rest) = number(rest)?;
-    let (items, left) = func_types(alloc, clip(size, rest))?;
-    let rest = customs(behind(size, left, rest)?)?;
-    Ok((items, rest))
+/// A section that is a list, with what the reading of its contents depends on.
+trait Section {
+    type Item: Drop;
+
+    ghost reading: { Self → List ℕ → Read (List Self.Item) };
+
+    /// Reads the contents from the front of the bytes, and gives the rest.
+    fn read_contents<'a>(
+        &self,
+        alloc: Global,
+        bytes: &'a [u8],
+    ) -> Result<(Vec<Self::Item>, &'a [u8]), ReadError>
+        ensures { Gives (λ x. (x.0.items, x.1.now)) result (reading self.now bytes.now) };
 }
 
-#[tactic(auto, unfolding(crate::specs::Reading::section_at, crate::specs::Reading::sized_at))]
-fn import_section(alloc: Global, bytes: &[u8]) -> Result<(Vec<Import>, &[u8]), ReadError>
-    ensures { Gives (λ x. (x.0.items, x.1.now)) result (section_at 2 (functions_at true 0 import_at) bytes.now) }
-{
-    let Some(rest) = after(IMPORT_SECTION, bytes) else {
-        return Ok((Vec::new(alloc), bytes));
-    };
-    let (size, rest) = number(rest)?;
-    let (items, left) = imports(alloc, clip(size, rest))?;
-    let rest = customs(behind(size, left, rest)?)?;
-    Ok((items, rest))
-}
-
-#[tactic(auto, unfolding(crate::specs::Reading::section_at, crate::specs::Reading::sized_at))]
-fn function_section(
+// The section of this id, and what follows it and its custom sections; an empty list if another is next.
+#[tactic(auto, unfolding(crate::specs::Inside::Reading::read_section, crate::specs::Inside::Reading::read_sized))]
+fn read_section<'a, S: Section>(
+    id: u8,
+    section: &S,
     alloc: Global,
-    imports: usize,
-    bytes: &[u8],
-) -> Result<(Vec<u32>, &[u8]), ReadError>
-    ensures { Gives (λ x. (x.0.items, x.1.now)) result (section_at 3 (functions_at true imports u32_at) bytes.now) }
-{
-    let Some(rest) = after(FUNCTION_SECTION, bytes) else {
-        return Ok((Vec::new(alloc), bytes));
-    };
-    let (size, rest) = number(rest)?;
-    let (items, left) = indices(alloc, imports, clip(size, rest))?;
-    let rest = customs(behind(size, left, rest)?)?;
-    Ok((items, rest))
-}
-
-#[tactic(auto, unfolding(crate::specs::Reading::section_at, crate::specs::Reading::sized_at))]
-fn export_section(alloc: Global, bytes: &[u8]) -> Result<(Vec<Export>, &[u8]), ReadError>
-    ensures { Gives (λ x. (x.0.items, x.1.now)) result (section_at 7 (vector_at export_at) bytes.now) }
-{
-    let Some(rest) = after(EXPORT_SECTION, bytes) else {
-        return Ok((Vec::new(alloc), bytes));
-    };
-    let (size, rest) = number(rest)?;
-    let (items, left) = exports(alloc, clip(size, rest))?;
-    let rest = customs(behind(size, left, rest)?)?;
-    Ok((items, rest))
-}
-
-#[tactic(auto, unfolding(crate::specs::Reading::section_at, crate::specs::Reading::sized_at))]
-fn code_section<'a>(
-    alloc: Global,
-    types: &[FuncType],
-    imports: usize,
-    indices: &[u32],
     bytes: &'a [u8],
-) -> Result<(Vec<Func>, &'a [u8]), ReadError>
+) -> Result<(Vec<S::Item>, &'a [u8]), ReadError>
     ensures { Gives (λ x. (x.0.items, x.1.now)) result
-        (section_at 10 (code_vector_at true types.now imports indices.now) bytes.now) }
+        (read_section id (S.reading section.now) bytes.now) }
 {
-    let Some(rest) = after(CODE_SECTION, bytes) else {
+    let Some(rest) = strip_byte(id, bytes) else {
         return Ok((Vec::new(alloc), bytes));
     };
-    let (size, rest) = number(rest)?;
-    let (items, left) = codes(alloc, types, imports, indices, clip(size, rest))?;
-    let rest = customs(behind(size, left, rest)?)?;
+    let (size, rest) = read_u32(rest)?;
+    let (items, left) = section.read_contents(alloc, at_most(size, rest))?;
+    let rest = skip_customs(skip_exact(size, left, rest)?)?;
     Ok((items, rest))
 }
 
-#[tactic(auto, unfolding(crate::specs::Reading::preamble_at))]
-fn preamble(bytes: &[u8]) -> Result<&[u8], ReadError>
-    ensures { Gives (λ x. x.now) result (preamble_at bytes.now) }
-{
-    match bytes.strip_prefix(&PREAMBLE) {
-        Some(rest) => Ok(rest),
-        None => Err(ReadError::Fault(Fault::Bad)),
+/// The type section (5.5.4).
+#[derive(Drop)]
+struct TypeSection {}
+
+impl Section for TypeSection {
+    type Item = FuncType;
+
+    ghost reading = { λ s. read_vector read_func_type };
+
+    fn read_contents<'a>(
+        &self,
+        alloc: Global,
+        bytes: &'a [u8],
+    ) -> Result<(Vec<FuncType>, &'a [u8]), ReadError> {
+        read_vector(alloc, bytes)
     }
 }
 
-/// What stands in front of the exports.
+/// The import section (5.5.5).
+#[derive(Drop)]
+struct ImportSection {}
+
+impl Section for ImportSection {
+    type Item = Import;
+
+    ghost reading = { λ s. read_functions true 0 read_import };
+
+    fn read_contents<'a>(
+        &self,
+        alloc: Global,
+        bytes: &'a [u8],
+    ) -> Result<(Vec<Import>, &'a [u8]), ReadError> {
+        read_functions(alloc, 0, bytes)
+    }
+}
+
+/// The function section (5.5.6) of a module with this many imports.
+#[derive(Drop)]
+struct FunctionSection {
+    import_count: usize,
+}
+
+impl Section for FunctionSection {
+    type Item = u32;
+
+    ghost reading = { λ s. read_functions true s.import_count read_u32 };
+
+    fn read_contents<'a>(
+        &self,
+        alloc: Global,
+        bytes: &'a [u8],
+    ) -> Result<(Vec<u32>, &'a [u8]), ReadError> {
+        read_functions(alloc, self.import_count, bytes)
+    }
+}
+
+/// The export section (5.5.10).
+#[derive(Drop)]
+struct ExportSection {}
+
+impl Section for ExportSection {
+    type Item = Export;
+
+    ghost reading = { λ s. read_vector read_export };
+
+    fn read_contents<'a>(
+        &self,
+        alloc: Global,
+        bytes: &'a [u8],
+    ) -> Result<(Vec<Export>, &'a [u8]), ReadError> {
+        read_vector(alloc, bytes)
+    }
+}
+
+/// The code section (5.5.13) of a module with these types, imports and type indices of functions.
+#[derive(Drop)]
+struct CodeSection<'s> {
+    types: &'s [FuncType],
+    import_count: usize,
+    indices: &'s [u32],
+}
+
+impl<'s> Section for CodeSection<'s> {
+    type Item = Func;
+
+    ghost reading = { λ s. read_codes true s.types.now s.import_count s.indices.now };
+
+    fn read_contents<'a>(
+        &self,
+        alloc: Global,
+        bytes: &'a [u8],
+    ) -> Result<(Vec<Func>, &'a [u8]), ReadError>
+        ensures { Gives (λ x. (x.0.items, x.1.now)) result
+            (read_codes true self.now.types.now self.now.import_count self.now.indices.now bytes.now) }
+    {
+        read_codes(alloc, self.types, self.import_count, self.indices, bytes)
+    }
+}
+
+/// What precedes the exports.
 #[derive(Drop)]
 struct Front {
     types: Vec<FuncType>,
@@ -132,15 +182,17 @@ struct Front {
     indices: Vec<u32>,
 }
 
-#[tactic(auto, unfolding(crate::specs::Reading::head_at))]
+#[tactic(auto, unfolding(crate::specs::Inside::Reading::read_head))]
 fn read_front(alloc: Global, bytes: &[u8]) -> Result<(Front, &[u8]), ReadError>
-    ensures { Gives (λ x. (front_of x.0, x.1.now)) result (head_at true bytes.now) }
+    ensures { Gives (λ x. (head_of x.0, x.1.now)) result (read_head true bytes.now) }
 {
-    let rest = preamble(bytes)?;
-    let rest = customs(rest)?;
-    let (types, rest) = type_section(alloc, rest)?;
-    let (imports, rest) = import_section(alloc, rest)?;
-    let (indices, rest) = function_section(alloc, imports.len(), rest)?;
+    let rest = skip_customs(bytes)?;
+    let (types, rest) = read_section(TYPE_SECTION, &TypeSection {}, alloc, rest)?;
+    let (imports, rest) = read_section(IMPORT_SECTION, &ImportSection {}, alloc, rest)?;
+    let functions = FunctionSection {
+        import_count: imports.len(),
+    };
+    let (indices, rest) = read_section(FUNCTION_SECTION, &functions, alloc, rest)?;
     Ok((
         Front {
             types,
@@ -151,18 +203,24 @@ fn read_front(alloc: Global, bytes: &[u8]) -> Result<(Front, &[u8]), ReadError>
     ))
 }
 
-#[tactic(auto, unfolding(crate::specs::Reading::module_at))]
-fn whole(alloc: Global, bytes: &[u8]) -> Result<Module, ReadError>
-    ensures { Gives (λ x. x) result (module_at true bytes.now) }
+// All that follows the preamble.
+#[tactic(auto, unfolding(crate::specs::Inside::Reading::read_sections))]
+fn read_sections(alloc: Global, bytes: &[u8]) -> Result<Module, ReadError>
+    ensures { Gives (λ x. x) result (read_sections true bytes.now) }
 {
     let (front, rest) = read_front(alloc, bytes)?;
-    let (exports, rest) = export_section(alloc, rest)?;
+    let (exports, rest) = read_section(EXPORT_SECTION, &ExportSection {}, alloc, rest)?;
     let Front {
         types,
         imports,
         indices,
     } = front;
-    let (funcs, rest) = code_section(alloc, &types, imports.len(), &indices, rest)?;
+    let codes = CodeSection {
+        types: &types,
+        import_count: imports.len(),
+        indices: &indices,
+    };
+    let (funcs, rest) = read_section(CODE_SECTION, &codes, alloc, rest)?;
     if !rest.is_empty() || funcs.len() != indices.len() {
         return Err(ReadError::Fault(Fault::Bad));
     }
@@ -178,13 +236,18 @@ fn whole(alloc: Global, bytes: &[u8]) -> Result<Module, ReadError>
     })
 }
 
-/// All of the bytes, as a module.
-#[tactic(auto, unfolding(crate::specs::Reading::read_at))]
-pub fn read(alloc: Global, bytes: &[u8]) -> Result<Module, ReadError>
-    ensures { Gives (λ x. x) result (read_at true bytes.now) }
+/// All of the bytes, as a module. Memory is asked for only after their number and the preamble are right.
+#[tactic(auto, unfolding(crate::specs::Inside::Reading::read_module, crate::specs::Inside::Reading::strip_preamble))]
+pub fn read_module(alloc: Global, bytes: &[u8]) -> Result<Module, ReadError>
+    ensures value { Gives (λ x. x) result (read_module true bytes.now) }
+    ensures memory { result ≡ Err Memory → (length bytes.now ≤ max_module_bytes)
+        × (strip_preamble bytes.now ≡ Ok (drop 8 bytes.now)) }
 {
-    if bytes.len() > MOST_BYTES {
+    if bytes.len() > MAX_MODULE_BYTES {
         return Err(ReadError::Fault(Fault::Over));
     }
-    whole(alloc, bytes)
+    match bytes.strip_prefix(&PREAMBLE) {
+        Some(sections) => read_sections(alloc, sections),
+        None => Err(ReadError::Fault(Fault::Bad)),
+    }
 }

@@ -1,20 +1,21 @@
-//! Names (5.2.4) and types (5.3).
+//! Readers of names (5.2.4) and types (5.3).
 
 ghost use Rattle.std.specs.Prelude.{◌≡◌, length, take};
-ghost use Rattle.wasm_binary.specs.Reading.{Gives, items_at, vector_at, name_at, type_of, type_at, func_type_at};
+ghost use Rattle.wasm_binary.specs.Inside.Reading.{Gives, read_vector, read_name, val_type_of, read_val_type, read_func_type};
 
 use crate::fault::{Fault, ReadError};
-use crate::marks::{FUNC_TYPE, I32, I64};
-use crate::numbers::{after, byte, number};
+use crate::numbers::{read_byte, read_u32, strip_byte};
+use crate::opcodes::{FUNC_TYPE, I32, I64};
+use crate::vectors::{Decode, read_vector};
 use std::alloc::Global;
 use wasm_ast::{FuncType, Sequence, ValType};
 
 /// A name, and the rest.
-#[tactic(auto, unfolding(crate::specs::Reading::name_at, crate::specs::Reading::part_at), using(crate::proofs::Texts::is_text, crate::proofs::Texts::no_text))]
-pub fn name(bytes: &[u8]) -> Result<(&str, &[u8]), ReadError>
-    ensures { Gives (λ x. (x.0.now, x.1.now)) result (name_at bytes.now) }
+#[tactic(auto, unfolding(crate::specs::Inside::Reading::read_name, crate::specs::Inside::Reading::read_bytes), using(crate::proofs::Utf8::is_text, crate::proofs::Utf8::no_text))]
+pub fn read_name(bytes: &[u8]) -> Result<(&str, &[u8]), ReadError>
+    ensures { Gives (λ x. (x.0.now, x.1.now)) result (read_name bytes.now) }
 {
-    let (size, rest) = number(bytes)?;
+    let (size, rest) = read_u32(bytes)?;
     let size = size as usize;
     if rest.len() < size {
         return Err(ReadError::Fault(Fault::Bad));
@@ -27,11 +28,11 @@ pub fn name(bytes: &[u8]) -> Result<(&str, &[u8]), ReadError>
 }
 
 /// The type of a value, and the rest.
-#[tactic(auto, unfolding(crate::specs::Reading::type_at, crate::specs::Reading::type_of))]
-pub fn val_type(bytes: &[u8]) -> Result<(ValType, &[u8]), ReadError>
-    ensures { Gives (λ x. (x.0, x.1.now)) result (type_at bytes.now) }
+#[tactic(auto, unfolding(crate::specs::Inside::Reading::read_val_type, crate::specs::Inside::Reading::val_type_of))]
+pub fn read_val_type(bytes: &[u8]) -> Result<(ValType, &[u8]), ReadError>
+    ensures { Gives (λ x. (x.0, x.1.now)) result (read_val_type bytes.now) }
 {
-    let (first, rest) = byte(bytes)?;
+    let (first, rest) = read_byte(bytes)?;
     match first {
         I32 => Ok((ValType::I32, rest)),
         I64 => Ok((ValType::I64, rest)),
@@ -39,67 +40,26 @@ pub fn val_type(bytes: &[u8]) -> Result<(ValType, &[u8]), ReadError>
     }
 }
 
-fn val_type_items(
-    alloc: Global,
-    count: u32,
-    bytes: &[u8],
-) -> Result<(Vec<ValType>, &[u8]), ReadError>
-    ensures { Gives (λ x. (x.0.items, x.1.now)) result (items_at type_at count bytes.now) }
-{
-    let mut items = Vec::new(alloc);
-    let mut rest = bytes;
-    for _ in 0..count {
-        let (item, after) = val_type(rest)?;
-        items.push(item)?;
-        rest = after;
+impl Decode for ValType {
+    ghost reading = { read_val_type };
+
+    fn read(_alloc: Global, bytes: &[u8]) -> Result<(ValType, &[u8]), ReadError> {
+        read_val_type(bytes)
     }
-    Ok((items, rest))
 }
 
-#[tactic(auto, unfolding(crate::specs::Reading::vector_at))]
-fn val_types(alloc: Global, bytes: &[u8]) -> Result<(Vec<ValType>, &[u8]), ReadError>
-    ensures { Gives (λ x. (x.0.items, x.1.now)) result (vector_at type_at bytes.now) }
-{
-    let (count, rest) = number(bytes)?;
-    val_type_items(alloc, count, rest)
-}
+impl Decode for FuncType {
+    ghost reading = { read_func_type };
 
-#[tactic(auto, unfolding(crate::specs::Reading::func_type_at))]
-fn func_type(alloc: Global, bytes: &[u8]) -> Result<(FuncType, &[u8]), ReadError>
-    ensures { Gives (λ x. (x.0, x.1.now)) result (func_type_at bytes.now) }
-{
-    let Some(rest) = after(FUNC_TYPE, bytes) else {
-        return Err(ReadError::Fault(Fault::Bad));
-    };
-    let (params, rest) = val_types(alloc, rest)?;
-    let (results, rest) = val_types(alloc, rest)?;
-    let params = Sequence::new(params);
-    let results = Sequence::new(results);
-    Ok((FuncType { params, results }, rest))
-}
-
-fn func_type_items(
-    alloc: Global,
-    count: u32,
-    bytes: &[u8],
-) -> Result<(Vec<FuncType>, &[u8]), ReadError>
-    ensures { Gives (λ x. (x.0.items, x.1.now)) result (items_at func_type_at count bytes.now) }
-{
-    let mut items = Vec::new(alloc);
-    let mut rest = bytes;
-    for _ in 0..count {
-        let (item, after) = func_type(alloc, rest)?;
-        items.push(item)?;
-        rest = after;
+    #[tactic(auto, unfolding(crate::specs::Inside::Reading::read_func_type))]
+    fn read(alloc: Global, bytes: &[u8]) -> Result<(FuncType, &[u8]), ReadError> {
+        let Some(rest) = strip_byte(FUNC_TYPE, bytes) else {
+            return Err(ReadError::Fault(Fault::Bad));
+        };
+        let (params, rest) = read_vector(alloc, rest)?;
+        let (results, rest) = read_vector(alloc, rest)?;
+        let params = Sequence::new(params);
+        let results = Sequence::new(results);
+        Ok((FuncType { params, results }, rest))
     }
-    Ok((items, rest))
-}
-
-/// A vector of types of functions, and the rest.
-#[tactic(auto, unfolding(crate::specs::Reading::vector_at))]
-pub fn func_types(alloc: Global, bytes: &[u8]) -> Result<(Vec<FuncType>, &[u8]), ReadError>
-    ensures { Gives (λ x. (x.0.items, x.1.now)) result (vector_at func_type_at bytes.now) }
-{
-    let (count, rest) = number(bytes)?;
-    func_type_items(alloc, count, rest)
 }

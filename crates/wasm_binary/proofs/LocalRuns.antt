@@ -1,0 +1,52 @@
+-- Longest runs of locals, as they are built local by local.
+use Rattle.std.proofs.Common.{◌≡◌, ℕ, ◌+◌, ◌<◌, ◌^◌, Bool, true, false, List, [], ◌∷◌, ◌++◌, length, take, replicate, fold, refl, sym, ap, ◌∙◌, append_assoc, cond, arith}
+use Rattle.std.proofs.lemmas.List.{append-nil, replicate_more, length-take}
+use Rattle.wasm_ast.specs.declared.values.ValType.{ValType}
+use Rattle.wasm_ast.specs.declared.values.ValType.TheVariants.{I32, I64}
+use Rattle.wasm_binary.specs.Grammar.{locals_of}
+use Rattle.wasm_binary.specs.Canonical.{same_type, add_local, runs_of}
+
+abbrev Run : Type 0
+Run = ℕ × ValType
+
+add_at : (front : List Run) (run : Run) (t : ValType) → add_local (front ++ run ∷ []) t ≡ front ++ add_local (run ∷ []) t
+add_at [] run t = refl
+add_at (r ∷ []) run t = refl
+add_at (r ∷ s ∷ rs) run t = ap (λ (xs : List Run). r ∷ xs) (add_at (s ∷ rs) run t)
+
+pub same_run : (old front new : List Run) (n : ℕ) (u t : ValType) → old ≡ front ++ (n, u) ∷ [] → same_type u t ≡ true → new ≡ front ++ (n + 1, u) ∷ [] → new ≡ add_local old t
+same_run old front new n u t e same f =
+    let one : add_local ((n, u) ∷ []) t ≡ (n + 1, u) ∷ [] = rw same refl in
+    f ∙ ap (λ (xs : List Run). front ++ xs) (sym one) ∙ sym (add_at front (n, u) t) ∙ ap (λ (xs : List Run). add_local xs t) (sym e)
+
+pub new_run : (old front mid new : List Run) (n : ℕ) (u t : ValType) → old ≡ front ++ (n, u) ∷ [] → same_type u t ≡ false → mid ≡ front ++ (n, u) ∷ [] → new ≡ mid ++ (1, t) ∷ [] → new ≡ add_local old t
+new_run old front mid new n u t e other f g =
+    let one : add_local ((n, u) ∷ []) t ≡ (n, u) ∷ (1, t) ∷ [] = rw other refl in
+    g ∙ ap (λ (xs : List Run). xs ++ (1, t) ∷ []) f ∙ append_assoc front ((n, u) ∷ []) ((1, t) ∷ []) ∙ ap (λ (xs : List Run). front ++ xs) (sym one) ∙ sym (add_at front (n, u) t) ∙ ap (λ (xs : List Run). add_local xs t) (sym e)
+
+same_is : (u t : ValType) → same_type u t ≡ true → u ≡ t
+same_is I32 I32 e = refl
+same_is I32 I64 e = absurd cc
+same_is I64 I32 e = absurd cc
+same_is I64 I64 e = refl
+
+locals_case : (n : ℕ) (u t : ValType) (b : Bool) → same_type u t ≡ b → locals_of (cond b ((n + 1, u) ∷ []) ((n, u) ∷ (1, t) ∷ [])) ≡ locals_of ((n, u) ∷ []) ++ t ∷ []
+locals_case n u t true e =
+    append-nil (replicate (n + 1) u) ∙ sym (replicate_more n u) ∙ ap (λ (v : ValType). replicate n u ++ v ∷ []) (same_is u t e) ∙ ap (λ (xs : List ValType). xs ++ t ∷ []) (sym (append-nil (replicate n u)))
+locals_case n u t false e = ap (λ (xs : List ValType). xs ++ t ∷ []) (sym (append-nil (replicate n u)))
+
+locals_add : (rs : List Run) (t : ValType) → locals_of (add_local rs t) ≡ locals_of rs ++ t ∷ []
+locals_add [] t = refl
+locals_add (r ∷ []) t = locals_case r.0 r.1 t (same_type r.1 t) refl
+locals_add (r ∷ s ∷ rs) t = ap (λ (xs : List ValType). replicate r.0 r.1 ++ xs) (locals_add (s ∷ rs) t) ∙ sym (append_assoc (replicate r.0 r.1) (locals_of (s ∷ rs)) (t ∷ []))
+
+locals_fold : (rs : List Run) (ts : List ValType) → locals_of (fold add_local rs ts) ≡ locals_of rs ++ ts
+locals_fold rs [] = sym (append-nil (locals_of rs))
+locals_fold rs (t ∷ ts) = locals_fold (add_local rs t) ts ∙ ap (λ (xs : List ValType). xs ++ ts) (locals_add rs t) ∙ append_assoc (locals_of rs) (t ∷ []) ts
+
+-- the runs are of these locals
+pub locals_runs : (ts : List ValType) → locals_of (runs_of ts) ≡ ts
+locals_runs ts = locals_fold [] ts
+
+pub few_before : (ts : List ValType) (runs : List Run) (i : ℕ) → runs ≡ runs_of (take i ts) → i < length ts → length ts < 2 ^ 64 → length (locals_of runs) + 1 < 2 ^ 64
+few_before ts runs i e lt small = omega (arith, ap (λ (rs : List Run). length (locals_of rs)) e, ap length (locals_runs (take i ts)), length-take i ts)

@@ -1,0 +1,218 @@
+-- A reader is sound: what it answers is encoded so by the bytes, and if it answers a limit, that limit is passed.
+use Rattle.std.proofs.Common.{◌≡◌, ℕ, zero, suc, ◌+◌, ◌-◌, ◌*◌, ◌^◌, ◌<◌, ◌≤◌, Bool, true, false, cond, ltb, eqb, List, [], ◌∷◌, ◌++◌, length, take, drop, Result, Ok, Err, refl, sym, ap, subst, arith, inl, inr}
+use Rattle.std.specs.Prelude.{◌&&◌}
+use Rattle.std.specs.Str.{is_utf8}
+use Rattle.std.proofs.lemmas.Bool.{ltb-true, ltb-false, eqb-true}
+use Rattle.std.proofs.lemmas.List.{take-append-drop, length-take-le, nil_from_length}
+use Rattle.std.proofs.lemmas.Str.{IsUtf8-from_is_utf8}
+use Rattle.wasm_ast.specs.declared.values.ValType.TheVariants as types
+use Rattle.wasm_ast.specs.declared.values.Value.TheVariants.{I32}
+use Rattle.wasm_ast.specs.declared.instr.Simple.{Simple}
+use Rattle.wasm_ast.specs.declared.instr.Simple.TheVariants.{Const, Drop, Call}
+use Rattle.wasm_ast.specs.declared.module.ExportKind.TheVariants as kinds
+use Rattle.wasm_ast.specs.Syntax.{simple, Ops, ops_of}
+use Rattle.wasm_ast.specs.Reaches.{ReachesSimple, Reaches}
+use Rattle.wasm_binary.specs.declared.fault.Fault.{Fault}
+use Rattle.wasm_binary.specs.declared.fault.Fault.TheVariants.{Bad, Over}
+use Rattle.wasm_binary.specs.Numbers.{IsLastUnsigned, IsUnsigned, IsLastSigned, IsSigned, IsU32}
+use Rattle.wasm_binary.specs.Opcodes.{func_type_byte, end_byte, call_byte, drop_byte, i32_const_byte, func_kind_byte}
+use Rattle.wasm_binary.specs.Grammar.{Form, AreItems, IsVector, IsSized, IsName, type_byte, IsValType, IsFuncType, IsSimple, IsExpression, IsImport, IsExport}
+use Rattle.wasm_binary.specs.Limits.{WithinSize}
+use Rattle.wasm_binary.specs.Inside.Reading.{◌>>=◌, Read, need, read_byte, begins_with, read_unsigned, read_last_unsigned, read_signed, read_last_signed, read_u32, read_bytes, skip_exact, read_sized, read_items, read_vector, read_name, val_type_of, read_val_type, read_func_type, read_call, read_operands, read_simple, read_ops, read_expression, read_import, read_export}
+
+abbrev pub SoundAnswer : {X : Type 0} → (X → Type 0) → Type 0 → Result X Fault → Type 0
+SoundAnswer P Q (Ok x) = P x
+SoundAnswer P Q (Err Bad) = Unit {0}
+SoundAnswer P Q (Err Over) = Q
+
+-- P holds of a value that is answered, and Q where a limit is
+pub record Sound {X : Type 0} (P : X → Type 0) (Q : Type 0) (r : Result X Fault) : Type 0 where
+  pub sound : SoundAnswer P Q r
+
+pub sound_ok : {X : Type 0} {P : X → Type 0} {Q : Type 0} (x : X) → P x → Sound P Q (Ok x)
+sound_ok x h = record { sound = h }
+
+pub sound_then : {A B : Type 0} {P : A → Type 0} {Q : Type 0} {P' : B → Type 0} {Q' : Type 0} {r : Result A Fault} {f : A → Result B Fault} → Sound P Q r → ((x : A) → P x → Sound P' Q' (f x)) → (Q → Q') → Sound P' Q' (r >>= f)
+sound_then {r = Ok x} h k o = k x h.sound
+sound_then {r = Err Bad} h k o = record { sound = tt }
+sound_then {r = Err Over} h k o = record { sound = o h.sound }
+
+pub sound_more : {A : Type 0} {P : A → Type 0} {Q : Type 0} {P' : A → Type 0} {Q' : Type 0} {r : Result A Fault} → Sound P Q r → ((x : A) → P x → P' x) → (Q → Q') → Sound P' Q' r
+sound_more {r = Ok x} h k o = record { sound = k x h.sound }
+sound_more {r = Err Bad} h k o = record { sound = tt }
+sound_more {r = Err Over} h k o = record { sound = o h.sound }
+
+pub sound_need : {X : Type 0} {P : X → Type 0} {Q : Type 0} {r : Result X Fault} (b : Bool) → (b ≡ true → Sound P Q r) → Sound P Q (need b Bad r)
+sound_need true h = h refl
+sound_need false h = record { sound = tt }
+
+pub never : {Q : Type 0} → ⊥ → Q
+never h = absurd h
+
+pub sound_if : {X : Type 0} {P : X → Type 0} {Q : Type 0} {r t : Result X Fault} (b : Bool) → (b ≡ true → Sound P Q r) → (b ≡ false → Sound P Q t) → Sound P Q (cond b r t)
+sound_if true h k = h refl
+sound_if false h k = k refl
+
+pub sound_bad : {X : Type 0} {P : X → Type 0} {Q : Type 0} → Sound {X = X} P Q (Err Bad)
+sound_bad = record { sound = tt }
+
+both_true : (a b : Bool) → (a && b) ≡ true → (a ≡ true) × (b ≡ true)
+both_true true true e = (refl, refl)
+both_true true false e = absurd cc
+both_true false true e = absurd cc
+both_true false false e = absurd cc
+
+-- ---- bytes and numbers
+
+pub begins_is : (b : ℕ) (bytes : List ℕ) → begins_with b bytes ≡ true → bytes ≡ b ∷ drop 1 bytes
+unfolding begins_with
+begins_is b [] e = absurd cc
+begins_is b (c ∷ cs) e = ap (λ (x : ℕ). x ∷ cs) (eqb-true c b e)
+
+byte_sound : (bytes : List ℕ) → Sound (λ x. bytes ≡ x.0 ∷ x.1) ⊥ (read_byte bytes)
+unfolding read_byte
+byte_sound [] = sound_bad
+byte_sound (b ∷ bs) = sound_ok (b, bs) refl
+
+last_unsigned_sound : (bits b : ℕ) → Sound (λ n. IsLastUnsigned bits b n) ⊥ (read_last_unsigned bits b)
+unfolding read_last_unsigned
+last_unsigned_sound bits b = sound_need (ltb b (2 ^ bits)) (λ e. sound_ok b (ltb-true b (2 ^ bits) e, refl))
+
+unsigned_sound : (bits : ℕ) (bytes : List ℕ) → Sound (λ x. IsUnsigned bits bytes x.0 x.1) ⊥ (read_unsigned bits bytes)
+unfolding read_unsigned
+unsigned_sound bits [] = sound_bad
+unsigned_sound bits (b ∷ bs) = sound_if (ltb b 128)
+    (λ lt. sound_then (last_unsigned_sound bits b) (λ n hn. sound_ok (n, bs) (inl (ltb-true b 128 lt, hn, refl))) never)
+    (λ ge. sound_need (ltb b 256 && ltb 7 bits) (λ both. let e = both_true (ltb b 256) (ltb 7 bits) both in sound_then (unsigned_sound (bits - 7) bs) (λ high hh.
+    sound_ok (128 * high.0 + (b - 128), high.1) (inr (ltb-false b 128 ge, ltb-true b 256 e.0, ltb-true 7 bits e.1, high.0, hh, refl))) never))
+
+last_signed_sound : (bits b : ℕ) → b < 128 → Sound (λ n. IsLastSigned bits b n) ⊥ (read_last_signed bits b)
+unfolding read_last_signed
+last_signed_sound bits b h = sound_if (ltb b 64)
+    (λ lt. sound_need (ltb (2 * b) (2 ^ bits)) (λ e. sound_ok b (inl (ltb-true b 64 lt, ltb-true (2 * b) (2 ^ bits) e, refl))))
+    (λ ge. sound_need (ltb 255 (2 * b + 2 ^ bits)) (λ e.
+    let ge' : 64 ≤ b = ltb-false b 64 ge in
+    let lt : 255 < 2 * b + 2 ^ bits = ltb-true 255 (2 * b + 2 ^ bits) e in
+    sound_ok (2 ^ bits - (128 - b)) (inr (ge', omega arith, omega arith))))
+
+signed_sound : (bits : ℕ) (bytes : List ℕ) → Sound (λ x. IsSigned bits bytes x.0 x.1) ⊥ (read_signed bits bytes)
+unfolding read_signed
+signed_sound bits [] = sound_bad
+signed_sound bits (b ∷ bs) = sound_if (ltb b 128)
+    (λ lt. sound_then (last_signed_sound bits b (ltb-true b 128 lt)) (λ n hn. sound_ok (n, bs) (inl (ltb-true b 128 lt, hn, refl))) never)
+    (λ ge. sound_need (ltb b 256 && ltb 7 bits) (λ both. let e = both_true (ltb b 256) (ltb 7 bits) both in sound_then (signed_sound (bits - 7) bs) (λ high hh.
+    sound_ok (128 * high.0 + (b - 128), high.1) (inr (ltb-false b 128 ge, ltb-true b 256 e.0, ltb-true 7 bits e.1, high.0, hh, refl))) never))
+
+pub u32_sound : (bytes : List ℕ) → Sound (λ x. IsU32 bytes x.0 x.1) ⊥ (read_u32 bytes)
+unfolding read_u32
+u32_sound bytes = unsigned_sound 32 bytes
+
+-- ---- parts
+
+part_sound : (n : ℕ) (bytes : List ℕ) → Sound (λ x. (bytes ≡ x.0 ++ x.1) × (length x.0 ≡ n)) ⊥ (read_bytes n bytes)
+unfolding read_bytes
+part_sound n bytes = sound_if (ltb (length bytes) n)
+    (λ lt. sound_bad)
+    (λ ge. sound_ok (take n bytes, drop n bytes) (sym (take-append-drop n bytes), length-take-le n bytes (ltb-false (length bytes) n ge)))
+
+behind_sound : (size : ℕ) (left bytes : List ℕ) → Sound (λ rest. (left ≡ []) × (bytes ≡ take size bytes ++ rest) × (length (take size bytes) ≡ size)) ⊥ (skip_exact size left bytes)
+unfolding skip_exact
+behind_sound size left bytes = sound_need (eqb (length left) 0) (λ e. sound_if (ltb (length bytes) size)
+    (λ lt. sound_bad)
+    (λ ge. sound_ok (drop size bytes) (nil_from_length left (eqb-true (length left) 0 e), sym (take-append-drop size bytes), length-take-le size bytes (ltb-false (length bytes) size ge))))
+
+pub sized_sound : {X : Type 0} (IsX : Form X) (Q : List ℕ → Type 0) (read : List ℕ → Read X) → ((part : List ℕ) → Sound (λ x. IsX part x.0 x.1) (Q part) (read part))
+    → (bytes : List ℕ) → Sound (λ x. IsSized IsX bytes x.0 x.1) (WithinSize Q bytes) (read_sized read bytes)
+unfolding read_sized
+sized_sound IsX Q read tells bytes = sound_then (u32_sound bytes) (λ n hn. sound_then (tells (take n.0 n.1)) (λ x hx. sound_then (behind_sound n.0 x.1 n.1) (λ rest hr.
+    sound_ok (x.0, rest) (take n.0 n.1, n.1, rw hr.2 hn, hr.1, subst (λ left. IsX (take n.0 n.1) x.0 left) hr.0 hx))
+    never) (λ q. (n.0, n.1, hn, q))) never
+
+pub items_sound : {X : Type 0} (IsX : Form X) (read : List ℕ → Read X) → ((part : List ℕ) → Sound (λ x. IsX part x.0 x.1) ⊥ (read part))
+    → (n : ℕ) (bytes : List ℕ) → Sound (λ x. AreItems IsX bytes x.0 x.1 × (length x.0 ≡ n)) ⊥ (read_items read n bytes)
+unfolding read_items
+items_sound IsX read tells zero bytes = sound_ok ([], bytes) (refl, refl)
+items_sound IsX read tells (suc n) bytes = sound_then (tells bytes) (λ x hx. sound_then (items_sound IsX read tells n x.1) (λ xs hxs.
+    sound_ok (x.0 ∷ xs.0, xs.1) ((x.1, hx, hxs.0), ap suc hxs.1)) never) never
+
+pub vector_sound : {X : Type 0} (IsX : Form X) (read : List ℕ → Read X) → ((part : List ℕ) → Sound (λ x. IsX part x.0 x.1) ⊥ (read part))
+    → (bytes : List ℕ) → Sound (λ x. IsVector IsX bytes x.0 x.1) ⊥ (read_vector read bytes)
+unfolding read_vector
+vector_sound IsX read tells bytes = sound_then (u32_sound bytes) (λ n hn. sound_more (items_sound IsX read tells n.0 n.1) (λ xs hxs.
+    (n.1, rw hxs.1 hn, hxs.0)) never) never
+
+pub name_sound : (bytes : List ℕ) → Sound (λ x. IsName bytes x.0 x.1) ⊥ (read_name bytes)
+unfolding read_name
+name_sound bytes = sound_then (u32_sound bytes) (λ n hn. sound_then (part_sound n.0 n.1) (λ p hp. sound_need (is_utf8 p.0) (λ e.
+    sound_ok p (n.1, rw hp.1 hn, hp.0, IsUtf8-from_is_utf8 p.0 e))) never) never
+
+-- ---- types
+
+type_of_sound : (b : ℕ) (bs : List ℕ) → Sound (λ x. IsValType (b ∷ bs) x.0 x.1) ⊥ (val_type_of b bs)
+unfolding val_type_of
+type_of_sound b bs = sound_if (eqb b (type_byte types.I32))
+    (λ e. sound_ok (types.I32, bs) (ap (λ (x : ℕ). x ∷ bs) (eqb-true b (type_byte types.I32) e)))
+    (λ _. sound_need (eqb b (type_byte types.I64)) (λ e. sound_ok (types.I64, bs) (ap (λ (x : ℕ). x ∷ bs) (eqb-true b (type_byte types.I64) e))))
+
+pub type_sound : (bytes : List ℕ) → Sound (λ x. IsValType bytes x.0 x.1) ⊥ (read_val_type bytes)
+unfolding read_val_type
+type_sound bytes = sound_then (byte_sound bytes) (λ b hb. rw hb (type_of_sound b.0 b.1)) never
+
+pub func_type_sound : (bytes : List ℕ) → Sound (λ x. IsFuncType bytes x.0 x.1) ⊥ (read_func_type bytes)
+unfolding read_func_type
+func_type_sound bytes = sound_need (begins_with func_type_byte bytes) (λ e. sound_then (vector_sound IsValType read_val_type type_sound (drop 1 bytes)) (λ ps hps.
+    sound_then (vector_sound IsValType read_val_type type_sound ps.1) (λ rs hrs.
+    sound_ok (record { params = ps.0; results = rs.0 }, rs.1) (drop 1 bytes, ps.1, begins_is func_type_byte bytes e, hps, hrs)) never) never)
+
+-- ---- instructions
+
+-- an instruction and its calls
+abbrev SimpleRead : (imports : ℕ) → Form Simple
+SimpleRead imports bytes s rest = IsSimple bytes s rest × ReachesSimple imports s
+
+call_sound : (imports : ℕ) (bs : List ℕ) → Sound (λ x. SimpleRead imports (call_byte ∷ bs) x.0 x.1) ⊥ (read_call imports bs)
+unfolding read_call
+call_sound imports bs = sound_then (u32_sound bs) (λ f hf. sound_need (ltb f.0 imports) (λ lt.
+    sound_ok (Call f.0, f.1) ((bs, refl, hf), ltb-true f.0 imports lt))) never
+
+operands_sound : (imports b : ℕ) (bs : List ℕ) → Sound (λ x. SimpleRead imports (b ∷ bs) x.0 x.1) ⊥ (read_operands imports b bs)
+unfolding read_operands
+operands_sound imports b bs = sound_if (eqb b i32_const_byte)
+    (λ e. sound_then (signed_sound 32 bs) (λ n hn. sound_ok (Const (I32 n.0), n.1) ((bs, ap (λ (x : ℕ). x ∷ bs) (eqb-true b i32_const_byte e), hn), tt)) never)
+    (λ _. sound_if (eqb b drop_byte)
+    (λ e. sound_ok (Drop, bs) (ap (λ (x : ℕ). x ∷ bs) (eqb-true b drop_byte e), tt))
+    (λ _. sound_need (eqb b call_byte) (λ e. rw (eqb-true b call_byte e) (call_sound imports bs))))
+
+simple_sound : (imports : ℕ) (bytes : List ℕ) → Sound (λ x. SimpleRead imports bytes x.0 x.1) ⊥ (read_simple imports bytes)
+unfolding read_simple
+simple_sound imports bytes = sound_then (byte_sound bytes) (λ b hb. rw hb (operands_sound imports b.0 b.1)) never
+
+-- a sequence and its calls
+abbrev pub ExpressionRead : (imports : ℕ) → Form Ops
+ExpressionRead imports bytes os rest = IsExpression bytes os rest × Reaches imports os
+
+ops_sound : (imports most : ℕ) (bytes : List ℕ) → Sound (λ x. ExpressionRead imports bytes (ops_of x.0) x.1) ⊥ (read_ops imports most bytes)
+unfolding read_ops
+ops_sound imports zero bytes = sound_bad
+ops_sound imports (suc n) bytes = sound_if (begins_with end_byte bytes)
+    (λ e. sound_ok ([], drop 1 bytes) (sym (begins_is end_byte bytes e), tt))
+    (λ _. sound_then (simple_sound imports bytes) (λ s hs. sound_then (ops_sound imports n s.1) (λ os hos.
+    sound_ok (simple s.0 ∷ os.0, os.1) ((s.1, hs.0, hos.0), (hs.1, hos.1))) never) never)
+
+pub expression_sound : (imports : ℕ) (bytes : List ℕ) → Sound (λ x. ExpressionRead imports bytes x.0 x.1) ⊥ (read_expression imports bytes)
+unfolding read_expression
+expression_sound imports bytes = sound_then (ops_sound imports (length bytes) bytes) (λ os hos. sound_ok (ops_of os.0, os.1) hos) never
+
+-- ---- imports and exports
+
+pub import_sound : (bytes : List ℕ) → Sound (λ x. IsImport bytes x.0 x.1) ⊥ (read_import bytes)
+unfolding read_import
+import_sound bytes = sound_then (name_sound bytes) (λ m hm. sound_then (name_sound m.1) (λ n hn. sound_need (begins_with func_kind_byte n.1) (λ e.
+    sound_then (u32_sound (drop 1 n.1)) (λ t ht. sound_ok (record { «module» = m.0; name = n.0; type_index = t.0 }, t.1)
+    (m.1, n.1, drop 1 n.1, hm, hn, begins_is func_kind_byte n.1 e, ht)) never)) never) never
+
+pub export_sound : (bytes : List ℕ) → Sound (λ x. IsExport bytes x.0 x.1) ⊥ (read_export bytes)
+unfolding read_export
+export_sound bytes = sound_then (name_sound bytes) (λ n hn. sound_need (begins_with func_kind_byte n.1) (λ e.
+    sound_then (u32_sound (drop 1 n.1)) (λ i hi. sound_ok (record { name = n.0; kind = kinds.Func; index = i.0 }, i.1)
+    (n.1, drop 1 n.1, hn, begins_is func_kind_byte n.1 e, hi)) never)) never

@@ -1,8 +1,0 @@
-use Rattle.wasm_binary.proofs.Least.{number_least, signed_number_least}
-use Rattle.wasm_binary.proofs.canonical_numbers_are_shortest.Goals as goal
-
-pub returns-clause-unsigned : goal.returns-clause-unsigned
-returns-clause-unsigned c = number_least
-
-pub returns-clause-signed : goal.returns-clause-signed
-returns-clause-signed c = signed_number_least

@@ -1,5 +1,0 @@
-use Rattle.std.proofs.Common.{◌≡◌, ◌++◌, replicate}
-use Rattle.wasm_binary.proofs.code.put_run.Given as goal
-
-abbrev pub invariant-loop : goal.invariant-loop
-invariant-loop l = l.items.items ≡ l.initial.items.items ++ replicate l.counter l.t

@@ -1,7 +1,0 @@
-use Rattle.std.proofs.Common.{◌≡◌, ◌++◌, length, take}
-use Rattle.std.specs.List.{flat_map}
-use Rattle.wasm_binary.specs.Canonical.{number, func_type}
-use Rattle.wasm_binary.proofs.encoding.types_part.Given as goal
-
-abbrev pub invariant-loop-item : goal.invariant-loop-item
-invariant-loop-item l = l.out.items ≡ number (length l.items) ++ flat_map func_type (take l.item-index l.items)

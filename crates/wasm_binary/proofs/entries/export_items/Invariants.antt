@@ -1,7 +1,0 @@
-use Rattle.std.proofs.Common.{◌≡◌, ◌-◌}
-use Rattle.wasm_binary.specs.Reading.{items_at, export_at}
-use Rattle.wasm_binary.proofs.Loop.{with_front}
-use Rattle.wasm_binary.proofs.entries.export_items.Given as goal
-
-abbrev pub invariant-loop : goal.invariant-loop
-invariant-loop l = with_front l.items.items (items_at export_at (l.count - l.counter) l.rest) ≡ items_at export_at l.count l.bytes

@@ -1,6 +1,0 @@
-use Rattle.wasm_binary.proofs.Decodes.{none_within}
-use Rattle.wasm_binary.proofs.Overs.{read_over}
-use Rattle.wasm_binary.proofs.over_spells_none_within.Goals as goal
-
-pub returns : goal.returns
-returns c = λ bytes over. none_within bytes (read_over bytes over)

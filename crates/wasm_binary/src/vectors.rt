@@ -1,0 +1,77 @@
+//! One reader of lists, for whatever items (5.1.3).
+
+ghost use Rattle.std.specs.Prelude.{◌≡◌, ◌≤◌, ℕ, List, true, length};
+ghost use Rattle.wasm_ast.specs.Limits.{max_functions};
+ghost use Rattle.wasm_binary.specs.Inside.Reading.{Gives, Read, read_items, read_vector, read_functions, read_u32};
+
+use crate::fault::{Fault, ReadError};
+use crate::numbers::read_u32;
+use std::alloc::Global;
+use wasm_ast::MAX_FUNCTIONS;
+
+/// What bytes encode.
+pub trait Decode {
+    // What bytes are read as, and the rest.
+    ghost reading: { List ℕ → Read Self };
+
+    /// Reads one from the front of the bytes, and gives the rest.
+    fn read(alloc: Global, bytes: &[u8]) -> Result<(Self, &[u8]), ReadError>
+        ensures { Gives (λ x. (x.0, x.1.now)) result (reading bytes.now) };
+}
+
+// Memory grows item by item: a count of items that are not there takes none.
+fn read_items<T: Decode + Drop>(
+    alloc: Global,
+    count: u32,
+    bytes: &[u8],
+) -> Result<(Vec<T>, &[u8]), ReadError>
+    ensures { Gives (λ x. (x.0.items, x.1.now)) result (read_items T.reading count bytes.now) }
+{
+    let mut items = Vec::new(alloc);
+    let mut rest = bytes;
+    for _ in 0..count {
+        let (item, next) = T::read(alloc, rest)?;
+        items.push(item)?;
+        rest = next;
+    }
+    Ok((items, rest))
+}
+
+/// A vector, and the rest.
+#[tactic(auto, unfolding(crate::specs::Inside::Reading::read_vector))]
+pub fn read_vector<T: Decode + Drop>(
+    alloc: Global,
+    bytes: &[u8],
+) -> Result<(Vec<T>, &[u8]), ReadError>
+    ensures { Gives (λ x. (x.0.items, x.1.now)) result (read_vector T.reading bytes.now) }
+{
+    let (count, rest) = read_u32(bytes)?;
+    read_items(alloc, count, rest)
+}
+
+/// A vector whose items are functions or types of functions, and the rest. With this many functions before
+/// them they may not be over the limit.
+#[tactic(auto, unfolding(crate::specs::Inside::Reading::read_functions))]
+pub fn read_functions<T: Decode + Drop>(
+    alloc: Global,
+    before: usize,
+    bytes: &[u8],
+) -> Result<(Vec<T>, &[u8]), ReadError>
+    ensures { Gives (λ x. (x.0.items, x.1.now)) result
+        (read_functions true before T.reading bytes.now) }
+{
+    let (count, rest) = read_u32(bytes)?;
+    if before > MAX_FUNCTIONS || count as usize > MAX_FUNCTIONS - before {
+        return Err(ReadError::Fault(Fault::Over));
+    }
+    read_items(alloc, count, rest)
+}
+
+/// An index (5.5.1).
+impl Decode for u32 {
+    ghost reading = { read_u32 };
+
+    fn read(_alloc: Global, bytes: &[u8]) -> Result<(u32, &[u8]), ReadError> {
+        read_u32(bytes)
+    }
+}

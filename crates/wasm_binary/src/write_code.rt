@@ -1,0 +1,191 @@
+//! The canonical encoding of instructions and of code (5.4, 5.5.13).
+
+ghost use Rattle.std.specs.Prelude.{◌≡◌, ℕ, ◌+◌, ◌<◌, ◌^◌, ◌++◌, ◌∷◌, [], List, length, map, IfOk, OnOk};
+ghost use Rattle.wasm_ast.specs.View.{op_of};
+ghost use Rattle.wasm_ast.specs.Syntax.{ops_of};
+ghost use Rattle.wasm_binary.specs.Grammar.{locals_of};
+ghost use Rattle.wasm_binary.specs.Canonical.{same_type, add_local, runs_of, canon_run, canon_number, canon_block_type, canon_simple, canon_else, canon_op, canon_ops, canon_code, canon_entry};
+
+use crate::opcodes::{
+    BLOCK, BR, CALL, DROP, ELSE, EMPTY, END, I32_CONST, I64_CONST, IF, LOOP, RETURN,
+};
+use crate::write_items::{Encode, put_number, put_signed, put_sized, put_val_type, put_vector};
+use std::alloc::{AllocError, Global};
+use wasm_ast::{BlockType, Body, Func, Instr, Simple, ValType, Value};
+
+fn put_opcode(out: &mut Vec<u8>, opcode: u8) -> Result<(), AllocError>
+    ensures { OnOk result (out.new.items ≡ out.old.items ++ opcode ∷ []) }
+{
+    out.push(opcode)?;
+    Ok(())
+}
+
+fn put_indexed(out: &mut Vec<u8>, opcode: u8, index: u32) -> Result<(), AllocError>
+    ensures { OnOk result (out.new.items ≡ out.old.items ++ opcode ∷ canon_number index) }
+{
+    out.push(opcode)?;
+    put_number(out, u64::from(index))
+}
+
+fn put_block_type(out: &mut Vec<u8>, block_type: BlockType) -> Result<(), AllocError>
+    ensures { OnOk result (out.new.items ≡ out.old.items ++ canon_block_type block_type) }
+{
+    match block_type {
+        BlockType::Empty => {
+            out.push(EMPTY)?;
+            Ok(())
+        }
+        BlockType::One(result) => put_val_type(out, result),
+    }
+}
+
+fn put_const(out: &mut Vec<u8>, value: Value) -> Result<(), AllocError>
+    ensures { OnOk result (out.new.items ≡ out.old.items ++ canon_simple (Simple.Const value)) }
+{
+    match value {
+        Value::I32(n) => {
+            out.push(I32_CONST)?;
+            put_signed(out, 4, 32, u64::from(n))
+        }
+        Value::I64(n) => {
+            out.push(I64_CONST)?;
+            put_signed(out, 9, 64, n)
+        }
+    }
+}
+
+fn put_simple(out: &mut Vec<u8>, simple: Simple) -> Result<(), AllocError>
+    ensures { OnOk result (out.new.items ≡ out.old.items ++ canon_simple simple) }
+{
+    match simple {
+        Simple::Const(value) => put_const(out, value),
+        Simple::Drop => put_opcode(out, DROP),
+        Simple::Br(label) => put_indexed(out, BR, label),
+        Simple::Return => put_opcode(out, RETURN),
+        Simple::Call(function) => put_indexed(out, CALL, function),
+    }
+}
+
+// The opcode and the type of an instruction that has a body.
+fn put_opening(out: &mut Vec<u8>, opcode: u8, block_type: BlockType) -> Result<(), AllocError>
+    ensures { OnOk result (out.new.items ≡ out.old.items ++ opcode ∷ canon_block_type block_type) }
+{
+    out.push(opcode)?;
+    put_block_type(out, block_type)
+}
+
+// What separates the arms of an `if`.
+fn put_else(out: &mut Vec<u8>, else_arm: &Body) -> Result<(), AllocError>
+    ensures { OnOk result (out.new.items ≡ out.old.items ++ canon_else else_arm.now) }
+{
+    if else_arm.as_slice().is_empty() {
+        return Ok(());
+    }
+    put_opcode(out, ELSE)
+}
+
+#[cycle(put)]
+fn put_instr(out: &mut Vec<u8>, instr: &Instr) -> Result<(), AllocError>
+    ensures { OnOk result (out.new.items ≡ out.old.items ++ canon_op (op_of instr.now)) }
+{
+    match instr {
+        Instr::Simple(simple) => put_simple(out, *simple),
+        Instr::Block(block_type, body) => {
+            put_opening(out, BLOCK, *block_type)?;
+            put_body(out, body)?;
+            put_opcode(out, END)
+        }
+        Instr::Loop(block_type, body) => {
+            put_opening(out, LOOP, *block_type)?;
+            put_body(out, body)?;
+            put_opcode(out, END)
+        }
+        Instr::If(block_type, then_arm, else_arm) => {
+            put_opening(out, IF, *block_type)?;
+            put_body(out, then_arm)?;
+            put_else(out, else_arm)?;
+            put_body(out, else_arm)?;
+            put_opcode(out, END)
+        }
+    }
+}
+
+#[cycle(put)]
+fn put_body(out: &mut Vec<u8>, body: &Body) -> Result<(), AllocError>
+    ensures { OnOk result (out.new.items ≡ out.old.items ++ canon_ops body.now) }
+{
+    for instr in body.as_slice() {
+        put_instr(out, instr)?;
+    }
+    Ok(())
+}
+
+fn is_same(left: ValType, right: ValType) -> bool
+    ensures { result ≡ same_type left right }
+{
+    match (left, right) {
+        (ValType::I32, ValType::I32) | (ValType::I64, ValType::I64) => true,
+        _ => false,
+    }
+}
+
+// Adds a local to the last run, or in a run of its own.
+fn add_local(runs: &mut Vec<(u64, ValType)>, t: ValType) -> Result<(), AllocError>
+    requires { length (locals_of runs.old.items) + 1 < 2 ^ 64 }
+    ensures { OnOk result (runs.new.items ≡ add_local runs.old.items t) }
+{
+    match runs.pop() {
+        Some((count, last)) => {
+            if is_same(last, t) {
+                runs.push((count + 1, last))?;
+            } else {
+                runs.push((count, last))?;
+                runs.push((1, t))?;
+            }
+        }
+        None => runs.push((1, t))?,
+    }
+    Ok(())
+}
+
+fn runs_of(alloc: Global, locals: &[ValType]) -> Result<Vec<(u64, ValType)>, AllocError>
+    ensures { IfOk result (λ runs. runs.items ≡ runs_of locals.now) }
+{
+    let mut runs = Vec::new(alloc);
+    for t in locals {
+        add_local(&mut runs, *t)?;
+    }
+    Ok(runs)
+}
+
+/// A run of locals of one type.
+impl Encode for (u64, ValType) {
+    ghost encoding = { canon_run };
+
+    fn put(&self, _alloc: Global, out: &mut Vec<u8>) -> Result<(), AllocError> {
+        let (count, t) = *self;
+        put_number(out, count)?;
+        put_val_type(out, t)
+    }
+}
+
+fn code_of(alloc: Global, func: &Func) -> Result<Vec<u8>, AllocError>
+    ensures { IfOk result (λ v. v.items ≡ canon_code func.now) }
+{
+    let mut out = Vec::new(alloc);
+    let runs = runs_of(alloc, func.locals.as_slice())?;
+    put_vector(alloc, &mut out, &runs)?;
+    put_body(&mut out, &func.body)?;
+    put_opcode(&mut out, END)?;
+    Ok(out)
+}
+
+/// The code of a function.
+impl Encode for Func {
+    ghost encoding = { canon_entry };
+
+    fn put(&self, alloc: Global, out: &mut Vec<u8>) -> Result<(), AllocError> {
+        let part = code_of(alloc, self)?;
+        put_sized(out, &part)
+    }
+}
