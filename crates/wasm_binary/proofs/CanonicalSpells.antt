@@ -21,7 +21,7 @@ use Rattle.wasm_ast.specs.Limits.{max_module_bytes, max_locals, FuncWithin}
 use Rattle.wasm_binary.specs.Numbers as numbers
 use Rattle.wasm_binary.specs.Numbers.{IsUnsigned, IsLastSigned, IsSigned}
 use Rattle.wasm_binary.specs.Opcodes.{end_byte, func_kind_byte, type_section, import_section, function_section, export_section, code_section, preamble}
-use Rattle.wasm_binary.specs.Grammar.{Form, AreItems, IsVector, IsSized, IsName, IsValType, IsFuncType, IsSimple, IsOp, AreOps, IsRun, locals_of, IsCode, IsEntry, kind_byte, IsImport, IsExport, IsSection, indices_of, UpToTypes, UpToImports, UpToFunctions, UpToExports, Spells}
+use Rattle.wasm_binary.specs.Grammar.{Form, AreItems, IsVector, IsSized, IsName, IsValType, IsFuncType, IsSimple, IsOp, AreOps, IsRun, locals_of, AreLocals, IsCode, IsEntry, kind_byte, IsImport, IsExport, IsSection, indices_of, UpToTypes, UpToImports, UpToFunctions, UpToExports, Spells}
 use Rattle.wasm_binary.specs.Canonical.{canon_unsigned, last_signed, is_last_signed, canon_signed, canon_number, canon_vector, canon_sized, canon_name, canon_val_type, canon_func_type, canon_simple, canon_op, canon_ops, runs_of, canon_run, canon_code, canon_entry, canon_import, canon_export, canon_section, canon, FitsLimits, HasSimpleForm, HasForm, HaveForms, HasEncoding}
 use Rattle.wasm_binary.proofs.Powers.{small}
 use Rattle.wasm_binary.proofs.WriteNumbers.{bits_left, not_last, high_bits}
@@ -326,3 +326,14 @@ canon_spells m ranged texts fits has =
           (all_known m.types m.funcs funcs (recursion_from_All (λ f. HaveForms f.body) m.funcs has.bodies) (recursion_from_All (FuncWithin m.types) m.funcs fits.0.funcs)) few.codes;
       calls = has.calls;
     }
+
+-- ---- locals
+
+-- one run, whatever its length
+pub one_run : (n : ℕ) (t : ValType) → n < 2 ^ 32 → AreLocals (0x01 ∷ canon_number n ++ canon_val_type t) (replicate n t) []
+one_run n t lt = (
+  (n, t) ∷ [],
+  (canon_number n ++ canon_val_type t, inl (omega arith, (omega arith, refl), refl), ([], (canon_val_type t, number_spells n (canon_val_type t) lt, refl), refl)),
+  sym (append-nil (replicate n t)),
+  omega (arith, length-replicate n t),
+)

@@ -9,7 +9,7 @@ pub mod ReadComplete
 pub mod ModuleComplete
 pub mod LimitComplete
 pub mod DecodeClauses
-pub mod SpelledRanged
+pub mod SpelledModules
 pub mod WriteNumbers
 pub mod Minimality
 pub mod LocalRuns

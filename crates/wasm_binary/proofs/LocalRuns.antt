@@ -1,10 +1,10 @@
 -- Longest runs of locals, as they are built local by local.
-use Rattle.std.proofs.Common.{◌≡◌, ℕ, ◌+◌, ◌<◌, ◌^◌, Bool, true, false, List, [], ◌∷◌, ◌++◌, length, take, replicate, fold, refl, sym, ap, ◌∙◌, append_assoc, cond, arith}
+use Rattle.std.proofs.Common.{◌≡◌, ℕ, zero, suc, ◌+◌, ◌<◌, ◌^◌, Bool, true, false, List, [], ◌∷◌, ◌++◌, length, take, replicate, fold, refl, sym, ap, ◌∙◌, append_assoc, cond, arith}
 use Rattle.std.proofs.lemmas.List.{append-nil, replicate_more, length-take}
 use Rattle.wasm_ast.specs.declared.values.ValType.{ValType}
 use Rattle.wasm_ast.specs.declared.values.ValType.TheVariants.{I32, I64}
 use Rattle.wasm_binary.specs.Grammar.{locals_of}
-use Rattle.wasm_binary.specs.Canonical.{same_type, add_local, runs_of}
+use Rattle.wasm_binary.specs.Canonical.{same_type, add_local, AreLongest, runs_of}
 
 abbrev Run : Type 0
 Run = ℕ × ValType
@@ -50,3 +50,55 @@ locals_runs ts = locals_fold [] ts
 
 pub few_before : (ts : List ValType) (runs : List Run) (i : ℕ) → runs ≡ runs_of (take i ts) → i < length ts → length ts < 2 ^ 64 → length (locals_of runs) + 1 < 2 ^ 64
 few_before ts runs i e lt small = omega (arith, ap (λ (rs : List Run). length (locals_of rs)) e, ap length (locals_runs (take i ts)), length-take i ts)
+
+-- ---- the only longest runs
+
+same_self : (t : ValType) → same_type t t ≡ true
+same_self I32 = refl
+same_self I64 = refl
+
+other_type : (u t : ValType) (b : Bool) → same_type u t ≡ b → (u ≡ t → ⊥) → same_type u t ≡ false
+other_type u t true e differs = absurd (differs (same_is u t e))
+other_type u t false e differs = e
+
+-- locals of the last run's type make it longer
+run_grows : (front : List Run) (k n : ℕ) (t : ValType) (ts : List ValType) → fold add_local (front ++ (k, t) ∷ []) (replicate n t ++ ts) ≡ fold add_local (front ++ (k + n, t) ∷ []) ts
+run_grows front k zero t ts = let e : k ≡ k + 0 = omega arith in ap (λ (m : ℕ). fold add_local (front ++ (m, t) ∷ []) ts) e
+run_grows front k (suc n) t ts =
+    let one : add_local ((k, t) ∷ []) t ≡ (k + 1, t) ∷ [] = rw (same_self t) refl in
+    let grown : add_local (front ++ (k, t) ∷ []) t ≡ front ++ (k + 1, t) ∷ [] = add_at front (k, t) t ∙ ap (λ (xs : List Run). front ++ xs) one in
+    let more : (k + 1) + n ≡ k + suc n = omega arith in
+    ap (λ (xs : List Run). fold add_local xs (replicate n t ++ ts)) grown ∙ run_grows front (k + 1) n t ts ∙ ap (λ (m : ℕ). fold add_local (front ++ (m, t) ∷ []) ts) more
+
+-- a local of another type begins a run
+run_begins : (front : List Run) (run : Run) (n : ℕ) (t : ValType) (ts : List ValType) → (run.1 ≡ t → ⊥) → 0 < n
+    → fold add_local (front ++ run ∷ []) (replicate n t ++ ts) ≡ fold add_local ((front ++ run ∷ []) ++ (n, t) ∷ []) ts
+run_begins front run zero t ts differs some = absurd (omega arith)
+run_begins front run (suc n) t ts differs some =
+    let one : add_local (run ∷ []) t ≡ run ∷ (1, t) ∷ [] = rw (other_type run.1 t (same_type run.1 t) refl differs) refl in
+    let begun : add_local (front ++ run ∷ []) t ≡ (front ++ run ∷ []) ++ (1, t) ∷ [] =
+    add_at front run t ∙ ap (λ (xs : List Run). front ++ xs) one ∙ sym (append_assoc front (run ∷ []) ((1, t) ∷ [])) in
+    let count : 1 + n ≡ suc n = omega arith in
+    ap (λ (xs : List Run). fold add_local xs (replicate n t ++ ts)) begun ∙ run_grows (front ++ run ∷ []) 1 n t ts
+    ∙ ap (λ (m : ℕ). fold add_local ((front ++ run ∷ []) ++ (m, t) ∷ []) ts) count
+
+runs_follow : (front : List Run) (run : Run) (runs : List Run) → AreLongest (run ∷ runs) → fold add_local (front ++ run ∷ []) (locals_of runs) ≡ front ++ run ∷ runs
+runs_follow front run [] h = refl
+runs_follow front run (r ∷ []) h =
+    run_begins front run r.0 r.1 [] h.1 h.2 ∙ append_assoc front (run ∷ []) (r ∷ [])
+runs_follow front run (r ∷ s ∷ rs) h =
+    run_begins front run r.0 r.1 (locals_of (s ∷ rs)) h.1 h.2.0 ∙ runs_follow (front ++ run ∷ []) r (s ∷ rs) h.2 ∙ append_assoc front (run ∷ []) (r ∷ s ∷ rs)
+
+some_run : (run : Run) (runs : List Run) → AreLongest (run ∷ runs) → 0 < run.0
+some_run run [] h = h
+some_run run (r ∷ rs) h = h.0
+
+run_first : (n : ℕ) (t : ValType) (ts : List ValType) → 0 < n → fold add_local [] (replicate n t ++ ts) ≡ fold add_local ((n, t) ∷ []) ts
+run_first zero t ts some = absurd (omega arith)
+run_first (suc n) t ts some =
+    let count : 1 + n ≡ suc n = omega arith in
+    run_grows [] 1 n t ts ∙ ap (λ (m : ℕ). fold add_local ((m, t) ∷ []) ts) count
+
+pub only_runs : (runs : List Run) → AreLongest runs → runs_of (locals_of runs) ≡ runs
+only_runs [] h = refl
+only_runs (run ∷ runs) h = run_first run.0 run.1 (locals_of runs) (some_run run runs h) ∙ runs_follow [] run runs h

@@ -5,7 +5,7 @@ use Rattle.wasm_binary.specs.declared.fault.Fault.TheVariants as fault
 use Rattle.wasm_binary.specs.declared.fault.ReadError.{ReadError}
 use Rattle.wasm_binary.specs.Inside.Reading.{read_module}
 use Rattle.wasm_binary.proofs.DecodeClauses.{by_fault, decoded, passes, not_spelled, none_within, one_module, no_preamble, bad_preamble, too_long}
-use Rattle.wasm_binary.proofs.SpelledRanged.{spelled_ranged}
+use Rattle.wasm_binary.proofs.SpelledModules.{spelled_ranged}
 use Rattle.wasm_binary.proofs.LimitComplete.{read_over}
 use Rattle.wasm_binary.proofs.decode.Goals as goal
 

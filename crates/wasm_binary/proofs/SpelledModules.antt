@@ -1,5 +1,6 @@
--- The numbers of what is encoded are in range.
-use Rattle.std.proofs.Common.{ℕ, ◌-◌, ◌^◌, ◌<◌, List, [], ◌∷◌, sym, subst, arith, inl, inr}
+-- What is known of a module that bytes encode: its numbers are in range, and its instructions have encodings.
+use Rattle.std.proofs.Common.{length, ℕ, ◌-◌, ◌^◌, ◌<◌, List, [], ◌∷◌, sym, subst, arith, inl, inr}
+use Rattle.std.specs.Prelude.{All}
 use Rattle.std.specs.List.{AllByRecursion}
 use Rattle.std.proofs.lemmas.List.Elements.{All-from_recursion}
 use Rattle.wasm_ast.specs.declared.module.Func.{Func}
@@ -13,6 +14,7 @@ use Rattle.wasm_binary.specs.Numbers as numbers
 use Rattle.wasm_binary.specs.Numbers.{IsUnsigned, IsLastSigned, IsSigned}
 use Rattle.wasm_binary.specs.Opcodes.{end_byte, import_section, function_section, export_section, code_section}
 use Rattle.wasm_binary.specs.Grammar.{Form, AreItems, IsSimple, IsOp, AreOps, IsEntry, IsImport, IsExport, IsSection, indices_of, UpToImports, UpToFunctions, UpToExports, Spells}
+use Rattle.wasm_binary.specs.Canonical.{HasSimpleForm, HasForm, HaveForms, HasEncoding}
 use Rattle.wasm_binary.proofs.Powers.{fits}
 
 unsigned_below : (bits : ℕ) (bytes : List ℕ) (n : ℕ) (rest : List ℕ) → IsUnsigned bits bytes n rest → n < 2 ^ bits
@@ -71,3 +73,31 @@ spelled_ranged bytes m s =
           (section_all code_section IsEntry (λ f. RangedOps f.body) (λ f part rest h. ops_below f.body h.4.0 (end_byte ∷ []) h.4.2) m.funcs s.from_codes [] s.codes));
       exports = All-from_recursion RangedExport m.exports (section_all export_section IsExport RangedExport (λ e part rest h. unsigned_below 32 h.1 e.index rest h.4) m.exports e.from_exports s.from_codes e.exports);
     }
+
+-- fewer than 2^32 locals
+pub spelled_locals : (bytes : List ℕ) (m : Module) → Spells bytes m → All (λ f. length f.locals < 2 ^ 32) m.funcs
+spelled_locals bytes m s = All-from_recursion (λ f. length f.locals < 2 ^ 32) m.funcs (section_all code_section IsEntry (λ f. length f.locals < 2 ^ 32) (λ f part rest h. h.4.1.3) m.funcs s.from_codes [] s.codes)
+
+simple_form : (s : Simple) (bytes rest : List ℕ) → IsSimple bytes s rest → HasSimpleForm s
+simple_form (Const (I32 n)) bytes rest h = tt
+simple_form (Const (I64 n)) bytes rest h = absurd h
+simple_form Drop bytes rest h = tt
+simple_form (Br label) bytes rest h = absurd h
+simple_form Return bytes rest h = absurd h
+simple_form (Call f) bytes rest h = tt
+
+op_form : (o : Op) (bytes rest : List ℕ) → IsOp bytes o rest → HasForm o
+op_form (simple s) bytes rest h = simple_form s bytes rest h
+op_form (block type body) bytes rest h = absurd h
+op_form (loop type body) bytes rest h = absurd h
+op_form (if' type then_arm else_arm) bytes rest h = absurd h
+
+ops_form : (os : Ops) (bytes rest : List ℕ) → AreOps bytes os rest → HaveForms os
+ops_form stop bytes rest h = tt
+ops_form (next o os) bytes rest h = (op_form o bytes h.0 h.1, ops_form os h.0 rest h.2)
+
+pub spelled_has_encoding : (bytes : List ℕ) (m : Module) → Spells bytes m → HasEncoding m
+spelled_has_encoding bytes m s = record {
+  bodies = All-from_recursion (λ f. HaveForms f.body) m.funcs (section_all code_section IsEntry (λ f. HaveForms f.body) (λ f part rest h. ops_form f.body h.4.0 (end_byte ∷ []) h.4.2) m.funcs s.from_codes [] s.codes);
+  calls = s.calls;
+}
