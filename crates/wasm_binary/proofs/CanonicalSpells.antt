@@ -88,22 +88,22 @@ sized_spells IsX part x rest few h = (part, part ++ rest, number_then (length pa
 name_spells : (bytes rest : List ℕ) → length (canon_name bytes) ≤ max_module_bytes → IsUtf8 bytes → IsName (canon_name bytes ++ rest) bytes rest
 name_spells bytes rest few h = (bytes ++ rest, number_then (length bytes) bytes rest (omega (arith, length-append (canon_number (length bytes)) bytes)), refl, h)
 
-items_spells : {X : Type 0} (IsX : Form X) (spelling : X → List ℕ) (P : X → Type 0) → ((x : X) (rest : List ℕ) → P x → length (spelling x) ≤ max_module_bytes → IsX (spelling x ++ rest) x rest)
-    → (xs : List X) (rest : List ℕ) → AllByRecursion P xs → length (flat_map spelling xs) ≤ max_module_bytes → AreItems IsX (flat_map spelling xs ++ rest) xs rest
-items_spells IsX spelling P each [] rest all few = refl
-items_spells IsX spelling P each (x ∷ xs) rest all few =
-    let k = length-append (spelling x) (flat_map spelling xs) in
-    (flat_map spelling xs ++ rest, rw append_assoc (each x (flat_map spelling xs ++ rest) all.0 (omega arith)), items_spells IsX spelling P each xs rest all.1 (omega arith))
+items_spells : {X : Type 0} (IsX : Form X) (encoding : X → List ℕ) (P : X → Type 0) → ((x : X) (rest : List ℕ) → P x → length (encoding x) ≤ max_module_bytes → IsX (encoding x ++ rest) x rest)
+    → (xs : List X) (rest : List ℕ) → AllByRecursion P xs → length (flat_map encoding xs) ≤ max_module_bytes → AreItems IsX (flat_map encoding xs ++ rest) xs rest
+items_spells IsX encoding P each [] rest all few = refl
+items_spells IsX encoding P each (x ∷ xs) rest all few =
+    let k = length-append (encoding x) (flat_map encoding xs) in
+    (flat_map encoding xs ++ rest, rw append_assoc (each x (flat_map encoding xs ++ rest) all.0 (omega arith)), items_spells IsX encoding P each xs rest all.1 (omega arith))
 
-items_some : {X : Type 0} (spelling : X → List ℕ) → ((x : X) → 0 < length (spelling x)) → (xs : List X) → length xs ≤ length (flat_map spelling xs)
-items_some spelling some [] = omega arith
-items_some spelling some (x ∷ xs) = omega (arith, some x, items_some spelling some xs, length-append (spelling x) (flat_map spelling xs))
+items_some : {X : Type 0} (encoding : X → List ℕ) → ((x : X) → 0 < length (encoding x)) → (xs : List X) → length xs ≤ length (flat_map encoding xs)
+items_some encoding some [] = omega arith
+items_some encoding some (x ∷ xs) = omega (arith, some x, items_some encoding some xs, length-append (encoding x) (flat_map encoding xs))
 
-vector_spells : {X : Type 0} (IsX : Form X) (spelling : X → List ℕ) (P : X → Type 0) → ((x : X) (rest : List ℕ) → P x → length (spelling x) ≤ max_module_bytes → IsX (spelling x ++ rest) x rest) → ((x : X) → 0 < length (spelling x))
-    → (xs : List X) (rest : List ℕ) → AllByRecursion P xs → length (canon_vector spelling xs) ≤ max_module_bytes → IsVector IsX (canon_vector spelling xs ++ rest) xs rest
-vector_spells IsX spelling P each some xs rest all few =
-    let k = length-append (canon_number (length xs)) (flat_map spelling xs) in
-    (flat_map spelling xs ++ rest, number_then (length xs) (flat_map spelling xs) rest (omega (arith, items_some spelling some xs)), items_spells IsX spelling P each xs rest all (omega arith))
+vector_spells : {X : Type 0} (IsX : Form X) (encoding : X → List ℕ) (P : X → Type 0) → ((x : X) (rest : List ℕ) → P x → length (encoding x) ≤ max_module_bytes → IsX (encoding x ++ rest) x rest) → ((x : X) → 0 < length (encoding x))
+    → (xs : List X) (rest : List ℕ) → AllByRecursion P xs → length (canon_vector encoding xs) ≤ max_module_bytes → IsVector IsX (canon_vector encoding xs ++ rest) xs rest
+vector_spells IsX encoding P each some xs rest all few =
+    let k = length-append (canon_number (length xs)) (flat_map encoding xs) in
+    (flat_map encoding xs ++ rest, number_then (length xs) (flat_map encoding xs) rest (omega (arith, items_some encoding some xs)), items_spells IsX encoding P each xs rest all (omega arith))
 
 -- ---- types
 
@@ -242,17 +242,17 @@ all_both P Q (x ∷ xs) a b = ((a.0, b.0), all_both P Q xs a.1 b.1)
 
 -- ---- sections and modules
 
-section_spells : {X : Type 0} (id : ℕ) (IsX : Form X) (spelling : X → List ℕ) (P : X → Type 0) → ((x : X) (rest : List ℕ) → P x → length (spelling x) ≤ max_module_bytes → IsX (spelling x ++ rest) x rest) → ((x : X) → 0 < length (spelling x))
-    → (xs : List X) (rest : List ℕ) → AllByRecursion P xs → length (canon_section id spelling xs) ≤ max_module_bytes → IsSection id IsX (canon_section id spelling xs ++ rest) xs rest
-section_spells id IsX spelling P each some [] rest all few = inr (refl, refl)
-section_spells id IsX spelling P each some (x ∷ xs) rest all few =
-    let k = length-append (canon_number (length (canon_vector spelling (x ∷ xs)))) (canon_vector spelling (x ∷ xs)) in
+section_spells : {X : Type 0} (id : ℕ) (IsX : Form X) (encoding : X → List ℕ) (P : X → Type 0) → ((x : X) (rest : List ℕ) → P x → length (encoding x) ≤ max_module_bytes → IsX (encoding x ++ rest) x rest) → ((x : X) → 0 < length (encoding x))
+    → (xs : List X) (rest : List ℕ) → AllByRecursion P xs → length (canon_section id encoding xs) ≤ max_module_bytes → IsSection id IsX (canon_section id encoding xs ++ rest) xs rest
+section_spells id IsX encoding P each some [] rest all few = inr (refl, refl)
+section_spells id IsX encoding P each some (x ∷ xs) rest all few =
+    let k = length-append (canon_number (length (canon_vector encoding (x ∷ xs)))) (canon_vector encoding (x ∷ xs)) in
     inl (
-      canon_sized (canon_vector spelling (x ∷ xs)) ++ rest,
+      canon_sized (canon_vector encoding (x ∷ xs)) ++ rest,
       rest,
       refl,
-      sized_spells (IsVector IsX) (canon_vector spelling (x ∷ xs)) (x ∷ xs) rest (omega arith)
-          (subst (λ bytes. IsVector IsX bytes (x ∷ xs) []) (append-nil (canon_vector spelling (x ∷ xs))) (vector_spells IsX spelling P each some (x ∷ xs) [] all (omega arith))),
+      sized_spells (IsVector IsX) (canon_vector encoding (x ∷ xs)) (x ∷ xs) rest (omega arith)
+          (subst (λ bytes. IsVector IsX bytes (x ∷ xs) []) (append-nil (canon_vector encoding (x ∷ xs))) (vector_spells IsX encoding P each some (x ∷ xs) [] all (omega arith))),
       ([], refl),
     )
 

@@ -25,25 +25,25 @@ or_else d (Err e) = d
 pub by_fault : {X : Type 0} (e : ReadError) (f g : Fault) (r : Result X Fault) → e ≡ errors.Fault f → f ≡ g → Fails e r → r ≡ Err g
 by_fault {X} e f g r p q h = subst (λ k. r ≡ Err k) q (subst (λ d. Fails d r) p h)
 
-told_by : {X : Type 0} (P : X → Type 0) (Q : Type 0) (r s : Result X Fault) → Sound P Q r → r ≡ s → SoundAnswer P Q s
-told_by P Q r s h e = subst (SoundAnswer P Q) e h.sound
+sound_by : {X : Type 0} (P : X → Type 0) (Q : Type 0) (r s : Result X Fault) → Sound P Q r → r ≡ s → SoundAnswer P Q s
+sound_by P Q r s h e = subst (SoundAnswer P Q) e h.sound
 
-came_by : {X : Type 0} (W : Type 0) (x : X) (r s : Result X Fault) → Complete W x r → r ≡ s → CompleteAnswer W x s
-came_by W x r s h e = subst (CompleteAnswer W x) e h.complete
+complete_by : {X : Type 0} (W : Type 0) (x : X) (r s : Result X Fault) → Complete W x r → r ≡ s → CompleteAnswer W x s
+complete_by W x r s h e = subst (CompleteAnswer W x) e h.complete
 
 pub decoded : (bytes : List ℕ) (m : Module) → read_module true bytes ≡ Ok m → Spells bytes m × Within m × (length bytes ≤ max_module_bytes)
-decoded bytes m e = told_by (λ n. Spells bytes n × Within n × (length bytes ≤ max_module_bytes)) (Over bytes) (read_module true bytes) (Ok m) (read_sound bytes) e
+decoded bytes m e = sound_by (λ n. Spells bytes n × Within n × (length bytes ≤ max_module_bytes)) (Over bytes) (read_module true bytes) (Ok m) (read_sound bytes) e
 
 pub passes : (bytes : List ℕ) → read_module true bytes ≡ Err fault.Over → Over bytes
-passes bytes e = told_by (λ n. Spells bytes n × Within n × (length bytes ≤ max_module_bytes)) (Over bytes) (read_module true bytes) (Err fault.Over) (read_sound bytes) e
+passes bytes e = sound_by (λ n. Spells bytes n × Within n × (length bytes ≤ max_module_bytes)) (Over bytes) (read_module true bytes) (Err fault.Over) (read_sound bytes) e
 
 pub not_spelled : (bytes : List ℕ) → read_module true bytes ≡ Err fault.Bad → (m : Module) → Spells bytes m → ⊥
-not_spelled bytes e m s = came_by (true ≡ true → Within m × (length bytes ≤ max_module_bytes)) m (read_module true bytes) (Err fault.Bad) (read_complete true bytes m s) e
+not_spelled bytes e m s = complete_by (true ≡ true → Within m × (length bytes ≤ max_module_bytes)) m (read_module true bytes) (Err fault.Bad) (read_complete true bytes m s) e
 
 pub none_within : (bytes : List ℕ) → read_module true bytes ≡ Err fault.Over → (m : Module) → Spells bytes m → Within m → length bytes ≤ max_module_bytes → ⊥
-none_within bytes e m s w few = came_by (true ≡ true → Within m × (length bytes ≤ max_module_bytes)) m (read_module true bytes) (Err fault.Over) (read_complete true bytes m s) e (λ _. (w, few))
+none_within bytes e m s w few = complete_by (true ≡ true → Within m × (length bytes ≤ max_module_bytes)) m (read_module true bytes) (Err fault.Over) (read_complete true bytes m s) e (λ _. (w, few))
 
--- without limits every module that is spelled is read
+-- without limits every module that is encoded is read
 unlimited_read : (bytes : List ℕ) (m : Module) (r : Result Module Fault) → CompleteAnswer (false ≡ true → Within m × (length bytes ≤ max_module_bytes)) m r → r ≡ Ok m
 unlimited_read bytes m (Ok n) h = ap (λ (x : Module). Ok x) h
 unlimited_read bytes m (Err fault.Bad) h = absurd h

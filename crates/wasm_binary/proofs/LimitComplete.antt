@@ -37,7 +37,7 @@ over_first r f h = rw h refl
 
 -- ---- locals and code
 
--- a run skip_exact which a limit is passed
+-- a run after which a limit is passed
 run_over : (before k : ℕ) (run : ℕ × ValType) (mid after : List ℕ) (b : Bool) → IsValType mid run.1 after → IsOver (read_runs true (before + run.0) k after)
     → IsOver {X = List ValType × List ℕ} (cond b (Err Over) (read_val_type mid >>= λ t. read_runs true (before + run.0) k t.1 >>= λ others. Ok (replicate run.0 t.0 ++ others.0, others.1)))
 run_over before k run mid after true t h = refl

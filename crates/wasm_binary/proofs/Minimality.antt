@@ -70,7 +70,7 @@ longest_case : (r : ℕ × ValType) (t : ValType) (b : Bool) → same_type r.1 t
 longest_case r t true e pos = omega arith
 longest_case r t false e pos = (pos, differs r.1 t e, omega arith)
 
--- skip_exact a run of another type than the first of those to which a local is added
+-- after a run of another type than the first of those to which a local is added
 longest_after : (q r : ℕ × ValType) (t : ValType) (b : Bool) → same_type r.1 t ≡ b → 0 < q.0 → (q.1 ≡ r.1 → ⊥) → 0 < r.0 → AreLongest (q ∷ cond b ((r.0 + 1, r.1) ∷ []) (r ∷ (1, t) ∷ []))
 longest_after q r t true e pos other some = (pos, other, omega arith)
 longest_after q r t false e pos other some = (pos, other, (some, differs r.1 t e, omega arith))

@@ -97,7 +97,7 @@ pub u32_complete : (bytes : List ℕ) (n : ℕ) (rest : List ℕ) → IsU32 byte
 unfolding read_u32
 u32_complete bytes n rest h = unsigned_complete 32 bytes n rest h
 
--- a spelling takes a byte at least
+-- an encoding takes a byte at least
 unsigned_takes : (bits : ℕ) (bytes : List ℕ) (n : ℕ) (rest : List ℕ) → IsUnsigned bits bytes n rest → length rest < length bytes
 unsigned_takes bits [] n rest h = absurd h
 unsigned_takes bits (b ∷ bs) n rest (inl h) = omega (arith, ap length h.2)
@@ -119,9 +119,9 @@ part_complete part rest =
     complete_second _ (le-ltb (length (part ++ rest)) (length part) (omega (arith, length-append part rest)))
     (complete_ok (λ i. (take_at part rest (length part) refl i, drop_at part rest (length part) refl i)))
 
-behind_complete : (part rest : List ℕ) → Complete Always rest (skip_exact (length part) [] (part ++ rest))
+exact_complete : (part rest : List ℕ) → Complete Always rest (skip_exact (length part) [] (part ++ rest))
 unfolding skip_exact
-behind_complete part rest =
+exact_complete part rest =
     complete_need refl (complete_second _ (le-ltb (length (part ++ rest)) (length part) (omega (arith, length-append part rest)))
     (complete_ok (drop_at part rest (length part) refl)))
 
@@ -130,7 +130,7 @@ pub sized_complete : {X : Type 0} (IsX : Form X) (W : Type 0) (read : List ℕ �
 unfolding read_sized
 sized_complete IsX W read x each bytes rest h =
     complete_then _ (u32_complete bytes (length h.0) h.1 h.2)
-    (rw (h.3, take_at h.0 rest (length h.0) refl) (complete_then _ (each h.0 h.4) (complete_then _ (behind_complete h.0 rest) (complete_ok refl) always) (λ w. w))) always
+    (rw (h.3, take_at h.0 rest (length h.0) refl) (complete_then _ (each h.0 h.4) (complete_then _ (exact_complete h.0 rest) (complete_ok refl) always) (λ w. w))) always
 
 pub items_complete : {X : Type 0} (IsX : Form X) (read : List ℕ → Read X) → ((x : X) (part rest : List ℕ) → IsX part x rest → Complete Always (x, rest) (read part))
     → (xs : List X) (bytes rest : List ℕ) → AreItems IsX bytes xs rest → Complete Always (xs, rest) (read_items read (length xs) bytes)

@@ -7,7 +7,7 @@ use Rattle.wasm_ast.specs.declared.values.FuncType.{FuncType}
 use Rattle.wasm_ast.specs.declared.module.Func.{Func}
 use Rattle.wasm_ast.specs.declared.instr.Simple.{Simple}
 use Rattle.wasm_ast.specs.Syntax.{Op, simple}
-use Rattle.wasm_ast.specs.Limits.{params_of}
+use Rattle.wasm_ast.specs.Limits.{max_locals, params_of}
 use Rattle.wasm_binary.specs.declared.fault.Fault.{Fault}
 use Rattle.wasm_binary.specs.declared.fault.Fault.TheVariants.{Bad, Over}
 use Rattle.wasm_binary.specs.declared.fault.ReadError.{ReadError}
@@ -58,13 +58,13 @@ regroup_run front run (Ok x) = ap (λ (ts : List ValType). Ok (ts, x.1)) (sym (a
 regroup_run front run (Err f) = refl
 
 pub run_goes_on : (front : List ValType) (before count i : ℕ) (bytes : List ℕ) (n : ℕ) (mid : List ℕ) (t : ValType) (after : List ℕ) (total : Read (List ValType)) → i < count
-    → read_u32 bytes ≡ Ok (n, mid) → before + n ≤ 1024 → read_val_type mid ≡ Ok (t, after)
+    → read_u32 bytes ≡ Ok (n, mid) → before + n ≤ max_locals → read_val_type mid ≡ Ok (t, after)
     → with_front front (read_runs true before (count - i) bytes) ≡ total → with_front (front ++ replicate n t) (read_runs true (before + n) (count - (i + 1)) after) ≡ total
 unfolding read_runs
 run_goes_on front before count i bytes n mid t after total lt a fits b so_far =
     let k : count - i ≡ suc (count - (i + 1)) = omega arith in
     let one : with_front front (read_runs true before (count - i) bytes) ≡ with_front (front ++ replicate n t) (read_runs true (before + n) (count - (i + 1)) after) =
-    rw (k, a, le-ltb 1024 (before + n) fits, b) (regroup_run front (replicate n t) (read_runs true (before + n) (count - (i + 1)) after)) in
+    rw (k, a, le-ltb max_locals (before + n) fits, b) (regroup_run front (replicate n t) (read_runs true (before + n) (count - (i + 1)) after)) in
     sym one ∙ so_far
 
 pub run_count_fails : (e : ReadError) (front : List ValType) (before count i : ℕ) (bytes : List ℕ) (total : Read (List ValType)) → i < count → Fails e (read_u32 bytes)
@@ -77,22 +77,22 @@ run_count_fails (errors.Fault f) front before count i bytes total lt h so_far =
     sym so_far ∙ one
 
 pub run_over : (front : List ValType) (before count i : ℕ) (bytes : List ℕ) (n : ℕ) (mid : List ℕ) (total : Read (List ValType)) → i < count
-    → read_u32 bytes ≡ Ok (n, mid) → 1024 < before + n
+    → read_u32 bytes ≡ Ok (n, mid) → max_locals < before + n
     → with_front front (read_runs true before (count - i) bytes) ≡ total → total ≡ Err Over
 unfolding read_runs
 run_over front before count i bytes n mid total lt a over so_far =
     let k : count - i ≡ suc (count - (i + 1)) = omega arith in
-    let one : with_front front (read_runs true before (count - i) bytes) ≡ Err Over = rw (k, a, lt-ltb 1024 (before + n) over) refl in
+    let one : with_front front (read_runs true before (count - i) bytes) ≡ Err Over = rw (k, a, lt-ltb max_locals (before + n) over) refl in
     sym so_far ∙ one
 
 pub run_type_fails : (e : ReadError) (front : List ValType) (before count i : ℕ) (bytes : List ℕ) (n : ℕ) (mid : List ℕ) (total : Read (List ValType)) → i < count
-    → read_u32 bytes ≡ Ok (n, mid) → before + n ≤ 1024 → Fails e (read_val_type mid)
+    → read_u32 bytes ≡ Ok (n, mid) → before + n ≤ max_locals → Fails e (read_val_type mid)
     → with_front front (read_runs true before (count - i) bytes) ≡ total → Fails e total
 unfolding read_runs
 run_type_fails errors.Memory front before count i bytes n mid total lt a fits h so_far = tt
 run_type_fails (errors.Fault f) front before count i bytes n mid total lt a fits h so_far =
     let k : count - i ≡ suc (count - (i + 1)) = omega arith in
-    let one : with_front front (read_runs true before (count - i) bytes) ≡ Err f = rw (k, a, le-ltb 1024 (before + n) fits, h) refl in
+    let one : with_front front (read_runs true before (count - i) bytes) ≡ Err f = rw (k, a, le-ltb max_locals (before + n) fits, h) refl in
     sym so_far ∙ one
 
 pub runs_done : (front : List ValType) (before count i : ℕ) (bytes : List ℕ) (total : Read (List ValType)) → count ≤ i

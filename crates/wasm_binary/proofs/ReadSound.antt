@@ -115,30 +115,30 @@ part_sound n bytes = sound_if (ltb (length bytes) n)
     (λ lt. sound_bad)
     (λ ge. sound_ok (take n bytes, drop n bytes) (sym (take-append-drop n bytes), length-take-le n bytes (ltb-false (length bytes) n ge)))
 
-behind_sound : (size : ℕ) (left bytes : List ℕ) → Sound (λ rest. (left ≡ []) × (bytes ≡ take size bytes ++ rest) × (length (take size bytes) ≡ size)) ⊥ (skip_exact size left bytes)
+exact_sound : (size : ℕ) (left bytes : List ℕ) → Sound (λ rest. (left ≡ []) × (bytes ≡ take size bytes ++ rest) × (length (take size bytes) ≡ size)) ⊥ (skip_exact size left bytes)
 unfolding skip_exact
-behind_sound size left bytes = sound_need (eqb (length left) 0) (λ e. sound_if (ltb (length bytes) size)
+exact_sound size left bytes = sound_need (eqb (length left) 0) (λ e. sound_if (ltb (length bytes) size)
     (λ lt. sound_bad)
     (λ ge. sound_ok (drop size bytes) (nil_from_length left (eqb-true (length left) 0 e), sym (take-append-drop size bytes), length-take-le size bytes (ltb-false (length bytes) size ge))))
 
 pub sized_sound : {X : Type 0} (IsX : Form X) (Q : List ℕ → Type 0) (read : List ℕ → Read X) → ((part : List ℕ) → Sound (λ x. IsX part x.0 x.1) (Q part) (read part))
     → (bytes : List ℕ) → Sound (λ x. IsSized IsX bytes x.0 x.1) (WithinSize Q bytes) (read_sized read bytes)
 unfolding read_sized
-sized_sound IsX Q read tells bytes = sound_then (u32_sound bytes) (λ n hn. sound_then (tells (take n.0 n.1)) (λ x hx. sound_then (behind_sound n.0 x.1 n.1) (λ rest hr.
+sized_sound IsX Q read each bytes = sound_then (u32_sound bytes) (λ n hn. sound_then (each (take n.0 n.1)) (λ x hx. sound_then (exact_sound n.0 x.1 n.1) (λ rest hr.
     sound_ok (x.0, rest) (take n.0 n.1, n.1, rw hr.2 hn, hr.1, subst (λ left. IsX (take n.0 n.1) x.0 left) hr.0 hx))
     never) (λ q. (n.0, n.1, hn, q))) never
 
 pub items_sound : {X : Type 0} (IsX : Form X) (read : List ℕ → Read X) → ((part : List ℕ) → Sound (λ x. IsX part x.0 x.1) ⊥ (read part))
     → (n : ℕ) (bytes : List ℕ) → Sound (λ x. AreItems IsX bytes x.0 x.1 × (length x.0 ≡ n)) ⊥ (read_items read n bytes)
 unfolding read_items
-items_sound IsX read tells zero bytes = sound_ok ([], bytes) (refl, refl)
-items_sound IsX read tells (suc n) bytes = sound_then (tells bytes) (λ x hx. sound_then (items_sound IsX read tells n x.1) (λ xs hxs.
+items_sound IsX read each zero bytes = sound_ok ([], bytes) (refl, refl)
+items_sound IsX read each (suc n) bytes = sound_then (each bytes) (λ x hx. sound_then (items_sound IsX read each n x.1) (λ xs hxs.
     sound_ok (x.0 ∷ xs.0, xs.1) ((x.1, hx, hxs.0), ap suc hxs.1)) never) never
 
 pub vector_sound : {X : Type 0} (IsX : Form X) (read : List ℕ → Read X) → ((part : List ℕ) → Sound (λ x. IsX part x.0 x.1) ⊥ (read part))
     → (bytes : List ℕ) → Sound (λ x. IsVector IsX bytes x.0 x.1) ⊥ (read_vector read bytes)
 unfolding read_vector
-vector_sound IsX read tells bytes = sound_then (u32_sound bytes) (λ n hn. sound_more (items_sound IsX read tells n.0 n.1) (λ xs hxs.
+vector_sound IsX read each bytes = sound_then (u32_sound bytes) (λ n hn. sound_more (items_sound IsX read each n.0 n.1) (λ xs hxs.
     (n.1, rw hxs.1 hn, hxs.0)) never) never
 
 pub name_sound : (bytes : List ℕ) → Sound (λ x. IsName bytes x.0 x.1) ⊥ (read_name bytes)

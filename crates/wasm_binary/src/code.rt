@@ -20,8 +20,8 @@ fn push_run(items: &mut Vec<ValType>, count: u32, t: ValType) -> Result<(), Allo
     Ok(())
 }
 
-// The locals of this number of runs, with this many parameters before them, and the rest. A count over the
-// limit is refused before its locals take memory.
+// The locals of this number of runs, with this many parameters before them, and the rest. A count
+// over the limit is refused before its locals take memory.
 fn read_runs(
     alloc: Global,
     params: usize,
@@ -104,7 +104,8 @@ fn read_entry<'a>(
     bytes: &'a [u8],
 ) -> Result<(Func, &'a [u8]), ReadError>
     ensures { Gives (λ x. (x.0, x.1.now)) result
-        (read_sized (read_code true import_count (params_of types.now type_index) type_index) bytes.now) }
+        (read_sized (read_code true import_count (params_of types.now type_index) type_index)
+        bytes.now) }
 {
     let (size, rest) = read_u32(bytes)?;
     let params = params_of(types, type_index);

@@ -39,13 +39,14 @@ pub fn locals_have_encodings()
         → AreLocals (0x01 ∷ canon_number n ++ canon_val_type t) (replicate n t) [] }
 {}
 
-/// What bytes encode has an encoding, in the sense of the premise of `encode` and `canonical_spells`.
+/// What bytes encode has an encoding, in the sense of the premise of `encode` and
+/// `canonical_spells`.
 pub fn spells_has_encoding()
     ensures { (bytes : List ℕ) (m : Module) → Spells bytes m → HasEncoding m }
 {}
 
-/// The canonical encoding of a module that fits encodes it. So what `encode` gives, `decode` reads as that
-/// module.
+/// The canonical encoding of a module that fits encodes it. So what `encode` gives, `decode` reads
+/// as that module.
 pub fn canonical_spells()
     ensures { (m : Module) → Ranged m → AreTexts m → FitsLimits m → HasEncoding m
         → Spells (canon m) m }
@@ -59,16 +60,17 @@ pub fn canonical_numbers_are_shortest()
         → length (canon_signed 4 32 n) + length rest ≤ length bytes }
 {}
 
-/// Canonical runs have the same locals, none is empty, and no two of one type are next to each other. No
-/// other runs are like that.
+/// Canonical runs have the same locals, none is empty, and no two of one type are next to each
+/// other. No other runs are like that.
 pub fn canonical_runs_are_longest()
     ensures same { (locals : List ValType) → locals_of (runs_of locals) ≡ locals }
     ensures longest { (locals : List ValType) → AreLongest (runs_of locals) }
     ensures only { (runs : List (ℕ × ValType)) → AreLongest runs → runs_of (locals_of runs) ≡ runs }
 {}
 
-/// Instructions that the decoder does not read yet, as the Standard writes them (5.4): -1 as an i64, `br 300`
-/// in a block, `return` in a loop with a result, and an `if` with one arm and with two.
+/// Instructions that the decoder does not read yet, as the Standard writes them (5.4): -1 as an
+/// i64, `br 300` in a block, `return` in a loop with a result, and an `if` with one arm and with
+/// two.
 #[tactic(auto, unfolding(crate::specs::Canonical::canon_unsigned, crate::specs::Canonical::canon_signed))]
 pub fn canonical_instructions()
     ensures long { canon_op (simple (Const (Value.I64 18446744073709551615))) ≡ 0x42 ∷ 0x7F ∷ [] }

@@ -31,22 +31,24 @@ use fault::{Fault, ReadError};
 
 /// The module that the bytes encode (5.5.15), in memory of its own.
 ///
-/// `Limit` if there are more than 262,144 bytes, or if their front reaches a number or a sum over a limit;
-/// then they encode no module within the limits. Else `BadModule` if they encode none. So the first fault
-/// from the front is answered. `NoMemory` may take the place of any answer if memory runs out, but for bytes
-/// that are too many or have no preamble.
+/// `Limit` if there are more than 262,144 bytes, or if their front reaches a number or a sum over a
+/// limit; then they encode no module within the limits. Else `BadModule` if they encode none. So
+/// the first fault from the front is answered. `NoMemory` may take the place of any answer if
+/// memory runs out, but for bytes that are too many or have no preamble.
 pub fn decode(alloc: Global, bytes: &[u8]) -> Result<Module, Refusal>
     ensures spelled { IfOk result (λ m. Spells bytes.now m) }
     ensures ranged { IfOk result (λ m. Ranged m) }
     ensures within { IfOk result (λ m. Within m × (length bytes.now ≤ max_module_bytes)) }
     // What is encoded within the limits is read, unless memory runs out.
-    ensures read { (m : Module) → Spells bytes.now m → Within m → length bytes.now ≤ max_module_bytes
+    ensures read { (m : Module) → Spells bytes.now m → Within m
+        → length bytes.now ≤ max_module_bytes
         → (result ≡ Ok m) ⊎ (result ≡ Err Refusal.NoMemory) }
     ensures bad { result ≡ Err Refusal.BadModule → (m : Module) → Spells bytes.now m → ⊥ }
     ensures no_preamble { length bytes.now ≤ max_module_bytes
         → ((rest : List ℕ) → bytes.now ≢ preamble ++ rest) → result ≡ Err Refusal.BadModule }
     ensures over { result ≡ Err Refusal.Limit → Over bytes.now }
-    ensures limit { Over bytes.now → (result ≡ Err Refusal.Limit) ⊎ (result ≡ Err Refusal.NoMemory) }
+    ensures limit { Over bytes.now
+        → (result ≡ Err Refusal.Limit) ⊎ (result ≡ Err Refusal.NoMemory) }
     ensures too_many { max_module_bytes < length bytes.now → result ≡ Err Refusal.Limit }
     ensures none_within { result ≡ Err Refusal.Limit
         → (m : Module) → Spells bytes.now m → Within m → length bytes.now ≤ max_module_bytes → ⊥ }
@@ -61,11 +63,11 @@ pub fn decode(alloc: Global, bytes: &[u8]) -> Result<Module, Refusal>
     }
 }
 
-/// The canonical encoding of a module: shortest numbers, locals in longest runs of one type, no custom
-/// section, no empty section and no empty else arm.
+/// The canonical encoding of a module: shortest numbers, locals in longest runs of one type, no
+/// custom section, no empty section and no empty else arm (5.1 to 5.5).
 ///
-/// `Limit` if the module is over a limit, or this encoding of it is too long; `NoMemory` if memory runs out,
-/// but for a module that is over a limit.
+/// `Limit` if the module is over a limit, or this encoding of it is too long; `NoMemory` if memory
+/// runs out, but for a module that is over a limit.
 pub fn encode(alloc: Global, module: &Module) -> Result<Vec<u8>, Refusal>
     ensures canonical { IfOk result (λ v. v.items ≡ canon «module».now) }
     // This profile has no encoding of some instructions yet.

@@ -55,7 +55,8 @@ trait Section {
         ensures { Gives (λ x. (x.0.items, x.1.now)) result (reading self.now bytes.now) };
 }
 
-// The section of this id, and what follows it and its custom sections; an empty list if another is next.
+// The section of this id, and what follows it and its custom sections; an empty list if another
+// section is next.
 #[tactic(auto, unfolding(crate::specs::Inside::Reading::read_section, crate::specs::Inside::Reading::read_sized))]
 fn read_section<'a, S: Section>(
     id: u8,
@@ -168,7 +169,8 @@ impl<'s> Section for CodeSection<'s> {
         bytes: &'a [u8],
     ) -> Result<(Vec<Func>, &'a [u8]), ReadError>
         ensures { Gives (λ x. (x.0.items, x.1.now)) result
-            (read_codes true self.now.types.now self.now.import_count self.now.indices.now bytes.now) }
+            (read_codes true self.now.types.now self.now.import_count self.now.indices.now
+            bytes.now) }
     {
         read_codes(alloc, self.types, self.import_count, self.indices, bytes)
     }
@@ -236,7 +238,8 @@ fn read_sections(alloc: Global, bytes: &[u8]) -> Result<Module, ReadError>
     })
 }
 
-/// All of the bytes, as a module. Memory is asked for only after their number and the preamble are right.
+/// All of the bytes, as a module. Memory is asked for only if their number and the preamble are
+/// right.
 #[tactic(auto, unfolding(crate::specs::Inside::Reading::read_module, crate::specs::Inside::Reading::strip_preamble))]
 pub fn read_module(alloc: Global, bytes: &[u8]) -> Result<Module, ReadError>
     ensures value { Gives (λ x. x) result (read_module true bytes.now) }

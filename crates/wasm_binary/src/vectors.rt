@@ -49,7 +49,7 @@ pub fn read_vector<T: Decode + Drop>(
     read_items(alloc, count, rest)
 }
 
-/// A vector whose items are functions or types of functions, and the rest. With this many functions before
+/// A vector of imports or of type indices, and the rest. Together with this many functions before
 /// them they may not be over the limit.
 #[tactic(auto, unfolding(crate::specs::Inside::Reading::read_functions))]
 pub fn read_functions<T: Decode + Drop>(

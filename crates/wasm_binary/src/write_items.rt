@@ -61,8 +61,8 @@ fn last_signed(bits: u32, n: u64) -> u8
     }
 }
 
-/// Puts a signed number at the end, which is given as its two's complement in this many bits and takes one
-/// byte and at most this many more.
+/// Puts a signed number at the end, which is given as its two's complement in this many bits and
+/// takes one byte and at most this many more.
 #[tactic(auto, unfolding(crate::specs::Canonical::canon_signed))]
 pub fn put_signed(out: &mut Vec<u8>, more: u32, bits: u32, n: u64) -> Result<(), AllocError>
     requires { (0 < bits) × (bits ≤ 64) × (bits ≤ 7 * more + 7) × (n < 2 ^ bits) }
