@@ -17,7 +17,7 @@ use Rattle.wasm_binary.specs.declared.fault.Fault.TheVariants.{Bad, Over}
 use Rattle.wasm_binary.specs.Numbers.{IsU32}
 use Rattle.wasm_binary.specs.Opcodes.{import_section, function_section, code_section, preamble}
 use Rattle.wasm_binary.specs.Grammar.{AreItems, IsVector, IsRun, IsValType, locals_of, IsCode, IsEntry, IsFuncType, IsImport, IsExport, indices_of, UpToTypes, UpToImports, UpToExports}
-use Rattle.wasm_binary.specs.Limits.{WithinSize, InSection, InVector, NumberOver, LocalsOver, TooDeep, CodeOver, EntryOver, too_many_bytes, too_many_imports, too_many_functions, too_much_code}
+use Rattle.wasm_binary.specs.Limits.{WithinSize, InSection, InVector, NumberOver, LocalsOver, TooDeep, BlocksOver, EntryOver, too_many_bytes, too_many_imports, too_many_functions, too_many_locals, too_deep}
 use Rattle.wasm_binary.specs.Limits as limits
 use Rattle.wasm_binary.specs.Inside.Reading.{◌>>=◌, Read, read_u32, read_val_type, read_sized, read_vector, read_runs, read_locals, read_code, read_entries, read_section, read_functions, read_codes, read_func_type, read_import, read_export, skip_customs, strip_preamble, read_head, read_sections, read_module}
 use Rattle.wasm_binary.proofs.ReadComplete.{Complete, begins_cons, u32_complete, type_complete, sized_complete}
@@ -76,38 +76,44 @@ not_deep : (more : ℕ) (bytes : List ℕ) → TooDeep (suc more) bytes → ⊥
 unfolding TooDeep
 not_deep more bytes h = h.4
 
-code_over : (imports params index : ℕ) (part : List ℕ) → CodeOver params part → IsOver (read_code true imports params index part)
+-- code of which P holds with its number of parameters is read as over a limit
+abbrev CodeFails : ((params : ℕ) → List ℕ → Type 0) → Type 0
+CodeFails P = (imports params index : ℕ) (part : List ℕ) → P params part → IsOver (read_code true imports params index part)
+
+locals_fail : CodeFails LocalsOver
 unfolding read_code
-code_over imports params index part (inl h) = over_first (read_locals true params part) _ (locals_over params part h)
-code_over imports params index part (inr h) = absurd (not_deep 255 h.1 h.3)
+locals_fail imports params index part h = over_first (read_locals true params part) _ (locals_over params part h)
+
+blocks_fail : CodeFails BlocksOver
+blocks_fail imports params index part h = absurd (not_deep 255 h.1 h.3)
 
 -- a function with another type index
 abbrev at_index : ℕ → Func → Func
 at_index index f = record { type_index = index; locals = f.locals; body = f.body }
 
-entries_over : (types : List FuncType) (imports : ℕ) (fs : List Func) (indices : List ℕ) (index : ℕ) (bytes mid : List ℕ) → AreItems IsEntry bytes fs mid → AllByRecursion (λ f. Reaches imports f.body) fs
-    → slice_get indices (length fs) ≡ Some index → WithinSize (CodeOver (params_of types index)) mid → IsOver (read_entries true types imports indices bytes)
+entries_over : (P : (params : ℕ) → List ℕ → Type 0) → CodeFails P → (types : List FuncType) (imports : ℕ) (fs : List Func) (indices : List ℕ) (index : ℕ) (bytes mid : List ℕ) → AreItems IsEntry bytes fs mid
+    → AllByRecursion (λ f. Reaches imports f.body) fs → slice_get indices (length fs) ≡ Some index → WithinSize (P (params_of types index)) mid → IsOver (read_entries true types imports indices bytes)
 unfolding read_entries
-entries_over types imports fs [] index bytes mid h r at w = absurd cc
-entries_over types imports [] (i ∷ indices) index bytes mid h r at w =
+entries_over P each types imports fs [] index bytes mid h r at w = absurd cc
+entries_over P each types imports [] (i ∷ indices) index bytes mid h r at w =
     let same : i ≡ index = same_Some i index at in
     over_first (read_sized (read_code true imports (params_of types i) i) bytes) _
-    (sized_over (CodeOver (params_of types i)) (read_code true imports (params_of types i) i) (code_over imports (params_of types i) i) bytes
-    (subst (λ b. WithinSize (CodeOver (params_of types i)) b) h (subst (λ j. WithinSize (CodeOver (params_of types j)) mid) (sym same) w)))
-entries_over types imports (f ∷ fs) (i ∷ indices) index bytes mid h r at w =
+    (sized_over (P (params_of types i)) (read_code true imports (params_of types i) i) (each imports (params_of types i) i) bytes
+    (subst (λ b. WithinSize (P (params_of types i)) b) h (subst (λ j. WithinSize (P (params_of types j)) mid) (sym same) w)))
+entries_over P each types imports (f ∷ fs) (i ∷ indices) index bytes mid h r at w =
     over_then (at_index i f, h.0) (read_sized (read_code true imports (params_of types i) i) bytes) _
     (sized_complete IsCode (true ≡ true → params_of types i + length f.locals ≤ max_locals) (read_code true imports (params_of types i) i) (at_index i f)
     (λ part k. code_complete true imports (params_of types i) (at_index i f) part [] k r.0) bytes h.0 h.1)
-    (over_first (read_entries true types imports indices h.0) _ (entries_over types imports fs indices index h.0 mid h.2 r.1 at w))
+    (over_first (read_entries true types imports indices h.0) _ (entries_over P each types imports fs indices index h.0 mid h.2 r.1 at w))
 
-codes_over : (m : Module) (bytes : List ℕ) → InVector IsEntry (EntryOver m) bytes → IsOver (read_codes true m.types (length m.imports) (indices_of m.funcs) bytes)
+codes_over : (P : (params : ℕ) → List ℕ → Type 0) → CodeFails P → (m : Module) (bytes : List ℕ) → InVector IsEntry (EntryOver P m) bytes → IsOver (read_codes true m.types (length m.imports) (indices_of m.funcs) bytes)
 unfolding read_codes
-codes_over m bytes h =
-    let entry : EntryOver m h.0 h.2 h.3 = h.7 in
+codes_over P each m bytes h =
+    let entry : EntryOver P m h.0 h.2 h.3 = h.7 in
     let count : h.0 ≡ length (indices_of m.funcs) = entry.1 ∙ sym (length_indices m.funcs) in
     over_then (h.0, h.1) (read_u32 bytes) _ (u32_complete bytes h.0 h.1 h.4)
     (rw (eq-eqb h.0 (length (indices_of m.funcs)) count)
-    (entries_over m.types (length m.imports) h.2 (indices_of m.funcs) entry.0 h.1 h.3 h.5 (recursion_from_All (λ f. Reaches (length m.imports) f.body) h.2 entry.3) entry.2 entry.4))
+    (entries_over P each m.types (length m.imports) h.2 (indices_of m.funcs) entry.0 h.1 h.3 h.5 (recursion_from_All (λ f. Reaches (length m.imports) f.body) h.2 entry.3) entry.2 entry.4))
 
 -- ---- sections and modules
 
@@ -149,15 +155,16 @@ too_many bytes m rest i h =
     (over_first (read_section 3 (read_functions true (length m.imports) read_u32) rest) _
     (section_over 3 (NumberOver max_functions (length m.imports)) (read_functions true (length m.imports) read_u32) (functions_over (length m.imports) read_u32) rest h))))
 
-code_fails : (bytes : List ℕ) (m : Module) (rest : List ℕ) (e : UpToExports bytes m rest) → InSection code_section (InVector IsEntry (EntryOver m)) rest → IsOver (read_sections true e.before.before.before.sections)
+code_fails : (P : (params : ℕ) → List ℕ → Type 0) → CodeFails P → (bytes : List ℕ) (m : Module) (rest : List ℕ) (e : UpToExports bytes m rest)
+    → InSection code_section (InVector IsEntry (EntryOver P m)) rest → IsOver (read_sections true e.before.before.before.sections)
 unfolding read_sections
-code_fails bytes m rest e h =
-    let above7 : Above 7 rest = in_section_above 10 7 (InVector IsEntry (EntryOver m)) rest h (omega arith) in
+code_fails P each bytes m rest e h =
+    let above7 : Above 7 rest = in_section_above 10 7 (InVector IsEntry (EntryOver P m)) rest h (omega arith) in
     let above3 : Above 3 e.from_exports = section_above 7 3 (IsVector IsExport) e.from_exports m.exports rest e.exports above7 (omega arith) in
     over_then (head_of_module m, e.from_exports) (read_head true e.before.before.before.sections) _ (head_complete true bytes m e.from_exports e.before above3)
     (over_then (m.exports, rest) (read_section 7 (read_vector read_export) e.from_exports) _ (exports_complete m e.from_exports rest e.exports above7)
     (over_first (read_section 10 (read_codes true m.types (length m.imports) (indices_of m.funcs)) rest) _
-    (section_over 10 (InVector IsEntry (EntryOver m)) (read_codes true m.types (length m.imports) (indices_of m.funcs)) (codes_over m) rest h)))
+    (section_over 10 (InVector IsEntry (EntryOver P m)) (read_codes true m.types (length m.imports) (indices_of m.funcs)) (codes_over P each m) rest h)))
 
 -- after the preamble a limit is passed, or before it there are too many bytes
 after_preamble : (bytes sections : List ℕ) → bytes ≡ preamble ++ sections → IsOver (read_sections true sections) → (b : Bool) → IsOver (cond b (Err Over) (strip_preamble bytes >>= λ rest. read_sections true rest))
@@ -170,5 +177,7 @@ read_over bytes (too_many_bytes h) = rw (lt-ltb max_module_bytes (length bytes) 
 read_over bytes (too_many_imports m rest t h) = after_preamble bytes t.sections t.begins (head_fails t.sections (imports_over bytes m rest t h)) (ltb max_module_bytes (length bytes))
 read_over bytes (too_many_functions m rest i h) =
     after_preamble bytes i.before.sections i.before.begins (head_fails i.before.sections (too_many bytes m rest i h)) (ltb max_module_bytes (length bytes))
-read_over bytes (too_much_code m rest e h) =
-    after_preamble bytes e.before.before.before.sections e.before.before.before.begins (code_fails bytes m rest e h) (ltb max_module_bytes (length bytes))
+read_over bytes (too_many_locals m rest e h) =
+    after_preamble bytes e.before.before.before.sections e.before.before.before.begins (code_fails LocalsOver locals_fail bytes m rest e h) (ltb max_module_bytes (length bytes))
+read_over bytes (too_deep m rest e h) =
+    after_preamble bytes e.before.before.before.sections e.before.before.before.begins (code_fails BlocksOver blocks_fail bytes m rest e h) (ltb max_module_bytes (length bytes))

@@ -20,7 +20,7 @@ use Rattle.wasm_binary.specs.declared.fault.Fault.TheVariants.{Over}
 use Rattle.wasm_binary.specs.Numbers.{IsU32}
 use Rattle.wasm_binary.specs.Opcodes.{end_byte, custom_section, type_section, import_section, function_section, export_section, code_section, preamble}
 use Rattle.wasm_binary.specs.Grammar.{Form, AreItems, IsVector, IsRun, locals_of, AreLocals, AreOps, IsCode, IsEntry, IsFuncType, IsImport, IsExport, IsNamed, IsCustom, AreCustom, IsPart, IsSection, indices_of, UpToFunctions, Spells}
-use Rattle.wasm_binary.specs.Limits.{WithinSize, InSection, InVector, NumberOver, LocalsOver, CodeOver, EntryOver, too_many_bytes, too_many_imports, too_many_functions, too_much_code}
+use Rattle.wasm_binary.specs.Limits.{WithinSize, InSection, InVector, NumberOver, LocalsOver, EntryOver, too_many_bytes, too_many_imports, too_many_functions, too_many_locals}
 use Rattle.wasm_binary.specs.Limits as limits
 use Rattle.wasm_binary.specs.Inside.Reading.{Read, read_u32, begins_with, read_vector, read_runs, read_locals, read_code, read_entries, read_custom_name, skip_custom, skip_some_customs, skip_customs, read_section, read_functions, read_codes, read_func_type, read_import, read_export, strip_preamble, Head, read_head, read_sections, read_module}
 use Rattle.wasm_binary.proofs.ReadSound.{Sound, sound_ok, sound_then, sound_more, sound_need, sound_if, never, begins_is, u32_sound, type_sound, sized_sound, items_sound, vector_sound, name_sound, func_type_sound, expression_sound, import_sound, export_sound}
@@ -73,11 +73,11 @@ flat (next (if' type then_arm else_arm) os) bytes rest h = absurd h.1
 abbrev CodeRead : (types : List FuncType) → (imports index : ℕ) → Form Func
 CodeRead types imports index bytes f rest = IsCode bytes f rest × Reaches imports f.body × (f.type_index ≡ index) × FuncWithin types f
 
-code_sound : (types : List FuncType) (imports index : ℕ) (bytes : List ℕ) → Sound (λ x. CodeRead types imports index bytes x.0 x.1) (CodeOver (params_of types index) bytes) (read_code true imports (params_of types index) index bytes)
+code_sound : (types : List FuncType) (imports index : ℕ) (bytes : List ℕ) → Sound (λ x. CodeRead types imports index bytes x.0 x.1) (LocalsOver (params_of types index) bytes) (read_code true imports (params_of types index) index bytes)
 unfolding read_code
 code_sound types imports index bytes = sound_then (locals_sound (params_of types index) bytes) (λ ls hls. sound_then (expression_sound imports ls.1) (λ os hos.
     sound_ok (record { type_index = index; locals = ls.0; body = os.0 }, os.1)
-    ((ls.1, hls.0, hos.0), hos.1, refl, record { locals = hls.1; nesting = let e = flat os.0 ls.1 (end_byte ∷ os.1) hos.0 in omega arith })) never) (λ q. inl q)
+    ((ls.1, hls.0, hos.0), hos.1, refl, record { locals = hls.1; nesting = let e = flat os.0 ls.1 (end_byte ∷ os.1) hos.0 in omega arith })) never) (λ q. q)
 
 abbrev EntriesRead : (types : List FuncType) → (imports : ℕ) → (indices : List ℕ) → Form (List Func)
 EntriesRead types imports indices bytes fs rest =
@@ -86,12 +86,12 @@ EntriesRead types imports indices bytes fs rest =
 abbrev EntriesOver : (types : List FuncType) → (imports : ℕ) → (indices : List ℕ) → List ℕ → Type 0
 EntriesOver types imports indices bytes =
     (funcs : List Func) × (mid : List ℕ) × (index : ℕ) × AreItems IsEntry bytes funcs mid × (slice_get indices (length funcs) ≡ Some index)
-    × AllByRecursion (λ f. Reaches imports f.body) funcs × WithinSize (CodeOver (params_of types index)) mid
+    × AllByRecursion (λ f. Reaches imports f.body) funcs × WithinSize (LocalsOver (params_of types index)) mid
 
 entries_sound : (types : List FuncType) (imports : ℕ) (indices : List ℕ) (bytes : List ℕ) → Sound (λ x. EntriesRead types imports indices bytes x.0 x.1) (EntriesOver types imports indices bytes) (read_entries true types imports indices bytes)
 unfolding read_entries
 entries_sound types imports [] bytes = sound_ok ([], bytes) (refl, tt, refl, tt)
-entries_sound types imports (index ∷ indices) bytes = sound_then (sized_sound (CodeRead types imports index) (CodeOver (params_of types index)) (read_code true imports (params_of types index) index) (code_sound types imports index) bytes)
+entries_sound types imports (index ∷ indices) bytes = sound_then (sized_sound (CodeRead types imports index) (LocalsOver (params_of types index)) (read_code true imports (params_of types index) index) (code_sound types imports index) bytes)
     (λ f hf. sound_then (entries_sound types imports indices f.1)
     (λ fs hfs. sound_ok (f.0 ∷ fs.0, fs.1) ((f.1, (hf.0, hf.1, hf.2, hf.3, hf.4.0), hfs.0), (hf.4.1, hfs.1), (λ i. hf.4.2 i ∷ hfs.2 i), (hf.4.3, hfs.3)))
     (λ q. (f.0 ∷ q.0, q.1, q.2, (f.1, (hf.0, hf.1, hf.2, hf.3, hf.4.0), q.3), q.4, (hf.4.1, q.5), q.6)))
@@ -238,8 +238,8 @@ codes_over bytes h from_exports r exports from_codes e q =
     let some = w.2 in
     let at : slice_get (indices_of funcs) (length some.0) ≡ Some some.2 = subst (λ is. slice_get is (length some.0) ≡ Some some.2) (sym same) some.4 in
     let fewer : length some.0 < length h.indices = bounded h.indices (length some.0) some.2 some.4 in
-    let entry : EntryOver m (length h.indices) some.0 some.1 = (some.2, count, at, All-from_recursion (λ f. Reaches (length h.imports) f.body) some.0 some.5, some.6) in
-    too_much_code m from_codes
+    let entry : EntryOver LocalsOver m (length h.indices) some.0 some.1 = (some.2, count, at, All-from_recursion (λ f. Reaches (length h.imports) f.body) some.0 some.5, some.6) in
+    too_many_locals m from_codes
     (record { from_exports = from_exports; before = up_to_functions bytes h from_exports r funcs exports same; exports = e })
     (q.0, q.1, (q.2.0, q.2.1, q.2.2, (length h.indices, w.0, some.0, some.1, w.1, some.3, fewer, entry)))
 

@@ -59,17 +59,16 @@ TooDeep (suc more) bytes =
     ⊎ ((rest : List ℕ) × (mid ≡ if_byte ∷ rest) × (then_arm : Ops) × (else_arm : List ℕ)
     × AreOps body then_arm (else_byte ∷ else_arm) × TooDeep more else_arm))
 
--- the code of a function with this many parameters
-abbrev pub CodeOver : (params : ℕ) → List ℕ → Type 0
-CodeOver params bytes =
-    LocalsOver params bytes
-    ⊎ ((locals : List ValType) × (mid : List ℕ) × AreLocals bytes locals mid × TooDeep max_nesting mid)
+-- code in which too many blocks are open at once, after its locals
+abbrev pub BlocksOver : (params : ℕ) → List ℕ → Type 0
+BlocksOver params bytes = (locals : List ValType) × (mid : List ℕ) × AreLocals bytes locals mid × TooDeep max_nesting mid
 
--- after whole entries, the code of the next function of m; calls of the whole ones reach imports
-abbrev pub EntryOver : (m : Module) → (count : ℕ) → (funcs : List Func) → List ℕ → Type 0
-EntryOver m count funcs bytes =
+-- after whole entries, the code of the next function of m, which is over so with its number of parameters;
+-- calls in the whole ones reach imports
+abbrev pub EntryOver : (IsCodeOver : (params : ℕ) → List ℕ → Type 0) → (m : Module) → (count : ℕ) → (funcs : List Func) → List ℕ → Type 0
+EntryOver IsCodeOver m count funcs bytes =
     (index : ℕ) × (count ≡ length m.funcs) × (slice_get (indices_of m.funcs) (length funcs) ≡ Some index)
-    × All (λ f. Reaches (length m.imports) f.body) funcs × WithinSize (CodeOver (params_of m.types index)) bytes
+    × All (λ f. Reaches (length m.imports) f.body) funcs × WithinSize (IsCodeOver (params_of m.types index)) bytes
 
 -- ---- bytes that pass a limit
 
@@ -80,6 +79,8 @@ pub data Over (bytes : List ℕ) : Type 0 where
   -- with the imports
   too_many_functions : (m : Module) (rest : List ℕ) → UpToImports bytes m rest
       → InSection function_section (NumberOver max_functions (length m.imports)) rest → Over bytes
-  -- locals or open blocks
-  too_much_code : (m : Module) (rest : List ℕ) → UpToExports bytes m rest
-      → InSection code_section (InVector IsEntry (EntryOver m)) rest → Over bytes
+  -- with the parameters
+  too_many_locals : (m : Module) (rest : List ℕ) → UpToExports bytes m rest
+      → InSection code_section (InVector IsEntry (EntryOver LocalsOver m)) rest → Over bytes
+  too_deep : (m : Module) (rest : List ℕ) → UpToExports bytes m rest
+      → InSection code_section (InVector IsEntry (EntryOver BlocksOver m)) rest → Over bytes
