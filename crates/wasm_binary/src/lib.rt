@@ -77,6 +77,7 @@ pub fn encode(alloc: Global, module: &Module) -> Result<Vec<u8>, Refusal>
     ensures over { (Within «module».now → ⊥) → result ≡ Err Refusal.Limit }
     ensures causes { IfErr result (λ e. (e ≡ Refusal.Limit) ⊎ (e ≡ Refusal.NoMemory)) }
 {
+    // What the types of a module in hand guarantee, for the clauses above.
     module.ranged();
     module.texts();
     wasm_ast::laws::limits_are_tested(module);

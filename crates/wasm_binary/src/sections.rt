@@ -13,9 +13,10 @@ use crate::opcodes::{
     TYPE_SECTION,
 };
 use crate::types::read_name;
-use crate::vectors::{read_functions, read_vector};
+use crate::vectors::{Decode, read_functions, read_vector};
 use std::alloc::Global;
-use wasm_ast::{Export, Func, FuncType, Import, MAX_MODULE_BYTES, Module, Sequence};
+use std::marker::PhantomData;
+use wasm_ast::{Func, FuncType, Import, MAX_MODULE_BYTES, Module, Sequence};
 
 #[tactic(auto, unfolding(crate::specs::Inside::Reading::skip_custom, crate::specs::Inside::Reading::read_sized, crate::specs::Inside::Reading::read_custom_name))]
 fn skip_custom(bytes: &[u8]) -> Result<&[u8], ReadError>
@@ -76,77 +77,44 @@ fn read_section<'a, S: Section>(
     Ok((items, rest))
 }
 
-/// The type section (5.5.4).
+/// A section that is a vector, with no limit on its items.
 #[derive(Drop)]
-struct TypeSection {}
+struct VectorSection<T> {
+    item: PhantomData<T>,
+}
 
-impl Section for TypeSection {
-    type Item = FuncType;
+impl<T: Decode + Drop> Section for VectorSection<T> {
+    type Item = T;
 
-    ghost reading = { λ s. read_vector read_func_type };
+    ghost reading = { λ s. read_vector T.reading };
 
     fn read_contents<'a>(
         &self,
         alloc: Global,
         bytes: &'a [u8],
-    ) -> Result<(Vec<FuncType>, &'a [u8]), ReadError> {
+    ) -> Result<(Vec<T>, &'a [u8]), ReadError> {
         read_vector(alloc, bytes)
     }
 }
 
-/// The import section (5.5.5).
+/// A section that is a vector of imports or of type indices, with this many functions before them.
 #[derive(Drop)]
-struct ImportSection {}
+struct FunctionsSection<T> {
+    before: usize,
+    item: PhantomData<T>,
+}
 
-impl Section for ImportSection {
-    type Item = Import;
+impl<T: Decode + Drop> Section for FunctionsSection<T> {
+    type Item = T;
 
-    ghost reading = { λ s. read_functions true 0 read_import };
+    ghost reading = { λ s. read_functions true s.before T.reading };
 
     fn read_contents<'a>(
         &self,
         alloc: Global,
         bytes: &'a [u8],
-    ) -> Result<(Vec<Import>, &'a [u8]), ReadError> {
-        read_functions(alloc, 0, bytes)
-    }
-}
-
-/// The function section (5.5.6) of a module with this many imports.
-#[derive(Drop)]
-struct FunctionSection {
-    import_count: usize,
-}
-
-impl Section for FunctionSection {
-    type Item = u32;
-
-    ghost reading = { λ s. read_functions true s.import_count read_u32 };
-
-    fn read_contents<'a>(
-        &self,
-        alloc: Global,
-        bytes: &'a [u8],
-    ) -> Result<(Vec<u32>, &'a [u8]), ReadError> {
-        read_functions(alloc, self.import_count, bytes)
-    }
-}
-
-/// The export section (5.5.10).
-#[derive(Drop)]
-struct ExportSection {}
-
-impl Section for ExportSection {
-    type Item = Export;
-
-    ghost reading = { λ s. read_vector read_export };
-
-    fn read_contents<'a>(
-        &self,
-        alloc: Global,
-        bytes: &'a [u8],
-    ) -> Result<(Vec<Export>, &'a [u8]), ReadError> {
-        read_vector(alloc, bytes)
+    ) -> Result<(Vec<T>, &'a [u8]), ReadError> {
+        read_functions(alloc, self.before, bytes)
     }
 }
 
@@ -176,6 +144,33 @@ impl<'s> Section for CodeSection<'s> {
     }
 }
 
+fn read_vector_section<T: Decode + Drop>(
+    id: u8,
+    alloc: Global,
+    bytes: &[u8],
+) -> Result<(Vec<T>, &[u8]), ReadError>
+    ensures { Gives (λ x. (x.0.items, x.1.now)) result
+        (read_section id (read_vector T.reading) bytes.now) }
+{
+    read_section(id, &VectorSection { item: PhantomData }, alloc, bytes)
+}
+
+fn read_functions_section<T: Decode + Drop>(
+    id: u8,
+    before: usize,
+    alloc: Global,
+    bytes: &[u8],
+) -> Result<(Vec<T>, &[u8]), ReadError>
+    ensures { Gives (λ x. (x.0.items, x.1.now)) result
+        (read_section id (read_functions true before T.reading) bytes.now) }
+{
+    let section = FunctionsSection {
+        before,
+        item: PhantomData,
+    };
+    read_section(id, &section, alloc, bytes)
+}
+
 /// What precedes the exports.
 #[derive(Drop)]
 struct Front {
@@ -189,12 +184,9 @@ fn read_front(alloc: Global, bytes: &[u8]) -> Result<(Front, &[u8]), ReadError>
     ensures { Gives (λ x. (head_of x.0, x.1.now)) result (read_head true bytes.now) }
 {
     let rest = skip_customs(bytes)?;
-    let (types, rest) = read_section(TYPE_SECTION, &TypeSection {}, alloc, rest)?;
-    let (imports, rest) = read_section(IMPORT_SECTION, &ImportSection {}, alloc, rest)?;
-    let functions = FunctionSection {
-        import_count: imports.len(),
-    };
-    let (indices, rest) = read_section(FUNCTION_SECTION, &functions, alloc, rest)?;
+    let (types, rest) = read_vector_section(TYPE_SECTION, alloc, rest)?;
+    let (imports, rest) = read_functions_section(IMPORT_SECTION, 0, alloc, rest)?;
+    let (indices, rest) = read_functions_section(FUNCTION_SECTION, imports.len(), alloc, rest)?;
     Ok((
         Front {
             types,
@@ -211,7 +203,7 @@ fn read_sections(alloc: Global, bytes: &[u8]) -> Result<Module, ReadError>
     ensures { Gives (λ x. x) result (read_sections true bytes.now) }
 {
     let (front, rest) = read_front(alloc, bytes)?;
-    let (exports, rest) = read_section(EXPORT_SECTION, &ExportSection {}, alloc, rest)?;
+    let (exports, rest) = read_vector_section(EXPORT_SECTION, alloc, rest)?;
     let Front {
         types,
         imports,
