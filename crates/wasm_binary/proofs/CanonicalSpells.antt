@@ -72,7 +72,7 @@ signed_case more bits n rest lt few false e high =
     let big : 7 < bits = bits_left bits (not_last bits n lt e) in
     inr (omega arith, omega arith, big, n / 128, high big, omega arith)
 
-signed_spells : (more bits n : ℕ) (rest : List ℕ) → n < 2 ^ bits → 0 < bits → bits ≤ 7 * more + 7 → IsSigned bits (canon_signed more bits n ++ rest) n rest
+pub signed_spells : (more bits n : ℕ) (rest : List ℕ) → n < 2 ^ bits → 0 < bits → bits ≤ 7 * more + 7 → IsSigned bits (canon_signed more bits n ++ rest) n rest
 unfolding canon_signed
 signed_spells zero bits n rest lt pos few = let k : 2 ^ bits ≤ 2 ^ 7 = pow_mono {j = 7} (omega arith) in last_spells bits n rest lt (inr k)
 signed_spells (suc more) bits n rest lt pos few = signed_case more bits n rest lt few (is_last_signed bits n) refl (λ l. signed_spells more (bits - 7) (n / 128) rest (high_bits bits n l lt) (omega arith) (omega arith))

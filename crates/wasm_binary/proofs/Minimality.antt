@@ -45,7 +45,7 @@ signed_case : (more bits n high : ℕ) (bs rest : List ℕ) (b : Bool) → lengt
 signed_case more bits n high bs rest true h e = omega arith
 signed_case more bits n high bs rest false h e = rw e (omega arith)
 
-signed_least : (more bits : ℕ) (bytes : List ℕ) (n : ℕ) (rest : List ℕ) → IsSigned bits bytes n rest → length (canon_signed more bits n) + length rest ≤ length bytes
+pub signed_least : (more bits : ℕ) (bytes : List ℕ) (n : ℕ) (rest : List ℕ) → IsSigned bits bytes n rest → length (canon_signed more bits n) + length rest ≤ length bytes
 unfolding canon_signed
 signed_least more bits [] n rest h = absurd h
 signed_least more bits (b ∷ bs) n rest (inl h) = omega (arith, signed_small more bits n (test_case n (2 ^ bits) (ltb (2 * n) (2 ^ bits)) refl b h.0 h.1), ap length h.2)
@@ -53,9 +53,6 @@ signed_least zero bits (b ∷ bs) n rest (inr h) = omega (arith, signed_least ze
 signed_least (suc more) bits (b ∷ bs) n rest (inr h) =
     let e : n / 128 ≡ h.3 = omega (arith, h.0, h.1, h.5) in
     signed_case more bits n h.3 bs rest (is_last_signed bits n) (signed_least more (bits - 7) bs h.3 rest h.4) e
-
-pub signed_number_least : (bytes : List ℕ) (n : ℕ) (rest : List ℕ) → IsSigned 32 bytes n rest → length (canon_signed 4 32 n) + length rest ≤ length bytes
-signed_number_least bytes n rest h = signed_least 4 32 bytes n rest h
 
 -- ---- runs
 

@@ -52,12 +52,24 @@ pub fn canonical_spells()
         → Spells (canon m) m }
 {}
 
+/// A canonical number encodes that number.
+pub fn canonical_numbers_are_encodings()
+    ensures unsigned { (n : ℕ) (rest : List ℕ) → n < 2 ^ 32
+        → IsU32 (canon_number n ++ rest) n rest }
+    ensures signed { (n : ℕ) (rest : List ℕ) → n < 2 ^ 32
+        → IsSigned 32 (canon_signed 4 32 n ++ rest) n rest }
+    ensures long { (n : ℕ) (rest : List ℕ) → n < 2 ^ 64
+        → IsSigned 64 (canon_signed 9 64 n ++ rest) n rest }
+{}
+
 /// A canonical number is the shortest encoding of that number.
 pub fn canonical_numbers_are_shortest()
     ensures unsigned { (bytes : List ℕ) (n : ℕ) (rest : List ℕ) → IsU32 bytes n rest
         → length (canon_number n) + length rest ≤ length bytes }
     ensures signed { (bytes : List ℕ) (n : ℕ) (rest : List ℕ) → IsSigned 32 bytes n rest
         → length (canon_signed 4 32 n) + length rest ≤ length bytes }
+    ensures long { (bytes : List ℕ) (n : ℕ) (rest : List ℕ) → IsSigned 64 bytes n rest
+        → length (canon_signed 9 64 n) + length rest ≤ length bytes }
 {}
 
 /// Canonical runs have the same locals, none is empty, and no two of one type are next to each
