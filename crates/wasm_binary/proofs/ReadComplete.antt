@@ -5,7 +5,7 @@ use Rattle.std.proofs.lemmas.Bool.{lt-ltb, le-ltb, eq-eqb}
 use Rattle.std.proofs.lemmas.List.{take_at, drop_at, length-append}
 use Rattle.std.proofs.lemmas.Str.{is_utf8-from_IsUtf8}
 use Rattle.wasm_ast.specs.declared.values.ValType.{ValType}
-use Rattle.wasm_ast.specs.declared.values.ValType.TheVariants as types
+use Rattle.wasm_ast.specs.declared.values.ValType.TheVariants as val_types
 use Rattle.wasm_ast.specs.declared.values.Value.TheVariants.{I32, I64}
 use Rattle.wasm_ast.specs.declared.instr.Simple.{Simple}
 use Rattle.wasm_ast.specs.declared.instr.Simple.TheVariants.{Const, Drop, Br, Return, Call}
@@ -154,8 +154,8 @@ name_complete name bytes rest h =
 
 pub type_complete : (t : ValType) (bytes rest : List ℕ) → IsValType bytes t rest → Complete Always (t, rest) (read_val_type bytes)
 unfolding read_val_type read_byte val_type_of
-type_complete types.I32 bytes rest h = rw h (complete_ok refl)
-type_complete types.I64 bytes rest h = rw h (complete_ok refl)
+type_complete val_types.I32 bytes rest h = rw h (complete_ok refl)
+type_complete val_types.I64 bytes rest h = rw h (complete_ok refl)
 
 pub func_type_complete : (t : FuncType) (bytes rest : List ℕ) → IsFuncType bytes t rest → Complete Always (t, rest) (read_func_type bytes)
 unfolding read_func_type

@@ -5,7 +5,7 @@ use Rattle.std.specs.Str.{is_utf8}
 use Rattle.std.proofs.lemmas.Bool.{ltb-true, ltb-false, eqb-true}
 use Rattle.std.proofs.lemmas.List.{take-append-drop, length-take-le, nil_from_length}
 use Rattle.std.proofs.lemmas.Str.{IsUtf8-from_is_utf8}
-use Rattle.wasm_ast.specs.declared.values.ValType.TheVariants as types
+use Rattle.wasm_ast.specs.declared.values.ValType.TheVariants as val_types
 use Rattle.wasm_ast.specs.declared.values.Value.TheVariants.{I32}
 use Rattle.wasm_ast.specs.declared.instr.Simple.{Simple}
 use Rattle.wasm_ast.specs.declared.instr.Simple.TheVariants.{Const, Drop, Call}
@@ -150,9 +150,9 @@ name_sound bytes = sound_then (u32_sound bytes) (λ n hn. sound_then (part_sound
 
 type_of_sound : (b : ℕ) (bs : List ℕ) → Sound (λ x. IsValType (b ∷ bs) x.0 x.1) ⊥ (val_type_of b bs)
 unfolding val_type_of
-type_of_sound b bs = sound_if (eqb b (type_byte types.I32))
-    (λ e. sound_ok (types.I32, bs) (ap (λ (x : ℕ). x ∷ bs) (eqb-true b (type_byte types.I32) e)))
-    (λ _. sound_need (eqb b (type_byte types.I64)) (λ e. sound_ok (types.I64, bs) (ap (λ (x : ℕ). x ∷ bs) (eqb-true b (type_byte types.I64) e))))
+type_of_sound b bs = sound_if (eqb b (type_byte val_types.I32))
+    (λ e. sound_ok (val_types.I32, bs) (ap (λ (x : ℕ). x ∷ bs) (eqb-true b (type_byte val_types.I32) e)))
+    (λ _. sound_need (eqb b (type_byte val_types.I64)) (λ e. sound_ok (val_types.I64, bs) (ap (λ (x : ℕ). x ∷ bs) (eqb-true b (type_byte val_types.I64) e))))
 
 pub type_sound : (bytes : List ℕ) → Sound (λ x. IsValType bytes x.0 x.1) ⊥ (read_val_type bytes)
 unfolding read_val_type

@@ -3,7 +3,7 @@
 use Rattle.std.specs.Prelude.{◌≢◌, ℕ, zero, suc, ◌+◌, ◌-◌, ◌*◌, ◌/◌, ◌%◌, ◌^◌, ◌<◌, ◌≤◌, List, [], ◌∷◌, ◌++◌, length, fold, All, Bool, true, false, nat_lt, nat_le, if◌then◌else◌}
 use Rattle.std.specs.List.{flat_map}
 use Rattle.wasm_ast.specs.declared.values.ValType.{ValType}
-use Rattle.wasm_ast.specs.declared.values.ValType.TheVariants as types
+use Rattle.wasm_ast.specs.declared.values.ValType.TheVariants as val_types
 use Rattle.wasm_ast.specs.declared.values.FuncType.{FuncType}
 use Rattle.wasm_ast.specs.declared.values.Value.TheVariants.{I32, I64}
 use Rattle.wasm_ast.specs.declared.instr.BlockType.{BlockType}
@@ -97,8 +97,8 @@ abbrev mutual
 -- ---- code
 
 abbrev pub same_type : ValType → ValType → Bool
-same_type types.I32 types.I32 = true
-same_type types.I64 types.I64 = true
+same_type val_types.I32 val_types.I32 = true
+same_type val_types.I64 val_types.I64 = true
 same_type t other = false
 
 -- runs and one more local: it joins the last run if it is of that type, and else is a run of its own

@@ -3,7 +3,7 @@
 use Rattle.std.specs.Prelude.{◌≡◌, ℕ, ◌^◌, ◌<◌, List, [], ◌∷◌, ◌++◌, length, map, replicate, IsUtf8, ◌⊎◌}
 use Rattle.std.specs.List.{flat_map}
 use Rattle.wasm_ast.specs.declared.values.ValType.{ValType}
-use Rattle.wasm_ast.specs.declared.values.ValType.TheVariants as types
+use Rattle.wasm_ast.specs.declared.values.ValType.TheVariants as val_types
 use Rattle.wasm_ast.specs.declared.values.FuncType.{FuncType}
 use Rattle.wasm_ast.specs.declared.values.Value.TheVariants.{I32, I64}
 use Rattle.wasm_ast.specs.declared.instr.Simple.{Simple}
@@ -45,8 +45,8 @@ IsName bytes name rest =
 -- ---- types (5.3)
 
 abbrev pub type_byte : ValType → ℕ
-type_byte types.I32 = i32_byte
-type_byte types.I64 = i64_byte
+type_byte val_types.I32 = i32_byte
+type_byte val_types.I64 = i64_byte
 
 abbrev pub IsValType : Form ValType
 IsValType bytes t rest = bytes ≡ type_byte t ∷ rest

@@ -1,1 +1,2 @@
+-- What private clauses alone name: no public clause rests on these.
 pub mod Reading

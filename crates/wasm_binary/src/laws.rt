@@ -4,7 +4,7 @@ ghost use Rattle.std.specs.Prelude.{◌≡◌, ℕ, ◌+◌, ◌^◌, ◌<◌, �
 ghost use Rattle.wasm_ast.specs.declared.module.Module.{Module};
 ghost use Rattle.wasm_ast.specs.declared.values.ValType.{ValType};
 ghost use Rattle.wasm_ast.specs.declared.values.Value.TheVariants as Value;
-ghost use Rattle.wasm_ast.specs.declared.values.ValType.TheVariants as ValTypes;
+ghost use Rattle.wasm_ast.specs.declared.values.ValType.TheVariants as val_types;
 ghost use Rattle.wasm_ast.specs.declared.instr.BlockType.TheVariants.{Empty, One};
 ghost use Rattle.wasm_ast.specs.declared.instr.Simple.TheVariants.{Const, Drop, Br, Return};
 ghost use Rattle.wasm_ast.specs.Syntax.{simple, block, loop, if', stop, next};
@@ -88,7 +88,7 @@ pub fn canonical_instructions()
     ensures long { canon_op (simple (Const (Value.I64 18446744073709551615))) ≡ 0x42 ∷ 0x7F ∷ [] }
     ensures branch { canon_op (block Empty (next (simple (Br 300)) stop))
         ≡ 0x02 ∷ 0x40 ∷ 0x0C ∷ 0xAC ∷ 0x02 ∷ 0x0B ∷ [] }
-    ensures leave { canon_op (loop (One ValTypes.I64) (next (simple Return) stop))
+    ensures leave { canon_op (loop (One val_types.I64) (next (simple Return) stop))
         ≡ 0x03 ∷ 0x7E ∷ 0x0F ∷ 0x0B ∷ [] }
     ensures one_arm { canon_op (if' Empty (next (simple Drop) stop) stop)
         ≡ 0x04 ∷ 0x40 ∷ 0x1A ∷ 0x0B ∷ [] }

@@ -4,7 +4,7 @@
 use Rattle.std.specs.Prelude.{◌≡◌, ℕ, zero, suc, ◌+◌, ◌-◌, ◌*◌, ◌^◌, List, [], ◌∷◌, ◌++◌, length, take, drop, replicate, Result, Ok, Err, Bool, false, ◌&&◌, nat_lt, ◌==◌, if◌then◌else◌}
 use Rattle.std.specs.Str.{is_utf8, bytes_eq}
 use Rattle.wasm_ast.specs.declared.values.ValType.{ValType}
-use Rattle.wasm_ast.specs.declared.values.ValType.TheVariants as types
+use Rattle.wasm_ast.specs.declared.values.ValType.TheVariants as val_types
 use Rattle.wasm_ast.specs.declared.values.FuncType.{FuncType}
 use Rattle.wasm_ast.specs.declared.values.Value.TheVariants.{I32}
 use Rattle.wasm_ast.specs.declared.instr.Simple.{Simple}
@@ -125,7 +125,7 @@ read_name bytes = do
 -- ---- types
 
 unfoldable pub val_type_of : ℕ → List ℕ → Read ValType
-val_type_of b bs = if b == type_byte types.I32 then Ok (types.I32, bs) else need (b == type_byte types.I64) Bad (Ok (types.I64, bs))
+val_type_of b bs = if b == type_byte val_types.I32 then Ok (val_types.I32, bs) else need (b == type_byte val_types.I64) Bad (Ok (val_types.I64, bs))
 
 unfoldable pub read_val_type : List ℕ → Read ValType
 read_val_type bytes = read_byte bytes >>= λ b. val_type_of b.0 b.1
