@@ -12,7 +12,7 @@ ghost use Rattle.wasm_ast.specs.Ranged.{Ranged, AreTexts};
 ghost use Rattle.wasm_ast.specs.Limits.{Within, max_module_bytes};
 ghost use Rattle.wasm_binary.specs.Numbers.{IsU32, IsSigned};
 ghost use Rattle.wasm_binary.specs.Grammar.{AreLocals, Spells, locals_of};
-ghost use Rattle.wasm_binary.specs.Limits.{Over};
+ghost use Rattle.wasm_binary.specs.Limits.{TooDeep, Over};
 ghost use Rattle.wasm_binary.specs.Canonical.{canon, FitsLimits, HasEncoding, canon_number, canon_signed, canon_val_type, canon_op, runs_of, AreLongest};
 
 /// Bytes encode at most one module.
@@ -24,6 +24,13 @@ pub fn spells_one()
 pub fn over_spells_none_within()
     ensures { (bytes : List ℕ) → Over bytes
         → (m : Module) → Spells bytes m → Within m → length bytes ≤ max_module_bytes → ⊥ }
+{}
+
+/// A block too many is met at its opcode, after whole instructions and before its type.
+pub fn depth_is_met_at_the_opcode()
+    ensures block { (rest : List ℕ) → TooDeep 0 (0x1A ∷ 0x02 ∷ rest) }
+    ensures iteration { (rest : List ℕ) → TooDeep 0 (0x1A ∷ 0x03 ∷ rest) }
+    ensures choice { (rest : List ℕ) → TooDeep 0 (0x1A ∷ 0x04 ∷ rest) }
 {}
 
 /// The numbers of a module that bytes encode are in range, the numbers of locals included (5.5.13).
