@@ -9,6 +9,7 @@ pub mod Within
 pub mod Follows
 pub mod Starts
 pub mod Slicing
+pub mod TurnLimit
 pub mod Cutting
 pub mod Piles
 pub mod Valids

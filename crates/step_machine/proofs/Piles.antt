@@ -5,7 +5,7 @@ use Rattle.wasm_ast.specs.declared.values.Value.{Value}
 use Rattle.wasm_ast.specs.declared.values.Value.TheVariants.{I32}
 use Rattle.wasm_ast.specs.declared.trap.Trap.TheVariants as trap
 use Rattle.wasm_ast.specs.Syntax.{Op, i32_const, discard, Ops, stop, next}
-use Rattle.step_machine.specs.declared.process.Process.{Process}
+use Rattle.step_machine.specs.declared.process.ProcessConfig.{ProcessConfig}
 use Rattle.step_machine.specs.declared.ends.End.TheVariants as ends
 use Rattle.step_machine.specs.Program.{Program, program}
 use Rattle.step_machine.specs.Tree.{Store, seq, done, running, trapped, Config}
@@ -54,7 +54,7 @@ longer : (a b : ℕ) (o : Op) (os : Ops) → repeated (a + suc b) o os ≡ repea
 longer zero b o os = let e : 0 + suc b ≡ suc b = omega arith in ap (λ x. repeated x o os) e
 longer (suc a) b o os = let e : suc a + suc b ≡ suc (a + suc b) = omega arith in ap (λ x. repeated x o os) e ∙ ap (next o) (longer a b o os)
 
-module _ (p : Process) (n : ℕ) where
+module _ (p : ProcessConfig) (n : ℕ) where
   abbrev prog : Program
   prog = program (pile n) p
 

@@ -1,3 +1,4 @@
+pub mod Processes
 pub mod Program
 pub mod Tree
 pub mod Reduce
@@ -6,7 +7,7 @@ pub mod Opening
 pub mod Slices
 pub mod Typing
 pub mod Reaches
-pub mod Ran
+pub mod MachineView
 pub mod Worked
 pub mod Flat
 pub mod Stands

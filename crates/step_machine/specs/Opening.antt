@@ -10,7 +10,7 @@ use Rattle.wasm_ast.specs.declared.module.Module.{Module}
 use Rattle.wasm_ast.specs.declared.refusal.Refusal.{Refusal}
 use Rattle.wasm_ast.specs.declared.refusal.Refusal.TheVariants as refusal
 use Rattle.wasm_ast.specs.Limits.{params_of, ops_depth}
-use Rattle.step_machine.specs.declared.process.Process.{Process}
+use Rattle.step_machine.specs.declared.process.ProcessConfig.{ProcessConfig}
 use Rattle.step_machine.specs.declared.ends.End.{End}
 use Rattle.step_machine.specs.declared.ends.End.TheVariants as ends
 use Rattle.step_machine.specs.Program.{func_types, is_bare, is_known, program}
@@ -55,16 +55,16 @@ is_within m = nat_le (length m.imports + length m.funcs) 4096 && are_within m.ty
 
 -- why no task can run it: the first reason that holds. That a segment passes its table's or memory's
 -- opening size is the last of them, and never holds where there are no segments
-abbrev pub opening_refusal : Module → Process → Option Refusal
+abbrev pub opening_refusal : Module → ProcessConfig → Option Refusal
 opening_refusal m p =
     if not (is_some (entry m)) then Some refusal.NoEntry
     else if not (all_known m.types m.imports) then Some refusal.BadImport
     else if not (is_within m) then Some refusal.Limit
     else None
 
--- the store at the start: no globals, memory or table, and what the streams held before
-abbrev pub first_store : Module → Process → Store
-first_store m p = record { globals = []; memory = []; table = []; out = p.out; err = p.err }
+-- the store at the start: no globals, memory or table, and nothing written
+abbrev pub first_store : Module → ProcessConfig → Store
+first_store m p = record { globals = []; memory = []; table = []; out = []; err = [] }
 
 -- the entry is about to be invoked
 abbrev pub first_state : Option ℕ → State
@@ -72,11 +72,11 @@ first_state None = stuck
 first_state (Some f) = running (seq [] (more (invoke f) done))
 
 -- opened, up to the first plain instruction
-abbrev pub initial : Module → Process → Config
+abbrev pub initial : Module → ProcessConfig → Config
 initial m p = settled (program m p) (record { store = first_store m p; state = first_state (entry m) })
 
 -- the configuration after so many turns
-abbrev pub after : Module → Process → ℕ → Config
+abbrev pub after : Module → ProcessConfig → ℕ → Config
 after m p n = at (program m p) (initial m p) n
 
 -- how a configuration has ended, where it has

@@ -7,14 +7,14 @@ use Rattle.wasm_ast.specs.declared.module.Import.{Import}
 use Rattle.wasm_ast.specs.declared.module.ExportKind.TheVariants as kind
 use Rattle.wasm_ast.specs.declared.module.Module.{Module}
 use Rattle.wasm_ast.specs.Syntax.{Op, discard, no_result, one_result, i32_const, call, block, loop, choice, br, leave, Ops, stop, next}
-use Rattle.step_machine.specs.declared.process.Process.{Process}
+use Rattle.step_machine.specs.declared.process.ProcessConfig.{ProcessConfig}
 use Rattle.step_machine.specs.declared.places.Place.{Place}
 use Rattle.step_machine.specs.Tree.{Store, Target, Tree, seq, Items, done, more, label, frame, branch, ret, items_of, State, running, Config}
 use Rattle.step_machine.specs.Reduce.{Env, Reduced, to}
 
 -- a process without arguments
-abbrev pub bare_process : Process
-bare_process = record { «module» = []; args = []; env = []; cap = 0; out = []; err = [] }
+abbrev pub bare_process : ProcessConfig
+bare_process = record { «module» = []; args = []; env = []; cap = 0 }
 
 abbrev pub from_i32 : FuncType
 from_i32 = record { params = I32 ∷ []; results = [] }

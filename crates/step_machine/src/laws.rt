@@ -16,7 +16,7 @@ ghost use Rattle.step_machine.specs.Worked.{bare_process, exit_seven, branch_out
 ghost use Rattle.step_machine.specs.declared.ends.End.TheVariants as ends;
 ghost use Rattle.step_machine.specs.declared.ends.SliceEnd.TheVariants as slice;
 ghost use Rattle.step_machine.specs.declared.places.Place.{Place};
-ghost use Rattle.step_machine.specs.declared.process.Process.{Process};
+ghost use Rattle.step_machine.specs.declared.process.ProcessConfig.{ProcessConfig};
 ghost use Rattle.wasm_ast.specs.declared.module.Module.{Module};
 ghost use Rattle.wasm_ast.specs.Limits.{Within};
 
@@ -40,6 +40,11 @@ pub fn halted_stays()
 /// A turn ends where the next instruction is plain or the configuration has ended.
 pub fn turns_settle()
     ensures { (p : Program) (c : Config) → is_settled (turn p c).state ≡ true }
+{}
+
+/// What has not ended has made fewer than 10^15 turns.
+pub fn turns_are_limited()
+    ensures { (m : Module) (p : ProcessConfig) (n : ℕ) → ended (after m p n).state ≡ None → n < 10 ^ 15 }
 {}
 
 /// `i32.const 7 call 0`, where function 0 is `proc_exit`, exits with 7 at its second turn.
@@ -105,16 +110,16 @@ pub fn values_are_limited()
 /// all of them, and so to the same machine. With breakpoints a slice may be cut wherever the first part
 /// was not ended by one.
 pub fn slices_commute()
-    ensures any_cut { (m : Module) (p : Process) (n : ℕ) (budgets : List ℕ)
+    ensures any_cut { (m : Module) (p : ProcessConfig) (n : ℕ) (budgets : List ℕ)
         → slices_made m p n [] budgets ≡ turns_made m p n [] (sum budgets) }
-    ensures two { (m : Module) (p : Process) (n : ℕ) (bs : List Place) (a b : ℕ)
+    ensures two { (m : Module) (p : ProcessConfig) (n : ℕ) (bs : List Place) (a b : ℕ)
         → slice_end m p n bs a ≢ slice.Break
         → turns_made m p n bs (a + b) ≡ turns_made m p n bs a + turns_made m p (n + turns_made m p n bs a) bs b }
 {}
 
 /// A slice of a machine that has not ended makes a turn at least, and no more than its budget.
 pub fn slices_go_forward()
-    ensures { (m : Module) (p : Process) (n : ℕ) (bs : List Place) (budget : ℕ)
+    ensures { (m : Module) (p : ProcessConfig) (n : ℕ) (bs : List Place) (budget : ℕ)
         → ended (after m p n).state ≡ None
         → 1 ≤ budget
         → (1 ≤ turns_made m p n bs budget) × (turns_made m p n bs budget ≤ budget) }
@@ -129,8 +134,8 @@ pub fn limits_are_tested()
 /// A body of so many `i32.const 0` and then as many `drop` returns at the turn of its last drop, where
 /// there are at most 65,536 of each. Where there are more, the turn of the 65,537th constant traps.
 pub fn piles_are_limited()
-    ensures fits { (p : Process) (n : ℕ) → n ≤ 65536 → ended (after (pile n) p (n + n)).state ≡ Some ends.Returned }
-    ensures beyond { (p : Process) (n limit : ℕ)
+    ensures fits { (p : ProcessConfig) (n : ℕ) → n ≤ 65536 → ended (after (pile n) p (n + n)).state ≡ Some ends.Returned }
+    ensures beyond { (p : ProcessConfig) (n limit : ℕ)
         → limit ≡ 65536
         → limit < n
         → (after (pile n) p (limit + 1)).state ≡ trapped trap.Exhausted }

@@ -5,7 +5,7 @@
 
 mod check;
 mod ends;
-mod laws;
+pub mod laws;
 mod machine;
 mod opening;
 mod operands;
@@ -15,13 +15,7 @@ mod progress;
 mod valid;
 
 pub use ends::{End, SliceEnd};
-pub use laws::{
-    arms_are_chosen, branch_keeps_the_top, call_returns_the_top, cuts_commute, empty_entry_returns,
-    exit_takes_a_turn, frames_are_limited, halted_stays, limits_are_tested, loop_takes_a_turn,
-    one_more_turn, piles_are_limited, reductions_go_inside, slices_commute, slices_end,
-    slices_go_forward, turns_settle, values_are_limited, worked_modules_are_valid,
-};
 pub use machine::Machine;
 pub use places::{Breaks, Place};
-pub use process::Process;
+pub use process::{Output, Process, ProcessConfig};
 pub use valid::{Valid, validate};

@@ -2,7 +2,7 @@
 
 ghost use Rattle.std.specs.Prelude.{◌≡◌, ◌+◌, ◌-◌, ◌≤◌, List, IfOk, OnOk, None, Some, Err, length, replicate, slice_get, true};
 ghost use Rattle.wasm_ast.specs.declared.refusal.Refusal.{Refusal};
-ghost use Rattle.step_machine.specs.declared.process.Process.{Process};
+ghost use Rattle.step_machine.specs.declared.process.ProcessConfig.{ProcessConfig};
 ghost use Rattle.step_machine.specs.Program.{func_types, is_bare, is_exit_type, is_known, one_i32, no_types};
 ghost use Rattle.step_machine.specs.Opening.{type_at, is_bare_func, is_entry, entry_in, entry, all_known, is_within, opening_refusal};
 
@@ -16,8 +16,8 @@ use wasm_ast::{Export, ExportKind, Func, FuncType, Import, Module, Refusal, ValT
 /// module passes a limit of the profile: the first of these.
 pub fn open(opened: &Module) -> Result<u32, Refusal>
     ensures entry { IfOk result (λ f. entry opened.now ≡ Some f) }
-    ensures opens { OnOk result ((p : Process) → opening_refusal opened.now p ≡ None) }
-    ensures refused { (e : Refusal) → result ≡ Err e → (p : Process) → opening_refusal opened.now p ≡ Some e }
+    ensures opens { OnOk result ((p : ProcessConfig) → opening_refusal opened.now p ≡ None) }
+    ensures refused { (e : Refusal) → result ≡ Err e → (p : ProcessConfig) → opening_refusal opened.now p ≡ Some e }
 {
     let Some(entry) = entry_of(opened, opened.exports.as_slice()) else {
         return Err(Refusal::NoEntry);

@@ -1,9 +1,47 @@
-//! What a task is run with.
+//! What a task is run with, and what it writes.
 
-ghost use Rattle.std.specs.Prelude.{◌≡◌, IfOk, true, false};
+ghost use Rattle.std.specs.Prelude.{◌≡◌, IfOk, [], true, false};
+ghost use Rattle.step_machine.specs.Processes.{config_of};
 
 use std::alloc::{AllocError, Global};
-use wasm_ast::{Bytes, Sequence, Text};
+use std::marker::Model;
+use wasm_ast::{Sequence, Text};
+
+/// The most bytes that an output stream takes.
+const MAX_OUTPUT: usize = 65_536;
+
+/// What was written to an output stream, with room for 65,536 bytes. Contracts see the bytes.
+#[derive(Drop)]
+pub struct Output {
+    bytes: Vec<u8>,
+}
+
+impl Model for Output {
+    ghost use Rattle.std.specs.Prelude.{List, ℕ, ◌≤◌, vec_capacity};
+
+    ghost Value = { List ℕ };
+
+    ghost view = { λ o. o.bytes.items };
+
+    ghost invariant = { λ o. 65536 ≤ vec_capacity o.bytes };
+}
+
+impl Output {
+    /// A stream to which nothing has been written. An error if its room cannot be allocated.
+    pub fn new(alloc: Global) -> Result<Output, AllocError>
+        ensures { IfOk result (λ o. o ≡ []) }
+    {
+        let bytes = Vec::with_capacity(alloc, MAX_OUTPUT)?;
+        Ok(Output { bytes })
+    }
+
+    /// What was written.
+    pub fn as_slice(&self) -> &[u8]
+        ensures { result.now ≡ self.now }
+    {
+        self.bytes.as_slice()
+    }
+}
 
 /// A process: the digest of its module, its arguments, its environment, the most pages that its memory
 /// may have, and what it has written to its two output streams.
@@ -13,29 +51,49 @@ pub struct Process {
     pub args: Sequence<Text>,
     pub env: Sequence<Text>,
     pub cap: u32,
-    pub out: Bytes,
-    pub err: Bytes,
+    pub out: Output,
+    pub err: Output,
 }
 
 impl Process {
-    /// The same process, in memory of its own. An error where there is no room for it.
-    pub fn copy(&self, alloc: Global) -> Result<Process, AllocError>
-        ensures { IfOk result (λ p. p ≡ self.now) }
+    /// What it was configured with. An error if that cannot be allocated.
+    pub fn config(&self, alloc: Global) -> Result<ProcessConfig, AllocError>
+        ensures { IfOk result (λ p. p ≡ config_of self.now) }
     {
-        Ok(Process {
+        Ok(ProcessConfig {
             module: self.module.copy(alloc)?,
             args: Sequence::new(copy_texts(alloc, self.args.as_slice())?),
             env: Sequence::new(copy_texts(alloc, self.env.as_slice())?),
             cap: self.cap,
-            out: self.out.copy(alloc)?,
-            err: self.err.copy(alloc)?,
         })
     }
 }
 
-impl Process {
-    /// Whether both are the same process.
-    pub fn is(&self, other: &Process) -> bool
+/// A process as it is configured: the digest of its module, its arguments, its environment, and the
+/// most pages that its memory may have.
+#[derive(Drop)]
+pub struct ProcessConfig {
+    pub module: Text,
+    pub args: Sequence<Text>,
+    pub env: Sequence<Text>,
+    pub cap: u32,
+}
+
+impl ProcessConfig {
+    /// The same configuration, in memory of its own. An error if that cannot be allocated.
+    pub fn copy(&self, alloc: Global) -> Result<ProcessConfig, AllocError>
+        ensures { IfOk result (λ p. p ≡ self.now) }
+    {
+        Ok(ProcessConfig {
+            module: self.module.copy(alloc)?,
+            args: Sequence::new(copy_texts(alloc, self.args.as_slice())?),
+            env: Sequence::new(copy_texts(alloc, self.env.as_slice())?),
+            cap: self.cap,
+        })
+    }
+
+    /// Whether both are the same configuration.
+    pub fn is(&self, other: &ProcessConfig) -> bool
         ensures same { result ≡ true → self.now ≡ other.now }
         ensures different { result ≡ false → self.now ≡ other.now → ⊥ }
     {
@@ -43,8 +101,6 @@ impl Process {
             && are_same(self.args.as_slice(), other.args.as_slice())
             && are_same(self.env.as_slice(), other.env.as_slice())
             && self.cap == other.cap
-            && self.out.is(&other.out)
-            && self.err.is(&other.err)
     }
 }
 

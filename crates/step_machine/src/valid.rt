@@ -1,19 +1,21 @@
 //! Modules that are valid (3).
 
 ghost use Rattle.std.specs.Prelude.{◌≡◌, ◌⊎◌, IfOk, OnOk, OnErr, Err};
+ghost use Rattle.std.specs.Arc.{arc_value};
 ghost use Rattle.wasm_ast.specs.declared.refusal.Refusal.TheVariants as refusal;
 ghost use Rattle.step_machine.specs.Typing.{ValidModule};
 ghost use Rattle.step_machine.specs.Reaches.{CallsImports};
 
 use crate::check::check_module;
-use std::alloc::Global;
+use std::alloc::{AllocError, Global};
 use std::marker::Model;
+use std::sync::Arc;
 use wasm_ast::{Module, Refusal};
 
-/// A module that is valid. Contracts see the module.
+/// A module that is valid, shared by all that hold it. Contracts see the module.
 #[derive(Drop)]
 pub struct Valid {
-    module: Module,
+    module: Arc<Module>,
 }
 
 impl Model for Valid {
@@ -28,10 +30,11 @@ impl Model for Valid {
 
     ghost use Rattle.step_machine.specs.Typing.{ValidModule};
     ghost use Rattle.step_machine.specs.Reaches.{CallsImports};
+    ghost use Rattle.std.specs.Arc.{arc_value};
 
-    ghost view = { λ v. v.module };
+    ghost view = { λ v. arc_value v.module };
 
-    ghost invariant = { λ v. ValidModule v.module × CallsImports v.module };
+    ghost invariant = { λ v. ValidModule (arc_value v.module) × CallsImports (arc_value v.module) };
 }
 
 impl Valid {
@@ -43,6 +46,15 @@ impl Valid {
     {
         &self.module
     }
+
+    /// The same module, shared. No memory is taken: an error only if more owners share it than can be
+    /// counted.
+    pub fn share(&self) -> Result<Valid, AllocError>
+        ensures { IfOk result (λ v. v ≡ self.now) }
+    {
+        let module = Arc::try_clone(&self.module)?;
+        Ok(Valid { module })
+    }
 }
 
 /// Takes a module that is valid. `Invalid` where it is not, or where a function of its own is called;
@@ -53,5 +65,8 @@ pub fn validate(alloc: Global, unchecked: Module) -> Result<Valid, Refusal>
     ensures err { OnErr result ((result ≡ Err refusal.Invalid) ⊎ (result ≡ Err refusal.NoMemory)) }
 {
     check_module(alloc, &unchecked)?;
-    Ok(Valid { module: unchecked })
+    match Arc::new(alloc, unchecked) {
+        Ok(module) => Ok(Valid { module }),
+        Err(_) => Err(Refusal::NoMemory),
+    }
 }

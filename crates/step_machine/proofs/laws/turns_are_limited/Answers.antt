@@ -1,0 +1,5 @@
+use Rattle.step_machine.proofs.TurnLimit.{early}
+use Rattle.step_machine.proofs.laws.turns_are_limited.Goals as goal
+
+pub returns : goal.returns
+returns c m p n h = early m p n h
