@@ -9,8 +9,8 @@ ghost use Rattle.step_machine.specs.Program.{Program, program};
 ghost use Rattle.step_machine.specs.Tree.{Store, Target, Tree, seq, Items, more, label, frame, Config, exited, trapped, is_halted, is_settled};
 ghost use Rattle.step_machine.specs.Reduce.{Env, inside, reduce};
 ghost use Rattle.step_machine.specs.Turns.{from, numbered, turn};
-ghost use Rattle.step_machine.specs.Opening.{after, ended, is_within};
-ghost use Rattle.step_machine.specs.Slices.{at_break, turns_made, slices_made, slice_end};
+ghost use Rattle.step_machine.specs.Opening.{initial, after, ended, is_within};
+ghost use Rattle.step_machine.specs.Slices.{at_break, ends_slice, turns_made, slices_made, slice_end};
 ghost use Rattle.step_machine.specs.Typing.{ValidModule};
 ghost use Rattle.step_machine.specs.Worked.{bare_process, exit_seven, branch_out, endless, two_ways, call_and_return, empty_entry, place, entered, entered_at, deep, pile, acts, in_label, in_frame};
 ghost use Rattle.step_machine.specs.declared.ends.End.TheVariants as ends;
@@ -37,9 +37,11 @@ pub fn halted_stays()
     ensures { (p : Program) (k n : ℕ) (c : Config) → is_halted c.state ≡ true → from p k c n ≡ c }
 {}
 
-/// A turn ends where the next instruction is plain or the configuration has ended.
+/// A turn ends where the next instruction is plain or the configuration has ended, and so does
+/// instantiation.
 pub fn turns_settle()
-    ensures { (p : Program) (c : Config) → is_settled (turn p c).state ≡ true }
+    ensures turn { (p : Program) (c : Config) → is_settled (turn p c).state ≡ true }
+    ensures initial { (m : Module) (p : ProcessConfig) → is_settled (initial m p).state ≡ true }
 {}
 
 /// What has not ended has made fewer than 10^15 turns.
@@ -117,12 +119,31 @@ pub fn slices_commute()
         → turns_made m p n bs (a + b) ≡ turns_made m p n bs a + turns_made m p (n + turns_made m p n bs a) bs b }
 {}
 
-/// A slice of a machine that has not ended makes a turn at least, and no more than its budget.
+/// A slice makes no more turns than its budget; of what has not ended it makes one at least, and of
+/// what has halted none.
 pub fn slices_go_forward()
-    ensures { (m : Module) (p : ProcessConfig) (n : ℕ) (bs : List Place) (budget : ℕ)
+    ensures at_most { (m : Module) (p : ProcessConfig) (n : ℕ) (bs : List Place) (budget : ℕ)
+        → turns_made m p n bs budget ≤ budget }
+    ensures at_least { (m : Module) (p : ProcessConfig) (n : ℕ) (bs : List Place) (budget : ℕ)
         → ended (after m p n).state ≡ None
         → 1 ≤ budget
-        → (1 ≤ turns_made m p n bs budget) × (turns_made m p n bs budget ≤ budget) }
+        → 1 ≤ turns_made m p n bs budget }
+    ensures none { (m : Module) (p : ProcessConfig) (n : ℕ) (bs : List Place) (budget : ℕ)
+        → is_halted (after m p n).state ≡ true
+        → turns_made m p n bs budget ≡ 0 }
+{}
+
+/// A slice stops after the first of its turns that halts or leads to a breakpoint: none but its last
+/// does, and its last does if budget is left.
+pub fn slices_stop_first()
+    ensures not_before { (m : Module) (p : ProcessConfig) (n : ℕ) (bs : List Place) (budget j : ℕ)
+        → 1 ≤ j
+        → j < turns_made m p n bs budget
+        → ends_slice bs (after m p (n + j)).state ≡ false }
+    ensures only_there { (m : Module) (p : ProcessConfig) (n : ℕ) (bs : List Place) (budget : ℕ)
+        → ended (after m p n).state ≡ None
+        → turns_made m p n bs budget < budget
+        → ends_slice bs (after m p (n + turns_made m p n bs budget)).state ≡ true }
 {}
 
 /// The test of the profile's limits holds exactly of the modules within them.
