@@ -1,117 +1,158 @@
 -- Worked programs, and the words in which laws on public functions speak.
-use Rattle.std.specs.Prelude.{ℕ, zero, suc, Bool, true, false, List, [], ◌∷◌, codes}
-use Rattle.wasm_ast.specs.declared.values.ValType.TheVariants.{I32}
+use Rattle.std.specs.Prelude.{ℕ, zero, suc, List, [], ◌∷◌, codes}
+use Rattle.wasm_ast.specs.declared.values.ValType.{ValType}
+use Rattle.wasm_ast.specs.declared.values.ValType.TheVariants as type
 use Rattle.wasm_ast.specs.declared.values.Value.{Value}
+use Rattle.wasm_ast.specs.declared.values.Value.TheVariants.{I32, I64}
 use Rattle.wasm_ast.specs.declared.values.FuncType.{FuncType}
+use Rattle.wasm_ast.specs.declared.instr.Simple.TheVariants.{Const, Drop, Br, Return, Call}
+use Rattle.wasm_ast.specs.declared.instr.BlockType.TheVariants.{Empty, One}
 use Rattle.wasm_ast.specs.declared.module.Import.{Import}
+use Rattle.wasm_ast.specs.declared.module.Func.{Func}
+use Rattle.wasm_ast.specs.declared.module.Export.{Export}
 use Rattle.wasm_ast.specs.declared.module.ExportKind.TheVariants as kind
 use Rattle.wasm_ast.specs.declared.module.Module.{Module}
-use Rattle.wasm_ast.specs.Syntax.{Op, discard, no_result, one_result, i32_const, call, block, loop, choice, br, leave, Ops, stop, next}
+use Rattle.wasm_ast.specs.declared.place.Place.{Place}
+use Rattle.wasm_ast.specs.Syntax.{Op, simple, block, loop, if', Ops, stop, next, ops_of}
 use Rattle.step_machine.specs.declared.process.ProcessConfig.{ProcessConfig}
-use Rattle.step_machine.specs.declared.places.Place.{Place}
-use Rattle.step_machine.specs.Tree.{Store, Target, Tree, seq, Items, done, more, label, frame, branch, ret, items_of, State, running, Config}
-use Rattle.step_machine.specs.Reduce.{Env, Reduced, to}
+use Rattle.step_machine.specs.Configuration.{Store, Target, Tree, seq, Items, done, more, label, frame, items_of, State, running, Configuration}
+use Rattle.step_machine.specs.Reduction.{Env, Reduced, to}
+
+-- ---- instructions
+
+abbrev pub i32_const : ℕ → Op
+i32_const n = simple (Const (I32 n))
+
+abbrev pub i64_const : ℕ → Op
+i64_const n = simple (Const (I64 n))
+
+abbrev pub drop' : Op
+drop' = simple Drop
+
+abbrev pub br : ℕ → Op
+br n = simple (Br n)
+
+abbrev pub return' : Op
+return' = simple Return
+
+abbrev pub call : ℕ → Op
+call n = simple (Call n)
+
+-- ---- modules
 
 -- a process without arguments
 abbrev pub bare_process : ProcessConfig
 bare_process = record { «module» = []; args = []; env = []; cap = 0 }
 
 abbrev pub from_i32 : FuncType
-from_i32 = record { params = I32 ∷ []; results = [] }
-
-abbrev pub to_i32 : FuncType
-to_i32 = record { params = []; results = I32 ∷ [] }
+from_i32 = record { params = type.I32 ∷ []; results = [] }
 
 abbrev pub nothing_to_nothing : FuncType
 nothing_to_nothing = record { params = []; results = [] }
 
+abbrev pub to_i32 : FuncType
+to_i32 = record { params = []; results = type.I32 ∷ [] }
+
 abbrev pub exit_import : Import
 exit_import = record { «module» = codes "wasi_snapshot_preview1"; name = codes "proc_exit"; type_index = 0 }
 
--- a module with proc_exit as function 0, the entry as function 1 with this body, and function 2, which
--- gives an i32, with that one
-abbrev pub with_bodies : Ops → Ops → Module
-with_bodies first second = record {
-  types = from_i32 ∷ nothing_to_nothing ∷ to_i32 ∷ [];
+abbrev pub entry_export : Export
+entry_export = record { name = codes "_start"; kind = kind.Func; index = 1 }
+
+-- a function of this type, with these locals and this body
+abbrev pub func : (type_index : ℕ) → (locals : List ValType) → (body : List Op) → Func
+func type_index locals body = record { type_index = type_index; locals = locals; body = ops_of body }
+
+-- a module with proc_exit as function 0, the entry as function 1 with this body, and more functions
+-- from function 2 on, the first of them of this type
+abbrev pub with_funcs : (body : List Op) → FuncType → List Func → Module
+with_funcs body type funcs = record {
+  types = from_i32 ∷ nothing_to_nothing ∷ type ∷ [];
   imports = exit_import ∷ [];
-  funcs = record { type_index = 1; locals = []; body = first } ∷ record { type_index = 2; locals = []; body = second } ∷ [];
-  exports = record { name = codes "_start"; kind = kind.Func; index = 1 } ∷ [];
+  funcs = func 1 [] body ∷ funcs;
+  exports = entry_export ∷ [];
 }
 
-abbrev pub with_entry : Ops → Module
-with_entry body = with_bodies body (next (i32_const 0) stop)
+-- with function 2 of this type and body
+abbrev pub with_callee : (body : List Op) → FuncType → (callee : List Op) → Module
+with_callee body type callee = with_funcs body type (func 2 [] callee ∷ [])
+
+abbrev pub with_entry : (body : List Op) → Module
+with_entry body = with_callee body to_i32 (i32_const 0 ∷ [])
 
 -- i32.const 7 call 0
 abbrev pub exit_seven : Module
-exit_seven = with_entry (next (i32_const 7) (next (call 0) stop))
+exit_seven = with_entry (i32_const 7 ∷ call 0 ∷ [])
 
 -- block (result i32) i32.const 1 i32.const 2 br 0 end call 0
 abbrev pub branch_out : Module
-branch_out =
-    with_entry (next (block (one_result I32) (next (i32_const 1) (next (i32_const 2) (next (br 0) stop)))) (next (call 0) stop))
+branch_out = with_entry (block (One type.I32) (ops_of (i32_const 1 ∷ i32_const 2 ∷ br 0 ∷ [])) ∷ call 0 ∷ [])
 
 -- loop br 0 end
 abbrev pub endless : Module
-endless = with_entry (next (loop no_result (next (br 0) stop)) stop)
+endless = with_entry (loop Empty (ops_of (br 0 ∷ [])) ∷ [])
 
 -- if i32.const 3 call 0 else i32.const 4 call 0 end, on this operand
 abbrev pub two_ways : ℕ → Module
 two_ways n =
-    with_entry (next (i32_const n) (next
-    (choice no_result (next (i32_const 3) (next (call 0) stop)) (next (i32_const 4) (next (call 0) stop))) stop))
+    with_entry (i32_const n ∷ if' Empty (ops_of (i32_const 3 ∷ call 0 ∷ [])) (ops_of (i32_const 4 ∷ call 0 ∷ [])) ∷ [])
 
 -- call 2 call 0, where function 2 is i32.const 1 i32.const 9 return
 abbrev pub call_and_return : Module
-call_and_return = with_bodies (next (call 2) (next (call 0) stop)) (next (i32_const 1) (next (i32_const 9) (next leave stop)))
+call_and_return = with_callee (call 2 ∷ call 0 ∷ []) to_i32 (i32_const 1 ∷ i32_const 9 ∷ return' ∷ [])
 
 -- an entry that does nothing
 abbrev pub empty_entry : Module
-empty_entry = with_entry stop
+empty_entry = with_entry []
+
+-- ---- configurations
 
 abbrev pub empty_store : Store
 empty_store = record { globals = []; memory = []; table = []; out = []; err = [] }
 
 -- the entry with these operands, about to run these instructions, the first of which has this place
-abbrev pub entered_at : ℕ → List Value → Ops → State
-entered_at k vs os = running (seq [] (more (frame 0 1 [] (seq vs (items_of k os))) done))
+abbrev pub entered_at : (place : ℕ) → (operands : List Value) → Ops → State
+entered_at place operands os = running (seq [] (more (frame 0 1 [] (seq operands (items_of place os))) done))
 
-abbrev pub entered : List Value → Ops → Config
-entered vs os = record { store = empty_store; state = entered_at 0 vs os }
+abbrev pub entered : (operands : List Value) → Ops → Configuration
+entered operands os = record { store = empty_store; state = entered_at 0 operands os }
 
-abbrev pub place : ℕ → ℕ → Place
-place f k = record { func = f; instr = k }
+abbrev pub place : (func instr : ℕ) → Place
+place func instr = record { func = func; instr = instr }
 
--- so many frames of function 2 round a tree
-abbrev pub nested : ℕ → Tree → Tree
+-- n frames of function 2 round a tree
+abbrev pub nested : (n : ℕ) → Tree → Tree
 nested zero t = t
 nested (suc n) t = seq [] (more (frame 1 2 [] (nested n t)) done)
 
--- the innermost of so many frames is about to call function 2
-abbrev pub deep : ℕ → Config
+-- the innermost of n frames is about to call function 2
+abbrev pub deep : (n : ℕ) → Configuration
 deep n = record { store = empty_store; state = running (nested n (seq [] (items_of 0 (next (call 2) stop)))) }
 
-abbrev pub repeated : ℕ → Op → Ops → Ops
+abbrev pub repeated : (n : ℕ) → Op → Ops → Ops
 repeated zero o os = os
 repeated (suc n) o os = next o (repeated n o os)
 
--- so many times i32.const 0, and then as many times drop
-abbrev pub pile : ℕ → Module
-pile n = with_entry (repeated n (i32_const 0) (repeated n discard stop))
+-- a module whose entry has this body
+abbrev pub with_body : Ops → Module
+with_body body = record {
+  types = from_i32 ∷ nothing_to_nothing ∷ to_i32 ∷ [];
+  imports = exit_import ∷ [];
+  funcs = record { type_index = 1; locals = []; body = body } ∷ [];
+  exports = entry_export ∷ [];
+}
+
+-- n times i32.const 0, and then n times drop
+abbrev pub pile : (n : ℕ) → Module
+pile n = with_body (repeated n (i32_const 0) (repeated n drop' stop))
 
 -- ---- evaluation contexts (4.2.13)
 
--- a tree that makes a reduction of its own: it has not come to its end, and is not about to branch out
--- or to return
-abbrev pub acts : Tree → Bool
-acts (seq vs done) = false
-acts (seq vs (more (branch l) is)) = false
-acts (seq vs (more ret is)) = false
-acts (seq vs (more i is)) = true
-
--- the same tree inside a label, with these operands below and these items behind it
-abbrev pub in_label : List Value → (arity place : ℕ) → Target → Items → Env → Tree → Reduced
-in_label vs n k g is e t = to e (seq vs (more (label n k g t) is))
+-- the same tree inside a label, with these operands below it and this after it
+abbrev pub in_label : (below : List Value) → (arity place : ℕ) → Target → (rest : Items) → Env → Tree → Reduced
+in_label below arity place target rest env tree = to env (seq below (more (label arity place target tree) rest))
 
 -- the same tree inside a frame, whose locals are its own
-abbrev pub in_frame : List Value → List Value → (arity func : ℕ) → Items → Env → Tree → Reduced
-in_frame outer vs n f is e t = to (record { store = e.store; locals = outer }) (seq vs (more (frame n f e.locals t) is))
+abbrev pub in_frame : (outer below : List Value) → (arity func : ℕ) → (rest : Items) → Env → Tree → Reduced
+in_frame outer below arity func rest env tree =
+    to (record { store = env.store; locals = outer }) (seq below (more (frame arity func env.locals tree) rest))

@@ -3,19 +3,22 @@
 //! Sections are those of the WebAssembly Core Specification 1.0.
 #![tactic(auto)]
 
-mod check;
+mod breaks;
 mod ends;
+mod host_calls;
+mod instantiate;
 pub mod laws;
 mod machine;
-mod opening;
 mod operands;
-mod places;
 mod process;
 mod progress;
-mod valid;
+mod valid_module;
+mod validation;
+pub mod worked;
 
+pub use breaks::Breaks;
 pub use ends::{End, SliceEnd};
+pub use host_calls::HostCall;
 pub use machine::Machine;
-pub use places::{Breaks, Place};
 pub use process::{Output, Process, ProcessConfig};
-pub use valid::{Valid, validate};
+pub use valid_module::{Valid, validate};

@@ -1,15 +1,16 @@
-//! The stack of words on which locals and operands stand.
+//! The stack of words that holds locals and operands.
 
 ghost use Rattle.std.specs.Prelude.{◌≡◌, ◌+◌, ◌-◌, ◌<◌, ◌≤◌, List, [], ◌∷◌, ◌++◌, IfOk, length, take, slice_index};
+ghost use Rattle.step_machine.specs.Limits.{max_values};
 
 use std::alloc::{AllocError, Global};
 use std::marker::Model;
 
-/// The most words on the stack, which is the profile's limit on values.
-pub const MOST_WORDS: usize = 65_536;
+/// Words that the stack has room for: the profile's limit on values.
+pub const MAX_VALUES: usize = 65_536;
 
-/// At most `MOST_WORDS` words without type tags, in a block that never moves. Contracts see the words,
-/// the oldest first.
+/// Words without type tags, in a block that has room for `MAX_VALUES` of them and never moves. Contracts
+/// see the words, the oldest first.
 #[derive(Drop)]
 pub struct Operands {
     words: Vec<u64>,
@@ -17,20 +18,21 @@ pub struct Operands {
 
 impl Model for Operands {
     ghost use Rattle.std.specs.Prelude.{◌≡◌, ◌≤◌, List, ℕ, vec_len, vec_capacity};
+    ghost use Rattle.step_machine.specs.Limits.{max_values};
 
     ghost Value = { List ℕ };
 
     ghost view = { λ s. s.words.items };
 
-    ghost invariant = { λ s. (vec_len s.words ≤ 65536) × (65536 ≤ vec_capacity s.words) };
+    ghost invariant = { λ s. (vec_len s.words ≤ max_values) × (vec_capacity s.words ≡ max_values) };
 }
 
 impl Operands {
-    /// An empty stack with room for all the words that it may have.
+    /// An empty stack. An error if its block cannot be allocated.
     pub fn new(alloc: Global) -> Result<Operands, AllocError>
         ensures { IfOk result (λ s. s ≡ []) }
     {
-        let words = Vec::with_capacity(alloc, MOST_WORDS)?;
+        let words = Vec::with_capacity(alloc, MAX_VALUES)?;
         Ok(Operands { words })
     }
 
@@ -38,15 +40,15 @@ impl Operands {
     #[inline(always)]
     pub fn len(&self) -> usize
         ensures len { result ≡ length self.now }
-        ensures limit { length self.now ≤ 65536 }
+        ensures limit { length self.now ≤ max_values }
     {
         self.words.len()
     }
 
-    /// Puts a word on top. That there is room is the caller's condition; no memory is taken.
+    /// Puts a word on top, for which there is room. No memory is taken.
     #[inline(always)]
     pub fn push(&mut self, word: u64)
-        requires { length self.old < 65536 }
+        requires { length self.old < max_values }
         ensures { self.new ≡ self.old ++ word ∷ [] }
     {
         self.words.push_reserved(word);

@@ -18,12 +18,13 @@ pub struct Output {
 
 impl Model for Output {
     ghost use Rattle.std.specs.Prelude.{List, ℕ, ◌≤◌, vec_capacity};
+    ghost use Rattle.step_machine.specs.Limits.{max_output};
 
     ghost Value = { List ℕ };
 
     ghost view = { λ o. o.bytes.items };
 
-    ghost invariant = { λ o. 65536 ≤ vec_capacity o.bytes };
+    ghost invariant = { λ o. max_output ≤ vec_capacity o.bytes };
 }
 
 impl Output {

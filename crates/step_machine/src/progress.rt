@@ -1,17 +1,17 @@
 //! What a turn changes.
 
 ghost use Rattle.std.specs.Prelude.{◌≡◌, ◌+◌, ◌<◌, ◌^◌, None, length};
-ghost use Rattle.step_machine.specs.Flat.{last, pushed, dropped, left, flat_turn, returned, Ready};
+ghost use Rattle.step_machine.specs.Inside.FlatMachine.{word_of, last, pushed, dropped, exited_with_top, flat_turn, returned, Ready};
 
 use crate::ends::End;
-use crate::operands::{MOST_WORDS, Operands};
-use wasm_ast::{Instr, Trap};
+use crate::operands::{MAX_VALUES, Operands};
+use wasm_ast::{Simple, Trap, Value};
 
 /// The number of the turn that makes no reduction and traps.
 const LAST_TURN: u64 = 1_000_000_000_000_000;
 
 /// A machine's stack with its locals and operands, the place that is next in its code, how many turns
-/// it has made, and how it has ended, where it has.
+/// it has made, and its end, if it has ended.
 #[derive(Drop)]
 pub struct Progress {
     pub stack: Operands,
@@ -22,7 +22,7 @@ pub struct Progress {
 
 /// One turn of a machine with this code.
 #[inline(always)]
-pub fn advance(code: &[Instr], at: &mut Progress)
+pub fn advance(code: &[Simple], at: &mut Progress)
     requires { Ready code.now at.old }
     ensures { at.new ≡ flat_turn code.now at.old }
 {
@@ -32,20 +32,32 @@ pub fn advance(code: &[Instr], at: &mut Progress)
         return;
     }
     match code[at.next] {
-        Instr::I32Const(n) => push(at, u64::from(n)),
-        Instr::Discard => discard(at),
-        Instr::Call(_) => exit(at),
+        Simple::Const(value) => push(at, word_of(value)),
+        Simple::Drop => discard(at),
+        Simple::Call(_) => exit(at),
+        Simple::Br(_) | Simple::Return => unreachable!(),
     }
     end_frame(code.len(), at);
 }
 
-/// A constant (4.4.1): a word more, where the limit on values allows it.
+/// A value as a word without its type.
+#[inline(always)]
+fn word_of(value: Value) -> u64
+    ensures { result ≡ word_of value }
+{
+    match value {
+        Value::I32(number) => u64::from(number),
+        Value::I64(number) => number,
+    }
+}
+
+/// A constant (4.4.1): push a word, or trap if the stack is full.
 #[inline(always)]
 fn push(at: &mut Progress, word: u64)
     requires { at.old.next + 1 < 2 ^ 64 }
     ensures { at.new ≡ pushed word at.old }
 {
-    if at.stack.len() < MOST_WORDS {
+    if at.stack.len() < MAX_VALUES {
         at.stack.push(word);
         at.next += 1;
     } else {
@@ -69,12 +81,12 @@ fn discard(at: &mut Progress)
 fn exit(at: &mut Progress)
     requires operand { 0 < length at.old.stack }
     requires number { last at.old.stack < 2 ^ 32 }
-    ensures { at.new ≡ left at.old }
+    ensures { at.new ≡ exited_with_top at.old }
 {
     at.end = Some(End::Exited(at.stack.top() as u32));
 }
 
-/// Behind the last instruction the entry's frame ends (4.4.7).
+/// After the last instruction the entry's frame ends (4.4.7).
 #[inline(always)]
 pub fn end_frame(count: usize, at: &mut Progress)
     ensures { at.new ≡ returned count at.old }

@@ -1,4 +1,4 @@
-use Rattle.step_machine.proofs.Cuts.{from-add}
+use Rattle.step_machine.proofs.TurnLemmas.{from-add}
 use Rattle.step_machine.proofs.laws.cuts_commute.Goals as goal
 
 pub returns : goal.returns

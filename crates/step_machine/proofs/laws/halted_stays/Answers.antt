@@ -1,4 +1,4 @@
-use Rattle.step_machine.proofs.Cuts.{stays}
+use Rattle.step_machine.proofs.TurnLemmas.{stays}
 use Rattle.step_machine.proofs.laws.halted_stays.Goals as goal
 
 pub returns : goal.returns

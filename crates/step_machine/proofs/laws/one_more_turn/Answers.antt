@@ -1,5 +1,5 @@
 use Rattle.std.proofs.Common.{◌≡◌, ◌+◌, suc, arith}
-use Rattle.step_machine.proofs.Cuts.{from-more}
+use Rattle.step_machine.proofs.TurnLemmas.{from-more}
 use Rattle.step_machine.proofs.laws.one_more_turn.Goals as goal
 
 pub returns : goal.returns

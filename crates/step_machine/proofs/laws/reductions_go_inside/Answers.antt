@@ -1,4 +1,4 @@
-use Rattle.step_machine.proofs.Contexts.{label_acts, frame_acts}
+use Rattle.step_machine.proofs.EvaluationContexts.{label_acts, frame_acts}
 use Rattle.step_machine.proofs.laws.reductions_go_inside.Goals as goal
 
 pub returns-clause-label : goal.returns-clause-label

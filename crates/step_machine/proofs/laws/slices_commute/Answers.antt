@@ -1,4 +1,4 @@
-use Rattle.step_machine.proofs.Cutting.{any_cut, two_slices}
+use Rattle.step_machine.proofs.SliceCuts.{any_cut, two_slices}
 use Rattle.step_machine.proofs.laws.slices_commute.Goals as goal
 
 pub returns-clause-any_cut : goal.returns-clause-any_cut

@@ -1,4 +1,4 @@
-use Rattle.step_machine.proofs.Cutting.{within_budget, forward, no_turn}
+use Rattle.step_machine.proofs.SliceCuts.{within_budget, forward, no_turn}
 use Rattle.step_machine.proofs.laws.slices_go_forward.Goals as goal
 
 pub returns-clause-at_most : goal.returns-clause-at_most

@@ -1,4 +1,4 @@
-use Rattle.step_machine.proofs.Cutting.{not_before, only_there}
+use Rattle.step_machine.proofs.SliceCuts.{not_before, only_there}
 use Rattle.step_machine.proofs.laws.slices_stop_first.Goals as goal
 
 pub returns-clause-not_before : goal.returns-clause-not_before

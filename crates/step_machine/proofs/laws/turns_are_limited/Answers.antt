@@ -1,4 +1,4 @@
-use Rattle.step_machine.proofs.TurnLimit.{early}
+use Rattle.step_machine.proofs.LastTurn.{early}
 use Rattle.step_machine.proofs.laws.turns_are_limited.Goals as goal
 
 pub returns : goal.returns

@@ -1,9 +1,9 @@
 use Rattle.std.proofs.Common.{arith}
 use Rattle.step_machine.specs.Program.{program}
-use Rattle.step_machine.specs.Reduce.{step}
+use Rattle.step_machine.specs.Reduction.{step}
 use Rattle.step_machine.specs.Turns.{state_weight}
-use Rattle.step_machine.specs.Opening.{first_store, first_state, entry}
-use Rattle.step_machine.proofs.Settles.{settles}
+use Rattle.step_machine.specs.Instantiation.{first_store, first_state, entry}
+use Rattle.step_machine.proofs.SettleTerminates.{settles}
 use Rattle.step_machine.proofs.laws.turns_settle.Goals as goal
 
 pub returns-clause-turn : goal.returns-clause-turn

@@ -1,6 +1,0 @@
-use Rattle.std.proofs.Common.{◌≡◌, drop}
-use Rattle.step_machine.specs.Opening.{all_known}
-use Rattle.step_machine.proofs.opening.are_known.Given as goal
-
-abbrev pub invariant-loop-import : goal.invariant-loop-import
-invariant-loop-import l = all_known l.types l.imports ≡ all_known l.types (drop l.import-index l.imports)

@@ -1,0 +1,54 @@
+-- The system calls of WASI snapshot_preview1 that this profile has, and which imports are one.
+use Rattle.std.specs.Prelude.{ℕ, List, [], ◌∷◌, codes, bytes_eq, Bool, true, false, ◌&&◌, if◌then◌else◌, Option, Some, None, slice_get, is_some}
+use Rattle.wasm_ast.specs.declared.values.ValType.{ValType}
+use Rattle.wasm_ast.specs.declared.values.ValType.TheVariants.{I32, I64}
+use Rattle.wasm_ast.specs.declared.values.FuncType.{FuncType}
+use Rattle.wasm_ast.specs.declared.module.Import.{Import}
+use Rattle.step_machine.specs.declared.host_calls.HostCall.{HostCall}
+use Rattle.step_machine.specs.declared.host_calls.HostCall.TheVariants.{ProcExit}
+
+-- ---- the table: a call's name and its type
+
+abbrev pub host_name : HostCall → List ℕ
+host_name ProcExit = codes "proc_exit"
+
+abbrev pub host_type : HostCall → FuncType
+host_type ProcExit = record { params = I32 ∷ []; results = [] }
+
+abbrev pub host_calls : List HostCall
+host_calls = ProcExit ∷ []
+
+-- ---- imports
+
+abbrev pub host_module : List ℕ
+host_module = codes "wasi_snapshot_preview1"
+
+abbrev pub is_same_type : ValType → ValType → Bool
+is_same_type I32 I32 = true
+is_same_type I64 I64 = true
+is_same_type _ _ = false
+
+abbrev pub are_same_types : List ValType → List ValType → Bool
+are_same_types [] [] = true
+are_same_types (t ∷ ts) (u ∷ us) = is_same_type t u && are_same_types ts us
+are_same_types _ _ = false
+
+-- an import matches a function of the same type (4.5.2)
+abbrev pub is_of_type : FuncType → Option FuncType → Bool
+is_of_type t None = false
+is_of_type t (Some u) = are_same_types t.params u.params && are_same_types t.results u.results
+
+-- the first of these calls that an import of this name and type is
+abbrev pub call_named : List ℕ → Option FuncType → List HostCall → Option HostCall
+call_named name type [] = None
+call_named name type (h ∷ hs) =
+    if bytes_eq name (host_name h) && is_of_type (host_type h) type then Some h else call_named name type hs
+
+-- the system call that an import is: by its module, its name and its type
+abbrev pub known : List FuncType → Import → Option HostCall
+known types i =
+    if bytes_eq i.module host_module then call_named i.name (slice_get types i.type_index) host_calls else None
+
+abbrev pub all_known : List FuncType → List Import → Bool
+all_known types [] = true
+all_known types (i ∷ is) = is_some (known types i) && all_known types is

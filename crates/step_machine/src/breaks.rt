@@ -1,0 +1,101 @@
+//! Breakpoints.
+
+ghost use Rattle.std.specs.Prelude.{◌≡◌, ◌≤◌, IfOk, [], true, false, length, vec_len};
+ghost use Rattle.step_machine.specs.Limits.{max_breakpoints};
+ghost use Rattle.step_machine.specs.Slices.{is_among};
+
+use std::alloc::{AllocError, Global};
+use std::marker::Model;
+use wasm_ast::Place;
+
+/// The most breakpoints that a task has.
+const MAX_BREAKPOINTS: usize = 32;
+
+/// At most 32 breakpoints. Contracts see their places in order.
+#[derive(Drop)]
+pub struct Breaks {
+    places: Vec<Place>,
+}
+
+impl Model for Breaks {
+    ghost use Rattle.std.specs.Prelude.{List, ◌≤◌, vec_len};
+    ghost use Rattle.step_machine.specs.Limits.{max_breakpoints};
+    ghost use Rattle.wasm_ast.specs.declared.place.Place.{Place};
+
+    ghost Value = { List Place };
+
+    ghost view = { λ b. b.places.items };
+
+    ghost invariant = { λ b. vec_len b.places ≤ max_breakpoints };
+}
+
+impl Breaks {
+    /// No breakpoints, with room for 32. An error if that cannot be allocated.
+    pub fn none(alloc: Global) -> Result<Breaks, AllocError>
+        ensures { IfOk result (λ b. b ≡ []) }
+    {
+        let places = Vec::with_capacity(alloc, MAX_BREAKPOINTS)?;
+        Ok(Breaks { places })
+    }
+
+    /// Breakpoints at these places. No memory is taken.
+    pub fn new(places: Vec<Place>) -> Breaks
+        requires { vec_len places ≤ max_breakpoints }
+        ensures { result ≡ places.items }
+    {
+        Breaks { places }
+    }
+
+    /// The places.
+    pub fn as_slice(&self) -> &[Place]
+        ensures places { result.now ≡ self.now }
+        ensures few { length result.now ≤ max_breakpoints }
+    {
+        self.places.as_slice()
+    }
+
+    /// Whether both are the same places in the same order.
+    pub fn is(&self, other: &Breaks) -> bool
+        ensures same { result ≡ true → self.now ≡ other.now }
+        ensures different { result ≡ false → self.now ≡ other.now → ⊥ }
+    {
+        are_same(self.as_slice(), other.as_slice())
+    }
+
+    /// Gives the places back. No memory is taken.
+    pub fn into_vec(self) -> Vec<Place>
+        ensures places { result.items ≡ self }
+        ensures few { vec_len result ≤ max_breakpoints }
+    {
+        let Breaks { places } = self;
+        places
+    }
+
+    /// Whether one of them is this place.
+    #[inline(always)]
+    pub fn has(&self, func: u32, instr: u64) -> bool
+        ensures { result ≡ is_among self.now func instr }
+    {
+        for place in &self.places {
+            if place.func == func && u64::from(place.instr) == instr {
+                return true;
+            }
+        }
+        false
+    }
+}
+
+fn are_same(places: &[Place], others: &[Place]) -> bool
+    ensures same { result ≡ true → places.now ≡ others.now }
+    ensures different { result ≡ false → places.now ≡ others.now → ⊥ }
+{
+    if places.len() != others.len() {
+        return false;
+    }
+    for i in 0..places.len() {
+        if places[i] != others[i] {
+            return false;
+        }
+    }
+    true
+}

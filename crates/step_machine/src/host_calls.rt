@@ -1,0 +1,73 @@
+//! System calls (WASI snapshot_preview1), and which imports are one.
+
+ghost use Rattle.std.specs.Prelude.{◌≡◌, slice_get, option_copied};
+ghost use Rattle.step_machine.specs.HostCalls.{host_calls, are_same_types, is_of_type, call_named, known, all_known};
+
+use wasm_ast::{FuncType, Import, ValType};
+
+/// A system call that this profile has.
+#[derive(Clone, Copy, PartialEq, Eq, Debug)]
+pub enum HostCall {
+    /// `proc_exit`: ends the task with a number
+    ProcExit,
+}
+
+/// Whether each import is a system call, by module, name and type.
+pub fn are_known(types: &[FuncType], imports: &[Import]) -> bool
+    ensures { result ≡ all_known types.now imports.now }
+{
+    for import in imports {
+        if known(types, import).is_none() {
+            return false;
+        }
+    }
+    true
+}
+
+/// The system call that an import is, by its module, its name and its type.
+fn known(types: &[FuncType], import: &Import) -> Option<HostCall>
+    ensures { result ≡ known types.now import.now }
+{
+    if import.module.as_str() == "wasi_snapshot_preview1" {
+        call_named(
+            import.name.as_str(),
+            type_with_index(types, import.type_index),
+        )
+    } else {
+        None
+    }
+}
+
+fn type_with_index(types: &[FuncType], index: u32) -> Option<&FuncType>
+    ensures { option_copied result ≡ slice_get types.now index }
+{
+    types.get(index as usize)
+}
+
+fn call_named(name: &str, found: Option<&FuncType>) -> Option<HostCall>
+    ensures { result ≡ call_named name.now (option_copied found.entry) host_calls }
+{
+    if name == "proc_exit" && is_of_type(&[ValType::I32], &[], found) {
+        return Some(HostCall::ProcExit);
+    }
+    None
+}
+
+/// Whether a type is there and has these parameters and results.
+pub fn is_of_type(params: &[ValType], results: &[ValType], found: Option<&FuncType>) -> bool
+    ensures { result ≡ is_of_type (record { params = params.now; results = results.now }) (option_copied found.entry) }
+{
+    match found {
+        Some(found) => {
+            are_same_types(params, found.params.as_slice())
+                && are_same_types(results, found.results.as_slice())
+        }
+        None => false,
+    }
+}
+
+fn are_same_types(types: &[ValType], others: &[ValType]) -> bool
+    ensures { result ≡ are_same_types types.now others.now }
+{
+    types == others
+}
