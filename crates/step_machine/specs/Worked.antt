@@ -15,7 +15,7 @@ use Rattle.wasm_ast.specs.declared.module.Module.{Module}
 use Rattle.wasm_ast.specs.declared.place.Place.{Place}
 use Rattle.wasm_ast.specs.Syntax.{Op, simple, block, loop, if', Ops, stop, next, ops_of}
 use Rattle.step_machine.specs.declared.process.ProcessConfig.{ProcessConfig}
-use Rattle.step_machine.specs.Configuration.{Store, Target, Tree, seq, Items, done, more, label, frame, items_of, State, running, Configuration}
+use Rattle.step_machine.specs.Configuration.{Store, Target, onward, Tree, seq, Items, done, more, label, frame, items_of, State, running, Configuration}
 use Rattle.step_machine.specs.Reduction.{Env, Reduced, to}
 
 -- ---- instructions
@@ -105,14 +105,67 @@ call_and_return = with_callee (call 2 ∷ call 0 ∷ []) to_i32 (i32_const 1 ∷
 abbrev pub empty_entry : Module
 empty_entry = with_entry []
 
+-- i32.const 5 block (result i32) i32.const 6 end call 0
+abbrev pub fall_through : Module
+fall_through = with_entry (i32_const 5 ∷ block (One type.I32) (ops_of (i32_const 6 ∷ [])) ∷ call 0 ∷ [])
+
+-- i32.const 5 block (result i32) i32.const 1 i32.const 2 br 0 end call 0
+abbrev pub branch_above : Module
+branch_above = with_entry (i32_const 5 ∷ block (One type.I32) (ops_of (i32_const 1 ∷ i32_const 2 ∷ br 0 ∷ [])) ∷ call 0 ∷ [])
+
+-- i32.const 5 block (result i32) block i32.const 3 br 1 end i32.const 8 end call 0
+abbrev pub branch_through : Module
+branch_through =
+    with_entry (i32_const 5
+    ∷ block (One type.I32) (ops_of (block Empty (ops_of (i32_const 3 ∷ br 1 ∷ [])) ∷ i32_const 8 ∷ []))
+    ∷ call 0 ∷ [])
+
+-- the body of the loop of the next module
+abbrev pub loop_body : Ops
+loop_body = ops_of (i32_const 3 ∷ br 0 ∷ [])
+
+-- i32.const 5 loop i32.const 3 br 0 end call 0
+abbrev pub loop_above : Module
+loop_above = with_entry (i32_const 5 ∷ loop Empty loop_body ∷ call 0 ∷ [])
+
+-- i32.const 5 i32.const n if (result i32) i32.const 6 else i32.const 7 end call 0
+abbrev pub if_above : (n : ℕ) → Module
+if_above n =
+    with_entry (i32_const 5 ∷ i32_const n ∷ if' (One type.I32) (ops_of (i32_const 6 ∷ [])) (ops_of (i32_const 7 ∷ [])) ∷ call 0 ∷ [])
+
+-- i32.const 5 call 2 call 0, where function 2 gives an i32 and has this body
+abbrev pub call_above : (callee : List Op) → Module
+call_above callee = with_callee (i32_const 5 ∷ call 2 ∷ call 0 ∷ []) to_i32 callee
+
+abbrev pub two_to_nothing : FuncType
+two_to_nothing = record { params = type.I32 ∷ type.I64 ∷ []; results = [] }
+
+abbrev pub two_to_one : FuncType
+two_to_one = record { params = type.I32 ∷ type.I64 ∷ []; results = type.I32 ∷ [] }
+
+-- i32.const 5 i32.const 1 i64.const 2 call 2 call 0, where function 2 takes an i32 and an i64, has an i64
+-- as a further local, and is i32.const 4 drop
+abbrev pub call_with_two : Module
+call_with_two =
+    with_funcs (i32_const 5 ∷ i32_const 1 ∷ i64_const 2 ∷ call 2 ∷ call 0 ∷ []) two_to_nothing
+    (func 2 (type.I64 ∷ []) (i32_const 4 ∷ drop' ∷ []) ∷ [])
+
 -- ---- configurations
 
 abbrev pub empty_store : Store
 empty_store = record { globals = []; memory = []; table = []; out = []; err = [] }
 
+-- the entry's frame with these operands, and what follows them
+abbrev pub in_entry : (operands : List Value) → Items → State
+in_entry operands items = running (seq [] (more (frame 0 1 [] (seq operands items)) done))
+
 -- the entry with these operands, about to run these instructions, the first of which has this place
 abbrev pub entered_at : (place : ℕ) → (operands : List Value) → Ops → State
-entered_at place operands os = running (seq [] (more (frame 0 1 [] (seq operands (items_of place os))) done))
+entered_at place operands os = in_entry operands (items_of place os)
+
+-- the entry, about to exit with the first of these operands
+abbrev pub exits_next : (place : ℕ) → (operands : List Value) → State
+exits_next place operands = entered_at place operands (ops_of (call 0 ∷ []))
 
 abbrev pub entered : (operands : List Value) → Ops → Configuration
 entered operands os = record { store = empty_store; state = entered_at 0 operands os }
@@ -128,6 +181,13 @@ nested (suc n) t = seq [] (more (frame 1 2 [] (nested n t)) done)
 -- the innermost of n frames is about to call function 2
 abbrev pub deep : (n : ℕ) → Configuration
 deep n = record { store = empty_store; state = running (nested n (seq [] (items_of 0 (next (call 2) stop)))) }
+
+-- a tree of three frames and six values: locals and operands, in labels and in what follows them
+abbrev pub measured : Tree
+measured =
+    seq (I32 1 ∷ [])
+    (more (label 0 0 onward (seq (I32 2 ∷ I32 3 ∷ []) (more (frame 0 2 (I64 4 ∷ []) (seq (I32 5 ∷ []) (more (frame 0 2 [] (seq [] done)) done))) done)))
+    (more (frame 0 3 (I32 6 ∷ []) (seq [] done)) done))
 
 abbrev pub repeated : (n : ℕ) → Op → Ops → Ops
 repeated zero o os = os

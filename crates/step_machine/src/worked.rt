@@ -3,20 +3,22 @@
 
 ghost use Rattle.std.specs.Prelude.{◌≡◌, ℕ, ◌+◌, ◌<◌, ◌≤◌, List, [], ◌∷◌, length, true, false, Some, None};
 ghost use Rattle.wasm_ast.specs.declared.values.Value.{Value};
-ghost use Rattle.wasm_ast.specs.declared.values.Value.TheVariants as value;
+ghost use Rattle.wasm_ast.specs.declared.values.Value.TheVariants.{I32, I64};
+ghost use Rattle.wasm_ast.specs.declared.instr.BlockType.TheVariants.{Empty};
 ghost use Rattle.wasm_ast.specs.declared.trap.Trap.TheVariants as trap;
-ghost use Rattle.wasm_ast.specs.Syntax.{stop, next};
+ghost use Rattle.wasm_ast.specs.Syntax.{Op, block, loop, if', Ops, stop, next, ops_of};
 ghost use Rattle.step_machine.specs.declared.process.ProcessConfig.{ProcessConfig};
-ghost use Rattle.step_machine.specs.declared.ends.End.TheVariants as ends;
+ghost use Rattle.step_machine.specs.declared.ends.End.TheVariants as end;
 ghost use Rattle.step_machine.specs.declared.ends.SliceEnd.TheVariants as slice;
 ghost use Rattle.step_machine.specs.Limits.{max_values};
 ghost use Rattle.step_machine.specs.Program.{Program, program};
-ghost use Rattle.step_machine.specs.Configuration.{exited, trapped, is_halted};
+ghost use Rattle.step_machine.specs.Configuration.{onward, again, seq, Items, done, more, plain, label, frame, enter, branch, ret, items_of, exited, trapped, stuck, is_halted, frames, values};
+ghost use Rattle.step_machine.specs.Reduction.{Env, to, ends, enter_block, enter_loop, reduce};
 ghost use Rattle.step_machine.specs.Turns.{turn};
 ghost use Rattle.step_machine.specs.Instantiation.{after, ended};
 ghost use Rattle.step_machine.specs.Slices.{at_break, turns_made, slice_end};
 ghost use Rattle.step_machine.specs.Typing.{ValidModule};
-ghost use Rattle.step_machine.specs.Worked.{bare_process, i32_const, drop', exit_seven, branch_out, endless, two_ways, call_and_return, empty_entry, place, entered, entered_at, deep, pile};
+ghost use Rattle.step_machine.specs.Worked.{bare_process, nothing_to_nothing, two_to_one, i32_const, drop', br, return', call, with_callee, exit_seven, branch_out, endless, two_ways, call_and_return, empty_entry, fall_through, branch_above, branch_through, loop_body, loop_above, if_above, call_above, call_with_two, place, in_entry, entered, entered_at, exits_next, deep, measured, pile};
 
 /// `i32.const 7 call 0`, where function 0 is `proc_exit`, exits with 7 at its second turn.
 pub fn exit_takes_a_turn()
@@ -26,7 +28,7 @@ pub fn exit_takes_a_turn()
 
 /// An empty entry has returned before any turn.
 pub fn empty_entry_returns()
-    ensures { ended (after empty_entry bare_process 0).state ≡ Some ends.Returned }
+    ensures { ended (after empty_entry bare_process 0).state ≡ Some end.Returned }
 {}
 
 /// A branch out of a block keeps the top value: the task exits with 2 at its fifth turn.
@@ -61,10 +63,106 @@ pub fn call_returns_the_top()
     ensures exits { (after call_and_return bare_process 5).state ≡ exited 9 }
 {}
 
-/// The frame that would be the 1,025th traps, and the 1,024th does not.
+/// What a block gives falls through its end, above the operands that were there before it.
+pub fn block_ends()
+    ensures inside { (after fall_through bare_process 2).state ≡ in_entry (I32 5 ∷ [])
+        (more (label 1 1 onward (seq [] (items_of 2 (ops_of (i32_const 6 ∷ []))))) (items_of 3 (ops_of (call 0 ∷ [])))) }
+    ensures left { (after fall_through bare_process 3).state ≡ exits_next 3 (I32 6 ∷ I32 5 ∷ []) }
+    ensures exits { (after fall_through bare_process 4).state ≡ exited 6 }
+{}
+
+/// A branch drops the other operands of its label, and none below it; on its way through a label it
+/// takes the operands along.
+pub fn branches_keep_what_is_below()
+    ensures to_the_label { (after branch_above bare_process 5).state ≡ exits_next 5 (I32 2 ∷ I32 5 ∷ []) }
+    ensures through_a_label { (after branch_through bare_process 5).state ≡ exits_next 6 (I32 3 ∷ I32 5 ∷ []) }
+{}
+
+/// A branch to a loop begins it again once, with the operands below it and what follows it as they were.
+pub fn loops_begin_again()
+    ensures inside { (after loop_above bare_process 2).state ≡ in_entry (I32 5 ∷ [])
+        (more (label 0 1 (again (loop Empty loop_body)) (seq [] (items_of 2 loop_body))) (items_of 4 (ops_of (call 0 ∷ [])))) }
+    ensures again { (after loop_above bare_process 4).state ≡ (after loop_above bare_process 1).state }
+{}
+
+/// An `if` takes its operand, keeps those below it, and numbers its arms one after the other.
+pub fn arms_give_results()
+    ensures first_arm { (after (if_above 1) bare_process 3).state ≡ in_entry (I32 5 ∷ [])
+        (more (label 1 2 onward (seq [] (items_of 3 (ops_of (i32_const 6 ∷ []))))) (items_of 5 (ops_of (call 0 ∷ [])))) }
+    ensures second_arm { (after (if_above 0) bare_process 3).state ≡ in_entry (I32 5 ∷ [])
+        (more (label 1 2 onward (seq [] (items_of 4 (ops_of (i32_const 7 ∷ []))))) (items_of 5 (ops_of (call 0 ∷ [])))) }
+    ensures left { (after (if_above 0) bare_process 4).state ≡ exits_next 5 (I32 7 ∷ I32 5 ∷ []) }
+{}
+
+/// A function's results are left at its end, by a return, from inside a block too, and by a branch to
+/// the label of its body, above the operands that its caller had.
+pub fn functions_give_results()
+    ensures called { (after (call_above (i32_const 9 ∷ [])) bare_process 2).state ≡ in_entry (I32 5 ∷ [])
+        (more (frame 1 2 [] (seq [] (items_of 0 (ops_of (i32_const 9 ∷ []))))) (items_of 2 (ops_of (call 0 ∷ [])))) }
+    ensures at_the_end { (after (call_above (i32_const 9 ∷ [])) bare_process 3).state ≡ exits_next 2 (I32 9 ∷ I32 5 ∷ []) }
+    ensures by_return { (after (call_above (i32_const 1 ∷ i32_const 3 ∷ return' ∷ i32_const 4 ∷ [])) bare_process 5).state
+        ≡ exits_next 2 (I32 3 ∷ I32 5 ∷ []) }
+    ensures from_a_block { (after (call_above
+        (i32_const 1 ∷ block Empty (ops_of (i32_const 3 ∷ return' ∷ [])) ∷ i32_const 4 ∷ [])) bare_process 6).state
+        ≡ exits_next 2 (I32 3 ∷ I32 5 ∷ []) }
+    ensures by_branch { (after (call_above (i32_const 1 ∷ i32_const 3 ∷ br 0 ∷ i32_const 4 ∷ [])) bare_process 5).state
+        ≡ exits_next 2 (I32 3 ∷ I32 5 ∷ []) }
+    ensures by_branch_from_a_block { (after (call_above
+        (i32_const 1 ∷ block Empty (ops_of (i32_const 3 ∷ br 1 ∷ [])) ∷ i32_const 4 ∷ [])) bare_process 6).state
+        ≡ exits_next 2 (I32 3 ∷ I32 5 ∷ []) }
+{}
+
+/// Arguments are taken from the caller's operands and become the first locals in their order, followed by
+/// zeros; the caller keeps its other operands.
+pub fn arguments_become_locals()
+    ensures called { (after call_with_two bare_process 4).state ≡ in_entry (I32 5 ∷ [])
+        (more (frame 0 2 (I32 1 ∷ I64 2 ∷ I64 0 ∷ []) (seq [] (items_of 0 (ops_of (i32_const 4 ∷ drop' ∷ [])))))
+        (items_of 4 (ops_of (call 0 ∷ [])))) }
+    ensures returned { (after call_with_two bare_process 6).state ≡ exits_next 4 (I32 5 ∷ []) }
+    ensures exits { (after call_with_two bare_process 7).state ≡ exited 5 }
+{}
+
+/// A block takes its parameters along; its label's arity is that of its results, and a loop's that of its
+/// parameters.
+pub fn blocks_take_parameters()
+    ensures of_a_block { (env : Env) (operands : List Value) (body : Ops) (rest : Items)
+        → enter_block env operands 3 4 (Some two_to_one) body rest
+        ≡ to env (seq operands (more (enter 2 1 3 4 onward body) rest)) }
+    ensures of_a_loop { (env : Env) (operands : List Value) (itself : Op) (body : Ops) (rest : Items)
+        → enter_loop env operands 3 (Some two_to_one) itself body rest
+        ≡ to env (seq operands (more (enter 2 2 3 4 (again itself) body) rest)) }
+    ensures on_entry { (p : Program) (env : Env) (u v w : Value) (body : Ops) (rest : Items)
+        → reduce p env (seq (u ∷ v ∷ w ∷ []) (more (enter 2 1 3 4 onward body) rest))
+        ≡ to env (seq (w ∷ []) (more (label 1 3 onward (seq (u ∷ v ∷ []) (items_of 4 body))) rest)) }
+{}
+
+/// What no valid module reaches has no reduction: a branch or a return outside all frames, a branch out
+/// of a frame, and an operand that is not there.
+pub fn faults_are_stuck()
+    ensures branch_outside { (p : Program) (env : Env) (operands : List Value) (n : ℕ) (rest : Items)
+        → reduce p env (seq operands (more (branch n) rest)) ≡ ends env stuck }
+    ensures return_outside { (p : Program) (env : Env) (operands : List Value) (rest : Items)
+        → reduce p env (seq operands (more ret rest)) ≡ ends env stuck }
+    ensures branch_out { (p : Program) (env : Env) (operands : List Value) (n : ℕ) (rest : Items)
+        → reduce p env (seq [] (more (frame 0 1 [] (seq operands (more (branch (n + 1)) rest))) rest)) ≡ ends env stuck }
+    ensures no_operand { (p : Program) (env : Env) (rest : Items)
+        → reduce p env (seq [] (more (plain 0 drop') rest)) ≡ ends env stuck }
+    ensures no_condition { (p : Program) (env : Env) (rest : Items)
+        → reduce p env (seq [] (more (plain 0 (if' Empty stop stop)) rest)) ≡ ends env stuck }
+{}
+
+/// The frames and values of a tree are those of all its labels, its frames, and what follows them.
+pub fn trees_are_measured()
+    ensures frames { frames measured ≡ 3 }
+    ensures values { values measured ≡ 6 }
+{}
+
+/// The frame that would be the 1,025th traps, and the 1,024th does not. The limit is checked on each
+/// reduction: a function without instructions traps too.
 pub fn frames_are_limited()
     ensures beyond { (turn (program call_and_return bare_process) (deep 1024)).state ≡ trapped trap.Exhausted }
     ensures within { is_halted (turn (program call_and_return bare_process) (deep 1023)).state ≡ false }
+    ensures of_an_empty_function { (turn (program (with_callee [] nothing_to_nothing []) bare_process) (deep 1024)).state ≡ trapped trap.Exhausted }
 {}
 
 /// The value that would be the 65,537th traps, and the 65,536th does not.
@@ -74,13 +172,13 @@ pub fn values_are_limited()
         → (turn p (entered vs (next (i32_const n) (next drop' stop)))).state ≡ trapped trap.Exhausted }
     ensures within { (p : Program) (vs : List Value) (n : ℕ)
         → length vs ≡ 65535
-        → (turn p (entered vs (next (i32_const n) (next drop' stop)))).state ≡ entered_at 1 (value.I32 n ∷ vs) (next drop' stop) }
+        → (turn p (entered vs (next (i32_const n) (next drop' stop)))).state ≡ entered_at 1 (I32 n ∷ vs) (next drop' stop) }
 {}
 
 /// A body of n `i32.const 0` and then n `drop` returns at the turn of its last drop, if n is at most
 /// 65,536. If n is more, the turn of the 65,537th constant traps.
 pub fn piles_are_limited()
-    ensures fits { (p : ProcessConfig) (n : ℕ) → n ≤ max_values → ended (after (pile n) p (n + n)).state ≡ Some ends.Returned }
+    ensures fits { (p : ProcessConfig) (n : ℕ) → n ≤ max_values → ended (after (pile n) p (n + n)).state ≡ Some end.Returned }
     ensures beyond { (p : ProcessConfig) (n limit : ℕ)
         → limit ≡ max_values
         → limit < n
