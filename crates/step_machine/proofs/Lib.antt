@@ -15,4 +15,5 @@ pub mod SliceLemmas
 pub mod SliceCuts
 pub mod ValueLimit
 pub mod WorkedValid
+pub mod FaultsInvalid
 pub mod ExportNames

@@ -105,20 +105,24 @@ call_and_return = with_callee (call 2 ∷ call 0 ∷ []) to_i32 (i32_const 1 ∷
 abbrev pub empty_entry : Module
 empty_entry = with_entry []
 
--- i32.const 5 block (result i32) i32.const 6 end call 0
+-- call 0 drop: exits with the first operand, and leaves none of two
+abbrev pub finish : List Op
+finish = call 0 ∷ drop' ∷ []
+
+-- i32.const 5 block (result i32) i32.const 6 end, and then that
 abbrev pub fall_through : Module
-fall_through = with_entry (i32_const 5 ∷ block (One type.I32) (ops_of (i32_const 6 ∷ [])) ∷ call 0 ∷ [])
+fall_through = with_entry (i32_const 5 ∷ block (One type.I32) (ops_of (i32_const 6 ∷ [])) ∷ finish)
 
--- i32.const 5 block (result i32) i32.const 1 i32.const 2 br 0 end call 0
+-- i32.const 5 block (result i32) i32.const 1 i32.const 2 br 0 end, and then that
 abbrev pub branch_above : Module
-branch_above = with_entry (i32_const 5 ∷ block (One type.I32) (ops_of (i32_const 1 ∷ i32_const 2 ∷ br 0 ∷ [])) ∷ call 0 ∷ [])
+branch_above = with_entry (i32_const 5 ∷ block (One type.I32) (ops_of (i32_const 1 ∷ i32_const 2 ∷ br 0 ∷ [])) ∷ finish)
 
--- i32.const 5 block (result i32) block i32.const 3 br 1 end i32.const 8 end call 0
+-- i32.const 5 block (result i32) block i32.const 3 br 1 end i32.const 8 end, and then that
 abbrev pub branch_through : Module
 branch_through =
     with_entry (i32_const 5
     ∷ block (One type.I32) (ops_of (block Empty (ops_of (i32_const 3 ∷ br 1 ∷ [])) ∷ i32_const 8 ∷ []))
-    ∷ call 0 ∷ [])
+    ∷ finish)
 
 -- the body of the loop of the next module
 abbrev pub loop_body : Ops
@@ -128,14 +132,14 @@ loop_body = ops_of (i32_const 3 ∷ br 0 ∷ [])
 abbrev pub loop_above : Module
 loop_above = with_entry (i32_const 5 ∷ loop Empty loop_body ∷ call 0 ∷ [])
 
--- i32.const 5 i32.const n if (result i32) i32.const 6 else i32.const 7 end call 0
+-- i32.const 5 i32.const n if (result i32) i32.const 6 else i32.const 7 end, and then that
 abbrev pub if_above : (n : ℕ) → Module
 if_above n =
-    with_entry (i32_const 5 ∷ i32_const n ∷ if' (One type.I32) (ops_of (i32_const 6 ∷ [])) (ops_of (i32_const 7 ∷ [])) ∷ call 0 ∷ [])
+    with_entry (i32_const 5 ∷ i32_const n ∷ if' (One type.I32) (ops_of (i32_const 6 ∷ [])) (ops_of (i32_const 7 ∷ [])) ∷ finish)
 
--- i32.const 5 call 2 call 0, where function 2 gives an i32 and has this body
+-- i32.const 5 call 2, and then that, where function 2 gives an i32 and has this body
 abbrev pub call_above : (callee : List Op) → Module
-call_above callee = with_callee (i32_const 5 ∷ call 2 ∷ call 0 ∷ []) to_i32 callee
+call_above callee = with_callee (i32_const 5 ∷ call 2 ∷ finish) to_i32 callee
 
 abbrev pub two_to_nothing : FuncType
 two_to_nothing = record { params = type.I32 ∷ type.I64 ∷ []; results = [] }
@@ -149,6 +153,42 @@ abbrev pub call_with_two : Module
 call_with_two =
     with_funcs (i32_const 5 ∷ i32_const 1 ∷ i64_const 2 ∷ call 2 ∷ call 0 ∷ []) two_to_nothing
     (func 2 (type.I64 ∷ []) (i32_const 4 ∷ drop' ∷ []) ∷ [])
+
+-- i32.const n if (result i32) i32.const 2 br 0 else i32.const 3 br 0 end drop
+abbrev pub if_and_branch : (n : ℕ) → Module
+if_and_branch n =
+    with_entry (i32_const n ∷ if' (One type.I32) (ops_of (i32_const 2 ∷ br 0 ∷ [])) (ops_of (i32_const 3 ∷ br 0 ∷ [])) ∷ drop' ∷ [])
+
+-- loop (result i32) br 0 end drop
+abbrev pub loop_result : Module
+loop_result = with_entry (loop (One type.I32) (ops_of (br 0 ∷ [])) ∷ drop' ∷ [])
+
+-- ---- modules that are not valid
+
+abbrev pub two_results : FuncType
+two_results = record { params = []; results = type.I32 ∷ type.I32 ∷ [] }
+
+-- an import of this type, beside an entry that does nothing
+abbrev pub with_import : (type_index : ℕ) → Module
+with_import type_index = record empty_entry { imports = record exit_import { type_index = type_index } ∷ [] }
+
+abbrev pub with_exports : List Export → Module
+with_exports exports = record empty_entry { exports = exports }
+
+-- a block, a loop and an if from nothing to an i32, whose result is dropped
+abbrev pub dropped_block : (body : List Op) → Module
+dropped_block body = with_entry (block (One type.I32) (ops_of body) ∷ drop' ∷ [])
+
+abbrev pub dropped_loop : (body : List Op) → Module
+dropped_loop body = with_entry (loop (One type.I32) (ops_of body) ∷ drop' ∷ [])
+
+abbrev pub dropped_if : (then_arm else_arm : List Op) → Module
+dropped_if then_arm else_arm =
+    with_entry (i32_const 1 ∷ if' (One type.I32) (ops_of then_arm) (ops_of else_arm) ∷ drop' ∷ [])
+
+-- function 2 gives an i32 and has this body
+abbrev pub with_result : (callee : List Op) → Module
+with_result callee = with_callee [] to_i32 callee
 
 -- ---- configurations
 
@@ -165,7 +205,7 @@ entered_at place operands os = in_entry operands (items_of place os)
 
 -- the entry, about to exit with the first of these operands
 abbrev pub exits_next : (place : ℕ) → (operands : List Value) → State
-exits_next place operands = entered_at place operands (ops_of (call 0 ∷ []))
+exits_next place operands = entered_at place operands (ops_of finish)
 
 abbrev pub entered : (operands : List Value) → Ops → Configuration
 entered operands os = record { store = empty_store; state = entered_at 0 operands os }

@@ -2,9 +2,10 @@
 //! contract.
 
 ghost use Rattle.std.specs.Prelude.{◌≡◌, ℕ, ◌+◌, ◌<◌, ◌≤◌, List, [], ◌∷◌, length, true, false, Some, None};
+ghost use Rattle.wasm_ast.specs.declared.values.ValType.TheVariants as type;
 ghost use Rattle.wasm_ast.specs.declared.values.Value.{Value};
 ghost use Rattle.wasm_ast.specs.declared.values.Value.TheVariants.{I32, I64};
-ghost use Rattle.wasm_ast.specs.declared.instr.BlockType.TheVariants.{Empty};
+ghost use Rattle.wasm_ast.specs.declared.instr.BlockType.TheVariants.{Empty, One};
 ghost use Rattle.wasm_ast.specs.declared.trap.Trap.TheVariants as trap;
 ghost use Rattle.wasm_ast.specs.Syntax.{Op, block, loop, if', Ops, stop, next, ops_of};
 ghost use Rattle.step_machine.specs.declared.process.ProcessConfig.{ProcessConfig};
@@ -18,7 +19,7 @@ ghost use Rattle.step_machine.specs.Turns.{turn};
 ghost use Rattle.step_machine.specs.Instantiation.{after, ended};
 ghost use Rattle.step_machine.specs.Slices.{at_break, turns_made, slice_end};
 ghost use Rattle.step_machine.specs.Typing.{ValidModule};
-ghost use Rattle.step_machine.specs.Worked.{bare_process, nothing_to_nothing, two_to_one, i32_const, drop', br, return', call, with_callee, exit_seven, branch_out, endless, two_ways, call_and_return, empty_entry, fall_through, branch_above, branch_through, loop_body, loop_above, if_above, call_above, call_with_two, place, in_entry, entered, entered_at, exits_next, deep, measured, pile};
+ghost use Rattle.step_machine.specs.Worked.{bare_process, func, to_i32, two_results, two_to_nothing, entry_export, with_funcs, with_import, with_exports, with_entry, with_result, i64_const, dropped_block, dropped_loop, dropped_if, if_and_branch, loop_result, finish, nothing_to_nothing, two_to_one, i32_const, drop', br, return', call, with_callee, exit_seven, branch_out, endless, two_ways, call_and_return, empty_entry, fall_through, branch_above, branch_through, loop_body, loop_above, if_above, call_above, call_with_two, place, in_entry, entered, entered_at, exits_next, deep, measured, pile};
 
 /// `i32.const 7 call 0`, where function 0 is `proc_exit`, exits with 7 at its second turn.
 pub fn exit_takes_a_turn()
@@ -66,7 +67,7 @@ pub fn call_returns_the_top()
 /// What a block gives falls through its end, above the operands that were there before it.
 pub fn block_ends()
     ensures inside { (after fall_through bare_process 2).state ≡ in_entry (I32 5 ∷ [])
-        (more (label 1 1 onward (seq [] (items_of 2 (ops_of (i32_const 6 ∷ []))))) (items_of 3 (ops_of (call 0 ∷ [])))) }
+        (more (label 1 1 onward (seq [] (items_of 2 (ops_of (i32_const 6 ∷ []))))) (items_of 3 (ops_of finish))) }
     ensures left { (after fall_through bare_process 3).state ≡ exits_next 3 (I32 6 ∷ I32 5 ∷ []) }
     ensures exits { (after fall_through bare_process 4).state ≡ exited 6 }
 {}
@@ -88,9 +89,9 @@ pub fn loops_begin_again()
 /// An `if` takes its operand, keeps those below it, and numbers its arms one after the other.
 pub fn arms_give_results()
     ensures first_arm { (after (if_above 1) bare_process 3).state ≡ in_entry (I32 5 ∷ [])
-        (more (label 1 2 onward (seq [] (items_of 3 (ops_of (i32_const 6 ∷ []))))) (items_of 5 (ops_of (call 0 ∷ [])))) }
+        (more (label 1 2 onward (seq [] (items_of 3 (ops_of (i32_const 6 ∷ []))))) (items_of 5 (ops_of finish))) }
     ensures second_arm { (after (if_above 0) bare_process 3).state ≡ in_entry (I32 5 ∷ [])
-        (more (label 1 2 onward (seq [] (items_of 4 (ops_of (i32_const 7 ∷ []))))) (items_of 5 (ops_of (call 0 ∷ [])))) }
+        (more (label 1 2 onward (seq [] (items_of 4 (ops_of (i32_const 7 ∷ []))))) (items_of 5 (ops_of finish))) }
     ensures left { (after (if_above 0) bare_process 4).state ≡ exits_next 5 (I32 7 ∷ I32 5 ∷ []) }
 {}
 
@@ -98,7 +99,7 @@ pub fn arms_give_results()
 /// the label of its body, above the operands that its caller had.
 pub fn functions_give_results()
     ensures called { (after (call_above (i32_const 9 ∷ [])) bare_process 2).state ≡ in_entry (I32 5 ∷ [])
-        (more (frame 1 2 [] (seq [] (items_of 0 (ops_of (i32_const 9 ∷ []))))) (items_of 2 (ops_of (call 0 ∷ [])))) }
+        (more (frame 1 2 [] (seq [] (items_of 0 (ops_of (i32_const 9 ∷ []))))) (items_of 2 (ops_of finish))) }
     ensures at_the_end { (after (call_above (i32_const 9 ∷ [])) bare_process 3).state ≡ exits_next 2 (I32 9 ∷ I32 5 ∷ []) }
     ensures by_return { (after (call_above (i32_const 1 ∷ i32_const 3 ∷ return' ∷ i32_const 4 ∷ [])) bare_process 5).state
         ≡ exits_next 2 (I32 3 ∷ I32 5 ∷ []) }
@@ -118,7 +119,7 @@ pub fn arguments_become_locals()
     ensures called { (after call_with_two bare_process 4).state ≡ in_entry (I32 5 ∷ [])
         (more (frame 0 2 (I32 1 ∷ I64 2 ∷ I64 0 ∷ []) (seq [] (items_of 0 (ops_of (i32_const 4 ∷ drop' ∷ [])))))
         (items_of 4 (ops_of (call 0 ∷ [])))) }
-    ensures returned { (after call_with_two bare_process 6).state ≡ exits_next 4 (I32 5 ∷ []) }
+    ensures returned { (after call_with_two bare_process 6).state ≡ entered_at 4 (I32 5 ∷ []) (ops_of (call 0 ∷ [])) }
     ensures exits { (after call_with_two bare_process 7).state ≡ exited 5 }
 {}
 
@@ -197,10 +198,66 @@ pub fn slices_end()
     ensures halted { turns_made exit_seven bare_process 2 [] 10 ≡ 0 }
 {}
 
-/// The worked modules are valid: the typing rules hold of a call, of a branch out of a block, after
-/// which the stack is free, and of a loop.
+/// The worked modules are valid: each rule of typing accepts what it should.
 pub fn worked_modules_are_valid()
     ensures exit { ValidModule exit_seven }
     ensures branch { ValidModule branch_out }
     ensures endless { ValidModule endless }
+    ensures choice { (n : ℕ) → ValidModule (two_ways n) }
+    ensures call_and_return { ValidModule call_and_return }
+    ensures fall_through { ValidModule fall_through }
+    ensures branch_above { ValidModule branch_above }
+    ensures branch_through { ValidModule branch_through }
+    ensures loop_above { ValidModule loop_above }
+    ensures loop_result { ValidModule loop_result }
+    ensures if_above { (n : ℕ) → ValidModule (if_above n) }
+    ensures if_and_branch { (n : ℕ) → ValidModule (if_and_branch n) }
+    ensures function_end { ValidModule (call_above (i32_const 9 ∷ [])) }
+    ensures branch_from_a_function { ValidModule (call_above (i32_const 1 ∷ i32_const 3 ∷ br 0 ∷ i32_const 4 ∷ [])) }
+    ensures arguments { ValidModule call_with_two }
+{}
+
+/// A module with a fault is not valid: one for each of the parts of a module.
+pub fn faulty_modules_are_not_valid()
+    ensures two_results { ValidModule (with_callee [] two_results []) → ⊥ }
+    ensures no_type_of_import { ValidModule (with_import 3) → ⊥ }
+    ensures no_type_of_function { ValidModule (with_funcs [] to_i32 (func 3 [] [] ∷ [])) → ⊥ }
+    ensures no_export { ValidModule (with_exports (record entry_export { index = 3 } ∷ [])) → ⊥ }
+    ensures same_names { ValidModule (with_exports (entry_export ∷ record entry_export { name = [] } ∷ entry_export ∷ [])) → ⊥ }
+{}
+
+/// A body with a fault is not valid: one for each of the rules of simple instructions.
+pub fn faulty_instructions_are_not_valid()
+    ensures drop_of_nothing { ValidModule (with_entry (drop' ∷ [])) → ⊥ }
+    ensures left_over { ValidModule (with_entry (i32_const 1 ∷ [])) → ⊥ }
+    ensures i64_left_over { ValidModule (with_entry (i64_const 1 ∷ [])) → ⊥ }
+    ensures no_argument { ValidModule (with_entry (call 0 ∷ [])) → ⊥ }
+    ensures argument_of_other_type { ValidModule (with_entry (i64_const 1 ∷ call 0 ∷ [])) → ⊥ }
+    ensures arguments_in_other_order { ValidModule (with_callee (i64_const 2 ∷ i32_const 1 ∷ call 2 ∷ []) two_to_nothing []) → ⊥ }
+    ensures no_function { ValidModule (with_entry (call 3 ∷ [])) → ⊥ }
+    ensures result_left_over { ValidModule (with_entry (call 2 ∷ [])) → ⊥ }
+    ensures no_result { ValidModule (with_result []) → ⊥ }
+    ensures result_of_other_type { ValidModule (with_result (i64_const 1 ∷ [])) → ⊥ }
+    ensures return_of_nothing { ValidModule (with_result (return' ∷ [])) → ⊥ }
+    ensures return_of_other_type { ValidModule (with_result (i64_const 1 ∷ return' ∷ [])) → ⊥ }
+    ensures no_label { ValidModule (with_entry (br 1 ∷ [])) → ⊥ }
+    ensures branch_with_nothing { ValidModule (with_result (br 0 ∷ [])) → ⊥ }
+    ensures branch_with_other_type { ValidModule (dropped_block (i64_const 1 ∷ br 0 ∷ [])) → ⊥ }
+{}
+
+/// A body with a fault is not valid: one for each of the rules of blocks, loops and ifs.
+pub fn faulty_blocks_are_not_valid()
+    ensures block_without_result { ValidModule (dropped_block []) → ⊥ }
+    ensures block_with_more { ValidModule (with_entry (block Empty (ops_of (i32_const 1 ∷ [])) ∷ [])) → ⊥ }
+    ensures block_result_left_over { ValidModule (with_entry (block (One type.I32) (ops_of (i32_const 1 ∷ [])) ∷ [])) → ⊥ }
+    ensures operand_below_a_block { ValidModule (with_entry (i32_const 1 ∷ block Empty (ops_of (drop' ∷ [])) ∷ drop' ∷ [])) → ⊥ }
+    ensures branch_out_of_a_block { ValidModule (dropped_block (br 0 ∷ [])) → ⊥ }
+    ensures loop_without_result { ValidModule (dropped_loop []) → ⊥ }
+    ensures loop_result_left_over { ValidModule (with_entry (loop (One type.I32) (ops_of (i32_const 1 ∷ [])) ∷ [])) → ⊥ }
+    ensures no_condition { ValidModule (with_entry (if' Empty stop stop ∷ [])) → ⊥ }
+    ensures condition_of_other_type { ValidModule (with_entry (i64_const 1 ∷ if' Empty stop stop ∷ [])) → ⊥ }
+    ensures then_arm_without_result { ValidModule (dropped_if [] (i32_const 1 ∷ [])) → ⊥ }
+    ensures else_arm_without_result { ValidModule (dropped_if (i32_const 1 ∷ []) []) → ⊥ }
+    ensures then_branch_with_nothing { ValidModule (dropped_if (br 0 ∷ []) (i32_const 1 ∷ [])) → ⊥ }
+    ensures else_branch_with_nothing { ValidModule (dropped_if (i32_const 1 ∷ []) (br 0 ∷ [])) → ⊥ }
 {}
