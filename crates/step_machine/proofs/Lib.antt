@@ -13,6 +13,7 @@ pub mod Simulation
 pub mod InitialState
 pub mod SliceLemmas
 pub mod SliceCuts
+pub mod WrittenPlaces
 pub mod ValueLimit
 pub mod WorkedValid
 pub mod FaultsInvalid

@@ -4,6 +4,7 @@ pub mod HostCalls
 pub mod Program
 pub mod Configuration
 pub mod Reduction
+pub mod Places
 pub mod Turns
 pub mod Instantiation
 pub mod Slices

@@ -1,14 +1,15 @@
 //! Laws of execution. Each function is nothing but its contract.
 
-ghost use Rattle.std.specs.Prelude.{◌≡◌, ◌≢◌, ℕ, sum, ◌+◌, ◌<◌, ◌≤◌, List, [], true, false, Some, None};
+ghost use Rattle.std.specs.Prelude.{◌≡◌, ◌≢◌, ℕ, sum, ◌+◌, ◌<◌, ◌≤◌, List, [], true, false, Some, None, slice_get};
 ghost use Rattle.wasm_ast.specs.declared.values.Value.{Value};
 ghost use Rattle.wasm_ast.specs.declared.module.Module.{Module};
 ghost use Rattle.wasm_ast.specs.declared.place.Place.{Place};
 ghost use Rattle.step_machine.specs.declared.process.ProcessConfig.{ProcessConfig};
 ghost use Rattle.step_machine.specs.declared.ends.SliceEnd.TheVariants as slice;
 ghost use Rattle.step_machine.specs.Limits.{last_turn};
-ghost use Rattle.step_machine.specs.Program.{Program};
-ghost use Rattle.step_machine.specs.Configuration.{Store, Target, Tree, seq, Items, more, label, frame, Configuration, acts, is_halted, is_settled};
+ghost use Rattle.step_machine.specs.Program.{Program, functions};
+ghost use Rattle.step_machine.specs.Places.{Next, tree_next, body_of, written_at};
+ghost use Rattle.step_machine.specs.Configuration.{Store, Target, Tree, seq, Items, more, label, frame, running, Configuration, acts, is_halted, is_settled};
 ghost use Rattle.step_machine.specs.Reduction.{Env, inside, reduce};
 ghost use Rattle.step_machine.specs.Turns.{from, numbered, turn};
 ghost use Rattle.step_machine.specs.Instantiation.{initial, after, ended};
@@ -54,6 +55,15 @@ pub fn reductions_go_inside()
         → acts t ≡ true
         → reduce p (record { store = r; locals = outer }) (seq vs (more (frame n f ls t) is))
         ≡ inside (reduce p (record { store = r; locals = ls }) t) (in_frame outer vs n f is) }
+{}
+
+/// The instruction that is next is the one written at its place, in the body of the function whose frame
+/// it is in. Places number the instructions of a body in written order, those inside blocks included.
+pub fn places_are_written()
+    ensures { (m : Module) (p : ProcessConfig) (n : ℕ) (t : Tree) (x : Next)
+        → (after m p n).state ≡ running t
+        → tree_next None t ≡ Some x
+        → written_at (body_of (slice_get (functions m) x.func)) x.place ≡ Some x.op }
 {}
 
 /// Slices without breakpoints may be cut anywhere: slices of any budgets lead as far as one slice of

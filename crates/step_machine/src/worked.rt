@@ -11,9 +11,9 @@ ghost use Rattle.wasm_ast.specs.Syntax.{Op, block, loop, if', Ops, stop, next, o
 ghost use Rattle.step_machine.specs.declared.process.ProcessConfig.{ProcessConfig};
 ghost use Rattle.step_machine.specs.declared.ends.End.TheVariants as end;
 ghost use Rattle.step_machine.specs.declared.ends.SliceEnd.TheVariants as slice;
-ghost use Rattle.step_machine.specs.Limits.{max_values};
+ghost use Rattle.step_machine.specs.Limits.{max_frames, max_values, last_turn, max_breakpoints, max_output};
 ghost use Rattle.step_machine.specs.Program.{Program, program};
-ghost use Rattle.step_machine.specs.Configuration.{onward, again, seq, Items, done, more, plain, label, frame, enter, branch, ret, items_of, exited, trapped, stuck, is_halted, frames, values};
+ghost use Rattle.step_machine.specs.Configuration.{onward, again, seq, Items, done, more, plain, label, frame, enter, branch, ret, items_of, running, exited, trapped, stuck, is_halted, frames, values};
 ghost use Rattle.step_machine.specs.Reduction.{Env, to, ends, enter_block, enter_loop, reduce};
 ghost use Rattle.step_machine.specs.Turns.{turn};
 ghost use Rattle.step_machine.specs.Instantiation.{after, ended};
@@ -196,6 +196,16 @@ pub fn slices_end()
     ensures at_the_end { turns_made exit_seven bare_process 0 [] 10 ≡ 2 }
     ensures by_exit { slice_end exit_seven bare_process 0 [] 2 ≡ slice.Exited 7 }
     ensures halted { turns_made exit_seven bare_process 2 [] 10 ≡ 0 }
+    ensures outside_frames { at_break (place 0 0 ∷ []) (running (seq [] (more (plain 0 drop') done))) ≡ false }
+{}
+
+/// The limits of the profile on execution, and that of 10^15 turns.
+pub fn limits_are_these()
+    ensures frames { max_frames ≡ 1024 }
+    ensures values { max_values ≡ 65536 }
+    ensures last_turn { last_turn ≡ 1000000000000000 }
+    ensures breakpoints { max_breakpoints ≡ 32 }
+    ensures output { max_output ≡ 65536 }
 {}
 
 /// The worked modules are valid: each rule of typing accepts what it should.
