@@ -1,4 +1,6 @@
 pub mod ListLemmas
+pub mod ResultLemmas
+pub mod TypingLemmas
 pub mod TurnLemmas
 pub mod LastTurn
 pub mod SettleTerminates

@@ -1,4 +1,4 @@
 -- What only private clauses and the machine's invariant name.
-pub mod Runs
+pub mod Checks
 pub mod FlatMachine
 pub mod Represents

@@ -9,6 +9,7 @@ pub mod Turns
 pub mod Instantiation
 pub mod Slices
 pub mod Typing
+pub mod Runs
 pub mod MachineView
 pub mod Worked
 pub mod Inside

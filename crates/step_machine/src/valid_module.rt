@@ -4,7 +4,7 @@ ghost use Rattle.std.specs.Prelude.{◌≡◌, ◌⊎◌, IfOk, OnOk, OnErr, Err
 ghost use Rattle.std.specs.Arc.{arc_value};
 ghost use Rattle.wasm_ast.specs.declared.refusal.Refusal.TheVariants as refusal;
 ghost use Rattle.step_machine.specs.Typing.{ValidModule};
-ghost use Rattle.step_machine.specs.Inside.Runs.{RunsModule};
+ghost use Rattle.step_machine.specs.Runs.{RunsModule};
 
 use crate::validation::check_module;
 use std::alloc::{AllocError, Global};
@@ -29,7 +29,7 @@ impl Model for Valid {
     ghost coded = { Prim.hlevel (codes, ops_code) };
 
     ghost use Rattle.step_machine.specs.Typing.{ValidModule};
-    ghost use Rattle.step_machine.specs.Inside.Runs.{RunsModule};
+    ghost use Rattle.step_machine.specs.Runs.{RunsModule};
     ghost use Rattle.std.specs.Arc.{arc_value};
 
     ghost view = { λ v. arc_value v.module };
@@ -65,12 +65,13 @@ impl Valid {
     }
 }
 
-/// Takes a module that is valid. `Invalid` if it is not, or if a body has an instruction that the
-/// machine cannot run yet: any but constants, `drop`, and calls of imports. `NoMemory` if memory for the
-/// check or for sharing the module cannot be allocated.
+/// Takes a module that is valid. `Invalid` exactly if it is not, or if a body has an instruction that
+/// the machine cannot run yet: any but constants, `drop`, and calls of imports. `NoMemory` if memory for
+/// the check or for sharing the module cannot be allocated.
 pub fn validate(alloc: Global, unchecked: Module) -> Result<Valid, Refusal>
     ensures ok { IfOk result (λ v. v ≡ unchecked) }
     ensures valid { OnOk result (ValidModule unchecked) }
+    ensures invalid { result ≡ Err refusal.Invalid → ValidModule unchecked → RunsModule unchecked → ⊥ }
     ensures err { OnErr result ((result ≡ Err refusal.Invalid) ⊎ (result ≡ Err refusal.NoMemory)) }
 {
     check_module(alloc, &unchecked)?;

@@ -1,6 +1,6 @@
 //! The validation algorithm (appendix A.3): a pass over each body with the types of its operand stack.
 
-ghost use Rattle.std.specs.Prelude.{◌≡◌, ◌+◌, ◌<◌, ◌≤◌, ◌++◌, List, IsTrue, IfOk, OnOk, Some, [], All, length, map, reverse, option_copied, MatchOption, None, slice_get, ◌↔◌};
+ghost use Rattle.std.specs.Prelude.{◌≡◌, ◌+◌, ◌<◌, ◌≤◌, ◌++◌, List, IsTrue, IfOk, OnOk, Err, false, Some, [], All, length, map, reverse, option_copied, MatchOption, None, slice_get, ◌↔◌};
 ghost use Rattle.wasm_ast.specs.declared.values.ValType.{ValType};
 ghost use Rattle.wasm_ast.specs.declared.values.FuncType.{FuncType};
 ghost use Rattle.wasm_ast.specs.Syntax.{ops_of};
@@ -8,7 +8,7 @@ ghost use Rattle.wasm_ast.specs.View.{op_of};
 ghost use Rattle.wasm_ast.specs.Types.{func_types, type_at};
 ghost use Rattle.step_machine.specs.Program.{type_of};
 ghost use Rattle.step_machine.specs.Typing.{Context, Typed, OpTyped, SimpleTyped, body_context, ValidFunc, ValidModule, IsThere, AllDifferent};
-ghost use Rattle.step_machine.specs.Inside.Runs.{RunsSimple, RunsOp, Runs, RunsModule};
+ghost use Rattle.step_machine.specs.Runs.{RunsSimple, RunsOp, Runs, RunsModule};
 
 use std::alloc::{AllocError, AllocFailed, Global};
 use std::collections::BTreeMap;
@@ -48,10 +48,10 @@ impl<T: Drop> From<AllocFailed<T>> for CheckError {
 }
 
 impl From<CheckError> for Refusal {
-    ghost use Rattle.std.specs.Prelude.{◌≡◌, ◌⊎◌};
-    ghost use Rattle.wasm_ast.specs.declared.refusal.Refusal.TheVariants as refusal;
+    ghost use Rattle.std.specs.Prelude.{◌≡◌};
+    ghost use Rattle.step_machine.specs.Inside.Checks.{refusal_of};
 
-    ghost from_gives = { λ _ e. (e ≡ refusal.Invalid) ⊎ (e ≡ refusal.NoMemory) };
+    ghost from_gives = { λ error refusal. refusal ≡ refusal_of error };
 
     fn from(error: CheckError) -> Refusal {
         match error {
@@ -65,6 +65,7 @@ impl From<CheckError> for Refusal {
 pub fn check_module(alloc: Global, unchecked: &Module) -> Result<(), CheckError>
     ensures valid { OnOk result (ValidModule unchecked.now) }
     ensures runs { OnOk result (RunsModule unchecked.now) }
+    ensures invalid { result ≡ Err CheckError.Invalid → ValidModule unchecked.now → RunsModule unchecked.now → ⊥ }
 {
     if !types_are_valid(unchecked.types.as_slice())
         || !imports_are_valid(unchecked.types.as_slice(), unchecked.imports.as_slice())
@@ -78,7 +79,8 @@ pub fn check_module(alloc: Global, unchecked: &Module) -> Result<(), CheckError>
 
 /// A function type has at most one result (3.2.2).
 fn types_are_valid(types: &[FuncType]) -> bool
-    ensures { IsTrue result → All (λ t. length t.results ≤ 1) types.now }
+    ensures valid { IsTrue result → All (λ t. length t.results ≤ 1) types.now }
+    ensures invalid { result ≡ false → All (λ t. length t.results ≤ 1) types.now → ⊥ }
 {
     for func_type in types {
         if func_type.results.len() > 1 {
@@ -90,7 +92,8 @@ fn types_are_valid(types: &[FuncType]) -> bool
 
 /// The type of an import is there (3.4.9).
 fn imports_are_valid(types: &[FuncType], imports: &[Import]) -> bool
-    ensures { IsTrue result → All (λ i. i.type_index < length types.now) imports.now }
+    ensures valid { IsTrue result → All (λ i. i.type_index < length types.now) imports.now }
+    ensures invalid { result ≡ false → All (λ i. i.type_index < length types.now) imports.now → ⊥ }
 {
     for import in imports {
         if import.type_index as usize >= types.len() {
@@ -102,7 +105,8 @@ fn imports_are_valid(types: &[FuncType], imports: &[Import]) -> bool
 
 /// What each export names is there (3.4.8).
 fn exports_are_valid(unchecked: &Module, exports: &[Export]) -> bool
-    ensures { IsTrue result → All (λ e. IsThere unchecked.now e.kind e.index) exports.now }
+    ensures valid { IsTrue result → All (λ e. IsThere unchecked.now e.kind e.index) exports.now }
+    ensures invalid { result ≡ false → All (λ e. IsThere unchecked.now e.kind e.index) exports.now → ⊥ }
 {
     for export in exports {
         if !is_there(unchecked, export.kind, export.index as usize) {
@@ -124,7 +128,8 @@ fn is_there(unchecked: &Module, kind: ExportKind, index: usize) -> bool
 
 /// The names of exports differ (3.4.10). An error if the names cannot be held.
 fn names_differ(alloc: Global, exports: &[Export]) -> Result<bool, AllocError>
-    ensures { IfOk result (λ differ. IsTrue differ → AllDifferent (map (λ e. e.name) exports.now)) }
+    ensures valid { IfOk result (λ differ. IsTrue differ → AllDifferent (map (λ e. e.name) exports.now)) }
+    ensures invalid { IfOk result (λ differ. differ ≡ false → AllDifferent (map (λ e. e.name) exports.now) → ⊥) }
 {
     let mut seen = BTreeMap::new(alloc);
     for export in exports {
@@ -138,6 +143,8 @@ fn names_differ(alloc: Global, exports: &[Export]) -> Result<bool, AllocError>
 fn check_funcs(alloc: Global, unchecked: &Module, funcs: &[Func]) -> Result<(), CheckError>
     ensures valid { OnOk result (All (ValidFunc unchecked.now) funcs.now) }
     ensures runs { OnOk result (All (λ f. Runs (length unchecked.now.imports) f.body) funcs.now) }
+    ensures invalid { result ≡ Err CheckError.Invalid → All (ValidFunc unchecked.now) funcs.now
+        → All (λ f. Runs (length unchecked.now.imports) f.body) funcs.now → ⊥ }
 {
     for func in funcs {
         check_func(alloc, unchecked, func)?;
@@ -149,6 +156,8 @@ fn check_funcs(alloc: Global, unchecked: &Module, funcs: &[Func]) -> Result<(), 
 fn check_func(alloc: Global, unchecked: &Module, func: &Func) -> Result<(), CheckError>
     ensures valid { OnOk result (ValidFunc unchecked.now func.now) }
     ensures runs { OnOk result (Runs (length unchecked.now.imports) func.now.body) }
+    ensures invalid { result ≡ Err CheckError.Invalid → ValidFunc unchecked.now func.now
+        → Runs (length unchecked.now.imports) func.now.body → ⊥ }
 {
     let Some(func_type) = unchecked.types.as_slice().get(func.type_index as usize) else {
         return Err(CheckError::Invalid);
@@ -166,6 +175,9 @@ fn check_body(
     ensures typed { OnOk result (let context = body_context unchecked.now func_type.now func.now in
         Typed context func.now.body [] (reverse func_type.now.results)) }
     ensures runs { OnOk result (Runs (length unchecked.now.imports) func.now.body) }
+    ensures invalid { result ≡ Err CheckError.Invalid
+        → Typed (body_context unchecked.now func_type.now func.now) func.now.body [] (reverse func_type.now.results)
+        → Runs (length unchecked.now.imports) func.now.body → ⊥ }
 {
     let mut stack = Vec::new(alloc);
     for instr in func.body.as_slice() {
@@ -187,6 +199,9 @@ fn check_instr(
     ensures typed { OnOk result ((c : Context) → c.funcs ≡ func_types unchecked.now
         → OpTyped c (op_of instr.now) (reverse stack.old.items) (reverse stack.new.items)) }
     ensures runs { OnOk result (RunsOp (length unchecked.now.imports) (op_of instr.now)) }
+    ensures invalid { result ≡ Err CheckError.Invalid → (c : Context) (new : List ValType) → c.funcs ≡ func_types unchecked.now
+        → OpTyped c (op_of instr.now) (reverse stack.old.items) new
+        → RunsOp (length unchecked.now.imports) (op_of instr.now) → ⊥ }
 {
     match instr {
         Instr::Simple(simple) => check_simple(unchecked, *simple, stack),
@@ -202,6 +217,8 @@ fn check_simple(
     ensures typed { OnOk result ((c : Context) → c.funcs ≡ func_types unchecked.now
         → SimpleTyped c simple (reverse stack.old.items) (reverse stack.new.items)) }
     ensures runs { OnOk result (RunsSimple (length unchecked.now.imports) simple) }
+    ensures invalid { result ≡ Err CheckError.Invalid → (c : Context) (new : List ValType) → c.funcs ≡ func_types unchecked.now
+        → SimpleTyped c simple (reverse stack.old.items) new → RunsSimple (length unchecked.now.imports) simple → ⊥ }
 {
     match simple {
         Simple::Const(value) => stack.push(type_of_value(value))?,
@@ -231,6 +248,9 @@ fn check_call(unchecked: &Module, func: u32, stack: &mut Vec<ValType>) -> Result
         × (type_at (func_types unchecked.now) func ≡ Some t)
         × (stack.old.items ≡ rest ++ t.params) × (stack.new.items ≡ rest ++ t.results)) }
     ensures runs { OnOk result (func < length unchecked.now.imports) }
+    ensures invalid { result ≡ Err CheckError.Invalid → (t : FuncType) (rest : List ValType)
+        → type_at (func_types unchecked.now) func ≡ Some t → stack.old.items ≡ rest ++ t.params
+        → func < length unchecked.now.imports → ⊥ }
 {
     if func as usize >= unchecked.imports.len() {
         return Err(CheckError::Invalid);
@@ -247,7 +267,8 @@ fn check_call(unchecked: &Module, func: u32, stack: &mut Vec<ValType>) -> Result
 
 /// Takes these types from the end of the stack. False if they are not there.
 fn takes(stack: &mut Vec<ValType>, types: &[ValType]) -> bool
-    ensures { IsTrue result → stack.old.items ≡ stack.new.items ++ types.now }
+    ensures taken { IsTrue result → stack.old.items ≡ stack.new.items ++ types.now }
+    ensures missing { result ≡ false → (rest : List ValType) → stack.old.items ≡ rest ++ types.now → ⊥ }
 {
     let height = stack.len();
     if height < types.len() {

@@ -12,9 +12,9 @@ ghost use Rattle.step_machine.specs.declared.process.ProcessConfig.{ProcessConfi
 ghost use Rattle.step_machine.specs.declared.ends.End.TheVariants as end;
 ghost use Rattle.step_machine.specs.declared.ends.SliceEnd.TheVariants as slice;
 ghost use Rattle.step_machine.specs.Limits.{max_frames, max_values, last_turn, max_breakpoints, max_output};
-ghost use Rattle.step_machine.specs.Program.{Program, program};
+ghost use Rattle.step_machine.specs.Program.{unknown, Program, program};
 ghost use Rattle.step_machine.specs.Configuration.{onward, again, seq, Items, done, more, plain, label, frame, enter, branch, ret, items_of, running, exited, trapped, stuck, is_halted, frames, values};
-ghost use Rattle.step_machine.specs.Reduction.{Env, to, ends, enter_block, enter_loop, reduce};
+ghost use Rattle.step_machine.specs.Reduction.{Env, to, ends, enter_block, enter_loop, call_function, reduce};
 ghost use Rattle.step_machine.specs.Turns.{turn};
 ghost use Rattle.step_machine.specs.Instantiation.{after, ended};
 ghost use Rattle.step_machine.specs.Slices.{at_break, turns_made, slice_end};
@@ -138,7 +138,7 @@ pub fn blocks_take_parameters()
 {}
 
 /// What no valid module reaches has no reduction: a branch or a return outside all frames, a branch out
-/// of a frame, and an operand that is not there.
+/// of a frame, and a function or an operand that is not there.
 pub fn faults_are_stuck()
     ensures branch_outside { (p : Program) (env : Env) (operands : List Value) (n : ℕ) (rest : Items)
         → reduce p env (seq operands (more (branch n) rest)) ≡ ends env stuck }
@@ -146,6 +146,10 @@ pub fn faults_are_stuck()
         → reduce p env (seq operands (more ret rest)) ≡ ends env stuck }
     ensures branch_out { (p : Program) (env : Env) (operands : List Value) (n : ℕ) (rest : Items)
         → reduce p env (seq [] (more (frame 0 1 [] (seq operands (more (branch (n + 1)) rest))) rest)) ≡ ends env stuck }
+    ensures no_function { (p : Program) (env : Env) (operands : List Value) (n : ℕ) (rest : Items)
+        → call_function p env operands n None rest ≡ ends env stuck }
+    ensures unknown_function { (p : Program) (env : Env) (operands : List Value) (n : ℕ) (rest : Items)
+        → call_function p env operands n (Some unknown) rest ≡ ends env stuck }
     ensures no_operand { (p : Program) (env : Env) (rest : Items)
         → reduce p env (seq [] (more (plain 0 drop') rest)) ≡ ends env stuck }
     ensures no_condition { (p : Program) (env : Env) (rest : Items)

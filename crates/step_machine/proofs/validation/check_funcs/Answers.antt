@@ -3,7 +3,7 @@ use Rattle.std.proofs.lemmas.List.{take_all}
 use Rattle.std.proofs.lemmas.List.Elements.{All-more}
 use Rattle.wasm_ast.specs.declared.module.Func.{Func}
 use Rattle.step_machine.specs.Typing.{ValidFunc}
-use Rattle.step_machine.specs.Inside.Runs.{Runs}
+use Rattle.step_machine.specs.Runs.{Runs}
 use Rattle.step_machine.proofs.validation.check_funcs.Goals as goal
 
 pub loop-func-preserved : goal.loop-func-preserved

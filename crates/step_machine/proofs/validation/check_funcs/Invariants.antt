@@ -1,6 +1,6 @@
 use Rattle.std.proofs.Common.{All, length, take}
 use Rattle.step_machine.specs.Typing.{ValidFunc}
-use Rattle.step_machine.specs.Inside.Runs.{Runs}
+use Rattle.step_machine.specs.Runs.{Runs}
 use Rattle.step_machine.proofs.validation.check_funcs.Given as goal
 
 abbrev pub invariant-loop-func : goal.invariant-loop-func

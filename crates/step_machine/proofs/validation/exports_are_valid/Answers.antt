@@ -10,5 +10,5 @@ loop-export-preserved c =
     All-more (λ (e : Export). IsThere c.args.unchecked.now e.kind e.index) c.args.exports.now c.loop-export.export-index c.export-item.result c.loop-export-test.true c.loop-export.invariant
     (subst (λ (e : Export). IsThere c.args.unchecked.now e.kind e.index) c.export-item.is (search rules))
 
-pub returns : goal.returns
-returns c = λ _. subst (All (λ (e : Export). IsThere c.args.unchecked.now e.kind e.index)) (take_all c.loop-export.export-index c.args.exports.now c.loop-export-test.false) c.loop-export.invariant
+pub returns-clause-valid : goal.returns-clause-valid
+returns-clause-valid c = λ _. subst (All (λ (e : Export). IsThere c.args.unchecked.now e.kind e.index)) (take_all c.loop-export.export-index c.args.exports.now c.loop-export-test.false) c.loop-export.invariant

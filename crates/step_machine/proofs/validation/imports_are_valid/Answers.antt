@@ -9,5 +9,5 @@ loop-import-preserved c =
     All-more (λ (i : Import). i.type_index < length c.args.types.now) c.args.imports.now c.loop-import.import-index c.import-item.result c.loop-import-test.true c.loop-import.invariant
     (subst (λ (i : Import). i.type_index < length c.args.types.now) c.import-item.is (omega arith))
 
-pub returns : goal.returns
-returns c = λ _. subst (All (λ (i : Import). i.type_index < length c.args.types.now)) (take_all c.loop-import.import-index c.args.imports.now c.loop-import-test.false) c.loop-import.invariant
+pub returns-clause-valid : goal.returns-clause-valid
+returns-clause-valid c = λ _. subst (All (λ (i : Import). i.type_index < length c.args.types.now)) (take_all c.loop-import.import-index c.args.imports.now c.loop-import-test.false) c.loop-import.invariant

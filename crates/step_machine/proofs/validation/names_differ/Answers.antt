@@ -1,7 +1,7 @@
 use Rattle.std.proofs.Common.{List, ℕ, All, map, take, subst, sym, ◌∙◌}
 use Rattle.wasm_ast.specs.declared.module.Export.{Export}
 use Rattle.step_machine.specs.Typing.{AllDifferent}
-use Rattle.step_machine.proofs.ExportNames.{Seen, different_push, unlike, seen_push, nothing_there, one_more}
+use Rattle.step_machine.proofs.ExportNames.{Seen, Among, different_push, unlike, seen_push, among_push, nothing_there, something_there, one_more, there_twice}
 use Rattle.step_machine.proofs.validation.names_differ.Goals as goal
 
 pub loop-export-preserved : goal.loop-export-preserved
@@ -14,5 +14,14 @@ loop-export-preserved c =
     let none = nothing_there c.in_ok-insert.field-0 (sym c.is_some.ensures ∙ c.if-is_some.false) in
     record {
       differ = subst AllDifferent (sym more) (different_push names b c.loop-export.invariant.differ (unlike c.loop-export.seen names b c.loop-export.invariant.keys (sym old ∙ none)));
+      known = λ x h. subst (λ (ns : List (List ℕ)). Among ns x) (sym more) (among_push c.loop-export.seen c.insert.new.self names b c.loop-export.invariant.known c.in_ok-insert.ensures.updates x h);
       keys = subst (All (Seen c.insert.new.self)) (sym more) (seen_push c.loop-export.seen c.insert.new.self names b c.loop-export.invariant.keys c.in_ok-insert.ensures.updates);
     }
+
+pub returns-then-is_some-clause-invalid : goal.returns-then-is_some-clause-invalid
+returns-then-is_some-clause-invalid c = λ _ differ.
+    let i = c.loop-export.export-index in
+    let b = c.as_str.result.now in
+    let some = something_there c.in_ok-insert.field-0 (sym c.is_some.ensures ∙ c.if-is_some.true) in
+    let known = c.loop-export.invariant.known b (sym c.in_ok-insert.ensures.old ∙ some) in
+    there_twice c.args.exports.now i c.export-item.result b c.loop-export-test.true c.export-item.is c.as_str.ensures known differ
