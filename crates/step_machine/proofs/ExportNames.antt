@@ -34,7 +34,7 @@ kept : (b : Bool) (o : Option (Unit {0})) → o ≡ Some tt → cond b (Some tt)
 kept true o h = refl
 kept false o h = h
 
--- the keys behind an insertion
+-- the keys after an insertion
 pub seen_push : (m n : BTreeMap (Bor (List ℕ)) (Unit {0})) (xs : List (List ℕ)) (b : List ℕ) → All (Seen m) xs
     → tree.UpdatesBy (λ x y. slice_cmp nat_cmp x.now y.now) (λ k. slice_cmp nat_cmp b k.now) m n (Some tt) → All (Seen n) (xs ++ b ∷ [])
 seen_push m n xs b all u =

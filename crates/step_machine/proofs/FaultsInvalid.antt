@@ -1,5 +1,5 @@
 -- Modules with a fault are not valid.
-use Rattle.std.proofs.Common.{◌≡◌, ℕ, ◌<◌, ◌≤◌, List, [], ◌∷◌, length, reverse, Some, None, subst, refl, sym, ap, ◌∙◌, arith}
+use Rattle.std.proofs.Common.{◌≡◌, ◌<◌, ◌≤◌, List, [], ◌∷◌, reverse, Some, None, subst, refl, sym, ap, ◌∙◌, arith}
 use Rattle.std.specs.Prelude.{slice_get}
 use Rattle.wasm_ast.specs.declared.values.ValType.{ValType}
 use Rattle.wasm_ast.specs.declared.values.ValType.TheVariants.{I32, I64}

@@ -17,7 +17,7 @@ use Rattle.step_machine.specs.Inside.Represents.{framed, configuration}
 use Rattle.step_machine.proofs.TurnLemmas.{from-add}
 use Rattle.step_machine.proofs.InstructionTurns as instruction
 
--- so many zeros above these values
+-- r zeros above these values
 abbrev heap : ℕ → List Value → List Value
 heap zero vs = vs
 heap (suc r) vs = heap r (I32 0 ∷ vs)

@@ -1,5 +1,5 @@
 -- The worked modules are valid.
-use Rattle.std.proofs.Common.{◌≡◌, ℕ, zero, suc, ◌<◌, ◌≤◌, [], ◌∷◌, List, length, All, Some, refl, arith}
+use Rattle.std.proofs.Common.{ℕ, ◌<◌, ◌≤◌, [], ◌∷◌, List, length, refl, arith}
 use Rattle.std.proofs.lemmas.List.Elements.{All-nil, All-cons}
 use Rattle.wasm_ast.specs.declared.values.ValType.TheVariants.{I32, I64}
 use Rattle.wasm_ast.specs.declared.values.FuncType.{FuncType}
@@ -7,9 +7,8 @@ use Rattle.wasm_ast.specs.declared.instr.BlockType.TheVariants.{Empty, One}
 use Rattle.wasm_ast.specs.declared.module.Import.{Import}
 use Rattle.wasm_ast.specs.declared.module.Export.{Export}
 use Rattle.wasm_ast.specs.Syntax.{Op, block, loop, if', ops_of}
-use Rattle.wasm_ast.specs.Types.{type_at}
-use Rattle.step_machine.specs.Typing.{Context, Typed, body_context, ValidFunc, IsThere, ValidModule}
-use Rattle.step_machine.specs.Worked.{i32_const, i64_const, drop', br, return', call, from_i32, to_i32, nothing_to_nothing, two_to_nothing, exit_import, entry_export, func, finish, loop_body, with_funcs, with_callee, with_entry, exit_seven, branch_out, endless, two_ways, call_and_return, fall_through, branch_above, branch_through, loop_above, loop_result, if_above, if_and_branch, call_above, call_with_two}
+use Rattle.step_machine.specs.Typing.{Typed, body_context, ValidFunc, IsThere, ValidModule}
+use Rattle.step_machine.specs.Worked.{loop_of, by_branch, i32_const, i64_const, drop', br, return', call, from_i32, to_i32, nothing_to_nothing, two_to_nothing, exit_import, entry_export, func, finish, loop_body, with_callee, with_entry, exit_seven, branch_out, endless, two_ways, call_and_return, fall_through, branch_above, branch_through, loop_above, loop_result, if_above, if_and_branch, call_above, call_with_two}
 
 -- a module is valid if its entry and its callee are typed
 pub typed_module : (body : List Op) (t : FuncType) (callee : List Op) → length t.results ≤ 1
@@ -96,7 +95,7 @@ branch_through_valid =
 
 pub loop_above_valid : ValidModule loop_above
 loop_above_valid =
-    typed_entry (i32_const 5 ∷ loop Empty loop_body ∷ call 0 ∷ [])
+    typed_entry (i32_const 5 ∷ loop_of Empty loop_body ∷ call 0 ∷ [])
     (I32 ∷ [], refl, (I32 ∷ [], (nothing_to_nothing, refl, (I32 ∷ [], refl, refl), (I32 ∷ [], refl, ([], ([], I32 ∷ [], refl, refl), refl))), ([], (from_i32, refl, ([], refl, refl)), refl)))
 
 pub loop_result_valid : ValidModule loop_result
@@ -135,7 +134,7 @@ if_and_branch_valid n =
 pub function_valid : ValidModule (call_above (i32_const 9 ∷ []))
 function_valid = calling (i32_const 9 ∷ []) (I32 ∷ [], refl, refl)
 
-pub branch_function_valid : ValidModule (call_above (i32_const 1 ∷ i32_const 3 ∷ br 0 ∷ i32_const 4 ∷ []))
+pub branch_function_valid : ValidModule (call_above by_branch)
 branch_function_valid =
     calling (i32_const 1 ∷ i32_const 3 ∷ br 0 ∷ i32_const 4 ∷ [])
     (I32 ∷ [], refl, (I32 ∷ I32 ∷ [], refl, ([], (I32 ∷ [], I32 ∷ [], refl, refl), (I32 ∷ [], refl, refl))))

@@ -6,6 +6,7 @@ use Rattle.wasm_ast.specs.declared.values.Value.{Value}
 use Rattle.wasm_ast.specs.declared.values.Value.TheVariants.{I32, I64}
 use Rattle.wasm_ast.specs.declared.values.FuncType.{FuncType}
 use Rattle.wasm_ast.specs.declared.instr.Simple.TheVariants.{Const, Drop, Br, Return, Call}
+use Rattle.wasm_ast.specs.declared.instr.BlockType.{BlockType}
 use Rattle.wasm_ast.specs.declared.instr.BlockType.TheVariants.{Empty, One}
 use Rattle.wasm_ast.specs.declared.module.Import.{Import}
 use Rattle.wasm_ast.specs.declared.module.Func.{Func}
@@ -15,7 +16,7 @@ use Rattle.wasm_ast.specs.declared.module.Module.{Module}
 use Rattle.wasm_ast.specs.declared.place.Place.{Place}
 use Rattle.wasm_ast.specs.Syntax.{Op, simple, block, loop, if', Ops, stop, next, ops_of}
 use Rattle.step_machine.specs.declared.process.ProcessConfig.{ProcessConfig}
-use Rattle.step_machine.specs.Configuration.{Store, Target, onward, Tree, seq, Items, done, more, label, frame, items_of, State, running, Configuration}
+use Rattle.step_machine.specs.Configuration.{Store, Target, onward, Tree, seq, Items, done, more, Item, label, frame, items_of, State, running, Configuration}
 use Rattle.step_machine.specs.Reduction.{Env, Reduced, to}
 
 -- ---- instructions
@@ -37,6 +38,12 @@ return' = simple Return
 
 abbrev pub call : ℕ → Op
 call n = simple (Call n)
+
+abbrev pub block_of : BlockType → (body : List Op) → Op
+block_of t body = block t (ops_of body)
+
+abbrev pub loop_of : BlockType → (body : List Op) → Op
+loop_of t body = loop t (ops_of body)
 
 -- ---- modules
 
@@ -101,6 +108,10 @@ two_ways n =
 abbrev pub call_and_return : Module
 call_and_return = with_callee (call 2 ∷ call 0 ∷ []) to_i32 (i32_const 1 ∷ i32_const 9 ∷ return' ∷ [])
 
+-- function 2 has no instructions
+abbrev pub calls_nothing : Module
+calls_nothing = with_callee [] nothing_to_nothing []
+
 -- an entry that does nothing
 abbrev pub empty_entry : Module
 empty_entry = with_entry []
@@ -125,12 +136,12 @@ branch_through =
     ∷ finish)
 
 -- the body of the loop of the next module
-abbrev pub loop_body : Ops
-loop_body = ops_of (i32_const 3 ∷ br 0 ∷ [])
+abbrev pub loop_body : List Op
+loop_body = i32_const 3 ∷ br 0 ∷ []
 
 -- i32.const 5 loop i32.const 3 br 0 end call 0
 abbrev pub loop_above : Module
-loop_above = with_entry (i32_const 5 ∷ loop Empty loop_body ∷ call 0 ∷ [])
+loop_above = with_entry (i32_const 5 ∷ loop_of Empty loop_body ∷ call 0 ∷ [])
 
 -- i32.const 5 i32.const n if (result i32) i32.const 6 else i32.const 7 end, and then that
 abbrev pub if_above : (n : ℕ) → Module
@@ -141,6 +152,20 @@ if_above n =
 abbrev pub call_above : (callee : List Op) → Module
 call_above callee = with_callee (i32_const 5 ∷ call 2 ∷ finish) to_i32 callee
 
+-- bodies of function 2 that give 3: with a return, with one in a block, and with a branch to the label
+-- of the body, in a block too
+abbrev pub by_return : List Op
+by_return = i32_const 1 ∷ i32_const 3 ∷ return' ∷ i32_const 4 ∷ []
+
+abbrev pub by_return_in_a_block : List Op
+by_return_in_a_block = i32_const 1 ∷ block_of Empty (i32_const 3 ∷ return' ∷ []) ∷ i32_const 4 ∷ []
+
+abbrev pub by_branch : List Op
+by_branch = i32_const 1 ∷ i32_const 3 ∷ br 0 ∷ i32_const 4 ∷ []
+
+abbrev pub by_branch_in_a_block : List Op
+by_branch_in_a_block = i32_const 1 ∷ block_of Empty (i32_const 3 ∷ br 1 ∷ []) ∷ i32_const 4 ∷ []
+
 abbrev pub two_to_nothing : FuncType
 two_to_nothing = record { params = type.I32 ∷ type.I64 ∷ []; results = [] }
 
@@ -148,7 +173,7 @@ abbrev pub two_to_one : FuncType
 two_to_one = record { params = type.I32 ∷ type.I64 ∷ []; results = type.I32 ∷ [] }
 
 -- i32.const 5 i32.const 1 i64.const 2 call 2 call 0, where function 2 takes an i32 and an i64, has an i64
--- as a further local, and is i32.const 4 drop
+-- as another local, and is i32.const 4 drop
 abbrev pub call_with_two : Module
 call_with_two =
     with_funcs (i32_const 5 ∷ i32_const 1 ∷ i64_const 2 ∷ call 2 ∷ call 0 ∷ []) two_to_nothing
@@ -174,6 +199,28 @@ with_import type_index = record empty_entry { imports = record exit_import { typ
 
 abbrev pub with_exports : List Export → Module
 with_exports exports = record empty_entry { exports = exports }
+
+-- the same name for two exports, with another between them
+abbrev pub same_names : List Export
+same_names = entry_export ∷ record entry_export { name = [] } ∷ entry_export ∷ []
+
+-- i64.const 2 i32.const 1 call 2, where function 2 takes an i32 and an i64
+abbrev pub swapped_arguments : Module
+swapped_arguments = with_callee (i64_const 2 ∷ i32_const 1 ∷ call 2 ∷ []) two_to_nothing []
+
+-- bodies of the entry with one fault: the result of a block or a loop is left over, a block takes an
+-- operand from below it, the condition of an if is an i64
+abbrev pub block_left_over : List Op
+block_left_over = block_of (One type.I32) (i32_const 1 ∷ []) ∷ []
+
+abbrev pub loop_left_over : List Op
+loop_left_over = loop_of (One type.I32) (i32_const 1 ∷ []) ∷ []
+
+abbrev pub below_a_block : List Op
+below_a_block = i32_const 1 ∷ block_of Empty (drop' ∷ []) ∷ drop' ∷ []
+
+abbrev pub if_on_i64 : List Op
+if_on_i64 = i64_const 1 ∷ if' Empty stop stop ∷ []
 
 -- a block, a loop and an if from nothing to an i32, whose result is dropped
 abbrev pub dropped_block : (body : List Op) → Module
@@ -202,6 +249,14 @@ in_entry operands items = running (seq [] (more (frame 0 1 [] (seq operands item
 -- the entry with these operands, about to run these instructions, the first of which has this place
 abbrev pub entered_at : (place : ℕ) → (operands : List Value) → Ops → State
 entered_at place operands os = in_entry operands (items_of place os)
+
+-- a body of which this place is the first, about to begin
+abbrev pub fresh : (first : ℕ) → (body : List Op) → Tree
+fresh first body = seq [] (items_of first (ops_of body))
+
+-- the entry with the operand 5, an item above it, and these instructions after that
+abbrev pub above_five : Item → (place : ℕ) → (rest : List Op) → State
+above_five item place rest = in_entry (I32 5 ∷ []) (more item (items_of place (ops_of rest)))
 
 -- the entry, about to exit with the first of these operands
 abbrev pub exits_next : (place : ℕ) → (operands : List Value) → State

@@ -55,7 +55,8 @@ fn call_named(name: &str, found: Option<&FuncType>) -> Option<HostCall>
 
 /// Whether a type is there and has these parameters and results.
 pub fn is_of_type(params: &[ValType], results: &[ValType], found: Option<&FuncType>) -> bool
-    ensures { result ≡ is_of_type (record { params = params.now; results = results.now }) (option_copied found.entry) }
+    ensures { result ≡ is_of_type (record { params = params.now; results = results.now })
+        (option_copied found.entry) }
 {
     match found {
         Some(found) => {

@@ -16,7 +16,8 @@ use wasm_ast::{Export, ExportKind, Module, Refusal};
 pub fn find_entry(of: &Module) -> Result<u32, Refusal>
     ensures entry { IfOk result (λ f. entry of.now ≡ Some f) }
     ensures opens { OnOk result ((p : ProcessConfig) → instantiation_refusal of.now p ≡ None) }
-    ensures refused { (e : Refusal) → result ≡ Err e → (p : ProcessConfig) → instantiation_refusal of.now p ≡ Some e }
+    ensures refused { (e : Refusal) → result ≡ Err e → (p : ProcessConfig)
+        → instantiation_refusal of.now p ≡ Some e }
 {
     let Some(entry) = entry_of(of, of.exports.as_slice()) else {
         return Err(Refusal::NoEntry);

@@ -1,4 +1,4 @@
-//! Laws of execution. Each function is nothing but its contract.
+//! Laws of execution. Each function has a contract and no body.
 
 ghost use Rattle.std.specs.Prelude.{◌≡◌, ◌≢◌, ℕ, sum, ◌+◌, ◌<◌, ◌≤◌, List, [], true, false, Some, None, slice_get};
 ghost use Rattle.wasm_ast.specs.declared.values.Value.{Value};
@@ -30,7 +30,8 @@ pub fn one_more_turn()
 
 /// A configuration that has halted stays as it is.
 pub fn halted_stays()
-    ensures { (p : Program) (k n : ℕ) (c : Configuration) → is_halted c.state ≡ true → from p k c n ≡ c }
+    ensures { (p : Program) (k n : ℕ) (c : Configuration) → is_halted c.state ≡ true
+        → from p k c n ≡ c }
 {}
 
 /// A turn ends where the next instruction is plain or the configuration has ended, and so does
@@ -42,16 +43,20 @@ pub fn turns_settle()
 
 /// What has not ended has made fewer than 10^15 turns.
 pub fn turns_are_limited()
-    ensures { (m : Module) (p : ProcessConfig) (n : ℕ) → ended (after m p n).state ≡ None → n < last_turn }
+    ensures { (m : Module) (p : ProcessConfig) (n : ℕ) → ended (after m p n).state ≡ None
+        → n < last_turn }
 {}
 
 /// The reduction of a tree inside a label or a frame is one of the whole (4.2.13): all but that tree
 /// stays, and a frame's locals are those inside it.
 pub fn reductions_go_inside()
-    ensures label { (p : Program) (e : Env) (vs : List Value) (n k : ℕ) (g : Target) (t : Tree) (is : Items)
+    ensures label { (p : Program) (e : Env) (vs : List Value) (n k : ℕ) (g : Target) (t : Tree)
+        (is : Items)
         → acts t ≡ true
-        → reduce p e (seq vs (more (label n k g t) is)) ≡ inside (reduce p e t) (in_label vs n k g is) }
-    ensures frame { (p : Program) (r : Store) (outer ls vs : List Value) (n f : ℕ) (t : Tree) (is : Items)
+        → reduce p e (seq vs (more (label n k g t) is))
+        ≡ inside (reduce p e t) (in_label vs n k g is) }
+    ensures frame { (p : Program) (r : Store) (outer ls vs : List Value) (n f : ℕ) (t : Tree)
+        (is : Items)
         → acts t ≡ true
         → reduce p (record { store = r; locals = outer }) (seq vs (more (frame n f ls t) is))
         ≡ inside (reduce p (record { store = r; locals = ls }) t) (in_frame outer vs n f is) }
@@ -74,7 +79,8 @@ pub fn slices_commute()
         → slices_made m p n [] budgets ≡ turns_made m p n [] (sum budgets) }
     ensures two { (m : Module) (p : ProcessConfig) (n : ℕ) (bs : List Place) (a b : ℕ)
         → slice_end m p n bs a ≢ slice.Break
-        → turns_made m p n bs (a + b) ≡ turns_made m p n bs a + turns_made m p (n + turns_made m p n bs a) bs b }
+        → turns_made m p n bs (a + b)
+        ≡ turns_made m p n bs a + turns_made m p (n + turns_made m p n bs a) bs b }
 {}
 
 /// A slice makes no more turns than its budget; of what has not ended it makes one at least, and of

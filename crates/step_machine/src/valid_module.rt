@@ -71,7 +71,8 @@ impl Valid {
 pub fn validate(alloc: Global, unchecked: Module) -> Result<Valid, Refusal>
     ensures ok { IfOk result (λ v. v ≡ unchecked) }
     ensures valid { OnOk result (ValidModule unchecked) }
-    ensures invalid { result ≡ Err refusal.Invalid → ValidModule unchecked → RunsModule unchecked → ⊥ }
+    ensures invalid { result ≡ Err refusal.Invalid → ValidModule unchecked → RunsModule unchecked
+        → ⊥ }
     ensures err { OnErr result ((result ≡ Err refusal.Invalid) ⊎ (result ≡ Err refusal.NoMemory)) }
 {
     check_module(alloc, &unchecked)?;

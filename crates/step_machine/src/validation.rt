@@ -65,7 +65,8 @@ impl From<CheckError> for Refusal {
 pub fn check_module(alloc: Global, unchecked: &Module) -> Result<(), CheckError>
     ensures valid { OnOk result (ValidModule unchecked.now) }
     ensures runs { OnOk result (RunsModule unchecked.now) }
-    ensures invalid { result ≡ Err CheckError.Invalid → ValidModule unchecked.now → RunsModule unchecked.now → ⊥ }
+    ensures invalid { result ≡ Err CheckError.Invalid → ValidModule unchecked.now
+        → RunsModule unchecked.now → ⊥ }
 {
     if !types_are_valid(unchecked.types.as_slice())
         || !imports_are_valid(unchecked.types.as_slice(), unchecked.imports.as_slice())
@@ -106,7 +107,8 @@ fn imports_are_valid(types: &[FuncType], imports: &[Import]) -> bool
 /// What each export names is there (3.4.8).
 fn exports_are_valid(unchecked: &Module, exports: &[Export]) -> bool
     ensures valid { IsTrue result → All (λ e. IsThere unchecked.now e.kind e.index) exports.now }
-    ensures invalid { result ≡ false → All (λ e. IsThere unchecked.now e.kind e.index) exports.now → ⊥ }
+    ensures invalid { result ≡ false → All (λ e. IsThere unchecked.now e.kind e.index) exports.now
+        → ⊥ }
 {
     for export in exports {
         if !is_there(unchecked, export.kind, export.index as usize) {
@@ -128,8 +130,10 @@ fn is_there(unchecked: &Module, kind: ExportKind, index: usize) -> bool
 
 /// The names of exports differ (3.4.10). An error if the names cannot be held.
 fn names_differ(alloc: Global, exports: &[Export]) -> Result<bool, AllocError>
-    ensures valid { IfOk result (λ differ. IsTrue differ → AllDifferent (map (λ e. e.name) exports.now)) }
-    ensures invalid { IfOk result (λ differ. differ ≡ false → AllDifferent (map (λ e. e.name) exports.now) → ⊥) }
+    ensures valid { IfOk result (λ differ. IsTrue differ
+        → AllDifferent (map (λ e. e.name) exports.now)) }
+    ensures invalid { IfOk result (λ differ. differ ≡ false
+        → AllDifferent (map (λ e. e.name) exports.now) → ⊥) }
 {
     let mut seen = BTreeMap::new(alloc);
     for export in exports {
@@ -176,7 +180,8 @@ fn check_body(
         Typed context func.now.body [] (reverse func_type.now.results)) }
     ensures runs { OnOk result (Runs (length unchecked.now.imports) func.now.body) }
     ensures invalid { result ≡ Err CheckError.Invalid
-        → Typed (body_context unchecked.now func_type.now func.now) func.now.body [] (reverse func_type.now.results)
+        → (let context = body_context unchecked.now func_type.now func.now in
+        Typed context func.now.body [] (reverse func_type.now.results))
         → Runs (length unchecked.now.imports) func.now.body → ⊥ }
 {
     let mut stack = Vec::new(alloc);
@@ -199,7 +204,8 @@ fn check_instr(
     ensures typed { OnOk result ((c : Context) → c.funcs ≡ func_types unchecked.now
         → OpTyped c (op_of instr.now) (reverse stack.old.items) (reverse stack.new.items)) }
     ensures runs { OnOk result (RunsOp (length unchecked.now.imports) (op_of instr.now)) }
-    ensures invalid { result ≡ Err CheckError.Invalid → (c : Context) (new : List ValType) → c.funcs ≡ func_types unchecked.now
+    ensures invalid { result ≡ Err CheckError.Invalid → (c : Context) (new : List ValType)
+        → c.funcs ≡ func_types unchecked.now
         → OpTyped c (op_of instr.now) (reverse stack.old.items) new
         → RunsOp (length unchecked.now.imports) (op_of instr.now) → ⊥ }
 {
@@ -217,8 +223,10 @@ fn check_simple(
     ensures typed { OnOk result ((c : Context) → c.funcs ≡ func_types unchecked.now
         → SimpleTyped c simple (reverse stack.old.items) (reverse stack.new.items)) }
     ensures runs { OnOk result (RunsSimple (length unchecked.now.imports) simple) }
-    ensures invalid { result ≡ Err CheckError.Invalid → (c : Context) (new : List ValType) → c.funcs ≡ func_types unchecked.now
-        → SimpleTyped c simple (reverse stack.old.items) new → RunsSimple (length unchecked.now.imports) simple → ⊥ }
+    ensures invalid { result ≡ Err CheckError.Invalid → (c : Context) (new : List ValType)
+        → c.funcs ≡ func_types unchecked.now
+        → SimpleTyped c simple (reverse stack.old.items) new
+        → RunsSimple (length unchecked.now.imports) simple → ⊥ }
 {
     match simple {
         Simple::Const(value) => stack.push(type_of_value(value))?,
@@ -268,7 +276,8 @@ fn check_call(unchecked: &Module, func: u32, stack: &mut Vec<ValType>) -> Result
 /// Takes these types from the end of the stack. False if they are not there.
 fn takes(stack: &mut Vec<ValType>, types: &[ValType]) -> bool
     ensures taken { IsTrue result → stack.old.items ≡ stack.new.items ++ types.now }
-    ensures missing { result ≡ false → (rest : List ValType) → stack.old.items ≡ rest ++ types.now → ⊥ }
+    ensures missing { result ≡ false → (rest : List ValType) → stack.old.items ≡ rest ++ types.now
+        → ⊥ }
 {
     let height = stack.len();
     if height < types.len() {

@@ -1,5 +1,5 @@
-//! Worked programs, computed, and which modules are not valid. Each function is nothing but its
-//! contract.
+//! Worked programs, computed, and which modules are not valid. Each function has a
+//! contract and no body.
 
 ghost use Rattle.std.specs.Prelude.{◌≡◌, ℕ, ◌+◌, ◌<◌, ◌≤◌, List, [], ◌∷◌, length, true, false, Some, None};
 ghost use Rattle.wasm_ast.specs.declared.values.ValType.TheVariants as type;
@@ -19,7 +19,7 @@ ghost use Rattle.step_machine.specs.Turns.{turn};
 ghost use Rattle.step_machine.specs.Instantiation.{after, ended};
 ghost use Rattle.step_machine.specs.Slices.{at_break, turns_made, slice_end};
 ghost use Rattle.step_machine.specs.Typing.{ValidModule};
-ghost use Rattle.step_machine.specs.Worked.{bare_process, func, to_i32, two_results, two_to_nothing, entry_export, with_funcs, with_import, with_exports, with_entry, with_result, i64_const, dropped_block, dropped_loop, dropped_if, if_and_branch, loop_result, finish, nothing_to_nothing, two_to_one, i32_const, drop', br, return', call, with_callee, exit_seven, branch_out, endless, two_ways, call_and_return, empty_entry, fall_through, branch_above, branch_through, loop_body, loop_above, if_above, call_above, call_with_two, place, in_entry, entered, entered_at, exits_next, deep, measured, pile};
+ghost use Rattle.step_machine.specs.Worked.{bare_process, func, to_i32, two_results, two_to_nothing, entry_export, with_funcs, with_import, with_exports, with_entry, with_result, i64_const, dropped_block, dropped_loop, dropped_if, if_and_branch, loop_result, finish, nothing_to_nothing, two_to_one, i32_const, drop', br, return', call, with_callee, exit_seven, branch_out, endless, two_ways, call_and_return, empty_entry, fall_through, branch_above, branch_through, loop_body, loop_above, if_above, call_above, call_with_two, place, in_entry, entered, entered_at, exits_next, deep, measured, pile, fresh, above_five, block_of, loop_of, by_return, by_return_in_a_block, by_branch, by_branch_in_a_block, same_names, swapped_arguments, calls_nothing, block_left_over, loop_left_over, below_a_block, if_on_i64};
 
 /// `i32.const 7 call 0`, where function 0 is `proc_exit`, exits with 7 at its second turn.
 pub fn exit_takes_a_turn()
@@ -52,22 +52,25 @@ pub fn loop_takes_a_turn()
 pub fn arms_are_chosen()
     ensures first_arm { (after (two_ways 2) bare_process 4).state ≡ exited 3 }
     ensures second_arm { (after (two_ways 0) bare_process 4).state ≡ exited 4 }
-    ensures first_place { at_break (place 1 2 ∷ []) (after (two_ways 2) bare_process 2).state ≡ true }
-    ensures second_place { at_break (place 1 4 ∷ []) (after (two_ways 0) bare_process 2).state ≡ true }
+    ensures first_place { at_break (place 1 2 ∷ []) (after (two_ways 2) bare_process 2).state
+        ≡ true }
+    ensures second_place { at_break (place 1 4 ∷ []) (after (two_ways 0) bare_process 2).state
+        ≡ true }
 {}
 
 /// A call of an own function and a return from it: the function's first instruction is next after the
 /// call's turn, and the return's turn keeps the top value and goes on after the call.
 pub fn call_returns_the_top()
     ensures called { at_break (place 2 0 ∷ []) (after call_and_return bare_process 1).state ≡ true }
-    ensures returned { at_break (place 1 1 ∷ []) (after call_and_return bare_process 4).state ≡ true }
+    ensures returned { at_break (place 1 1 ∷ []) (after call_and_return bare_process 4).state
+        ≡ true }
     ensures exits { (after call_and_return bare_process 5).state ≡ exited 9 }
 {}
 
 /// What a block gives falls through its end, above the operands that were there before it.
 pub fn block_ends()
-    ensures inside { (after fall_through bare_process 2).state ≡ in_entry (I32 5 ∷ [])
-        (more (label 1 1 onward (seq [] (items_of 2 (ops_of (i32_const 6 ∷ []))))) (items_of 3 (ops_of finish))) }
+    ensures inside { (after fall_through bare_process 2).state
+        ≡ above_five (label 1 1 onward (fresh 2 (i32_const 6 ∷ []))) 3 finish }
     ensures left { (after fall_through bare_process 3).state ≡ exits_next 3 (I32 6 ∷ I32 5 ∷ []) }
     ensures exits { (after fall_through bare_process 4).state ≡ exited 6 }
 {}
@@ -75,51 +78,55 @@ pub fn block_ends()
 /// A branch drops the other operands of its label, and none below it; on its way through a label it
 /// takes the operands along.
 pub fn branches_keep_what_is_below()
-    ensures to_the_label { (after branch_above bare_process 5).state ≡ exits_next 5 (I32 2 ∷ I32 5 ∷ []) }
-    ensures through_a_label { (after branch_through bare_process 5).state ≡ exits_next 6 (I32 3 ∷ I32 5 ∷ []) }
+    ensures to_the_label { (after branch_above bare_process 5).state
+        ≡ exits_next 5 (I32 2 ∷ I32 5 ∷ []) }
+    ensures through_a_label { (after branch_through bare_process 5).state
+        ≡ exits_next 6 (I32 3 ∷ I32 5 ∷ []) }
 {}
 
 /// A branch to a loop begins it again once, with the operands below it and what follows it as they were.
 pub fn loops_begin_again()
-    ensures inside { (after loop_above bare_process 2).state ≡ in_entry (I32 5 ∷ [])
-        (more (label 0 1 (again (loop Empty loop_body)) (seq [] (items_of 2 loop_body))) (items_of 4 (ops_of (call 0 ∷ [])))) }
-    ensures again { (after loop_above bare_process 4).state ≡ (after loop_above bare_process 1).state }
+    ensures inside { (after loop_above bare_process 2).state
+        ≡ above_five (label 0 1 (again (loop_of Empty loop_body)) (fresh 2 loop_body))
+        4 (call 0 ∷ []) }
+    ensures again { (after loop_above bare_process 4).state
+        ≡ (after loop_above bare_process 1).state }
 {}
 
 /// An `if` takes its operand, keeps those below it, and numbers its arms one after the other.
 pub fn arms_give_results()
-    ensures first_arm { (after (if_above 1) bare_process 3).state ≡ in_entry (I32 5 ∷ [])
-        (more (label 1 2 onward (seq [] (items_of 3 (ops_of (i32_const 6 ∷ []))))) (items_of 5 (ops_of finish))) }
-    ensures second_arm { (after (if_above 0) bare_process 3).state ≡ in_entry (I32 5 ∷ [])
-        (more (label 1 2 onward (seq [] (items_of 4 (ops_of (i32_const 7 ∷ []))))) (items_of 5 (ops_of finish))) }
+    ensures first_arm { (after (if_above 1) bare_process 3).state
+        ≡ above_five (label 1 2 onward (fresh 3 (i32_const 6 ∷ []))) 5 finish }
+    ensures second_arm { (after (if_above 0) bare_process 3).state
+        ≡ above_five (label 1 2 onward (fresh 4 (i32_const 7 ∷ []))) 5 finish }
     ensures left { (after (if_above 0) bare_process 4).state ≡ exits_next 5 (I32 7 ∷ I32 5 ∷ []) }
 {}
 
 /// A function's results are left at its end, by a return, from inside a block too, and by a branch to
 /// the label of its body, above the operands that its caller had.
 pub fn functions_give_results()
-    ensures called { (after (call_above (i32_const 9 ∷ [])) bare_process 2).state ≡ in_entry (I32 5 ∷ [])
-        (more (frame 1 2 [] (seq [] (items_of 0 (ops_of (i32_const 9 ∷ []))))) (items_of 2 (ops_of finish))) }
-    ensures at_the_end { (after (call_above (i32_const 9 ∷ [])) bare_process 3).state ≡ exits_next 2 (I32 9 ∷ I32 5 ∷ []) }
-    ensures by_return { (after (call_above (i32_const 1 ∷ i32_const 3 ∷ return' ∷ i32_const 4 ∷ [])) bare_process 5).state
+    ensures called { (after (call_above (i32_const 9 ∷ [])) bare_process 2).state
+        ≡ above_five (frame 1 2 [] (fresh 0 (i32_const 9 ∷ []))) 2 finish }
+    ensures at_the_end { (after (call_above (i32_const 9 ∷ [])) bare_process 3).state
+        ≡ exits_next 2 (I32 9 ∷ I32 5 ∷ []) }
+    ensures by_return { (after (call_above by_return) bare_process 5).state
         ≡ exits_next 2 (I32 3 ∷ I32 5 ∷ []) }
-    ensures from_a_block { (after (call_above
-        (i32_const 1 ∷ block Empty (ops_of (i32_const 3 ∷ return' ∷ [])) ∷ i32_const 4 ∷ [])) bare_process 6).state
+    ensures from_a_block { (after (call_above by_return_in_a_block) bare_process 6).state
         ≡ exits_next 2 (I32 3 ∷ I32 5 ∷ []) }
-    ensures by_branch { (after (call_above (i32_const 1 ∷ i32_const 3 ∷ br 0 ∷ i32_const 4 ∷ [])) bare_process 5).state
+    ensures by_branch { (after (call_above by_branch) bare_process 5).state
         ≡ exits_next 2 (I32 3 ∷ I32 5 ∷ []) }
-    ensures by_branch_from_a_block { (after (call_above
-        (i32_const 1 ∷ block Empty (ops_of (i32_const 3 ∷ br 1 ∷ [])) ∷ i32_const 4 ∷ [])) bare_process 6).state
+    ensures by_branch_from_a_block { (after (call_above by_branch_in_a_block) bare_process 6).state
         ≡ exits_next 2 (I32 3 ∷ I32 5 ∷ []) }
 {}
 
 /// Arguments are taken from the caller's operands and become the first locals in their order, followed by
 /// zeros; the caller keeps its other operands.
 pub fn arguments_become_locals()
-    ensures called { (after call_with_two bare_process 4).state ≡ in_entry (I32 5 ∷ [])
-        (more (frame 0 2 (I32 1 ∷ I64 2 ∷ I64 0 ∷ []) (seq [] (items_of 0 (ops_of (i32_const 4 ∷ drop' ∷ [])))))
-        (items_of 4 (ops_of (call 0 ∷ [])))) }
-    ensures returned { (after call_with_two bare_process 6).state ≡ entered_at 4 (I32 5 ∷ []) (ops_of (call 0 ∷ [])) }
+    ensures called { (after call_with_two bare_process 4).state
+        ≡ above_five (frame 0 2 (I32 1 ∷ I64 2 ∷ I64 0 ∷ []) (fresh 0 (i32_const 4 ∷ drop' ∷ [])))
+        4 (call 0 ∷ []) }
+    ensures returned { (after call_with_two bare_process 6).state
+        ≡ entered_at 4 (I32 5 ∷ []) (ops_of (call 0 ∷ [])) }
     ensures exits { (after call_with_two bare_process 7).state ≡ exited 5 }
 {}
 
@@ -129,26 +136,31 @@ pub fn blocks_take_parameters()
     ensures of_a_block { (env : Env) (operands : List Value) (body : Ops) (rest : Items)
         → enter_block env operands 3 4 (Some two_to_one) body rest
         ≡ to env (seq operands (more (enter 2 1 3 4 onward body) rest)) }
-    ensures of_a_loop { (env : Env) (operands : List Value) (itself : Op) (body : Ops) (rest : Items)
+    ensures of_a_loop { (env : Env) (operands : List Value) (itself : Op) (body : Ops)
+        (rest : Items)
         → enter_loop env operands 3 (Some two_to_one) itself body rest
         ≡ to env (seq operands (more (enter 2 2 3 4 (again itself) body) rest)) }
     ensures on_entry { (p : Program) (env : Env) (u v w : Value) (body : Ops) (rest : Items)
         → reduce p env (seq (u ∷ v ∷ w ∷ []) (more (enter 2 1 3 4 onward body) rest))
-        ≡ to env (seq (w ∷ []) (more (label 1 3 onward (seq (u ∷ v ∷ []) (items_of 4 body))) rest)) }
+        ≡ to env (seq (w ∷ [])
+        (more (label 1 3 onward (seq (u ∷ v ∷ []) (items_of 4 body))) rest)) }
 {}
 
 /// What no valid module reaches has no reduction: a branch or a return outside all frames, a branch out
 /// of a frame, and a function or an operand that is not there.
 pub fn faults_are_stuck()
-    ensures branch_outside { (p : Program) (env : Env) (operands : List Value) (n : ℕ) (rest : Items)
+    ensures branch_outside { (p : Program) (env : Env) (operands : List Value) (n : ℕ)
+        (rest : Items)
         → reduce p env (seq operands (more (branch n) rest)) ≡ ends env stuck }
     ensures return_outside { (p : Program) (env : Env) (operands : List Value) (rest : Items)
         → reduce p env (seq operands (more ret rest)) ≡ ends env stuck }
     ensures branch_out { (p : Program) (env : Env) (operands : List Value) (n : ℕ) (rest : Items)
-        → reduce p env (seq [] (more (frame 0 1 [] (seq operands (more (branch (n + 1)) rest))) rest)) ≡ ends env stuck }
+        → reduce p env (seq [] (more (frame 0 1 [] (seq operands
+        (more (branch (n + 1)) rest))) rest)) ≡ ends env stuck }
     ensures no_function { (p : Program) (env : Env) (operands : List Value) (n : ℕ) (rest : Items)
         → call_function p env operands n None rest ≡ ends env stuck }
-    ensures unknown_function { (p : Program) (env : Env) (operands : List Value) (n : ℕ) (rest : Items)
+    ensures unknown_function { (p : Program) (env : Env) (operands : List Value) (n : ℕ)
+        (rest : Items)
         → call_function p env operands n (Some unknown) rest ≡ ends env stuck }
     ensures no_operand { (p : Program) (env : Env) (rest : Items)
         → reduce p env (seq [] (more (plain 0 drop') rest)) ≡ ends env stuck }
@@ -165,25 +177,31 @@ pub fn trees_are_measured()
 /// The frame that would be the 1,025th traps, and the 1,024th does not. The limit is checked on each
 /// reduction: a function without instructions traps too.
 pub fn frames_are_limited()
-    ensures beyond { (turn (program call_and_return bare_process) (deep 1024)).state ≡ trapped trap.Exhausted }
-    ensures within { is_halted (turn (program call_and_return bare_process) (deep 1023)).state ≡ false }
-    ensures of_an_empty_function { (turn (program (with_callee [] nothing_to_nothing []) bare_process) (deep 1024)).state ≡ trapped trap.Exhausted }
+    ensures beyond { (turn (program call_and_return bare_process) (deep 1024)).state
+        ≡ trapped trap.Exhausted }
+    ensures within { is_halted (turn (program call_and_return bare_process) (deep 1023)).state
+        ≡ false }
+    ensures of_an_empty_function { (turn (program calls_nothing bare_process) (deep 1024)).state
+        ≡ trapped trap.Exhausted }
 {}
 
 /// The value that would be the 65,537th traps, and the 65,536th does not.
 pub fn values_are_limited()
     ensures beyond { (p : Program) (vs : List Value) (n : ℕ)
         → length vs ≡ max_values
-        → (turn p (entered vs (next (i32_const n) (next drop' stop)))).state ≡ trapped trap.Exhausted }
+        → (turn p (entered vs (next (i32_const n) (next drop' stop)))).state
+        ≡ trapped trap.Exhausted }
     ensures within { (p : Program) (vs : List Value) (n : ℕ)
         → length vs ≡ 65535
-        → (turn p (entered vs (next (i32_const n) (next drop' stop)))).state ≡ entered_at 1 (I32 n ∷ vs) (next drop' stop) }
+        → (turn p (entered vs (next (i32_const n) (next drop' stop)))).state
+        ≡ entered_at 1 (I32 n ∷ vs) (next drop' stop) }
 {}
 
 /// A body of n `i32.const 0` and then n `drop` returns at the turn of its last drop, if n is at most
 /// 65,536. If n is more, the turn of the 65,537th constant traps.
 pub fn piles_are_limited()
-    ensures fits { (p : ProcessConfig) (n : ℕ) → n ≤ max_values → ended (after (pile n) p (n + n)).state ≡ Some end.Returned }
+    ensures fits { (p : ProcessConfig) (n : ℕ) → n ≤ max_values
+        → ended (after (pile n) p (n + n)).state ≡ Some end.Returned }
     ensures beyond { (p : ProcessConfig) (n limit : ℕ)
         → limit ≡ max_values
         → limit < n
@@ -200,7 +218,8 @@ pub fn slices_end()
     ensures at_the_end { turns_made exit_seven bare_process 0 [] 10 ≡ 2 }
     ensures by_exit { slice_end exit_seven bare_process 0 [] 2 ≡ slice.Exited 7 }
     ensures halted { turns_made exit_seven bare_process 2 [] 10 ≡ 0 }
-    ensures outside_frames { at_break (place 0 0 ∷ []) (running (seq [] (more (plain 0 drop') done))) ≡ false }
+    ensures outside_frames { at_break (place 0 0 ∷ []) (running (seq []
+        (more (plain 0 drop') done))) ≡ false }
 {}
 
 /// The limits of the profile on execution, and that of 10^15 turns.
@@ -227,7 +246,7 @@ pub fn worked_modules_are_valid()
     ensures if_above { (n : ℕ) → ValidModule (if_above n) }
     ensures if_and_branch { (n : ℕ) → ValidModule (if_and_branch n) }
     ensures function_end { ValidModule (call_above (i32_const 9 ∷ [])) }
-    ensures branch_from_a_function { ValidModule (call_above (i32_const 1 ∷ i32_const 3 ∷ br 0 ∷ i32_const 4 ∷ [])) }
+    ensures branch_from_a_function { ValidModule (call_above by_branch) }
     ensures arguments { ValidModule call_with_two }
 {}
 
@@ -237,7 +256,7 @@ pub fn faulty_modules_are_not_valid()
     ensures no_type_of_import { ValidModule (with_import 3) → ⊥ }
     ensures no_type_of_function { ValidModule (with_funcs [] to_i32 (func 3 [] [] ∷ [])) → ⊥ }
     ensures no_export { ValidModule (with_exports (record entry_export { index = 3 } ∷ [])) → ⊥ }
-    ensures same_names { ValidModule (with_exports (entry_export ∷ record entry_export { name = [] } ∷ entry_export ∷ [])) → ⊥ }
+    ensures same_names { ValidModule (with_exports same_names) → ⊥ }
 {}
 
 /// A body with a fault is not valid: one for each of the rules of simple instructions.
@@ -247,7 +266,7 @@ pub fn faulty_instructions_are_not_valid()
     ensures i64_left_over { ValidModule (with_entry (i64_const 1 ∷ [])) → ⊥ }
     ensures no_argument { ValidModule (with_entry (call 0 ∷ [])) → ⊥ }
     ensures argument_of_other_type { ValidModule (with_entry (i64_const 1 ∷ call 0 ∷ [])) → ⊥ }
-    ensures arguments_in_other_order { ValidModule (with_callee (i64_const 2 ∷ i32_const 1 ∷ call 2 ∷ []) two_to_nothing []) → ⊥ }
+    ensures arguments_in_other_order { ValidModule swapped_arguments → ⊥ }
     ensures no_function { ValidModule (with_entry (call 3 ∷ [])) → ⊥ }
     ensures result_left_over { ValidModule (with_entry (call 2 ∷ [])) → ⊥ }
     ensures no_result { ValidModule (with_result []) → ⊥ }
@@ -262,14 +281,15 @@ pub fn faulty_instructions_are_not_valid()
 /// A body with a fault is not valid: one for each of the rules of blocks, loops and ifs.
 pub fn faulty_blocks_are_not_valid()
     ensures block_without_result { ValidModule (dropped_block []) → ⊥ }
-    ensures block_with_more { ValidModule (with_entry (block Empty (ops_of (i32_const 1 ∷ [])) ∷ [])) → ⊥ }
-    ensures block_result_left_over { ValidModule (with_entry (block (One type.I32) (ops_of (i32_const 1 ∷ [])) ∷ [])) → ⊥ }
-    ensures operand_below_a_block { ValidModule (with_entry (i32_const 1 ∷ block Empty (ops_of (drop' ∷ [])) ∷ drop' ∷ [])) → ⊥ }
+    ensures block_with_more { ValidModule (with_entry (block_of Empty (i32_const 1 ∷ []) ∷ []))
+        → ⊥ }
+    ensures block_result_left_over { ValidModule (with_entry block_left_over) → ⊥ }
+    ensures operand_below_a_block { ValidModule (with_entry below_a_block) → ⊥ }
     ensures branch_out_of_a_block { ValidModule (dropped_block (br 0 ∷ [])) → ⊥ }
     ensures loop_without_result { ValidModule (dropped_loop []) → ⊥ }
-    ensures loop_result_left_over { ValidModule (with_entry (loop (One type.I32) (ops_of (i32_const 1 ∷ [])) ∷ [])) → ⊥ }
+    ensures loop_result_left_over { ValidModule (with_entry loop_left_over) → ⊥ }
     ensures no_condition { ValidModule (with_entry (if' Empty stop stop ∷ [])) → ⊥ }
-    ensures condition_of_other_type { ValidModule (with_entry (i64_const 1 ∷ if' Empty stop stop ∷ [])) → ⊥ }
+    ensures condition_of_other_type { ValidModule (with_entry if_on_i64) → ⊥ }
     ensures then_arm_without_result { ValidModule (dropped_if [] (i32_const 1 ∷ [])) → ⊥ }
     ensures else_arm_without_result { ValidModule (dropped_if (i32_const 1 ∷ []) []) → ⊥ }
     ensures then_branch_with_nothing { ValidModule (dropped_if (br 0 ∷ []) (i32_const 1 ∷ [])) → ⊥ }

@@ -3,7 +3,6 @@ use Rattle.wasm_ast.specs.declared.instr.Simple.{Simple}
 use Rattle.step_machine.specs.declared.validation.CheckError.TheVariants.{Invalid}
 use Rattle.step_machine.specs.Typing.{SimpleTyped}
 use Rattle.step_machine.specs.Runs.{RunsSimple}
-use Rattle.step_machine.proofs.FunctionTypes.{call_typed}
 use Rattle.step_machine.proofs.ResultLemmas.{residual}
 use Rattle.step_machine.proofs.TypingLemmas.{call_from}
 use Rattle.step_machine.proofs.validation.check_simple.Goals as goal
