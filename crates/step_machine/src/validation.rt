@@ -184,9 +184,14 @@ fn check_body(
         Typed context func.now.body [] (reverse func_type.now.results))
         → Runs (length unchecked.now.imports) func.now.body → ⊥ }
 {
+    let checked = Checked {
+        of: unchecked,
+        func_type,
+        func,
+    };
     let mut stack = Vec::new(alloc);
     for instr in func.body.as_slice() {
-        check_instr(unchecked, instr, &mut stack)?;
+        check_instr(&checked, instr, &mut stack)?;
     }
     if are_same(stack.as_slice(), func_type.results.as_slice()) {
         Ok(())
@@ -195,38 +200,50 @@ fn check_body(
     }
 }
 
+/// The function whose body is checked.
+#[derive(Clone, Copy)]
+struct Checked<'a> {
+    of: &'a Module,
+    func_type: &'a FuncType,
+    func: &'a Func,
+}
+
 /// One instruction, on a stack with the newest type last (3.3).
 fn check_instr(
-    unchecked: &Module,
+    checked: &Checked<'_>,
     instr: &Instr,
     stack: &mut Vec<ValType>,
 ) -> Result<(), CheckError>
-    ensures typed { OnOk result ((c : Context) → c.funcs ≡ func_types unchecked.now
-        → OpTyped c (op_of instr.now) (reverse stack.old.items) (reverse stack.new.items)) }
-    ensures runs { OnOk result (RunsOp (length unchecked.now.imports) (op_of instr.now)) }
-    ensures invalid { result ≡ Err CheckError.Invalid → (c : Context) (new : List ValType)
-        → c.funcs ≡ func_types unchecked.now
-        → OpTyped c (op_of instr.now) (reverse stack.old.items) new
-        → RunsOp (length unchecked.now.imports) (op_of instr.now) → ⊥ }
+    ensures typed { OnOk result (let at = checked.now in
+        let context = body_context at.of.now at.func_type.now at.func.now in
+        OpTyped context (op_of instr.now) (reverse stack.old.items) (reverse stack.new.items)) }
+    ensures runs { OnOk result (RunsOp (length checked.now.of.now.imports) (op_of instr.now)) }
+    ensures invalid { result ≡ Err CheckError.Invalid → (new : List ValType)
+        → (let at = checked.now in
+        let context = body_context at.of.now at.func_type.now at.func.now in
+        OpTyped context (op_of instr.now) (reverse stack.old.items) new)
+        → RunsOp (length checked.now.of.now.imports) (op_of instr.now) → ⊥ }
 {
     match instr {
-        Instr::Simple(simple) => check_simple(unchecked, *simple, stack),
+        Instr::Simple(simple) => check_simple(checked, *simple, stack),
         _ => Err(CheckError::Invalid),
     }
 }
 
 fn check_simple(
-    unchecked: &Module,
+    checked: &Checked<'_>,
     simple: Simple,
     stack: &mut Vec<ValType>,
 ) -> Result<(), CheckError>
-    ensures typed { OnOk result ((c : Context) → c.funcs ≡ func_types unchecked.now
-        → SimpleTyped c simple (reverse stack.old.items) (reverse stack.new.items)) }
-    ensures runs { OnOk result (RunsSimple (length unchecked.now.imports) simple) }
-    ensures invalid { result ≡ Err CheckError.Invalid → (c : Context) (new : List ValType)
-        → c.funcs ≡ func_types unchecked.now
-        → SimpleTyped c simple (reverse stack.old.items) new
-        → RunsSimple (length unchecked.now.imports) simple → ⊥ }
+    ensures typed { OnOk result (let at = checked.now in
+        let context = body_context at.of.now at.func_type.now at.func.now in
+        SimpleTyped context simple (reverse stack.old.items) (reverse stack.new.items)) }
+    ensures runs { OnOk result (RunsSimple (length checked.now.of.now.imports) simple) }
+    ensures invalid { result ≡ Err CheckError.Invalid → (new : List ValType)
+        → (let at = checked.now in
+        let context = body_context at.of.now at.func_type.now at.func.now in
+        SimpleTyped context simple (reverse stack.old.items) new)
+        → RunsSimple (length checked.now.of.now.imports) simple → ⊥ }
 {
     match simple {
         Simple::Const(value) => stack.push(type_of_value(value))?,
@@ -235,7 +252,7 @@ fn check_simple(
                 return Err(CheckError::Invalid);
             }
         }
-        Simple::Call(func) => check_call(unchecked, func, stack)?,
+        Simple::Call(func) => check_call(checked.of, func, stack)?,
         Simple::Br(_) | Simple::Return => return Err(CheckError::Invalid),
     }
     Ok(())

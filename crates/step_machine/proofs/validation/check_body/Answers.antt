@@ -23,7 +23,7 @@ loop-instr-preserved c =
     let here : ops (drop i items) ≡ next (op_of item) (ops (drop (i + 1) items)) =
     ap ops (drop_more items i item c.loop-instr-test.true) ∙ ap (λ (x : Instr). next (op_of x) (ops (drop (i + 1) items))) (sym c.instr-item.is) in
     let runs = c.in_ok-check_instr.ensures.runs in
-    let typed = c.in_ok-check_instr.ensures.typed context refl in
+    let typed = c.in_ok-check_instr.ensures.typed in
     record {
       typed = λ new h. c.loop-instr.invariant.typed new (subst (λ (os : Ops). Typed context os old new) (sym here) (now, typed, h));
       runs = λ h. c.loop-instr.invariant.runs (subst (Runs n) (sym here) (runs, h));
