@@ -1,10 +1,10 @@
 pub mod Limits
-pub mod Processes
 pub mod HostCalls
 pub mod Program
 pub mod Configuration
 pub mod Reduction
 pub mod Places
+pub mod Processes
 pub mod Turns
 pub mod Instantiation
 pub mod Slices

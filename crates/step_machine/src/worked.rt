@@ -19,7 +19,7 @@ ghost use Rattle.step_machine.specs.Turns.{turn};
 ghost use Rattle.step_machine.specs.Instantiation.{after, ended};
 ghost use Rattle.step_machine.specs.Slices.{at_break, turns_made, slice_end};
 ghost use Rattle.step_machine.specs.Typing.{ValidModule};
-ghost use Rattle.step_machine.specs.Worked.{bare_process, func, to_i32, two_results, two_to_nothing, entry_export, with_funcs, with_import, with_exports, with_entry, with_result, i64_const, dropped_block, dropped_loop, dropped_if, if_and_branch, loop_result, finish, nothing_to_nothing, two_to_one, i32_const, drop', br, return', call, with_callee, exit_seven, branch_out, endless, two_ways, call_and_return, empty_entry, fall_through, branch_above, branch_through, loop_body, loop_above, if_above, call_above, call_with_two, place, in_entry, entered, entered_at, exits_next, deep, measured, pile, fresh, above_five, block_of, loop_of, by_return, by_return_in_a_block, by_branch, by_branch_in_a_block, same_names, swapped_arguments, calls_nothing, block_left_over, loop_left_over, below_a_block, if_on_i64};
+ghost use Rattle.step_machine.specs.Worked.{bare_process, func, to_i32, two_results, two_to_nothing, entry_export, with_funcs, with_import, with_exports, with_entry, with_result, i64_const, dropped_block, dropped_loop, dropped_if, if_and_branch, loop_result, finish, nothing_to_nothing, two_to_one, i32_const, drop', br, return', call, with_callee, exit_seven, branch_out, endless, two_ways, call_and_return, empty_entry, fall_through, branch_above, branch_through, loop_body, loop_above, if_above, call_above, call_with_two, place, in_entry, entered, entered_at, exits_next, deep, measured, pile, fresh, above_five, block_of, loop_of, by_return, by_return_in_a_block, by_branch, by_branch_in_a_block, same_names, swapped_arguments, calls_nothing, empty_store, block_left_over, loop_left_over, below_a_block, if_on_i64};
 
 /// `i32.const 7 call 0`, where function 0 is `proc_exit`, exits with 7 at its second turn.
 pub fn exit_takes_a_turn()
@@ -27,9 +27,10 @@ pub fn exit_takes_a_turn()
     ensures not_before { is_halted (after exit_seven bare_process 1).state ≡ false }
 {}
 
-/// An empty entry has returned before any turn.
+/// An empty entry has returned before any turn, with nothing in its store.
 pub fn empty_entry_returns()
-    ensures { ended (after empty_entry bare_process 0).state ≡ Some end.Returned }
+    ensures returns { ended (after empty_entry bare_process 0).state ≡ Some end.Returned }
+    ensures store { (after empty_entry bare_process 0).store ≡ empty_store }
 {}
 
 /// A branch out of a block keeps the top value: the task exits with 2 at its fifth turn.
