@@ -8,7 +8,7 @@ use Rattle.wasm_ast.specs.declared.module.Import.{Import}
 use Rattle.wasm_ast.specs.declared.module.Export.{Export}
 use Rattle.wasm_ast.specs.Syntax.{Op, block, loop, if', ops_of}
 use Rattle.step_machine.specs.Typing.{Typed, body_context, ValidFunc, IsThere, ValidModule}
-use Rattle.step_machine.specs.Worked.{loop_of, by_branch, i32_const, i64_const, drop', br, return', call, from_i32, to_i32, nothing_to_nothing, two_to_nothing, exit_import, entry_export, func, finish, loop_body, with_callee, with_entry, exit_seven, branch_out, endless, two_ways, call_and_return, fall_through, branch_above, branch_through, loop_above, loop_result, if_above, if_and_branch, call_above, call_with_two}
+use Rattle.step_machine.specs.Worked.{with_result, loop_of, by_branch, i32_const, i64_const, drop', br, return', call, from_i32, to_i32, nothing_to_nothing, two_to_nothing, exit_import, entry_export, func, finish, loop_body, with_callee, with_entry, exit_seven, branch_out, endless, two_ways, call_and_return, fall_through, branch_above, branch_through, loop_above, loop_result, if_above, if_and_branch, call_above, call_with_two}
 
 -- a module is valid if its entry and its callee are typed
 pub typed_module : (body : List Op) (t : FuncType) (callee : List Op) → length t.results ≤ 1
@@ -172,3 +172,8 @@ arguments_valid =
       exports = All-cons exported entry_export [] (omega arith) (All-nil exported);
       names = (λ k d l. absurd (omega arith), tt);
     }
+
+pub return_valid : ValidModule (with_result (i32_const 3 ∷ return' ∷ []))
+return_valid =
+    typed_module [] to_i32 (i32_const 3 ∷ return' ∷ []) (omega arith) refl
+    (record { type = to_i32; is_type = refl; typed = (I32 ∷ [], refl, (I32 ∷ [], ([], refl), refl)) })

@@ -239,6 +239,7 @@ pub fn worked_modules_are_valid()
     ensures endless { ValidModule endless }
     ensures choice { (n : ℕ) → ValidModule (two_ways n) }
     ensures call_and_return { ValidModule call_and_return }
+    ensures return_leaves_a_free_stack { ValidModule (with_result (i32_const 3 ∷ return' ∷ [])) }
     ensures fall_through { ValidModule fall_through }
     ensures branch_above { ValidModule branch_above }
     ensures branch_through { ValidModule branch_through }

@@ -1,4 +1,4 @@
-use Rattle.step_machine.proofs.WorkedValid.{exit_valid, branch_valid, endless_valid, choice_valid, call_valid, fall_valid, branch_above_valid, branch_through_valid, loop_above_valid, loop_result_valid, if_above_valid, if_and_branch_valid, function_valid, branch_function_valid, arguments_valid}
+use Rattle.step_machine.proofs.WorkedValid.{return_valid, exit_valid, branch_valid, endless_valid, choice_valid, call_valid, fall_valid, branch_above_valid, branch_through_valid, loop_above_valid, loop_result_valid, if_above_valid, if_and_branch_valid, function_valid, branch_function_valid, arguments_valid}
 use Rattle.step_machine.proofs.worked.worked_modules_are_valid.Goals as goal
 
 pub returns-clause-exit : goal.returns-clause-exit
@@ -45,3 +45,6 @@ returns-clause-branch_from_a_function c = branch_function_valid
 
 pub returns-clause-arguments : goal.returns-clause-arguments
 returns-clause-arguments c = arguments_valid
+
+pub returns-clause-return_leaves_a_free_stack : goal.returns-clause-return_leaves_a_free_stack
+returns-clause-return_leaves_a_free_stack c = return_valid
