@@ -1,50 +1,44 @@
--- Slices that are out.
-use Rattle.std.specs.Prelude.{◌≡◌, ℕ, List, Bool, false, Option, Some}
-use Rattle.step_machine.specs.declared.process.Process.{Process}
-use Rattle.step_machine.specs.declared.places.Place.{Place}
-use Rattle.task_board.specs.State.{Task, Slots, task_in}
+-- Loans: a task's machine, checked out for one slice.
+use Rattle.std.specs.Prelude.{◌≡◌, ℕ, List, Bool, false, Some}
+use Rattle.wasm_ast.specs.declared.module.Module.{Module}
+use Rattle.step_machine.specs.declared.process.ProcessConfig.{ProcessConfig}
+use Rattle.wasm_ast.specs.declared.place.Place.{Place}
+use Rattle.task_board.specs.BoardState.{Task, Entries, task_in}
 
--- what a loan names: its task's slot and incarnation, and how the task stood as it went out
+-- what a loan names: its task's slot, and the task as it was when its slice was taken
 pub record Lent : Type 0 where
   pub slot : ℕ
   pub incarnation : ℕ
-  -- the turns that the task had made
-  pub turns : ℕ
-  pub budget : ℕ
   pub id : List ℕ
   pub bytes : List ℕ
-  pub process : Process
+  pub «module» : Module
+  pub process : ProcessConfig
+  -- the turns that the task had made
+  pub turns : ℕ
   pub breaks : List Place
+  pub budget : ℕ
   -- whether the slice has been run
   pub ran : Bool
 
-abbrev pub loan_of : ℕ → ℕ → Task → Lent
+-- the loan of a task's machine, not yet run
+abbrev pub loan_of : (slot budget : ℕ) → Task → Lent
 loan_of slot budget t = record {
   slot = slot;
   incarnation = t.incarnation;
-  turns = t.turns;
-  budget = budget;
   id = t.id;
   bytes = t.bytes;
+  «module» = t.module;
   process = t.process;
+  turns = t.turns;
   breaks = t.breaks;
+  budget = budget;
   ran = false;
 }
 
--- the slice went out of a task that stood so
-pub record AreSame (l : Lent) (id : List ℕ) (incarnation turns : ℕ) (out : Option ℕ) (bytes : List ℕ) (p : Process) (breaks : List Place) : Type 0 where
-  pub same_id : id ≡ l.id
-  pub same_incarnation : incarnation ≡ l.incarnation
-  pub same_turns : turns ≡ l.turns
-  pub same_out : out ≡ Some l.budget
-  pub same_bytes : bytes ≡ l.bytes
-  pub same_process : p ≡ l.process
-  pub same_breaks : breaks ≡ l.breaks
-
--- the task is out as the loan says
+-- the task is out with this loan, run or not
 abbrev pub FitsTask : Lent → Task → Type 0
-FitsTask l t = AreSame l t.id t.incarnation t.turns t.out t.bytes t.process t.breaks
+FitsTask l t = (l ≡ record (loan_of l.slot l.budget t) { ran = l.ran }) × (t.out ≡ Some l.budget)
 
--- the task of the loan's slot and incarnation is out as the loan says
-abbrev pub Fits : Lent → Slots → Type 0
-Fits l ts = (t : Task) × (task_in ts l.slot ≡ Some t) × FitsTask l t
+-- the task of the loan's slot is out with this loan
+abbrev pub Fits : Lent → Entries → Type 0
+Fits l ts = (t : Task) × (task_in l.slot ts ≡ Some t) × FitsTask l t

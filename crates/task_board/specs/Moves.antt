@@ -1,22 +1,18 @@
 -- What an event may make of a task.
-use Rattle.std.specs.Prelude.{◌≡◌, ℕ, ◌⊎◌, true, Some}
-use Rattle.wasm_ast.specs.declared.module.Module.{Module}
-use Rattle.task_board.specs.declared.status.Status.TheVariants.{Created}
-use Rattle.task_board.specs.State.{Task}
-use Rattle.task_board.specs.Step.{Openable, started, returned, with_out, can_go_out}
+use Rattle.std.specs.Prelude.{◌≡◌, ℕ, ◌⊎◌, true}
+use Rattle.task_board.specs.declared.lifecycle.TaskCall.TheVariants as call
+use Rattle.task_board.specs.Lifecycle.{allowed}
+use Rattle.task_board.specs.BoardState.{Task}
+use Rattle.task_board.specs.Tasks.{started, can_lend, lent, HasReturned}
 
--- it is started, which only a created one is
+-- it is started, in a status that allows it
 abbrev pub IsStarted : Task → Task → Type 0
-IsStarted t u = (t.status ≡ Created) × (m : Module) × Openable t.bytes t.process m × (u ≡ started m t)
+IsStarted t t' = (allowed call.Start t.status ≡ true) × (t' ≡ started t)
 
--- its slice goes out, which only that of a running one at home does, and its count stays
-abbrev pub GoesOut : Task → Task → Type 0
-GoesOut t u = (budget : ℕ) × (can_go_out t ≡ true) × (u ≡ with_out t (Some budget))
+-- its slice is taken, which only that of a running idle task is; its turns stay
+abbrev pub IsTaken : Task → Task → Type 0
+IsTaken t t' = (budget : ℕ) × (can_lend t ≡ true) × (t' ≡ lent t budget)
 
--- its slice comes home, and that alone adds turns: those of the module that its bytes spell
-abbrev pub HasReturned : Task → Task → Type 0
-HasReturned t u = (budget : ℕ) × (m : Module) × (t.out ≡ Some budget) × Openable t.bytes t.process m × (u ≡ returned m t budget)
-
--- a task stays, or one of these happens to it
+-- a task stays as it is, or one of these happens to it
 abbrev pub Moves : Task → Task → Type 0
-Moves t u = (u ≡ t) ⊎ (IsStarted t u ⊎ (GoesOut t u ⊎ HasReturned t u))
+Moves t t' = (t' ≡ t) ⊎ (IsStarted t t' ⊎ (IsTaken t t' ⊎ HasReturned t t'))

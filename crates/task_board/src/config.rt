@@ -1,22 +1,30 @@
 //! Configs: the properties of the OCI Runtime Specification 1.0 that a task is created from.
 
-ghost use Rattle.std.specs.Prelude.{◌≡◌, ℕ, List, option_map, option_and_then, codes, IfOk, OnErr, None, Some, Err, map, nat_le, ◌⊎◌, true, false, unwrap_or, []};
+ghost use Rattle.std.specs.Prelude.{◌≡◌, ℕ, List, option_map, codes, IfOk, IfSome, None, Some, nat_le, true, false, is_some, []};
 ghost use Rattle.std.specs.List.{list_any, list_all};
 ghost use Rattle.serde_json.specs.View.{view, items_view, members_view};
 ghost use Rattle.serde_json.specs.Written.{has_float, items_have_float, members_have_float};
 ghost use Rattle.serde_json.specs.Find.{get};
 ghost use Rattle.serde_json.specs.Read.{read};
-ghost use Rattle.serde_json.specs.Data.{Data, null};
-ghost use Rattle.task_board.specs.Config.{member_at, text_at, begins_text, is_nul, is_plain, sizes, arguments_of, are_arguments, names_module, is_directory, is_outlined, are_texts, texts_of, are_annotations, is_annotated, process_asked, process_read};
+ghost use Rattle.serde_json.specs.Data.{Data};
+ghost use Rattle.step_machine.specs.Processes.{config_of};
+ghost use Rattle.task_board.specs.Limits.{default_pages};
+ghost use Rattle.task_board.specs.Config.{version_at, directory_at, process_part, text_at, begins, is_nul, is_plain, texts_in, are_texts, bytes_of, are_arguments, args_at, module_at, process_of, process_read};
 
 use crate::identifier::is_digest;
 use serde_json::{Map, Value};
 use std::alloc::{AllocError, Global};
-use step_machine::Process;
-use wasm_ast::{Bytes, Refusal, Sequence, Text};
+use step_machine::{Output, Process};
+use wasm_ast::{Sequence, Text};
 
-/// How many bytes an output stream takes.
-pub const MOST_OUTPUT: usize = 65536;
+/// The most arguments of a process.
+const MAX_ARGS: usize = 64;
+
+/// The most bytes of all arguments together, one more counted for each.
+const MAX_ARGS_BYTES: usize = 65_536;
+
+/// The most pages of a memory for which the config sets no limit.
+const DEFAULT_PAGES: u32 = 16;
 
 // ---- numbers: each is read as a u64 or an i64
 
@@ -58,22 +66,15 @@ fn members_have_float(members: &Map<String, Value>) -> bool
 
 // ---- texts
 
-// The member of that name, where there is one.
-fn member_at<'a>(value: &'a Value, name: &str) -> Option<&'a Value>
-    ensures { option_map (λ v. view v.now) result ≡ get name.now (view value.now) }
+// The text at a key, if there is one.
+fn text_at<'a>(value: &'a Value, key: &str) -> Option<&'a str>
+    ensures { option_map (λ s. s.now) result ≡ text_at key.now (view value.now) }
 {
-    value.get(name)
-}
-
-// The text of that name, where there is one.
-fn text_at<'a>(value: &'a Value, name: &str) -> Option<&'a str>
-    ensures { option_map (λ s. s.now) result ≡ text_at name.now (view value.now) }
-{
-    member_at(value, name)?.as_str()
+    value.get(key)?.as_str()
 }
 
 fn begins(text: &str, front: &str) -> bool
-    ensures { result ≡ begins_text front.now (Some text.now) }
+    ensures { result ≡ begins front.now text.now }
 {
     text.as_bytes().starts_with(front.as_bytes())
 }
@@ -90,37 +91,8 @@ fn is_plain(text: &str) -> bool
     !has_nul(text.as_bytes())
 }
 
-fn is_version(config: &Value) -> bool
-    ensures { result ≡ begins_text (codes "1.") (text_at (codes "ociVersion") (view config.now)) }
-{
-    match text_at(config, "ociVersion") {
-        Some(text) => begins(text, "1."),
-        None => false,
-    }
-}
-
-fn is_directory(process: &Value) -> bool
-    ensures { result ≡ is_directory (text_at (codes "cwd") (view process.now)) }
-{
-    match text_at(process, "cwd") {
-        Some(text) => is_plain(text) && begins(text, "/"),
-        None => false,
-    }
-}
-
-fn are_texts(items: &Vec<Value>) -> bool
-    ensures { result ≡ are_texts (items_view items.now.items) }
-{
-    for item in items {
-        if !item.is_string() {
-            return false;
-        }
-    }
-    true
-}
-
-fn are_annotations(members: &Map<String, Value>) -> bool
-    ensures { result ≡ are_annotations (members_view members.now.entries) }
+fn are_texts(members: &Map<String, Value>) -> bool
+    ensures { result ≡ are_texts (members_view members.now.entries) }
 {
     for (_key, member) in members.iter() {
         if !member.is_string() {
@@ -130,16 +102,18 @@ fn are_annotations(members: &Map<String, Value>) -> bool
     true
 }
 
-fn texts_of(alloc: Global, items: &Vec<Value>) -> Result<Vec<Text>, AllocError>
-    ensures { IfOk result (λ v. v.items ≡ texts_of (items_view items.now.items)) }
+// The texts of a list, if all its items are texts.
+fn texts_in(alloc: Global, items: &Vec<Value>) -> Result<Option<Vec<Text>>, AllocError>
+    ensures { IfOk result (λ o. option_map (λ v. v.items) o ≡ texts_in (items_view items.now.items)) }
 {
-    let mut texts = Vec::new(alloc);
+    let mut texts = Vec::with_capacity(alloc, items.len())?;
     for item in items {
-        if let Some(text) = item.as_str() {
-            texts.push(Text::from_str(alloc, text)?)?;
-        }
+        let Some(text) = item.as_str() else {
+            return Ok(None);
+        };
+        texts.push(Text::from_str(alloc, text)?)?;
     }
-    Ok(texts)
+    Ok(Some(texts))
 }
 
 // ---- arguments
@@ -155,9 +129,9 @@ fn are_plain(texts: &[Text]) -> bool
     true
 }
 
-// Whether the texts, with one byte more for each, take at most so many bytes.
+// Whether the texts, with one byte more for each, take at most `most` bytes.
 fn fit_in(texts: &[Text], most: usize) -> bool
-    ensures { result ≡ nat_le (sizes texts.now) most }
+    ensures { result ≡ nat_le (bytes_of texts.now) most }
 {
     let mut left = most;
     for text in texts {
@@ -170,123 +144,133 @@ fn fit_in(texts: &[Text], most: usize) -> bool
     true
 }
 
-// The arguments of a process, or that it has none as the shim takes them.
-fn arguments_of(alloc: Global, process: &Value) -> Result<Vec<Text>, Refusal>
-    ensures ok { IfOk result (λ v. (are_arguments (member_at (codes "args") (view process.now)) ≡ true) × (v.items ≡ arguments_of (member_at (codes "args") (view process.now)))) }
-    ensures bad { result ≡ Err Refusal.BadConfig → are_arguments (member_at (codes "args") (view process.now)) ≡ false }
-    ensures no_other { OnErr result ((result ≡ Err Refusal.BadConfig) ⊎ (result ≡ Err Refusal.NoMemory)) }
+fn are_arguments(texts: &[Text]) -> bool
+    ensures { result ≡ are_arguments texts.now }
 {
-    let Some(Value::Array(items)) = member_at(process, "args") else {
-        return Err(Refusal::BadConfig);
+    1 <= texts.len() && texts.len() <= MAX_ARGS && are_plain(texts) && fit_in(texts, MAX_ARGS_BYTES)
+}
+
+// The arguments of a process, if it has them as the profile demands.
+fn args_at(alloc: Global, process: &Value) -> Result<Option<Vec<Text>>, AllocError>
+    ensures { IfOk result (λ o. option_map (λ v. v.items) o ≡ args_at (view process.now)) }
+{
+    let Some(Value::Array(items)) = process.get("args") else {
+        return Ok(None);
     };
-    if !are_texts(items) {
-        return Err(Refusal::BadConfig);
-    }
-    let Ok(texts) = texts_of(alloc, items) else {
-        return Err(Refusal::NoMemory);
-    };
-    let counted = 1 <= texts.len() && texts.len() <= 64;
-    if counted && are_plain(texts.as_slice()) && fit_in(texts.as_slice(), 65536) {
-        Ok(texts)
-    } else {
-        Err(Refusal::BadConfig)
+    match texts_in(alloc, items)? {
+        Some(texts) if are_arguments(texts.as_slice()) => Ok(Some(texts)),
+        _ => Ok(None),
     }
 }
 
 // ---- the whole
 
-// The digest that the annotations name, or that they are none as the shim takes them.
-fn module_of(alloc: Global, config: &Value) -> Result<Text, Refusal>
-    ensures ok { IfOk result (λ t. (is_annotated (member_at (codes "annotations") (view config.now)) ≡ true) × (t ≡ unwrap_or (text_at (codes "dev.shim.module") (member_at (codes "annotations") (view config.now))) [])) }
-    ensures bad { result ≡ Err Refusal.BadConfig → is_annotated (member_at (codes "annotations") (view config.now)) ≡ false }
-    ensures no_other { OnErr result ((result ≡ Err Refusal.BadConfig) ⊎ (result ≡ Err Refusal.NoMemory)) }
+// The digest that the annotations name, if they are as the profile demands.
+fn module_at(config: &Value) -> Option<&str>
+    ensures { option_map (λ s. s.now) result ≡ module_at (view config.now) }
 {
-    let Some(annotations) = member_at(config, "annotations") else {
-        return Err(Refusal::BadConfig);
-    };
+    let annotations = config.get("annotations")?;
     let Value::Object(members) = annotations else {
-        return Err(Refusal::BadConfig);
+        return None;
     };
-    let Some(digest) = text_at(annotations, "dev.shim.module") else {
-        return Err(Refusal::BadConfig);
-    };
-    if !are_annotations(members) || !is_digest(digest) {
-        return Err(Refusal::BadConfig);
+    if !are_texts(members) {
+        return None;
     }
-    match Text::from_str(alloc, digest) {
-        Ok(module) => Ok(module),
-        Err(_) => Err(Refusal::NoMemory),
+    let digest = text_at(annotations, "dev.shim.module")?;
+    if is_digest(digest) {
+        Some(digest)
+    } else {
+        None
     }
 }
 
-fn is_outlined(config: &Value, process: &Value) -> bool
-    requires { view process.now ≡ member_at (codes "process") (view config.now) }
-    ensures { result ≡ is_outlined (view config.now) }
+fn is_version(config: &Value) -> bool
+    ensures { result ≡ is_some (version_at (view config.now)) }
 {
-    !has_float(config)
-        && is_version(config)
-        && is_directory(process)
-        && member_at(process, "env").is_none()
-        && member_at(config, "linux").is_none()
+    match text_at(config, "ociVersion") {
+        Some(version) => begins(version, "1."),
+        None => false,
+    }
 }
 
-// The process that a value asks for.
-fn process_of(alloc: Global, config: &Value) -> Result<Process, Refusal>
-    ensures ok { IfOk result (λ p. process_asked (Some (view config.now)) ≡ Some p) }
-    ensures bad { result ≡ Err Refusal.BadConfig → process_asked (Some (view config.now)) ≡ None }
-    ensures no_other { OnErr result ((result ≡ Err Refusal.BadConfig) ⊎ (result ≡ Err Refusal.NoMemory)) }
+fn has_directory(process: &Value) -> bool
+    ensures { result ≡ is_some (directory_at (view process.now)) }
 {
-    let Some(process) = member_at(config, "process") else {
-        return Err(Refusal::BadConfig);
-    };
-    if !is_outlined(config, process) {
-        return Err(Refusal::BadConfig);
+    match text_at(process, "cwd") {
+        Some(cwd) => begins(cwd, "/") && is_plain(cwd),
+        None => false,
     }
-    let args = arguments_of(alloc, process)?;
-    let module = module_of(alloc, config)?;
+}
+
+// The part of a config that tells of the process, if it meets the demands on the outline.
+fn process_part(config: &Value) -> Option<&Value>
+    ensures { option_map (λ v. view v.now) result ≡ process_part (view config.now) }
+{
+    if has_float(config) || !is_version(config) || config.get("linux").is_some() {
+        return None;
+    }
+    let process = config.get("process")?;
+    if process.get("env").is_some() || !has_directory(process) {
+        return None;
+    }
+    Some(process)
+}
+
+// The process that a value asks for, if it meets all demands.
+fn process_of(alloc: Global, config: &Value) -> Result<Option<Process>, AllocError>
+    ensures process { IfOk result (λ o. option_map config_of o ≡ process_of (view config.now)) }
+    ensures nothing_written { IfOk result (λ o. IfSome o (λ p. (p.out ≡ []) × (p.err ≡ []))) }
+{
+    let Some(process) = process_part(config) else {
+        return Ok(None);
+    };
+    let Some(args) = args_at(alloc, process)? else {
+        return Ok(None);
+    };
+    let Some(digest) = module_at(config) else {
+        return Ok(None);
+    };
+    let process = new_process(alloc, digest, args)?;
+    Ok(Some(process))
+}
+
+// A process that has written nothing, with the default limit on pages and without an environment.
+fn new_process(alloc: Global, digest: &str, args: Vec<Text>) -> Result<Process, AllocError>
+    ensures config { IfOk result (λ p. config_of p ≡ record { «module» = digest.now; args = args.items; env = []; cap = default_pages }) }
+    ensures nothing_written { IfOk result (λ p. (p.out ≡ []) × (p.err ≡ [])) }
+{
     Ok(Process {
-        module,
+        module: Text::from_str(alloc, digest)?,
         args: Sequence::new(args),
         env: Sequence::new(Vec::new(alloc)),
-        cap: 16,
-        out: output(alloc)?,
-        err: output(alloc)?,
+        cap: DEFAULT_PAGES,
+        out: Output::new(alloc)?,
+        err: Output::new(alloc)?,
     })
 }
 
-// An output stream to which nothing has been written, with room for all that it takes.
-fn output(alloc: Global) -> Result<Bytes, Refusal>
-    ensures empty { IfOk result (λ b. b ≡ []) }
-    ensures no_other { OnErr result (result ≡ Err Refusal.NoMemory) }
-{
-    match Vec::with_capacity(alloc, MOST_OUTPUT) {
-        Ok(room) => Ok(Sequence::new(room)),
-        Err(_) => Err(Refusal::NoMemory),
-    }
-}
-
-fn value_of(alloc: Global, text: &str) -> Result<Value, Refusal>
-    ensures ok { IfOk result (λ v. read text.now ≡ Some (view v)) }
-    ensures bad { result ≡ Err Refusal.BadConfig → read text.now ≡ None }
-    ensures no_other { OnErr result ((result ≡ Err Refusal.BadConfig) ⊎ (result ≡ Err Refusal.NoMemory)) }
+// The JSON value of a text, if it has one.
+fn value_of(alloc: Global, text: &str) -> Result<Option<Value>, AllocError>
+    ensures { IfOk result (λ o. option_map view o ≡ read text.now) }
 {
     match Value::from_str(alloc, text) {
-        Ok(value) => Ok(value),
+        Ok(value) => Ok(Some(value)),
         Err(e) => if e.is_memory() {
-            Err(Refusal::NoMemory)
+            Err(AllocError)
         } else {
-            Err(Refusal::BadConfig)
+            Ok(None)
         },
     }
 }
 
-/// The process that the text of a config asks for; it has written nothing, and has room for all that
-/// it may write. `BadConfig` where the text is no config that the shim takes, `NoMemory` where there
-/// was no room for the process.
-pub fn read_config(alloc: Global, text: &str) -> Result<Process, Refusal>
-    ensures ok { IfOk result (λ p. process_read text.now ≡ Some p) }
-    ensures bad { result ≡ Err Refusal.BadConfig → process_read text.now ≡ None }
-    ensures no_other { OnErr result ((result ≡ Err Refusal.BadConfig) ⊎ (result ≡ Err Refusal.NoMemory)) }
+/// The process that the text of a config asks for, before it has written anything. None if the text is no
+/// config that the profile takes. An error if memory runs out.
+pub fn read_config(alloc: Global, text: &str) -> Result<Option<Process>, AllocError>
+    ensures process { IfOk result (λ o. option_map config_of o ≡ process_read text.now) }
+    ensures nothing_written { IfOk result (λ o. IfSome o (λ p. (p.out ≡ []) × (p.err ≡ []))) }
 {
-    process_of(alloc, &value_of(alloc, text)?)
+    match value_of(alloc, text)? {
+        Some(value) => process_of(alloc, &value),
+        None => Ok(None),
+    }
 }

@@ -2,7 +2,7 @@
 
 ghost use Rattle.std.specs.Prelude.{◌≡◌, ◌++◌, ◌∷◌, [], Some, None, length, option_map, IfSome, IfNone};
 ghost use Rattle.std.specs.Arc.{arc_value};
-ghost use Rattle.task_board.specs.State.{Content, content_in};
+ghost use Rattle.task_board.specs.BoardState.{Content, content_in};
 
 use std::marker::Model;
 use std::sync::Arc;
@@ -16,7 +16,7 @@ pub struct Content {
 }
 
 impl Model for Content {
-    ghost use Rattle.task_board.specs.State.{Content as ContentValue};
+    ghost use Rattle.task_board.specs.BoardState.{Content as ContentValue};
 
     ghost Value = { ContentValue };
 

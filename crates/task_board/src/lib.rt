@@ -2,29 +2,30 @@
 #![tactic(auto)]
 
 mod board;
+mod checkout;
 mod config;
 mod contents;
 mod event;
-mod home;
 mod identifier;
-mod laws;
+pub mod laws;
+mod lifecycle;
 mod loan;
 mod open;
 mod prepared;
 mod request;
 mod run;
 mod status;
+mod tables;
 mod task;
-mod tasks;
 mod ticket;
 
 pub use board::Board;
 pub use event::{Event, EventReply};
 pub use identifier::{digest_of, is_digest, is_id};
-pub use laws::{contents_grow, tasks_move};
+pub use lifecycle::TaskCall;
 pub use loan::Loan;
 pub use prepared::Prepared;
 pub use request::{Reply, Request, TaskState};
 pub use run::run_events;
-pub use status::{ExitRecord, Status};
+pub use status::{ExitRecord, Signal, Status};
 pub use ticket::Ticket;

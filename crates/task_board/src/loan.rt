@@ -1,25 +1,26 @@
-//! Slices that are out.
+//! Loans: a task's machine, checked out for one slice.
 
-ghost use Rattle.std.specs.Prelude.{◌≡◌, ◌+◌, true, false, Some, None};
+ghost use Rattle.std.specs.Prelude.{◌≡◌, ◌+◌, ◌↔◌, IsTrue, true, false, Some, None};
 ghost use Rattle.std.specs.Arc.{arc_value};
-ghost use Rattle.task_board.specs.Loans.{Lent, AreSame};
-ghost use Rattle.task_board.specs.Kept.{IsLoan, IsShared};
-ghost use Rattle.task_board.specs.Shown.{lent_by};
+ghost use Rattle.task_board.specs.Loans.{Lent};
+ghost use Rattle.task_board.specs.Inside.Kept.{IsOwn, SharesWith, IsLoan};
+ghost use Rattle.task_board.specs.Refusals.{Openable};
+ghost use Rattle.task_board.specs.Inside.Shown.{lent_with};
 
-use crate::home::Home;
+use crate::checkout::{Checkout, Shared};
 use std::marker::Model;
-use step_machine::{Breaks, Process, SliceEnd};
-use wasm_ast::{Bytes, Text};
+use step_machine::{Breaks, SliceEnd};
+use wasm_ast::Text;
 
-/// A slice of a task that is out: it owns the task's machine. It is no `Drop`, so that it has to be
-/// given back. Contracts see its task's slot and incarnation, how the task stood as it went out, and
+/// A task's machine, checked out for one slice. It is not `Drop`, so that its holder has to give it
+/// back. Contracts see its task's slot, the task as it was when the slice was taken, the budget, and
 /// whether the slice has been run.
 pub struct Loan {
     slot: usize,
     incarnation: u64,
     turns: u64,
     budget: u64,
-    home: Home,
+    checkout: Checkout,
     outcome: Option<SliceEnd>,
 }
 
@@ -28,28 +29,37 @@ impl Model for Loan {
 
     ghost Value = { Lent };
 
-    ghost use Rattle.std.specs.Prelude.{is_some};
-    ghost use Rattle.std.specs.Arc.{arc_value};
-    ghost use Rattle.task_board.specs.Kept.{IsLoan};
-    ghost use Rattle.task_board.specs.Shown.{lent_of};
+    ghost use Rattle.std.specs.Coded.{codes};
+    ghost use Rattle.wasm_ast.specs.Inside.Code.{ops_code};
+
+    ghost coded = { Prim.hlevel (codes, ops_code) };
+
+    ghost use Rattle.task_board.specs.Inside.Kept.{IsLoan};
+    ghost use Rattle.task_board.specs.Inside.Shown.{lent_of};
 
     ghost view = { lent_of };
 
-    ghost invariant = { λ l. IsLoan (lent_of l) l.home.machine.value l.outcome };
+    ghost invariant = { λ l. IsLoan (lent_of l) l.checkout.machine.value l.outcome };
 }
 
 impl Loan {
-    /// A slice that goes out.
-    pub fn new(slot: usize, incarnation: u64, turns: u64, budget: u64, home: Home) -> Loan
-        requires { IsLoan (lent_by slot incarnation turns budget home) home.machine.value None }
-        ensures { result ≡ lent_by slot incarnation turns budget home }
+    // A loan whose slice has not been run.
+    pub(crate) fn new(
+        slot: usize,
+        incarnation: u64,
+        turns: u64,
+        budget: u64,
+        checkout: Checkout,
+    ) -> Loan
+        requires { IsLoan (lent_with slot incarnation turns budget checkout) checkout.machine.value None }
+        ensures { result ≡ lent_with slot incarnation turns budget checkout }
     {
         Loan {
             slot,
             incarnation,
             turns,
             budget,
-            home,
+            checkout,
             outcome: None,
         }
     }
@@ -61,11 +71,11 @@ impl Loan {
         self.outcome.is_some()
     }
 
-    /// The slot of its task.
-    pub fn slot(&self) -> usize
-        ensures { result ≡ self.now.slot }
+    /// The id of its task.
+    pub fn id(&self) -> &Text
+        ensures { result.now ≡ self.now.id }
     {
-        self.slot
+        &self.checkout.shared.id
     }
 
     /// Runs the slice once: its machine makes as many turns as the budget, the breakpoints and its own
@@ -74,38 +84,43 @@ impl Loan {
         ensures { self.new ≡ record self.old { ran = true } }
     {
         if self.outcome.is_none() {
-            let end = self.home.machine.run(self.budget, &self.home.breaks);
+            let end = self
+                .checkout
+                .machine
+                .run(self.budget, &self.checkout.breaks);
             self.outcome = Some(end);
         }
     }
 
-    /// Whether it is of a task that stands so.
-    pub fn is_of(
-        &self,
-        id: &Text,
-        incarnation: u64,
-        turns: u64,
-        out: Option<u64>,
-        bytes: &Bytes,
-        process: &Process,
-        breaks: &Breaks,
-    ) -> bool
-        ensures fits { result ≡ true → AreSame self.now id.now incarnation turns out bytes.now process.now breaks.now }
-        ensures unfit { result ≡ false → AreSame self.now id.now incarnation turns out bytes.now process.now breaks.now → ⊥ }
+    // The slot of its task.
+    pub(crate) fn slot(&self) -> usize
+        ensures { result ≡ self.now.slot }
     {
-        self.home.shared.id.is(id)
-            && self.incarnation == incarnation
-            && self.turns == turns
-            && out == Some(self.budget)
-            && self.home.shared.bytes.is(bytes)
-            && self.home.shared.process.is(process)
-            && self.home.breaks.is(breaks)
+        self.slot
     }
 
-    /// What comes home of a slice that has been run: its machine, and how it ended.
-    pub fn into_parts(self) -> (Home, SliceEnd)
+    // Whether it was taken from a task with these numbers.
+    pub(crate) fn is_numbered(&self, incarnation: u64, turns: u64, out: Option<u64>) -> bool
+        ensures { IsTrue result ↔ ((self.now.incarnation ≡ incarnation) × (self.now.turns ≡ turns) × (out ≡ Some self.now.budget)) }
+    {
+        self.incarnation == incarnation && self.turns == turns && out == Some(self.budget)
+    }
+
+    // Whether it shares this and has these breakpoints.
+    pub(crate) fn shares(&self, shared: &Shared, breaks: &Breaks) -> bool
+        ensures shares { IsTrue result ↔ SharesWith self.now shared.now breaks.now }
+        ensures opens { Openable self.now.bytes self.now.process self.now.module }
+    {
+        self.checkout.shared.id.is(&shared.id)
+            && self.checkout.shared.bytes.is(&shared.bytes)
+            && self.checkout.shared.process.is(&shared.process)
+            && self.checkout.breaks.is(breaks)
+    }
+
+    // The machine of a slice that has been run, and what ended the slice.
+    pub(crate) fn into_parts(self) -> (Checkout, SliceEnd)
         requires { self.ran ≡ true }
-        ensures shared { IsShared result.0 self.id self.bytes self.process self.breaks }
+        ensures own { IsOwn result.0 self.id self.bytes self.module self.process self.breaks }
         ensures slice { IsLoan self result.0.machine.value (Some result.1) }
     {
         let Loan {
@@ -113,20 +128,20 @@ impl Loan {
             incarnation: _,
             turns: _,
             budget: _,
-            home,
+            checkout,
             outcome,
         } = self;
-        (home, outcome.unwrap())
+        (checkout, outcome.unwrap())
     }
 
-    /// Ends the machine of a slice that does not come home.
-    pub fn end(self) {
+    // Ends a machine that is not given back.
+    pub(crate) fn end(self) {
         let Loan {
             slot: _,
             incarnation: _,
             turns: _,
             budget: _,
-            home: _,
+            checkout: _,
             outcome: _,
         } = self;
     }

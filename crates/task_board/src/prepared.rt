@@ -1,33 +1,53 @@
-//! Requests with all that their effects need.
+//! Requests for which all memory has been taken.
+
+ghost use Rattle.std.specs.Prelude.{◌≡◌};
+ghost use Rattle.task_board.specs.Prepared.{refusal_of};
+ghost use Rattle.task_board.specs.Inside.Plans.{refusal_in};
 
 use crate::contents::Content;
+use crate::request::Reply;
 use crate::task::Task;
 use wasm_ast::{Refusal, Text};
 
-/// A request for which every growth has been made. It can be applied to the board that prepared it,
-/// which takes no memory then; let go, it leaves that board as it was.
+/// A request with all the memory that its effect and its reply need. The board that prepared it can
+/// apply it without allocating. Dropped, it leaves that board as it was.
 #[derive(Drop)]
 pub struct Prepared {
     pub(crate) plan: Plan,
 }
 
+impl Prepared {
+    /// The refusal that `Board::apply` will answer, if it will refuse.
+    pub fn refused(&self) -> Option<Refusal>
+        ensures { result ≡ refusal_of self.now }
+    {
+        self.plan.refusal()
+    }
+}
+
 /// What is to be done.
 #[derive(Drop)]
 pub enum Plan {
-    /// It is refused.
+    /// The request is refused.
     Refused(Refusal),
-    /// A content comes, and its digest is answered.
+    /// The reply is all.
+    Answered(Reply),
+    /// A content is stored, and its digest answered.
     Put { content: Content, digest: Text },
-    /// A task comes, and its id is answered.
+    /// A task enters, and its id is answered.
     Create { task: Task, id: Text },
-    /// A request that takes no memory.
-    Quiet(Quiet),
+    /// The task in a slot is started, and its id answered.
+    Start { slot: usize, id: Text },
 }
 
-/// A request that takes no memory: the id that it has moves into the reply.
-#[derive(Drop)]
-pub enum Quiet {
-    Start(Text),
-    State(Text),
-    Wait(Text),
+impl Plan {
+    // The refusal, if it is one.
+    fn refusal(&self) -> Option<Refusal>
+        ensures { result ≡ refusal_in self.now }
+    {
+        match self {
+            Plan::Refused(refusal) => Some(*refusal),
+            _ => None,
+        }
+    }
 }

@@ -1,7 +1,7 @@
 //! What a task is doing, and how it ended.
 
 ghost use Rattle.std.specs.Prelude.{◌≡◌, Some};
-ghost use Rattle.task_board.specs.Names.{status_name, cause_name, exit_status};
+ghost use Rattle.task_board.specs.Names.{status_name, cause_name, signal_number, exit_status};
 
 use std::fmt;
 use wasm_ast::Trap;
@@ -43,6 +43,27 @@ impl fmt::Display for Status {
     }
 }
 
+/// A signal that can end a task.
+#[derive(Clone, Copy, PartialEq, Eq, Debug)]
+pub enum Signal {
+    /// SIGKILL.
+    Kill,
+    /// SIGTERM.
+    Terminate,
+}
+
+impl Signal {
+    /// Its number (POSIX).
+    pub fn number(&self) -> u64
+        ensures { result ≡ signal_number self.now }
+    {
+        match self {
+            Signal::Kill => 9,
+            Signal::Terminate => 15,
+        }
+    }
+}
+
 /// How a stopped task ended.
 #[derive(Clone, Copy, PartialEq, Eq, Debug)]
 pub enum ExitRecord {
@@ -53,7 +74,7 @@ pub enum ExitRecord {
     /// It trapped.
     Trapped(Trap),
     /// It was killed by this signal.
-    Kill(u64),
+    Kill(Signal),
 }
 
 impl ExitRecord {
@@ -69,8 +90,8 @@ impl ExitRecord {
         }
     }
 
-    /// The exit status: 0 where the entry returned, the code of `proc_exit`, 134 for a trap, 128 and
-    /// the signal for a kill (at most 2^64 - 1).
+    /// The exit status: 0 if the entry returned, the code of `proc_exit`, 134 for a trap, 128 plus the
+    /// signal for a kill.
     pub fn exit(&self) -> u64
         ensures { result ≡ exit_status self.now }
     {
@@ -78,7 +99,7 @@ impl ExitRecord {
             ExitRecord::Return => 0,
             ExitRecord::Exit(code) => u64::from(*code),
             ExitRecord::Trapped(_) => 134,
-            ExitRecord::Kill(signal) => signal.saturating_add(128),
+            ExitRecord::Kill(signal) => 128 + signal.number(),
         }
     }
 }

@@ -1,22 +1,29 @@
-//! A task, and its machine while that is at home or with a worker.
+//! A task, and its machine while that is not checked out.
 
-ghost use Rattle.std.specs.Prelude.{◌≡◌, ◌≤◌, ◌+◌, Option, Some, None, IfSome, IfNone, IfOk, true, false, length, is_some};
+ghost use Rattle.std.specs.Prelude.{◌≡◌, ◌≤◌, ◌+◌, option_map, ◌↔◌, IsTrue, Option, Some, None, IfSome, IfNone, IfOk, true, false, length, is_some};
 ghost use Rattle.std.specs.Arc.{arc_value};
-ghost use Rattle.wasm_ast.specs.declared.module.Module.{Module};
-ghost use Rattle.task_board.specs.Step.{Openable, exit_of, starting, started, going_on, landing, returned, with_out, can_go_out, state_of};
-ghost use Rattle.task_board.specs.State.{created_task};
-ghost use Rattle.task_board.specs.Machines.{IsMachine};
+ghost use Rattle.slab.specs.Slab.{entries};
+ghost use Rattle.step_machine.specs.Instantiation.{ended};
+ghost use Rattle.step_machine.specs.Slices.{at_break};
+ghost use Rattle.task_board.specs.BoardState.{created_task, entry_of};
 ghost use Rattle.task_board.specs.Loans.{Lent, loan_of, FitsTask};
+ghost use Rattle.task_board.specs.Refusals.{Openable};
+ghost use Rattle.task_board.specs.Tasks.{exit_of, standing_at_start, started, standing_onward, standing_after, advanced, slice_turns, can_lend, lent, state_of};
+ghost use Rattle.task_board.specs.Tickets.{ticket_if_running};
+ghost use Rattle.task_board.specs.Inside.Machines.{IsMachine};
 
-use crate::home::{Home, Shared};
+use crate::checkout::{Checkout, Shared};
 use crate::loan::Loan;
 use crate::request::TaskState;
-use crate::status::{ExitRecord, Status};
+use crate::status::{ExitRecord, Signal, Status};
+use crate::ticket::Ticket;
+use slab::Slab;
 use std::alloc::{AllocError, Global};
 use std::marker::Model;
 use std::sync::Arc;
-use step_machine::{Breaks, End, Machine, Process, SliceEnd};
-use wasm_ast::{Bytes, Text};
+use step_machine::{Breaks, End, Machine, SliceEnd};
+use wasm_ast::Text;
+use wasm_binary::laws::spells_one;
 
 /// A task. Contracts see what a call can see of it.
 #[derive(Drop)]
@@ -27,38 +34,44 @@ pub struct Task {
     status: Status,
     breaks: Arc<Breaks>,
     out: Option<u64>,
-    signal: Option<u64>,
+    signal: Option<Signal>,
     end: Option<ExitRecord>,
-    home: Option<Home>,
+    checkout: Option<Checkout>,
 }
 
 impl Model for Task {
-    ghost use Rattle.task_board.specs.State.{Task as TaskValue};
+    ghost use Rattle.task_board.specs.BoardState.{Task as TaskValue};
 
     ghost Value = { TaskValue };
 
-    ghost use Rattle.task_board.specs.Kept.{IsKept};
-    ghost use Rattle.task_board.specs.Shown.{task_of};
+    ghost use Rattle.std.specs.Coded.{codes};
+    ghost use Rattle.wasm_ast.specs.Inside.Code.{ops_code};
+
+    ghost coded = { Prim.hlevel (codes, ops_code) };
+
+    ghost use Rattle.task_board.specs.Inside.Kept.{IsKept};
+    ghost use Rattle.task_board.specs.Inside.Shown.{task_of};
 
     ghost view = { task_of };
 
-    ghost invariant = { λ t. IsKept (task_of t) t.home };
+    ghost invariant = { λ t. IsKept (task_of t) t.checkout };
 }
 
 impl Task {
-    /// A created task with a machine that has made no turn. An error where there is no room for it.
+    /// A created task with a machine that has made no turn. An error if memory runs out.
     pub fn new(
         alloc: Global,
         shared: Shared,
         incarnation: u64,
         machine: Box<Machine>,
     ) -> Result<Task, AllocError>
-        requires { (m : Module) × Openable (arc_value shared.bytes) shared.process m × IsMachine machine.value m shared.process 0 }
-        ensures { IfOk result (λ t. t ≡ created_task shared.id incarnation (arc_value shared.bytes) shared.process) }
+        requires opens { Openable (arc_value shared.bytes) shared.process shared.valid }
+        requires fresh { IsMachine machine.value shared.valid shared.process 0 }
+        ensures { IfOk result (λ t. t ≡ created_task shared.id incarnation (arc_value shared.bytes) shared.valid shared.process) }
     {
         let shared = Arc::new(alloc, shared)?;
-        let home = Home::new(alloc, machine, &shared)?;
-        let breaks = Arc::try_clone(&home.breaks)?;
+        let checkout = Checkout::new(alloc, machine, &shared)?;
+        let breaks = Arc::try_clone(&checkout.breaks)?;
         Ok(Task {
             shared,
             incarnation,
@@ -68,39 +81,44 @@ impl Task {
             out: None,
             signal: None,
             end: None,
-            home: Some(home),
+            checkout: Some(checkout),
         })
     }
 
-    /// The id.
+    /// Its id.
     pub fn id(&self) -> &Text
         ensures { result.now ≡ self.now.id }
     {
         &self.shared.id
     }
 
-    /// The status.
+    /// Its status.
     pub fn status(&self) -> Status
         ensures { result ≡ self.now.status }
     {
         self.status
     }
 
-    /// Which create of its board made it.
+    /// How many creates its board had accepted before it.
     pub fn incarnation(&self) -> u64
         ensures { result ≡ self.now.incarnation }
     {
         self.incarnation
     }
 
-    /// Whether its slice is out.
-    pub fn is_out(&self) -> bool
-        ensures { result ≡ is_some self.now.out }
+    /// A ticket of it, in its slot, if it is running.
+    pub fn ticket(&self, slot: usize) -> Option<Ticket>
+        ensures { result ≡ ticket_if_running slot self.now }
     {
-        self.out.is_some()
+        if self.status == Status::Running {
+            let incarnation = self.incarnation;
+            Some(Ticket { slot, incarnation })
+        } else {
+            None
+        }
     }
 
-    /// What a call can see of it, under an id that is its own.
+    /// What a call sees of it, under an id that is its own.
     pub fn state(&self, id: Text) -> TaskState
         requires { id ≡ self.now.id }
         ensures { result ≡ state_of self.now }
@@ -113,62 +131,55 @@ impl Task {
         }
     }
 
-    /// Starts it: it is stopped where its opening has halted already, paused where the next place is a
-    /// breakpoint, else running.
+    /// Starts it.
     pub fn start(&mut self)
         requires { self.old.status ≡ Status.Created }
-        ensures { (m : Module) × Openable self.old.bytes self.old.process m × (self.new ≡ started m self.old) }
+        ensures { self.new ≡ started self.old }
     {
-        let Some(home) = &self.home else {
+        let Some(checkout) = &self.checkout else {
             unreachable!();
         };
-        let halted = home.machine.halted();
-        let waits = halted.is_none() && home.machine.is_at(&self.breaks);
-        let (status, end) = starting(halted, waits);
+        let halted = checkout.machine.halted();
+        let at_break = halted.is_none() && checkout.machine.is_at(&self.breaks);
+        let (status, end) = standing_at_start(halted, at_break);
         self.status = status;
         self.end = end;
         self.signal = None;
     }
 
-    /// Lends its machine for a slice of so many turns, where it is running and at home.
+    /// Lends its machine for a slice of at most `budget` turns. None, and nothing has changed, if it is
+    /// not running or is out already.
     pub fn lend(&mut self, slot: usize, budget: u64) -> Option<Loan>
-        ensures some { IfSome result (λ l. (can_go_out self.old ≡ true) × (l ≡ loan_of slot budget self.old) × (self.new ≡ with_out self.old (Some budget))) }
-        ensures none { IfNone result ((can_go_out self.old ≡ false) × (self.new ≡ self.old)) }
+        ensures some { IfSome result (λ l. (can_lend self.old ≡ true) × (l ≡ loan_of slot budget self.old) × (self.new ≡ lent self.old budget)) }
+        ensures none { IfNone result ((can_lend self.old ≡ false) × (self.new ≡ self.old)) }
     {
         if self.status != Status::Running {
             return None;
         }
-        let home = self.home.take()?;
+        let checkout = self.checkout.take()?;
         self.out = Some(budget);
-        Some(Loan::new(slot, self.incarnation, self.turns, budget, home))
+        Some(Loan::new(slot, self.incarnation, self.turns, budget, checkout))
     }
 
-    /// Whether the loan is the slice with which this task is out.
+    /// Whether it is out with this loan.
     pub fn fits(&self, loan: &Loan) -> bool
-        ensures fits { result ≡ true → FitsTask loan.now self.now }
-        ensures unfit { result ≡ false → FitsTask loan.now self.now → ⊥ }
+        ensures { IsTrue result ↔ FitsTask loan.now self.now }
     {
-        loan.is_of(
-            &self.shared.id,
-            self.incarnation,
-            self.turns,
-            self.out,
-            &self.shared.bytes,
-            &self.shared.process,
-            &self.breaks,
-        )
+        spells_one();
+        loan.is_numbered(self.incarnation, self.turns, self.out)
+            && loan.shares(&self.shared, &self.breaks)
     }
 
-    /// Takes its machine home from a slice that has been run.
+    /// Takes its machine back from a slice that has been run.
     pub fn receive(&mut self, loan: Loan)
         requires ran { loan.ran ≡ true }
         requires fits { FitsTask loan self.old }
-        ensures { (m : Module) × Openable self.old.bytes self.old.process m × (self.new ≡ returned m self.old loan.budget) }
+        ensures { self.new ≡ advanced self.old (slice_turns self.old loan.budget) }
     {
-        let (home, outcome) = loan.into_parts();
-        let (status, end) = landing(outcome, self.signal, self.status);
-        self.turns = home.machine.turns();
-        self.home = Some(home);
+        let (checkout, outcome) = loan.into_parts();
+        let (status, end) = standing_after(outcome, self.signal, self.status);
+        self.turns = checkout.machine.turns();
+        self.checkout = Some(checkout);
         self.out = None;
         self.signal = None;
         self.status = status;
@@ -186,13 +197,13 @@ fn exit_of(end: End) -> ExitRecord
     }
 }
 
-// The status and the end of a task that is started.
-fn starting(halted: Option<End>, waits: bool) -> (Status, Option<ExitRecord>)
-    ensures { result ≡ starting halted waits }
+// The status of a task that is started, and how it has ended if it has.
+fn standing_at_start(halted: Option<End>, at_break: bool) -> (Status, Option<ExitRecord>)
+    ensures { result ≡ standing_at_start halted at_break }
 {
     match halted {
         Some(end) => (Status::Stopped, Some(exit_of(end))),
-        None => if waits {
+        None => if at_break {
             (Status::Paused, None)
         } else {
             (Status::Running, None)
@@ -200,12 +211,12 @@ fn starting(halted: Option<End>, waits: bool) -> (Status, Option<ExitRecord>)
     }
 }
 
-// The status and the end of a task whose slice came home without an end of its own.
-fn going_on(signal: Option<u64>, pauses: bool) -> (Status, Option<ExitRecord>)
-    ensures { result ≡ going_on signal pauses }
+// The same of a task that goes on after a slice.
+fn standing_onward(signal: Option<Signal>, pauses: bool) -> (Status, Option<ExitRecord>)
+    ensures { result ≡ standing_onward signal pauses }
 {
     match signal {
-        Some(number) => (Status::Stopped, Some(ExitRecord::Kill(number))),
+        Some(signal) => (Status::Stopped, Some(ExitRecord::Kill(signal))),
         None => if pauses {
             (Status::Paused, None)
         } else {
@@ -214,15 +225,31 @@ fn going_on(signal: Option<u64>, pauses: bool) -> (Status, Option<ExitRecord>)
     }
 }
 
-// The status and the end of a task whose slice came home.
-fn landing(outcome: SliceEnd, signal: Option<u64>, status: Status) -> (Status, Option<ExitRecord>)
-    ensures { result ≡ landing outcome signal status }
+// The same of a task whose slice ended so.
+fn standing_after(
+    outcome: SliceEnd,
+    signal: Option<Signal>,
+    status: Status,
+) -> (Status, Option<ExitRecord>)
+    ensures { result ≡ standing_after outcome signal status }
 {
     match outcome {
-        SliceEnd::Budget => going_on(signal, status == Status::Pausing),
-        SliceEnd::Break => going_on(signal, true),
+        SliceEnd::Budget => standing_onward(signal, status == Status::Pausing),
+        SliceEnd::Break => standing_onward(signal, true),
         SliceEnd::Returned => (Status::Stopped, Some(ExitRecord::Return)),
         SliceEnd::Exited(code) => (Status::Stopped, Some(ExitRecord::Exit(code))),
         SliceEnd::Trapped(trap) => (Status::Stopped, Some(ExitRecord::Trapped(trap))),
     }
+}
+
+/// The task with an id, and its slot.
+pub fn find_task<'a>(tasks: &'a Slab<Task>, id: &str) -> Option<(usize, &'a Task)>
+    ensures { option_map (λ r. (r.0, r.1.now)) result ≡ entry_of id.now (entries tasks.now) }
+{
+    for (slot, task) in tasks.iter() {
+        if task.id().as_str() == id {
+            return Some((slot, task));
+        }
+    }
+    None
 }

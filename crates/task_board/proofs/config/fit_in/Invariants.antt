@@ -1,10 +1,10 @@
 use Rattle.std.proofs.Common.{◌≡◌, ◌+◌, ◌≤◌, drop}
-use Rattle.task_board.specs.Config.{sizes}
+use Rattle.task_board.specs.Config.{bytes_of}
 use Rattle.task_board.proofs.config.fit_in.Given as goal
 
 -- what those before take, what is left, and what the others take
 abbrev pub invariant-loop-text : goal.invariant-loop-text
 invariant-loop-text l = record {
   within : l.left ≤ l.fn.most;
-  split : sizes l.texts + l.left ≡ l.fn.most + sizes (drop l.text-index l.texts);
+  split : bytes_of l.texts + l.left ≡ l.fn.most + bytes_of (drop l.text-index l.texts);
 }

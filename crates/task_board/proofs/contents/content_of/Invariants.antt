@@ -1,5 +1,5 @@
 use Rattle.std.proofs.Common.{◌≡◌, drop}
-use Rattle.task_board.specs.State.{content_in}
+use Rattle.task_board.specs.BoardState.{content_in}
 use Rattle.task_board.proofs.contents.content_of.Given as goal
 
 -- none of those before has the digest

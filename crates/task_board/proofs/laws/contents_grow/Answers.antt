@@ -1,5 +1,5 @@
-use Rattle.task_board.proofs.Moving.{run_grows}
+use Rattle.task_board.proofs.LawLemmas.{run_grows}
 use Rattle.task_board.proofs.laws.contents_grow.Goals as goal
 
 pub returns : goal.returns
-returns c s es rs then_s run = run_grows s es rs then_s run
+returns c = run_grows

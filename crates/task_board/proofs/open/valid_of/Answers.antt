@@ -1,25 +1,22 @@
-use Rattle.std.proofs.Common.{◌≡◌, ◌∙◌, sym, ap, subst, Err}
+use Rattle.std.proofs.Common.{◌≡◌, ◌⊎◌, ◌∙◌, sym, ap, subst, Err, rules}
 use Rattle.wasm_ast.specs.declared.refusal.Refusal.{Refusal}
-use Rattle.task_board.specs.Step.{IsSpelled, CannotOpen}
-use Rattle.task_board.proofs.Opens.{undecoded, invalid, checked, unchecked}
+use Rattle.wasm_ast.specs.declared.refusal.Refusal.TheVariants as refusal
+use Rattle.task_board.specs.Refusals.{IsSpelled, CannotOpen, doubted}
+use Rattle.task_board.proofs.InstantiateLemmas.{undecoded, unchecked}
 use Rattle.task_board.proofs.open.valid_of.Goals as goal
 
-pub returns-in-Ok-clause-ok : goal.returns-in-Ok-clause-ok
-returns-in-Ok-clause-ok c =
-    checked c.args.bytes.now c.in-Ok.module c.validate.result
-    (record { spells = c.in-Ok.ensures.spelled; within = c.in-Ok.ensures.within.0; short = c.in-Ok.ensures.within.1 })
-    c.validate.ensures.ok c.validate.ensures.valid
+pub returns-in_err-module-clause-refused : goal.returns-in_err-module-clause-refused
+returns-in_err-module-clause-refused c e p is other =
+    let x = c.in_err-module.field-0.0 in
+    let same : x ≡ e = search rules in
+    let told = c.in_err-module.ensures in
+    let causes : (x ≡ refusal.BadModule) ⊎ ((x ≡ refusal.Limit) ⊎ (x ≡ refusal.NoMemory)) = told.causes in
+    let says = undecoded c.args.bytes.now p x
+    (record { bad = λ h. told.bad (ap Err h); over = λ h. told.over (ap Err h); none = λ h. told.none_within (ap Err h) }) causes in
+    subst (λ (y : Refusal). CannotOpen c.args.bytes.now p y) same (says (λ n. other (sym same ∙ n)))
 
-pub returns-in-Ok-clause-refused : goal.returns-in-Ok-clause-refused
-returns-in-Ok-clause-refused c e p is other =
-    let spelled : IsSpelled c.args.bytes.now c.in-Ok.module = record { spells = c.in-Ok.ensures.spelled; within = c.in-Ok.ensures.within.0; short = c.in-Ok.ensures.within.1 } in
-    subst (λ (x : Refusal). CannotOpen c.args.bytes.now p x) (sym (unchecked c.validate.result e c.validate.ensures.err is other))
-    (invalid c.args.bytes.now p c.in-Ok.module spelled)
-
-pub returns-in-Err-clause-refused : goal.returns-in-Err-clause-refused
-returns-in-Err-clause-refused c e p is other =
-    let same : c.in-Err.refusal ≡ e = cc in
-    let told = c.in-Err.ensures in
-    let says = undecoded c.args.bytes.now p c.in-Err.refusal
-    (record { bad = λ h. told.bad (ap Err h); over = λ h. told.over (ap Err h); none = λ h. told.none_within (ap Err h) }) told.causes in
-    subst (λ (x : Refusal). CannotOpen c.args.bytes.now p x) same (says (λ n. other (sym same ∙ n)))
+pub returns-clause-refused : goal.returns-clause-refused
+returns-clause-refused c e p is other =
+    let m = c.in_ok-module.module in
+    let spelled : IsSpelled c.args.bytes.now m = record { spells = c.in_ok-module.ensures.spelled; within = c.in_ok-module.ensures.within.0; short = c.in_ok-module.ensures.within.1 } in
+    subst (λ (x : Refusal). CannotOpen c.args.bytes.now p x) (sym (unchecked c.validate.result e c.validate.ensures.err is other)) (doubted m spelled)

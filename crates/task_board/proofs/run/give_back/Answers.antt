@@ -1,38 +1,45 @@
-use Rattle.std.proofs.Common.{◌≡◌, ◌∙◌, Some, sym, subst, refl, List, arith, rules}
+use Rattle.std.proofs.Common.{◌≡◌, Some, sym, subst, refl, List, ℕ, arith, rules}
 use Rattle.task_board.specs.Loans.{Lent}
+use Rattle.task_board.specs.BoardState.{task_of}
+use Rattle.task_board.specs.Step.{Returns}
 use Rattle.task_board.specs.Tickets.{ticket_of}
-use Rattle.task_board.specs.Events.{NoneFits, FitsAt, Covered}
-use Rattle.task_board.proofs.Steps.{ticket_is_of, not_out, comes, comes_covered}
-use Rattle.task_board.proofs.Out.{fits_within, fits_taken, fits_run}
+use Rattle.task_board.specs.Inside.Covers.{NoneFits, FitsAt, Covered}
+use Rattle.task_board.proofs.LoanCover.{not_out, fits_within, fits_taken, fits_run, fitting_id, returns_covered}
 use Rattle.task_board.proofs.run.give_back.Goals as goal
 
-pub returns-in_default-fitting-clause-returned : goal.returns-in_default-fitting-clause-returned
-returns-in_default-fitting-clause-returned c =
-    let ticket : ticket_of c.args.id c.args.board.now.tasks ≡ Some c.in-Some.ticket = search rules in
-    let is = ticket_is_of c.args.id c.args.board.now.tasks c.in-Some.ticket ticket in
-    let none = subst (λ (ls : List Lent). NoneFits c.args.board.now.tasks c.in-Some.ticket.slot ls) c.as_slice.ensures.value c.in_default-fitting.ensures.none in
-    (not_out c.args.id c.args.board.now.tasks c.in-Some.ticket is.0 c.args.loans.now.items is.1 none c.requires, refl)
+pub returns-in_default-find_fitting-clause-returned : goal.returns-in_default-find_fitting-clause-returned
+returns-in_default-find_fitting-clause-returned c =
+    let s = c.args.board.now.state in
+    let ticket : ticket_of c.args.id s.tasks ≡ Some c.in-Some.ticket = search rules in
+    let none = subst (λ (ls : List Lent). NoneFits s.tasks c.in-Some.ticket.slot ls) c.as_slice.ensures.value c.in_default-find_fitting.ensures.none in
+    (not_out s c.args.id c.in-Some.ticket c.args.loans.now.items c.sound.ensures ticket none c.requires, refl)
 
 pub remove-loan-requires : goal.remove-loan-requires
 remove-loan-requires c =
-    let at = subst (λ (ls : List Lent). FitsAt c.args.board.now.tasks c.in-Some.ticket.slot ls c.in-Some-fitting.i) c.as_slice.ensures.value c.in-Some-fitting.ensures.some in
-    let within = fits_within c.args.board.now.tasks c.in-Some.ticket.slot c.args.loans.now.items c.in-Some-fitting.i at in
+    let s = c.args.board.now.state in
+    let at = subst (λ (ls : List Lent). FitsAt s.tasks c.in-Some.ticket.slot ls c.in-Some-find_fitting.i) c.as_slice.ensures.value c.in-Some-find_fitting.ensures.some in
+    let within = fits_within s.tasks c.in-Some.ticket.slot c.args.loans.now.items c.in-Some-find_fitting.i at in
     omega (arith, within, c.args.loans.now.ok.0)
 
 pub returns-clause-returned : goal.returns-clause-returned
 returns-clause-returned c =
-    let ticket : ticket_of c.args.id c.args.board.now.tasks ≡ Some c.in-Some.ticket = search rules in
-    let is = ticket_is_of c.args.id c.args.board.now.tasks c.in-Some.ticket ticket in
-    let at = subst (λ (ls : List Lent). FitsAt c.args.board.now.tasks c.in-Some.ticket.slot ls c.in-Some-fitting.i) c.as_slice.ensures.value c.in-Some-fitting.ensures.some in
-    let taken = fits_taken c.args.board.now.tasks c.in-Some.ticket.slot c.args.loans.now.items c.in-Some-fitting.i c.remove-loan.result at c.remove-loan.ensures.value in
-    let ran = fits_run c.args.board.now.tasks c.in-Some.ticket.slot c.remove-loan.result c.run.new.self c.run.ensures taken.1 in
-    comes c.args.board.now c.args.id c.in-Some.ticket is.0 c.run.new.self c.give_back-again.new.self is.1 ran.0 (c.give_back-again.ensures.home ran.1)
+    let s = c.args.board.now.state in
+    let ticket : ticket_of c.args.id s.tasks ≡ Some c.in-Some.ticket = search rules in
+    let at = subst (λ (ls : List Lent). FitsAt s.tasks c.in-Some.ticket.slot ls c.in-Some-find_fitting.i) c.as_slice.ensures.value c.in-Some-find_fitting.ensures.some in
+    let taken = fits_taken s.tasks c.in-Some.ticket.slot c.args.loans.now.items c.in-Some-find_fitting.i c.remove-loan.result at c.remove-loan.ensures.value in
+    let ran = fits_run s.tasks c.in-Some.ticket.slot c.remove-loan.result c.run.new.self c.run.ensures taken.1 in
+    let of = fitting_id s c.args.id c.in-Some.ticket c.run.new.self c.sound.ensures ticket ran in
+    subst (λ (x : List ℕ). Returns s (task_of x s.tasks) c.give_back-again.new.self.state) of.own (c.give_back-again.ensures.home ran.1)
 
 pub returns-clause-covered : goal.returns-clause-covered
 returns-clause-covered c =
-    let at = subst (λ (ls : List Lent). FitsAt c.args.board.now.tasks c.in-Some.ticket.slot ls c.in-Some-fitting.i) c.as_slice.ensures.value c.in-Some-fitting.ensures.some in
-    let taken = fits_taken c.args.board.now.tasks c.in-Some.ticket.slot c.args.loans.now.items c.in-Some-fitting.i c.remove-loan.result at c.remove-loan.ensures.value in
-    let ran = fits_run c.args.board.now.tasks c.in-Some.ticket.slot c.remove-loan.result c.run.new.self c.run.ensures taken.1 in
-    subst (λ (ls : List Lent). Covered ls c.give_back-again.new.self.tasks) (sym c.remove-loan.ensures.items)
-    (comes_covered c.args.board.now c.run.new.self c.remove-loan.result c.give_back-again.new.self c.args.loans.now.items c.in-Some-fitting.i
-    taken.0 (taken.1.0 ∙ sym ran.0) (c.give_back-again.ensures.home ran.1) c.requires)
+    let s = c.args.board.now.state in
+    let ticket : ticket_of c.args.id s.tasks ≡ Some c.in-Some.ticket = search rules in
+    let at = subst (λ (ls : List Lent). FitsAt s.tasks c.in-Some.ticket.slot ls c.in-Some-find_fitting.i) c.as_slice.ensures.value c.in-Some-find_fitting.ensures.some in
+    let taken = fits_taken s.tasks c.in-Some.ticket.slot c.args.loans.now.items c.in-Some-find_fitting.i c.remove-loan.result at c.remove-loan.ensures.value in
+    let ran = fits_run s.tasks c.in-Some.ticket.slot c.remove-loan.result c.run.new.self c.run.ensures taken.1 in
+    let mine = fitting_id s c.args.id c.in-Some.ticket c.remove-loan.result c.sound.ensures ticket taken.1 in
+    let of = fitting_id s c.args.id c.in-Some.ticket c.run.new.self c.sound.ensures ticket ran in
+    let back = subst (λ (x : List ℕ). Returns s (task_of x s.tasks) c.give_back-again.new.self.state) of.own (c.give_back-again.ensures.home ran.1) in
+    subst (λ (ls : List Lent). Covered ls c.give_back-again.new.self.state.tasks) (sym c.remove-loan.ensures.items)
+    (returns_covered s c.args.loans.now.items c.in-Some-find_fitting.i c.remove-loan.result mine.task c.args.id c.give_back-again.new.self.state c.sound.ensures taken.0 mine.there mine.found back c.requires)

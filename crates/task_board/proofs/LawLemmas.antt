@@ -1,0 +1,451 @@
+-- Laws of steps and runs: soundness, the moves of tasks, contents, and what is determined.
+use Rattle.std.proofs.Common.{◌≡◌, ◌≢◌, ℕ, List, [], ◌∷◌, ◌++◌, ◌≤◌, arith, nat_le, ◌&&◌, length, Bool, true, false, true≢false, cond, Option, Some, None, is_some, option_and_then, Ok, Err, MatchBool, inl, inr, ◌⊎◌, refl, sym, ap, ◌∙◌, subst, append_assoc, append-nil, bytes_eq, nat_eq}
+use Rattle.std.proofs.lemmas.Bool.Decides.{nat_tests}
+use Rattle.wasm_ast.specs.declared.module.Module.{Module}
+use Rattle.wasm_ast.specs.declared.refusal.Refusal.{Refusal}
+use Rattle.wasm_ast.specs.declared.refusal.Refusal.TheVariants as refusal
+use Rattle.wasm_binary.specs.Grammar.{Spells}
+use Rattle.step_machine.specs.declared.process.ProcessConfig.{ProcessConfig}
+use Rattle.step_machine.specs.Instantiation.{instantiation_refusal}
+use Rattle.task_board.specs.declared.event.Event.{Event}
+use Rattle.task_board.specs.declared.event.Event.TheVariants as event
+use Rattle.task_board.specs.declared.event.EventReply.{EventReply}
+use Rattle.task_board.specs.declared.event.EventReply.TheVariants as answer
+use Rattle.task_board.specs.declared.request.Request.{Request}
+use Rattle.task_board.specs.declared.request.Request.TheVariants as request
+use Rattle.task_board.specs.declared.request.Reply.{Reply}
+use Rattle.task_board.specs.declared.request.Reply.TheVariants as reply
+use Rattle.task_board.specs.Limits.{max_budget}
+use Rattle.task_board.specs.Identifiers.{digest_of}
+use Rattle.task_board.specs.Lifecycle.{takes_turns}
+use Rattle.task_board.specs.BoardState.{Content, Task, Entries, BoardState, empty, created_task, content_in, with_content, task_in, entry_of, task_of, change_task, with_task, with_new_task}
+use Rattle.task_board.specs.Tasks.{started, can_lend, lent, advanced, slice_turns, state_of}
+use Rattle.task_board.specs.Refusals.{Refusals, first_refusal, put_refusals, create_refusals, start_refusals, state_refusals, wait_refusals, task_refusals, Openable, CannotOpen, no_module, too_much, doubted, refused}
+use Rattle.task_board.specs.Step.{Answer, DecidedBy, OnFound, Opens, Creates, Answers, is_budget, lends, taken, is_out, Returns, Step}
+use Rattle.task_board.specs.Run.{met_no_memory, Happens, Run}
+use Rattle.task_board.specs.Sound.{AreRising, slots_of, IsBoard}
+use Rattle.task_board.specs.Moves.{Moves}
+use Rattle.task_board.specs.Choices.{IsDetermined, AgreeOnRefusal, AgreeOnCreate}
+use Rattle.task_board.proofs.EntryLemmas.{none_is_not, some_is, by_slot, by_id, cond_true, cond_false, cond_is_true, cond_is_false, same_slot, other_slot, slot_away, named, in_slot, put_in}
+use Rattle.task_board.proofs.StepLemmas.{found, sound_of, changed_sound, decided, starts_created, answers_sound, lent_sound}
+use Rattle.task_board.proofs.SoundLemmas.{advanced_sound}
+use Rattle.task_board.proofs.RunLemmas.{run_keeps}
+
+-- ---- soundness
+
+pub empty_sound : IsBoard empty
+empty_sound = record {
+  tasks = tt;
+  slots = tt;
+  ids = tt;
+  incarnations = tt;
+  contents = tt;
+  digests = tt;
+  few_tasks = omega arith;
+  few_contents = omega arith;
+  few_creates = omega arith;
+}
+
+and_true : (a b : Bool) → (a && b) ≡ true → (a ≡ true) × (b ≡ true)
+and_true true b h = (refl, h)
+and_true false b h = cc
+
+budget_range : (budget : ℕ) → is_budget budget ≡ true → (1 ≤ budget) × (budget ≤ max_budget)
+budget_range budget h =
+    let both = and_true (nat_le 1 budget) (nat_le budget max_budget) h in
+    let low = both.0 in
+    let high = both.1 in
+    (grind (arith, nat_tests, low), grind (arith, nat_tests, high))
+
+-- what a slice that is taken was taken of
+pub record IsTakenOf (s : BoardState) (id : List ℕ) (budget : ℕ) (s' : BoardState) : Type 0 where
+  pub task : Task
+  pub range : (1 ≤ budget) × (budget ≤ max_budget)
+  pub named : task_of id s.tasks ≡ Some task
+  pub ready : can_lend task ≡ true
+  pub leaves : s' ≡ with_task s (lent task budget)
+
+taken_task : (s : BoardState) (id : List ℕ) (budget : ℕ) (t : Task) (s' : BoardState) (b : Bool) → (1 ≤ budget) × (budget ≤ max_budget) → task_of id s.tasks ≡ Some t → can_lend t ≡ b
+    → cond b (Some (with_task s (lent t budget))) None ≡ Some s' → IsTakenOf s id budget s'
+taken_task s id budget t s' true range is ready h = record { task = t; range = range; named = is; ready = ready; leaves = sym (some_is (with_task s (lent t budget)) s' h) }
+taken_task s id budget t s' false range is ready h = absurd (none_is_not s' h)
+
+taken_named : (s : BoardState) (id : List ℕ) (budget : ℕ) (o : Option Task) (s' : BoardState) → (1 ≤ budget) × (budget ≤ max_budget) → task_of id s.tasks ≡ o
+    → option_and_then (lends s budget) o ≡ Some s' → IsTakenOf s id budget s'
+taken_named s id budget None s' range is h = absurd (none_is_not s' h)
+taken_named s id budget (Some t) s' range is h = taken_task s id budget t s' (can_lend t) range is refl h
+
+taken_by : (s : BoardState) (id : List ℕ) (budget : ℕ) (s' : BoardState) (b : Bool) → is_budget budget ≡ b
+    → cond b (option_and_then (lends s budget) (task_of id s.tasks)) None ≡ Some s' → IsTakenOf s id budget s'
+taken_by s id budget s' true is h = taken_named s id budget (task_of id s.tasks) s' (budget_range budget is) refl h
+taken_by s id budget s' false is h = absurd (none_is_not s' h)
+
+pub taken_of : (s : BoardState) (id : List ℕ) (budget : ℕ) (s' : BoardState) → taken s id budget ≡ Some s' → IsTakenOf s id budget s'
+taken_of s id budget s' h = taken_by s id budget s' (is_budget budget) refl h
+
+take_sound : (s : BoardState) (id : List ℕ) (budget : ℕ) (s' : BoardState) → IsBoard s → IsTakenOf s id budget s' → IsBoard s'
+take_sound s id budget s' b is =
+    subst IsBoard (sym is.leaves) (changed_sound s id is.task (lent is.task budget) b is.named refl refl (lent_sound s.creates is.task budget (sound_of s id is.task b is.named) is.ready is.range))
+
+return_sound : (s : BoardState) (id : List ℕ) (o : Option Task) (s' : BoardState) → IsBoard s → task_of id s.tasks ≡ o → Returns s o s' → IsBoard s'
+return_sound s id None s' b is back = absurd back
+return_sound s id (Some t) s' b is back =
+    let n = slice_turns t back.1.budget in
+    let leaves : s' ≡ with_task s (advanced t n) = back.2 ∙ ap (with_task s) back.1.advances in
+    subst IsBoard (sym leaves) (changed_sound s id t (advanced t n) b is refl refl (advanced_sound s.creates t n (sound_of s id t b is)))
+
+pub step_sound : (s : BoardState) (e : Event) (r : EventReply) (s' : BoardState) → IsBoard s → Step s e r s' → IsBoard s'
+step_sound s (event.Call q) (answer.Called a) s' b step = answers_sound s q a s' b step
+step_sound s (event.Take id budget) (answer.Taken true) s' b step = take_sound s id budget s' b (taken_of s id budget s' step)
+step_sound s (event.Take id budget) (answer.Taken false) s' b step = subst IsBoard (sym step.1) b
+step_sound s (event.Return id) (answer.Returned true) s' b step = return_sound s id (task_of id s.tasks) s' b refl step
+step_sound s (event.Return id) (answer.Returned false) s' b step = subst IsBoard (sym step.1) b
+step_sound s (event.Call q) (answer.Taken x) s' b step = absurd step
+step_sound s (event.Call q) (answer.Returned x) s' b step = absurd step
+step_sound s (event.Take id budget) (answer.Called a) s' b step = absurd step
+step_sound s (event.Take id budget) (answer.Returned x) s' b step = absurd step
+step_sound s (event.Return id) (answer.Called a) s' b step = absurd step
+step_sound s (event.Return id) (answer.Taken x) s' b step = absurd step
+
+happens_by : (s : BoardState) (e : Event) (r : EventReply) (s' : BoardState) (b : Bool) → MatchBool b (s' ≡ s) (Step s e r s') → (s' ≡ s) ⊎ Step s e r s'
+happens_by s e r s' true h = inl h
+happens_by s e r s' false h = inr h
+
+-- nothing changes, or it is a step
+pub happens : (s : BoardState) (e : Event) (r : EventReply) (s' : BoardState) → Happens s e r s' → (s' ≡ s) ⊎ Step s e r s'
+happens s e r s' h = happens_by s e r s' (met_no_memory e r) h
+
+sound_by : (s : BoardState) (e : Event) (r : EventReply) (s' : BoardState) → IsBoard s → (s' ≡ s) ⊎ Step s e r s' → IsBoard s'
+sound_by s e r s' b (inl same) = subst IsBoard (sym same) b
+sound_by s e r s' b (inr step) = step_sound s e r s' b step
+
+pub happens_sound : (s : BoardState) (e : Event) (r : EventReply) (s' : BoardState) → IsBoard s → Happens s e r s' → IsBoard s'
+happens_sound s e r s' b h = sound_by s e r s' b (happens s e r s' h)
+
+pub run_sound : (es : List Event) (rs : List EventReply) (s : BoardState) → Run empty es rs s → IsBoard s
+run_sound es rs s run = run_keeps IsBoard happens_sound empty es rs s empty_sound run
+
+-- ---- how tasks move
+
+abbrev pub AllMove : Entries → Entries → Type 0
+AllMove ts us = (k : ℕ) → (t : Task) → task_in k ts ≡ Some t → (t' : Task) × (task_in k us ≡ Some t') × Moves t t'
+
+all_stay : (ts : Entries) → AllMove ts ts
+all_stay ts k t there = (t, there, inl refl)
+
+stay_same : (s s' : BoardState) → s' ≡ s → AllMove s.tasks s'.tasks
+stay_same s s' is = subst (λ (x : BoardState). AllMove s.tasks x.tasks) (sym is) (all_stay s.tasks)
+
+-- the task with an id is changed in its slot alone
+change_beside : (new old : Task) (k j : ℕ) (es : Entries) → entry_of new.id es ≡ Some (k, old) → j ≢ k → task_in j (change_task new es) ≡ task_in j es
+change_beside new old k j [] h other = refl
+change_beside new old k j (e ∷ es) h other =
+    by_id e.1.id new.id
+    (λ y same.
+    let at : e.0 ≡ k = ap (λ (x : ℕ × Task). x.0) (some_is e (k, old) (cond_true (bytes_eq e.1.id new.id) (Some e) (entry_of new.id es) (Some (k, old)) y h)) in
+    let off : nat_eq e.0 j ≡ false = other_slot e.0 j (λ x. other (sym x ∙ at)) in
+    ap (task_in j) (cond_is_true (bytes_eq e.1.id new.id) ((e.0, new) ∷ es) (e ∷ change_task new es) y)
+    ∙ (cond_is_false (nat_eq e.0 j) (Some new) (task_in j es) off ∙ sym (cond_is_false (nat_eq e.0 j) (Some e.1) (task_in j es) off)))
+    (λ n differs.
+    ap (task_in j) (cond_is_false (bytes_eq e.1.id new.id) ((e.0, new) ∷ es) (e ∷ change_task new es) n)
+    ∙ ap (cond (nat_eq e.0 j) (Some e.1)) (change_beside new old k j es (cond_false (bytes_eq e.1.id new.id) (Some e) (entry_of new.id es) (Some (k, old)) n h) other))
+
+change_there : (new old : Task) (k : ℕ) (es : Entries) → AreRising (slots_of es) → entry_of new.id es ≡ Some (k, old) → task_in k (change_task new es) ≡ Some new
+change_there new old k [] r h = absurd (none_is_not (k, old) h)
+change_there new old k (e ∷ es) r h =
+    by_id e.1.id new.id
+    (λ y same.
+    let at : e.0 ≡ k = ap (λ (x : ℕ × Task). x.0) (some_is e (k, old) (cond_true (bytes_eq e.1.id new.id) (Some e) (entry_of new.id es) (Some (k, old)) y h)) in
+    ap (task_in k) (cond_is_true (bytes_eq e.1.id new.id) ((e.0, new) ∷ es) (e ∷ change_task new es) y) ∙ cond_is_true (nat_eq e.0 k) (Some new) (task_in k es) (same_slot e.0 k at))
+    (λ n differs.
+    let rest = cond_false (bytes_eq e.1.id new.id) (Some e) (entry_of new.id es) (Some (k, old)) n h in
+    let below = slot_away e.0 k new.id (k, old) es r.0 rest in
+    ap (task_in k) (cond_is_false (bytes_eq e.1.id new.id) ((e.0, new) ∷ es) (e ∷ change_task new es) n)
+    ∙ (cond_is_false (nat_eq e.0 k) (Some e.1) (task_in k (change_task new es)) (other_slot e.0 k (λ x. omega (arith, below, x))) ∙ change_there new old k es r.1 rest))
+
+pub one_moves : (s : BoardState) (id : List ℕ) (old new : Task) → AreRising (slots_of s.tasks) → task_of id s.tasks ≡ Some old → new.id ≡ old.id → Moves old new → AllMove s.tasks (with_task s new).tasks
+one_moves s id old new r is same moves k t there =
+    let f = found id s.tasks old is in
+    let own : entry_of new.id s.tasks ≡ Some (f.0, old) = ap (λ (x : List ℕ). entry_of x s.tasks) (same ∙ named id s.tasks (f.0, old) f.1) ∙ f.1 in
+    by_slot k f.0
+    (λ y here.
+    let is_old : old ≡ t = some_is old t (sym (in_slot id (f.0, old) s.tasks r f.1) ∙ subst (λ (j : ℕ). task_in j s.tasks ≡ Some t) here there) in
+    (new, ap (λ (j : ℕ). task_in j (change_task new s.tasks)) here ∙ change_there new old f.0 s.tasks r own, subst (λ (x : Task). Moves x new) is_old moves))
+    (λ n other. (t, change_beside new old f.0 k s.tasks own other ∙ there, inl refl))
+
+move_by_effect : (s s' : BoardState) (o : Option Refusal) (E : Type 0) → (o ≡ None → E → AllMove s.tasks s'.tasks) → (s' ≡ s) ⊎ ((o ≡ None) × E) → AllMove s.tasks s'.tasks
+move_by_effect s s' o E f (inl same) = stay_same s s' same
+move_by_effect s s' o E f (inr e) = f e.0 e.1
+
+create_moves : (s : BoardState) (config id : List ℕ) (r : Answer) (s' : BoardState) → Creates s config id r s' → AllMove s.tasks s'.tasks
+create_moves s config id (Err e) s' effect = stay_same s s' effect.4.1
+create_moves s config id (Ok r) s' effect =
+    let enters = effect.4.3 in
+    let t = created_task id s.creates effect.1 effect.4.0 effect.0 in
+    subst (λ (x : BoardState). AllMove s.tasks x.tasks) (sym enters.2)
+    (λ k u there. (u, put_in enters.0 k t s.tasks (λ same. none_is_not u (sym enters.1 ∙ subst (λ (j : ℕ). task_in j s.tasks ≡ Some u) same there)) ∙ there, inl refl))
+
+on_task_moves : (s : BoardState) (id : List ℕ) (own : Task → Refusals) (rep : Task → Reply) (new : Task → BoardState) (o : Option Task) (r : Answer) (s' : BoardState)
+    → OnFound id own rep new o s r s' → ((t : Task) → o ≡ Some t → first_refusal (task_refusals id own (Some t)) ≡ None → AllMove s.tasks (new t).tasks) → AllMove s.tasks s'.tasks
+on_task_moves s id own rep new None r s' on f =
+    move_by_effect s s' (first_refusal (task_refusals id own None)) ⊥ (λ none e. absurd e) (decided (first_refusal (task_refusals id own None)) ⊥ s r s' on)
+on_task_moves s id own rep new (Some t) r s' on f =
+    move_by_effect s s' (first_refusal (task_refusals id own (Some t))) ((r ≡ Ok (rep t)) × (s' ≡ new t))
+    (λ none e. subst (λ (x : BoardState). AllMove s.tasks x.tasks) (sym e.1) (f t refl none))
+    (decided (first_refusal (task_refusals id own (Some t))) ((r ≡ Ok (rep t)) × (s' ≡ new t)) s r s' on)
+
+answers_move : (s : BoardState) (q : Request) (r : Answer) (s' : BoardState) → AreRising (slots_of s.tasks) → Answers s q r s' → AllMove s.tasks s'.tasks
+answers_move s (request.Put bytes) r s' rising a =
+    move_by_effect s s' (first_refusal (put_refusals s bytes)) ((r ≡ Ok (reply.Put (digest_of bytes) (length bytes))) × (s' ≡ with_content s bytes))
+    (λ none e. subst (λ (x : BoardState). AllMove s.tasks x.tasks) (sym e.1) (all_stay s.tasks)) (decided (first_refusal (put_refusals s bytes)) _ s r s' a)
+answers_move s (request.Create config id) r s' rising a =
+    move_by_effect s s' (first_refusal (create_refusals s config id)) (Creates s config id r s') (λ none e. create_moves s config id r s' e)
+    (decided (first_refusal (create_refusals s config id)) (Creates s config id r s') s r s' a)
+answers_move s (request.Start id) r s' rising a =
+    on_task_moves s id start_refusals (λ t. reply.Start t.id (started t).status) (λ t. with_task s (started t)) (task_of id s.tasks) r s' a
+    (λ t is none. one_moves s id t (started t) rising is refl (inr (inl ((starts_created id t none).1, refl))))
+answers_move s (request.State id) r s' rising a =
+    on_task_moves s id state_refusals (λ t. reply.State (state_of t)) (λ t. s) (task_of id s.tasks) r s' a (λ t is none. all_stay s.tasks)
+answers_move s (request.Wait id) r s' rising a =
+    on_task_moves s id wait_refusals (λ t. reply.Wait (state_of t)) (λ t. s) (task_of id s.tasks) r s' a (λ t is none. all_stay s.tasks)
+
+take_moves : (s : BoardState) (id : List ℕ) (budget : ℕ) (s' : BoardState) → AreRising (slots_of s.tasks) → IsTakenOf s id budget s' → AllMove s.tasks s'.tasks
+take_moves s id budget s' r is =
+    subst (λ (x : BoardState). AllMove s.tasks x.tasks) (sym is.leaves)
+    (one_moves s id is.task (lent is.task budget) r is.named refl (inr (inr (inl (budget, is.ready, refl)))))
+
+return_moves : (s : BoardState) (id : List ℕ) (o : Option Task) (s' : BoardState) → AreRising (slots_of s.tasks) → task_of id s.tasks ≡ o → Returns s o s' → AllMove s.tasks s'.tasks
+return_moves s id None s' r is back = absurd back
+return_moves s id (Some t) s' r is back =
+    subst (λ (x : BoardState). AllMove s.tasks x.tasks) (sym back.2)
+    (one_moves s id t back.0 r is (ap (λ (x : Task). x.id) back.1.advances) (inr (inr (inr back.1))))
+
+step_moves : (s : BoardState) (e : Event) (r : EventReply) (s' : BoardState) → AreRising (slots_of s.tasks) → Step s e r s' → AllMove s.tasks s'.tasks
+step_moves s (event.Call q) (answer.Called a) s' b step = answers_move s q a s' b step
+step_moves s (event.Take id budget) (answer.Taken true) s' b step = take_moves s id budget s' b (taken_of s id budget s' step)
+step_moves s (event.Take id budget) (answer.Taken false) s' b step = stay_same s s' step.1
+step_moves s (event.Return id) (answer.Returned true) s' b step = return_moves s id (task_of id s.tasks) s' b refl step
+step_moves s (event.Return id) (answer.Returned false) s' b step = stay_same s s' step.1
+step_moves s (event.Call q) (answer.Taken x) s' b step = absurd step
+step_moves s (event.Call q) (answer.Returned x) s' b step = absurd step
+step_moves s (event.Take id budget) (answer.Called a) s' b step = absurd step
+step_moves s (event.Take id budget) (answer.Returned x) s' b step = absurd step
+step_moves s (event.Return id) (answer.Called a) s' b step = absurd step
+step_moves s (event.Return id) (answer.Taken x) s' b step = absurd step
+
+moves_by : (s : BoardState) (e : Event) (r : EventReply) (s' : BoardState) → AreRising (slots_of s.tasks) → (s' ≡ s) ⊎ Step s e r s' → AllMove s.tasks s'.tasks
+moves_by s e r s' b (inl same) = stay_same s s' same
+moves_by s e r s' b (inr step) = step_moves s e r s' b step
+
+pub happens_moves : (s : BoardState) (e : Event) (r : EventReply) (s' : BoardState) → AreRising (slots_of s.tasks) → Happens s e r s' → AllMove s.tasks s'.tasks
+happens_moves s e r s' b h = moves_by s e r s' b (happens s e r s' h)
+
+same_turns : (t t' : Task) → takes_turns t.status ≡ false → Moves t t' → t'.turns ≡ t.turns
+same_turns t t' quiet (inl same) = ap (λ (x : Task). x.turns) same
+same_turns t t' quiet (inr (inl start)) = ap (λ (x : Task). x.turns) start.1
+same_turns t t' quiet (inr (inr (inl take))) = ap (λ (x : Task). x.turns) take.2
+same_turns t t' quiet (inr (inr (inr back))) = absurd (true≢false (sym back.legal.status ∙ quiet))
+
+pub quiet_stays : (s : BoardState) (e : Event) (r : EventReply) (s' : BoardState) → IsBoard s → Happens s e r s' → (k : ℕ) (t : Task) → task_in k s.tasks ≡ Some t → takes_turns t.status ≡ false
+    → (t' : Task) × (task_in k s'.tasks ≡ Some t') × (t'.turns ≡ t.turns)
+quiet_stays s e r s' b h k t there quiet =
+    let m = happens_moves s e r s' b.slots h k t there in
+    (m.0, m.1, same_turns t m.0 quiet m.2)
+
+-- ---- contents
+
+abbrev pub Grows : BoardState → BoardState → Type 0
+Grows s s' = (more : List Content) × (s'.contents ≡ s.contents ++ more)
+
+keeps_contents : (s s' : BoardState) → s'.contents ≡ s.contents → Grows s s'
+keeps_contents s s' same = ([], same ∙ sym (append-nil s.contents))
+
+same_contents : (s s' : BoardState) → s' ≡ s → Grows s s'
+same_contents s s' same = keeps_contents s s' (ap (λ (x : BoardState). x.contents) same)
+
+grow_by_effect : (s s' : BoardState) (o : Option Refusal) (E : Type 0) → (E → Grows s s') → (s' ≡ s) ⊎ ((o ≡ None) × E) → Grows s s'
+grow_by_effect s s' o E f (inl same) = same_contents s s' same
+grow_by_effect s s' o E f (inr e) = f e.1
+
+create_grows : (s : BoardState) (config id : List ℕ) (r : Answer) (s' : BoardState) → Creates s config id r s' → Grows s s'
+create_grows s config id (Err e) s' effect = same_contents s s' effect.4.1
+create_grows s config id (Ok r) s' effect = keeps_contents s s' (ap (λ (x : BoardState). x.contents) effect.4.3.2)
+
+on_task_grows : (s : BoardState) (id : List ℕ) (own : Task → Refusals) (rep : Task → Reply) (new : Task → BoardState) (o : Option Task) (r : Answer) (s' : BoardState)
+    → OnFound id own rep new o s r s' → ((t : Task) → (new t).contents ≡ s.contents) → Grows s s'
+on_task_grows s id own rep new None r s' on f =
+    grow_by_effect s s' (first_refusal (task_refusals id own None)) ⊥ (λ e. absurd e) (decided (first_refusal (task_refusals id own None)) ⊥ s r s' on)
+on_task_grows s id own rep new (Some t) r s' on f =
+    grow_by_effect s s' (first_refusal (task_refusals id own (Some t))) ((r ≡ Ok (rep t)) × (s' ≡ new t))
+    (λ e. keeps_contents s s' (ap (λ (x : BoardState). x.contents) e.1 ∙ f t))
+    (decided (first_refusal (task_refusals id own (Some t))) ((r ≡ Ok (rep t)) × (s' ≡ new t)) s r s' on)
+
+answers_grow : (s : BoardState) (q : Request) (r : Answer) (s' : BoardState) → Answers s q r s' → Grows s s'
+answers_grow s (request.Put bytes) r s' a =
+    grow_by_effect s s' (first_refusal (put_refusals s bytes)) ((r ≡ Ok (reply.Put (digest_of bytes) (length bytes))) × (s' ≡ with_content s bytes))
+    (λ e. (record { digest = digest_of bytes; bytes = bytes } ∷ [], ap (λ (x : BoardState). x.contents) e.1)) (decided (first_refusal (put_refusals s bytes)) _ s r s' a)
+answers_grow s (request.Create config id) r s' a =
+    grow_by_effect s s' (first_refusal (create_refusals s config id)) (Creates s config id r s') (λ e. create_grows s config id r s' e)
+    (decided (first_refusal (create_refusals s config id)) (Creates s config id r s') s r s' a)
+answers_grow s (request.Start id) r s' a = on_task_grows s id start_refusals (λ t. reply.Start t.id (started t).status) (λ t. with_task s (started t)) (task_of id s.tasks) r s' a (λ t. refl)
+answers_grow s (request.State id) r s' a = on_task_grows s id state_refusals (λ t. reply.State (state_of t)) (λ t. s) (task_of id s.tasks) r s' a (λ t. refl)
+answers_grow s (request.Wait id) r s' a = on_task_grows s id wait_refusals (λ t. reply.Wait (state_of t)) (λ t. s) (task_of id s.tasks) r s' a (λ t. refl)
+
+return_grows : (s : BoardState) (o : Option Task) (s' : BoardState) → Returns s o s' → Grows s s'
+return_grows s None s' back = absurd back
+return_grows s (Some t) s' back = keeps_contents s s' (ap (λ (x : BoardState). x.contents) back.2)
+
+step_grows : (s : BoardState) (e : Event) (r : EventReply) (s' : BoardState) → Step s e r s' → Grows s s'
+step_grows s (event.Call q) (answer.Called a) s' step = answers_grow s q a s' step
+step_grows s (event.Take id budget) (answer.Taken true) s' step = keeps_contents s s' (ap (λ (x : BoardState). x.contents) (taken_of s id budget s' step).leaves)
+step_grows s (event.Take id budget) (answer.Taken false) s' step = same_contents s s' step.1
+step_grows s (event.Return id) (answer.Returned true) s' step = return_grows s (task_of id s.tasks) s' step
+step_grows s (event.Return id) (answer.Returned false) s' step = same_contents s s' step.1
+step_grows s (event.Call q) (answer.Taken x) s' step = absurd step
+step_grows s (event.Call q) (answer.Returned x) s' step = absurd step
+step_grows s (event.Take id budget) (answer.Called a) s' step = absurd step
+step_grows s (event.Take id budget) (answer.Returned x) s' step = absurd step
+step_grows s (event.Return id) (answer.Called a) s' step = absurd step
+step_grows s (event.Return id) (answer.Taken x) s' step = absurd step
+
+grows_by : (s : BoardState) (e : Event) (r : EventReply) (s' : BoardState) → (s' ≡ s) ⊎ Step s e r s' → Grows s s'
+grows_by s e r s' (inl same) = same_contents s s' same
+grows_by s e r s' (inr step) = step_grows s e r s' step
+
+more_grows : (a s s' : BoardState) → Grows a s → Grows s s' → Grows a s'
+more_grows a s s' f g = (f.0 ++ g.0, g.1 ∙ (ap (λ (cs : List Content). cs ++ g.0) f.1 ∙ append_assoc a.contents f.0 g.0))
+
+pub run_grows : (s : BoardState) (es : List Event) (rs : List EventReply) (s' : BoardState) → Run s es rs s' → Grows s s'
+run_grows a es rs s' run = run_keeps (Grows a) (λ s e r s' f h. more_grows a s s' f (grows_by s e r s' (happens s e r s' h))) a es rs s' (same_contents a a refl) run
+
+-- ---- what is determined
+
+abbrev pub Same : {A : Type 0} → A → BoardState → A → BoardState → Type 0
+Same r s1 r' s2 = (r ≡ r') × (s1 ≡ s2)
+
+decided_same : (o : Option Refusal) (rep : Reply) (new s : BoardState) (r : Answer) (s1 : BoardState) (r' : Answer) (s2 : BoardState)
+    → DecidedBy o ((r ≡ Ok rep) × (s1 ≡ new)) s r s1 → DecidedBy o ((r' ≡ Ok rep) × (s2 ≡ new)) s r' s2 → Same r s1 r' s2
+decided_same None rep new s r s1 r' s2 a b = (a.0 ∙ sym b.0, a.1 ∙ sym b.1)
+decided_same (Some e) rep new s r s1 r' s2 a b = (a.0 ∙ sym b.0, a.1 ∙ sym b.1)
+
+refused_same : (o : Option Refusal) (s : BoardState) (r : Answer) (s1 : BoardState) (r' : Answer) (s2 : BoardState)
+    → DecidedBy o ⊥ s r s1 → DecidedBy o ⊥ s r' s2 → Same r s1 r' s2
+refused_same None s r s1 r' s2 a b = absurd a
+refused_same (Some e) s r s1 r' s2 a b = (a.0 ∙ sym b.0, a.1 ∙ sym b.1)
+
+on_task_same : (s : BoardState) (id : List ℕ) (own : Task → Refusals) (rep : Task → Reply) (new : Task → BoardState) (o : Option Task) (r : Answer) (s1 : BoardState) (r' : Answer) (s2 : BoardState)
+    → OnFound id own rep new o s r s1 → OnFound id own rep new o s r' s2 → Same r s1 r' s2
+on_task_same s id own rep new None r s1 r' s2 a b = refused_same (first_refusal (task_refusals id own None)) s r s1 r' s2 a b
+on_task_same s id own rep new (Some t) r s1 r' s2 a b = decided_same (first_refusal (task_refusals id own (Some t))) (rep t) (new t) s r s1 r' s2 a b
+
+answers_same : (s : BoardState) (q : Request) (r : Answer) (s1 : BoardState) (r' : Answer) (s2 : BoardState) → IsDetermined (event.Call q)
+    → Answers s q r s1 → Answers s q r' s2 → Same r s1 r' s2
+answers_same s (request.Put bytes) r s1 r' s2 d a b = decided_same (first_refusal (put_refusals s bytes)) (reply.Put (digest_of bytes) (length bytes)) (with_content s bytes) s r s1 r' s2 a b
+answers_same s (request.Create config id) r s1 r' s2 d a b = absurd d
+answers_same s (request.Start id) r s1 r' s2 d a b = on_task_same s id start_refusals (λ t. reply.Start t.id (started t).status) (λ t. with_task s (started t)) (task_of id s.tasks) r s1 r' s2 a b
+answers_same s (request.State id) r s1 r' s2 d a b = on_task_same s id state_refusals (λ t. reply.State (state_of t)) (λ t. s) (task_of id s.tasks) r s1 r' s2 a b
+answers_same s (request.Wait id) r s1 r' s2 d a b = on_task_same s id wait_refusals (λ t. reply.Wait (state_of t)) (λ t. s) (task_of id s.tasks) r s1 r' s2 a b
+
+-- a task returns in one way
+return_same : (s : BoardState) (o : Option Task) (s1 s2 : BoardState) → Returns s o s1 → Returns s o s2 → s1 ≡ s2
+return_same s None s1 s2 a b = absurd a
+return_same s (Some t) s1 s2 a b =
+    let budget : a.1.budget ≡ b.1.budget = some_is a.1.budget b.1.budget (sym a.1.out ∙ b.1.out) in
+    let same : a.0 ≡ b.0 = a.1.advances ∙ (ap (λ (n : ℕ). advanced t (slice_turns t n)) budget ∙ sym b.1.advances) in
+    a.2 ∙ (ap (with_task s) same ∙ sym b.2)
+
+return_out : (s : BoardState) (o : Option Task) (s' : BoardState) → Returns s o s' → is_out o ≡ true
+return_out s None s' a = absurd a
+return_out s (Some t) s' a = ap (is_some {T = ℕ}) a.1.out
+
+step_same : (s : BoardState) (e : Event) (r : EventReply) (s1 : BoardState) (r' : EventReply) (s2 : BoardState) → IsDetermined e → Step s e r s1 → Step s e r' s2 → Same r s1 r' s2
+step_same s (event.Call q) (answer.Called x) s1 (answer.Called y) s2 d a b = let same = answers_same s q x s1 y s2 d a b in (ap answer.Called same.0, same.1)
+step_same s (event.Take id budget) (answer.Taken true) s1 (answer.Taken true) s2 d a b = (refl, some_is s1 s2 (sym a ∙ b))
+step_same s (event.Take id budget) (answer.Taken true) s1 (answer.Taken false) s2 d a b = absurd (none_is_not s1 (sym b.0 ∙ a))
+step_same s (event.Take id budget) (answer.Taken false) s1 (answer.Taken true) s2 d a b = absurd (none_is_not s2 (sym a.0 ∙ b))
+step_same s (event.Take id budget) (answer.Taken false) s1 (answer.Taken false) s2 d a b = (refl, a.1 ∙ sym b.1)
+step_same s (event.Return id) (answer.Returned true) s1 (answer.Returned true) s2 d a b = (refl, return_same s (task_of id s.tasks) s1 s2 a b)
+step_same s (event.Return id) (answer.Returned true) s1 (answer.Returned false) s2 d a b = absurd (true≢false (sym (return_out s (task_of id s.tasks) s1 a) ∙ b.0))
+step_same s (event.Return id) (answer.Returned false) s1 (answer.Returned true) s2 d a b = absurd (true≢false (sym (return_out s (task_of id s.tasks) s2 b) ∙ a.0))
+step_same s (event.Return id) (answer.Returned false) s1 (answer.Returned false) s2 d a b = (refl, a.1 ∙ sym b.1)
+step_same s (event.Call q) (answer.Called x) s1 (answer.Taken y) s2 d a b = absurd b
+step_same s (event.Call q) (answer.Called x) s1 (answer.Returned y) s2 d a b = absurd b
+step_same s (event.Call q) (answer.Taken x) s1 r' s2 d a b = absurd a
+step_same s (event.Call q) (answer.Returned x) s1 r' s2 d a b = absurd a
+step_same s (event.Take id budget) (answer.Taken x) s1 (answer.Called y) s2 d a b = absurd b
+step_same s (event.Take id budget) (answer.Taken x) s1 (answer.Returned y) s2 d a b = absurd b
+step_same s (event.Take id budget) (answer.Called x) s1 r' s2 d a b = absurd a
+step_same s (event.Take id budget) (answer.Returned x) s1 r' s2 d a b = absurd a
+step_same s (event.Return id) (answer.Returned x) s1 (answer.Called y) s2 d a b = absurd b
+step_same s (event.Return id) (answer.Returned x) s1 (answer.Taken y) s2 d a b = absurd b
+step_same s (event.Return id) (answer.Called x) s1 r' s2 d a b = absurd a
+step_same s (event.Return id) (answer.Taken x) s1 r' s2 d a b = absurd a
+
+is_step : (s : BoardState) (e : Event) (r : EventReply) (s' : BoardState) → met_no_memory e r ≡ false → Happens s e r s' → Step s e r s'
+is_step s e r s' is h = subst (λ (b : Bool). MatchBool b (s' ≡ s) (Step s e r s')) is h
+
+pub events_same : (s : BoardState) (e : Event) (r : EventReply) (s1 : BoardState) (r' : EventReply) (s2 : BoardState) → IsDetermined e
+    → met_no_memory e r ≡ false → met_no_memory e r' ≡ false → Happens s e r s1 → Happens s e r' s2 → (r ≡ r') × (s1 ≡ s2)
+events_same s e r s1 r' s2 d a b h g = step_same s e r s1 r' s2 d (is_step s e r s1 a h) (is_step s e r' s2 b g)
+
+-- ---- what a create leaves open
+
+abbrev pub One : Type 0
+One = (bytes : List ℕ) (m n : Module) → Spells bytes m → Spells bytes n → m ≡ n
+
+-- bytes that can be opened are refused only as doubted
+opened_refused : (bytes : List ℕ) (p : ProcessConfig) (m : Module) (e : Refusal) → One → Openable bytes p m → CannotOpen bytes p e → e ≡ refusal.Invalid
+opened_refused bytes p m _ one opens (no_module none) = absurd (none m opens.spelled.spells)
+opened_refused bytes p m _ one opens (too_much over none) = absurd (none m opens.spelled)
+opened_refused bytes p m _ one opens (doubted n spelled) = refl
+opened_refused bytes p m _ one opens (refused n e spelled valid is) =
+    let same : n ≡ m = one bytes n m spelled.spells opens.spelled.spells in
+    absurd (none_is_not e (sym opens.opens ∙ subst (λ (x : Module). instantiation_refusal x p ≡ Some e) same is))
+
+-- two refusals of the same bytes
+refused_agree : (bytes : List ℕ) (p : ProcessConfig) (e e' : Refusal) → One → CannotOpen bytes p e → CannotOpen bytes p e' → AgreeOnRefusal e e'
+refused_agree bytes p _ _ one (no_module none) (no_module none') = inl refl
+refused_agree bytes p _ _ one (no_module none) (too_much over none') = inr (inl (inl (refl, refl)))
+refused_agree bytes p _ _ one (no_module none) (doubted m spelled) = absurd (none m spelled.spells)
+refused_agree bytes p _ _ one (no_module none) (refused m e spelled valid is) = absurd (none m spelled.spells)
+refused_agree bytes p _ _ one (too_much over none) (no_module none') = inr (inl (inr (refl, refl)))
+refused_agree bytes p _ _ one (too_much over none) (too_much over' none') = inl refl
+refused_agree bytes p _ _ one (too_much over none) (doubted m spelled) = absurd (none m spelled)
+refused_agree bytes p _ _ one (too_much over none) (refused m e spelled valid is) = absurd (none m spelled)
+refused_agree bytes p _ _ one (doubted m spelled) other = inr (inr (inl refl))
+refused_agree bytes p _ _ one (refused m e spelled valid is) (no_module none) = absurd (none m spelled.spells)
+refused_agree bytes p _ _ one (refused m e spelled valid is) (too_much over none) = absurd (none m spelled)
+refused_agree bytes p _ _ one (refused m e spelled valid is) (doubted n spelled') = inr (inr (inr refl))
+refused_agree bytes p _ _ one (refused m e spelled valid is) (refused n e' spelled' valid' is') =
+    let same : n ≡ m = one bytes n m spelled'.spells spelled.spells in
+    inl (some_is e e' (sym is ∙ subst (λ (x : Module). instantiation_refusal x p ≡ Some e') same is'))
+
+opens_agree : (s : BoardState) (id bytes : List ℕ) (p : ProcessConfig) (r : Answer) (s1 : BoardState) (r' : Answer) (s2 : BoardState) → One
+    → Opens s id bytes p r s1 → Opens s id bytes p r' s2 → AgreeOnCreate s r s1 r' s2
+opens_agree s id bytes p (Err e) s1 (Err e') s2 one a b = (a.1, b.1, refused_agree bytes p e e' one a.0 b.0)
+opens_agree s id bytes p (Err e) s1 (Ok y) s2 one a b = (a.1, opened_refused bytes p b.0 e one b.1 a.0)
+opens_agree s id bytes p (Ok x) s1 (Err e') s2 one a b = (b.1, opened_refused bytes p a.0 e' one a.1 b.0)
+opens_agree s id bytes p (Ok x) s1 (Ok y) s2 one a b =
+    let same : b.0 ≡ a.0 = one bytes b.0 a.0 b.1.spelled.spells a.1.spelled.spells in
+    let t = created_task id s.creates bytes a.0 p in
+    (a.2 ∙ sym b.2, t, a.3.0, b.3.0, a.3.2, b.3.2 ∙ ap (λ (m : Module). with_new_task s b.3.0 (created_task id s.creates bytes m p)) same)
+
+creates_agree : (s : BoardState) (config id : List ℕ) (r : Answer) (s1 : BoardState) (r' : Answer) (s2 : BoardState) → One
+    → Creates s config id r s1 → Creates s config id r' s2 → AgreeOnCreate s r s1 r' s2
+creates_agree s config id r s1 r' s2 one a b =
+    let process : b.0 ≡ a.0 = some_is b.0 a.0 (sym b.2 ∙ a.2) in
+    let stored : b.1 ≡ a.1 = some_is b.1 a.1 (sym b.3 ∙ (ap (λ (p : ProcessConfig). content_in s.contents p.module) process ∙ a.3)) in
+    let moved = subst (λ (x : List ℕ). Opens s id x b.0 r' s2) stored b.4 in
+    opens_agree s id a.1 a.0 r s1 r' s2 one a.4 (subst (λ (p : ProcessConfig). Opens s id a.1 p r' s2) process moved)
+
+create_agrees_by : (s : BoardState) (config id : List ℕ) (o : Option Refusal) (r : Answer) (s1 : BoardState) (r' : Answer) (s2 : BoardState) → One
+    → DecidedBy o (Creates s config id r s1) s r s1 → DecidedBy o (Creates s config id r' s2) s r' s2 → AgreeOnCreate s r s1 r' s2
+create_agrees_by s config id None r s1 r' s2 one a b = creates_agree s config id r s1 r' s2 one a b
+create_agrees_by s config id (Some e) r s1 r' s2 one a b =
+    let P : Answer → Answer → Type 0 = λ x y. AgreeOnCreate s x s1 y s2 in
+    let both : P (Err e) (Err e) = (a.1, b.1, inl refl) in
+    subst (λ (x : Answer). P x r') (sym a.0) (subst (λ (y : Answer). P (Err e) y) (sym b.0) both)
+
+pub create_agrees : (s : BoardState) (config id : List ℕ) (r : Answer) (s1 : BoardState) (r' : Answer) (s2 : BoardState) → One
+    → Answers s (request.Create config id) r s1 → Answers s (request.Create config id) r' s2 → AgreeOnCreate s r s1 r' s2
+create_agrees s config id r s1 r' s2 one a b = create_agrees_by s config id (first_refusal (create_refusals s config id)) r s1 r' s2 one a b

@@ -1,0 +1,188 @@
+-- The tables of a board after a write in a slot and after an insert.
+use Rattle.std.proofs.Common.{◌≡◌, ℕ, suc, ◌+◌, ◌-◌, ◌≤◌, List, length, Bool, true, IsTrue, ◌↔◌, Option, Some, None, option_map, Result, Ok, refl, sym, ap, ◌∙◌, subst, arith}
+use Rattle.slab.specs.Slab.{Slab, entries, get, with_value, Updates, HasRoomFor}
+use Rattle.task_board.specs.declared.tables.Tables.TheInside as tables
+use Rattle.task_board.specs.declared.ticket.Ticket.{Ticket}
+use Rattle.task_board.specs.declared.request.Request.{Request}
+use Rattle.task_board.specs.declared.request.Request.TheVariants as request
+use Rattle.task_board.specs.declared.request.Reply.{Reply}
+use Rattle.task_board.specs.declared.request.Reply.TheVariants as reply
+use Rattle.task_board.specs.declared.status.Status.TheVariants.{Created}
+use Rattle.task_board.specs.Limits.{max_budget}
+use Rattle.task_board.specs.BoardState.{Task, Entries, BoardState, task_in, entry_of, task_of, with_task, with_new_task}
+use Rattle.task_board.specs.BoardValue.{KeepsCapacity}
+use Rattle.task_board.specs.Tasks.{started, can_lend, lent, advanced, slice_turns}
+use Rattle.task_board.specs.Refusals.{first_refusal, start_refusals, task_refusals}
+use Rattle.task_board.specs.Step.{Answers, taken, Returns}
+use Rattle.task_board.specs.Sound.{IsBoard}
+use Rattle.task_board.specs.Loans.{Lent, loan_of, FitsTask, Fits}
+use Rattle.task_board.specs.Tickets.{Lends}
+use Rattle.task_board.specs.Inside.Plans.{CreatePrepared, StartPrepared}
+use Rattle.task_board.specs.Inside.Shown.{board_state_of, board_of}
+use Rattle.task_board.proofs.EntryLemmas.{none_is_not, some_is, change_length, put_length, named, in_slot, changed_in}
+use Rattle.task_board.proofs.SlabLemmas.{in_slab, changed, inserted, count}
+use Rattle.task_board.proofs.StepLemmas.{few_tasks, create_answers, starts_created, created_only, lends_sound, takes, GoForward, StopFirst, returns, returned_sound}
+
+-- the tables with another slab of tasks
+abbrev pub with_slab : tables.Inside → Slab Task → tables.Inside
+with_slab b s = record { contents = b.contents; tasks = s; creates = b.creates }
+
+abbrev pub with_write : tables.Inside → ℕ → Task → tables.Inside
+with_write b k t = with_slab b (with_value b.tasks k t)
+
+-- ---- a write in a slot
+
+pub there : (b : tables.Inside) (k : ℕ) (t : Task) → get b.tasks k ≡ Some t → task_in k (board_state_of b).tasks ≡ Some t
+there b k t h = in_slab b.tasks k ∙ h
+
+pub nothing_there : (b : tables.Inside) (k : ℕ) (t : Task) → get b.tasks k ≡ None → task_in k (board_state_of b).tasks ≡ Some t → ⊥
+nothing_there b k t h is = none_is_not t (sym h ∙ (sym (in_slab b.tasks k) ∙ is))
+
+pub same_there : (b : tables.Inside) (k : ℕ) (t u : Task) → get b.tasks k ≡ Some t → task_in k (board_state_of b).tasks ≡ Some u → t ≡ u
+same_there b k t u h is = some_is t u (sym h ∙ (sym (in_slab b.tasks k) ∙ is))
+
+pub written : (b : tables.Inside) (k : ℕ) (old new : Task) → IsBoard (board_state_of b) → get b.tasks k ≡ Some old → old.id ≡ new.id
+    → board_state_of (with_write b k new) ≡ with_task (board_state_of b) new
+written b k old new sound h same = ap (λ (es : Entries). record (board_state_of b) { tasks = es }) (sym (changed b.tasks k old new h same sound.ids))
+
+pub write_keeps : (b : tables.Inside) (k : ℕ) (new : Task) → board_state_of (with_write b k new) ≡ with_task (board_state_of b) new
+    → KeepsCapacity (board_of b) (board_of (with_write b k new))
+write_keeps b k new is = record {
+  contents = refl;
+  tasks =
+      let same : length (entries (with_value b.tasks k new)) ≡ length (entries b.tasks) = ap (λ (s : BoardState). length s.tasks) is ∙ change_length new (entries b.tasks) in
+      ap (λ (n : ℕ). n + (b.tasks.capacity - n)) same;
+}
+
+-- ---- take
+
+pub lent_from : (b : tables.Inside) (ticket : Ticket) (budget : ℕ) (t new : Task) (l : Lent) → IsBoard (board_state_of b) → get b.tasks ticket.slot ≡ Some t
+    → t.incarnation ≡ ticket.incarnation → can_lend t ≡ true → l ≡ loan_of ticket.slot budget t → new ≡ lent t budget
+    → Lends (board_state_of b) ticket budget l (board_state_of (with_write b ticket.slot new))
+lent_from b ticket budget t new l sound h of can loan is = record {
+  task = t;
+  can = record { there = there b ticket.slot t h; of = of; ready = can };
+  loan = loan;
+  leaves = written b ticket.slot t new sound h (ap (λ (u : Task). u.id) (sym is)) ∙ ap (with_task (board_state_of b)) is;
+}
+
+pub lends_keeps_sound : (s : BoardState) (ticket : Ticket) (budget : ℕ) (l : Lent) (s' : BoardState) → IsBoard s → (1 ≤ budget) × (budget ≤ max_budget)
+    → Lends s ticket budget l s' → IsBoard s'
+lends_keeps_sound s ticket budget l s' b low is =
+    subst IsBoard (sym is.leaves) (lends_sound s ticket.slot is.task budget b is.can.there is.can.ready low)
+
+pub lends_is_taken : (s : BoardState) (ticket : Ticket) (budget : ℕ) (l : Lent) (s' : BoardState) → IsBoard s → (1 ≤ budget) × (budget ≤ max_budget)
+    → Lends s ticket budget l s' → taken s l.id budget ≡ Some s'
+lends_is_taken s ticket budget l s' b low is =
+    takes s ticket.slot is.task l.id budget b is.can.there is.can.ready low (ap (λ (x : Lent). x.id) is.loan) ∙ ap (λ (x : BoardState). Some x) (sym is.leaves)
+
+-- ---- start
+
+pub start_there : (b : tables.Inside) (slot : ℕ) (id : List ℕ) → IsBoard (board_state_of b) → (p : StartPrepared (board_state_of b) slot id) → get b.tasks slot ≡ Some p.task
+start_there b slot id sound p = sym (in_slab b.tasks slot) ∙ in_slot id (slot, p.task) (board_state_of b).tasks sound.slots p.found
+
+pub start_created : (s : BoardState) (slot : ℕ) (id : List ℕ) → (p : StartPrepared s slot id) → p.task.status ≡ Created
+start_created s slot id p = created_only p.task.status (starts_created id p.task p.accepted).1
+
+start_answers_by : (s : BoardState) (id : List ℕ) (slot : ℕ) (t : Task) → entry_of id s.tasks ≡ Some (slot, t)
+    → first_refusal (task_refusals id start_refusals (Some t)) ≡ None → Answers s (request.Start id) (Ok (reply.Start t.id (started t).status)) (with_task s (started t))
+start_answers_by s id slot t found accepted =
+    let at : task_of id s.tasks ≡ Some t = ap (option_map (λ (e : ℕ × Task). e.1)) found in
+    let r : Result Reply _ = Ok (reply.Start t.id (started t).status) in
+    let P : Option Task → Type 0 = λ o. Rattle.task_board.specs.Step.OnFound id start_refusals (λ u. reply.Start u.id (started u).status) (λ u. with_task s (started u)) o s r (with_task s (started t)) in
+    let Q : Option _ → Type 0 = λ e. Rattle.task_board.specs.Step.DecidedBy e ((r ≡ Ok (reply.Start t.id (started t).status)) × (with_task s (started t) ≡ with_task s (started t))) s r (with_task s (started t)) in
+    subst P (sym at) (subst Q (sym accepted) (refl, refl))
+
+pub start_answers : (s : BoardState) (slot : ℕ) (id : List ℕ) (new : Task) (s' : BoardState) → (p : StartPrepared s slot id) → new ≡ started p.task → s' ≡ with_task s new
+    → Answers s (request.Start id) (Ok (reply.Start id new.status)) s'
+start_answers s slot id new s' p is leaves =
+    let done = start_answers_by s id slot p.task p.found p.accepted in
+    let name : p.task.id ≡ id = named id s.tasks (slot, p.task) p.found in
+    let same : s' ≡ with_task s (started p.task) = leaves ∙ ap (with_task s) is in
+    let a = subst (λ (x : List ℕ). Answers s (request.Start id) (Ok (reply.Start x (started p.task).status)) (with_task s (started p.task))) name done in
+    let d = subst (λ (u : Task). Answers s (request.Start id) (Ok (reply.Start id u.status)) (with_task s (started p.task))) (sym is) a in
+    subst (λ (x : BoardState). Answers s (request.Start id) (Ok (reply.Start id new.status)) x) (sym same) d
+
+-- what a start in a slot does
+pub record IsStartedThere (b : tables.Inside) (slot : ℕ) (id : List ℕ) (new : Task) : Type 0 where
+  pub answers : Answers (board_state_of b) (request.Start id) (Ok (reply.Start id new.status)) (board_state_of (with_write b slot new))
+  pub capacity : KeepsCapacity (board_of b) (board_of (with_write b slot new))
+
+pub started_there : (b : tables.Inside) (slot : ℕ) (id : List ℕ) (old new : Task) → IsBoard (board_state_of b) → (p : StartPrepared (board_state_of b) slot id)
+    → get b.tasks slot ≡ Some old → new ≡ started old → IsStartedThere b slot id new
+started_there b slot id old new sound p here is =
+    let same : old ≡ p.task = some_is old p.task (sym here ∙ start_there b slot id sound p) in
+    let leaves = written b slot old new sound here (ap (λ (u : Task). u.id) (sym is)) in
+    record {
+      answers = start_answers (board_state_of b) slot id new (board_state_of (with_write b slot new)) p (is ∙ ap started same) leaves;
+      capacity = write_keeps b slot new leaves;
+    }
+
+-- ---- create
+
+pub room_for_task : (b : tables.Inside) (r : Request) (t : Task) (id : List ℕ) → 64 ≤ b.tasks.capacity → CreatePrepared (board_state_of b) r t id → HasRoomFor b.tasks 1
+room_for_task b r t id room p =
+    let few = few_tasks (board_state_of b) p.config id p.accepted in
+    let n = count b.tasks in
+    omega (arith, few, n, room)
+
+-- the tables with a task more
+abbrev pub with_insert : tables.Inside → Slab Task → tables.Inside
+with_insert b s = record { contents = b.contents; tasks = s; creates = b.creates + 1 }
+
+pub inserted_leaves : (b : tables.Inside) (new : Slab Task) (key : ℕ) (t : Task) → get b.tasks key ≡ None → Updates b.tasks new key (Some t)
+    → board_state_of (with_insert b new) ≡ with_new_task (board_state_of b) key t
+inserted_leaves b new key t free updates =
+    ap (λ (es : Entries). record (board_state_of b) { tasks = es; creates = b.creates + 1 }) (inserted b.tasks new key t free updates)
+
+pub inserted_answers : (b : tables.Inside) (new : Slab Task) (key : ℕ) (t : Task) (r : Request) (id : List ℕ) → get b.tasks key ≡ None → Updates b.tasks new key (Some t)
+    → CreatePrepared (board_state_of b) r t id → Answers (board_state_of b) r (Ok (reply.Create id Created)) (board_state_of (with_insert b new))
+inserted_answers b new key t r id free updates p =
+    create_answers (board_state_of b) r t id key (board_state_of (with_insert b new)) p (in_slab b.tasks key ∙ free) (inserted_leaves b new key t free updates)
+
+pub insert_keeps : (b : tables.Inside) (new : Slab Task) (key : ℕ) (t : Task) → get b.tasks key ≡ None → Updates b.tasks new key (Some t)
+    → HasRoomFor b.tasks 1 → new.capacity ≡ b.tasks.capacity → KeepsCapacity (board_of b) (board_of (with_insert b new))
+insert_keeps b new key t free updates room capacity = record {
+  contents = refl;
+  tasks =
+      let more : length (entries new) ≡ suc (length (entries b.tasks)) = ap (λ (es : Entries). length es) (inserted b.tasks new key t free updates) ∙ put_length key t (entries b.tasks) in
+      let n = count b.tasks in
+      omega (arith, more, n, room, capacity);
+}
+
+-- ---- the loan of a task
+
+pub fits_there : (b : tables.Inside) (l : Lent) (t : Task) (r : Bool) → get b.tasks l.slot ≡ Some t → IsTrue r ↔ FitsTask l t → IsTrue r ↔ Fits l (board_state_of b).tasks
+fits_there b l t r here is =
+    (λ yes. (t, there b l.slot t here, is.0 yes), λ f. is.1 (subst (FitsTask l) (sym (same_there b l.slot t f.0 here f.1)) f.2))
+
+pub fits_nowhere : (b : tables.Inside) (l : Lent) → get b.tasks l.slot ≡ None → Fits l (board_state_of b).tasks → ⊥
+fits_nowhere b l none f = nothing_there b l.slot f.0 none f.1
+
+-- ---- return
+
+-- what a return in a slot does
+pub record IsBackThere (b : tables.Inside) (l : Lent) (new : Task) : Type 0 where
+  pub leaves : board_state_of (with_write b l.slot new) ≡ with_task (board_state_of b) new
+  pub home : Returns (board_state_of b) (task_of l.id (board_state_of b).tasks) (board_state_of (with_write b l.slot new))
+  pub sound : IsBoard (board_state_of (with_write b l.slot new))
+  pub there : task_in l.slot (board_state_of (with_write b l.slot new)).tasks ≡ Some new
+
+pub back_there : (b : tables.Inside) (l : Lent) (t new : Task) → GoForward → StopFirst → IsBoard (board_state_of b) → get b.tasks l.slot ≡ Some t → FitsTask l t
+    → new ≡ advanced t (slice_turns t l.budget) → IsBackThere b l new
+back_there b l t new forward first sound here fits is =
+    let s = board_state_of b in
+    let at = there b l.slot t here in
+    let same_id : t.id ≡ new.id = ap (λ (u : Task). u.id) (sym is) in
+    let leaves = written b l.slot t new sound here same_id in
+    let by_turns : board_state_of (with_write b l.slot new) ≡ with_task s (advanced t (slice_turns t l.budget)) = leaves ∙ ap (with_task s) is in
+    record {
+      leaves = leaves;
+      home = returns s l.slot t l.id l.budget (board_state_of (with_write b l.slot new)) forward first sound at (ap (λ (x : Lent). x.id) fits.0) fits.1 by_turns;
+      sound = subst IsBoard (sym by_turns) (returned_sound s l.slot t (slice_turns t l.budget) sound at);
+      there = ap (λ (x : BoardState). task_in l.slot x.tasks) leaves ∙ changed_in new t l.slot s.tasks sound.ids at same_id;
+    }
+
+-- the task that a loan fits is the one in its slot
+pub fits_here : (b : tables.Inside) (l : Lent) (t : Task) → get b.tasks l.slot ≡ Some t → Fits l (board_state_of b).tasks → FitsTask l t
+fits_here b l t here f = subst (FitsTask l) (sym (same_there b l.slot t f.0 here f.1)) f.2

@@ -1,0 +1,118 @@
+-- The abstract board: what a call can see of contents, leases and tasks.
+use Rattle.std.specs.Prelude.{ℕ, ◌+◌, ◌++◌, List, [], ◌∷◌, bytes_eq, nat_eq, nat_lt, if◌then◌else◌, Option, Some, None, option_map}
+use Rattle.wasm_ast.specs.declared.module.Module.{Module}
+use Rattle.step_machine.specs.declared.process.ProcessConfig.{ProcessConfig}
+use Rattle.wasm_ast.specs.declared.place.Place.{Place}
+use Rattle.task_board.specs.declared.status.Status.{Status}
+use Rattle.task_board.specs.declared.status.Status.TheVariants.{Created}
+use Rattle.task_board.specs.declared.status.Signal.{Signal}
+use Rattle.task_board.specs.declared.status.ExitRecord.{ExitRecord}
+use Rattle.task_board.specs.Identifiers.{digest_of}
+
+-- bytes that are stored under their digest
+pub record Content : Type 0 where
+  pub digest : List ℕ
+  pub bytes : List ℕ
+
+-- a lease, and the digests of its members
+pub record Lease : Type 0 where
+  pub name : List ℕ
+  pub members : List (List ℕ)
+
+-- A task. Its configuration after n turns is that of its module under its process (step_machine).
+pub record Task : Type 0 where
+  pub id : List ℕ
+  -- how many creates the board had accepted before it
+  pub incarnation : ℕ
+  -- the stored bytes that it was created from, and the module that they spell
+  pub bytes : List ℕ
+  pub «module» : Module
+  -- as configured; its digest is that of the stored bytes
+  pub process : ProcessConfig
+  -- how many turns it has made; while its slice is out, how many it had made before
+  pub turns : ℕ
+  pub status : Status
+  pub breaks : List Place
+  -- the budget of its slice, while that is out
+  pub out : Option ℕ
+  -- the signal that will end it, while its slice is out
+  pub signal : Option Signal
+  -- how it ended
+  pub end : Option ExitRecord
+
+-- a task as it was created, with nothing done yet
+abbrev pub created_task : (id : List ℕ) → (incarnation : ℕ) → (bytes : List ℕ) → Module → ProcessConfig → Task
+created_task id incarnation bytes m p = record {
+  id = id;
+  incarnation = incarnation;
+  bytes = bytes;
+  «module» = m;
+  process = p;
+  turns = 0;
+  status = Created;
+  breaks = [];
+  out = None;
+  signal = None;
+  end = None;
+}
+
+-- tasks, each with its slot, by rising slot
+abbrev pub Entries : Type 0
+Entries = List (ℕ × Task)
+
+pub record BoardState : Type 0 where
+  -- in order of arrival
+  pub contents : List Content
+  pub leases : List Lease
+  pub tasks : Entries
+  -- how many creates were accepted
+  pub creates : ℕ
+
+-- a board to which nothing has happened
+abbrev pub empty : BoardState
+empty = record { contents = []; leases = []; tasks = []; creates = 0 }
+
+-- ---- contents
+
+-- the bytes that are stored under a digest
+abbrev pub content_in : List Content → (digest : List ℕ) → Option (List ℕ)
+content_in [] digest = None
+content_in (c ∷ cs) digest = if bytes_eq c.digest digest then Some c.bytes else content_in cs digest
+
+-- the board with these bytes stored, after all others
+abbrev pub with_content : BoardState → (bytes : List ℕ) → BoardState
+with_content s bytes =
+    record s { contents = s.contents ++ record { digest = digest_of bytes; bytes = bytes } ∷ [] }
+
+-- ---- tasks
+
+-- the task in a slot
+abbrev pub task_in : ℕ → Entries → Option Task
+task_in slot [] = None
+task_in slot (e ∷ es) = if nat_eq e.0 slot then Some e.1 else task_in slot es
+
+-- the task with an id, and its slot
+abbrev pub entry_of : (id : List ℕ) → Entries → Option (ℕ × Task)
+entry_of id [] = None
+entry_of id (e ∷ es) = if bytes_eq e.1.id id then Some e else entry_of id es
+
+abbrev pub task_of : (id : List ℕ) → Entries → Option Task
+task_of id es = option_map (λ (e : ℕ × Task). e.1) (entry_of id es)
+
+-- the entries with one more, in the order of their slots
+abbrev pub put_task : ℕ → Task → Entries → Entries
+put_task slot t [] = (slot, t) ∷ []
+put_task slot t (e ∷ es) = if nat_lt slot e.0 then (slot, t) ∷ e ∷ es else e ∷ put_task slot t es
+
+-- the entries with the task of this one's id changed to it
+abbrev pub change_task : Task → Entries → Entries
+change_task t [] = []
+change_task t (e ∷ es) = if bytes_eq e.1.id t.id then (e.0, t) ∷ es else e ∷ change_task t es
+
+-- the board with the task of this one's id changed to it
+abbrev pub with_task : BoardState → Task → BoardState
+with_task s t = record s { tasks = change_task t s.tasks }
+
+-- the board with a new task in a slot; each accepted create is counted
+abbrev pub with_new_task : BoardState → ℕ → Task → BoardState
+with_new_task s slot t = record s { tasks = put_task slot t s.tasks; creates = s.creates + 1 }

@@ -1,0 +1,21 @@
+-- What contracts see of a board.
+use Rattle.std.specs.Prelude.{◌≡◌, ℕ, ◌+◌, List, length}
+use Rattle.task_board.specs.declared.ticket.Ticket.{Ticket}
+use Rattle.task_board.specs.BoardState.{BoardState}
+
+-- how many more contents and tasks fit with no memory taken
+pub record Room : Type 0 where
+  pub contents : ℕ
+  pub tasks : ℕ
+
+-- What contracts see of a board: the abstract board, the tasks that wait for a worker (the oldest first),
+-- and the room.
+pub record BoardValue : Type 0 where
+  pub state : BoardState
+  pub waiting : List Ticket
+  pub room : Room
+
+-- no memory was taken for contents or tasks
+pub record KeepsCapacity (b b' : BoardValue) : Type 0 where
+  pub contents : length b'.state.contents + b'.room.contents ≡ length b.state.contents + b.room.contents
+  pub tasks : length b'.state.tasks + b'.room.tasks ≡ length b.state.tasks + b.room.tasks

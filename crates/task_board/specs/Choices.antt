@@ -1,0 +1,33 @@
+-- The choices that are open, and no others.
+use Rattle.std.specs.Prelude.{◌≡◌, ℕ, ◌⊎◌, Ok, Err}
+use Rattle.wasm_ast.specs.declared.refusal.Refusal.{Refusal}
+use Rattle.wasm_ast.specs.declared.refusal.Refusal.TheVariants as refusal
+use Rattle.task_board.specs.declared.event.Event.{Event}
+use Rattle.task_board.specs.declared.event.Event.TheVariants as event
+use Rattle.task_board.specs.declared.request.Request.TheVariants as request
+use Rattle.task_board.specs.BoardState.{Task, BoardState, with_new_task}
+use Rattle.task_board.specs.Step.{Answer}
+
+-- the events whose answer and effect are determined by the board: all but create
+abbrev pub IsDetermined : Event → Type 0
+IsDetermined (event.Call (request.Create config id)) = ⊥
+IsDetermined other = Unit {0}
+
+-- one of the two is BadModule and the other Limit
+abbrev pub AreEither : Refusal → Refusal → Type 0
+AreEither e e' = ((e ≡ refusal.BadModule) × (e' ≡ refusal.Limit)) ⊎ ((e ≡ refusal.Limit) × (e' ≡ refusal.BadModule))
+
+-- two refusals of one create: the same; or BadModule and Limit, of bytes that spell no module and pass a
+-- limit; or Invalid in place of the other, since nothing is claimed of the validator's no
+abbrev pub AgreeOnRefusal : Refusal → Refusal → Type 0
+AgreeOnRefusal e e' = (e ≡ e') ⊎ (AreEither e e' ⊎ ((e ≡ refusal.Invalid) ⊎ (e' ≡ refusal.Invalid)))
+
+-- two answers to one create on one board, and the boards that they leave. If one is accepted and the
+-- other not, the refusal is Invalid; if both are, it is with the same task, each in an empty slot of its
+-- choice
+abbrev pub AgreeOnCreate : BoardState → Answer → BoardState → Answer → BoardState → Type 0
+AgreeOnCreate s (Err e) s1 (Err e') s2 = (s1 ≡ s) × (s2 ≡ s) × AgreeOnRefusal e e'
+AgreeOnCreate s (Err e) s1 (Ok r') s2 = (s1 ≡ s) × (e ≡ refusal.Invalid)
+AgreeOnCreate s (Ok r) s1 (Err e') s2 = (s2 ≡ s) × (e' ≡ refusal.Invalid)
+AgreeOnCreate s (Ok r) s1 (Ok r') s2 =
+    (r ≡ r') × (t : Task) × (k : ℕ) × (k' : ℕ) × (s1 ≡ with_new_task s k t) × (s2 ≡ with_new_task s k' t)

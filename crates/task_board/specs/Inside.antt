@@ -1,0 +1,6 @@
+-- What only private clauses and invariants name.
+pub mod Machines
+pub mod Shown
+pub mod Kept
+pub mod Plans
+pub mod Covers

@@ -1,0 +1,78 @@
+-- What a request is prepared as.
+use Rattle.std.specs.Prelude.{◌≡◌, ◌≢◌, ℕ, ◌<◌, List, [], ◌∷◌, not, true, Option, None, Some, is_some, Ok, Err}
+use Rattle.wasm_ast.specs.declared.module.Module.{Module}
+use Rattle.wasm_ast.specs.declared.refusal.Refusal.{Refusal}
+use Rattle.wasm_ast.specs.declared.refusal.Refusal.TheVariants as refusal
+use Rattle.step_machine.specs.declared.process.ProcessConfig.{ProcessConfig}
+use Rattle.task_board.specs.declared.prepared.Plan.{Plan}
+use Rattle.task_board.specs.declared.prepared.Plan.TheVariants as plan
+use Rattle.task_board.specs.declared.request.Request.{Request}
+use Rattle.task_board.specs.declared.request.Request.TheVariants as request
+use Rattle.task_board.specs.declared.lifecycle.TaskCall.{TaskCall}
+use Rattle.task_board.specs.Lifecycle.{allowed}
+use Rattle.task_board.specs.Identifiers.{is_id, digest_of}
+use Rattle.task_board.specs.Config.{process_read}
+use Rattle.task_board.specs.BoardState.{Content, Task, created_task, BoardState, content_in, entry_of, task_of}
+use Rattle.task_board.specs.Refusals.{Refusals, is_full, first_refusal, put_refusals, create_refusals, start_refusals, task_refusals, Openable, CannotOpen}
+use Rattle.task_board.specs.Step.{Answers}
+
+-- those of a create that concern its id alone
+abbrev pub id_refusals : BoardState → (id : List ℕ) → Refusals
+id_refusals s id =
+    (not (is_id id), refusal.BadId)
+    ∷ (is_some (task_of id s.tasks), refusal.Exists)
+    ∷ (is_full s, refusal.TooMany)
+    ∷ []
+
+-- this task has the id, and its status allows the call
+pub record IsAllowed (s : BoardState) (id : List ℕ) (c : TaskCall) (e : ℕ × Task) : Type 0 where
+  pub named : is_id id ≡ true
+  pub found : entry_of id s.tasks ≡ Some e
+  pub allowed : allowed c e.1.status ≡ true
+
+-- why a call of the task with this id is refused
+abbrev pub RefusesTask : BoardState → (id : List ℕ) → TaskCall → (refused e : Refusal) → Type 0
+RefusesTask s id c refused e =
+    first_refusal (task_refusals id (λ t. (not (allowed c t.status), refused) ∷ []) (task_of id s.tasks)) ≡ Some e
+
+-- a content that may be stored, in the room for that number of contents
+pub record PutPrepared (s : BoardState) (free : ℕ) (content : Content) (digest : List ℕ) : Type 0 where
+  pub accepted : first_refusal (put_refusals s content.bytes) ≡ None
+  pub named : content.digest ≡ digest_of content.bytes
+  pub answered : digest ≡ digest_of content.bytes
+  pub room : 0 < free
+
+-- a task that may enter in answer to a request
+pub record CreatePrepared (s : BoardState) (r : Request) (task : Task) (id : List ℕ) : Type 0 where
+  pub config : List ℕ
+  pub is : r ≡ request.Create config id
+  pub accepted : first_refusal (create_refusals s config id) ≡ None
+  pub read : process_read config ≡ Some task.process
+  pub content : content_in s.contents task.process.module ≡ Some task.bytes
+  pub openable : Openable task.bytes task.process task.module
+  pub created : task ≡ created_task id s.creates task.bytes task.module task.process
+
+-- a task in a slot that may be started
+pub record StartPrepared (s : BoardState) (slot : ℕ) (id : List ℕ) : Type 0 where
+  pub task : Task
+  pub found : entry_of id s.tasks ≡ Some (slot, task)
+  pub accepted : first_refusal (task_refusals id start_refusals (Some task)) ≡ None
+
+-- a task is prepared so from stored bytes under a process
+abbrev pub PlansTask : BoardState → (id bytes : List ℕ) → ProcessConfig → Plan → Type 0
+PlansTask s id bytes p (plan.Refused e) = (e ≢ refusal.NoMemory) × CannotOpen bytes p e
+PlansTask s id bytes p (plan.Create task answered) =
+    (answered ≡ id) × (m : Module) × Openable bytes p m × (task ≡ created_task id s.creates bytes m p)
+PlansTask s id bytes p other = ⊥
+
+-- the request is prepared so on a board with that state and room for that number of contents
+abbrev pub Plans : BoardState → (room : ℕ) → Request → Plan → Type 0
+Plans s room r (plan.Refused e) = (e ≢ refusal.NoMemory) × Answers s r (Err e) s
+Plans s room r (plan.Answered reply) = Answers s r (Ok reply) s
+Plans s room r (plan.Put content digest) = (r ≡ request.Put content.bytes) × PutPrepared s room content digest
+Plans s room r (plan.Create task id) = CreatePrepared s r task id
+Plans s room r (plan.Start slot id) = (r ≡ request.Start id) × StartPrepared s slot id
+
+abbrev pub refusal_in : Plan → Option Refusal
+refusal_in (plan.Refused e) = Some e
+refusal_in other = None

@@ -1,0 +1,57 @@
+-- What contracts see of tables, tasks and loans.
+use Rattle.std.specs.Prelude.{ℕ, ◌-◌, [], length, false, is_some, vec_capacity}
+use Rattle.std.specs.Arc.{arc_value}
+use Rattle.task_board.specs.declared.checkout.Checkout.{Checkout}
+use Rattle.task_board.specs.declared.loan.Loan.TheInside as loan
+use Rattle.task_board.specs.declared.task.Task.TheInside as task
+use Rattle.task_board.specs.declared.tables.Tables.TheInside as tables
+use Rattle.slab.specs.Slab.{entries}
+use Rattle.task_board.specs.BoardState.{Task, BoardState}
+use Rattle.task_board.specs.BoardValue.{BoardValue}
+use Rattle.task_board.specs.Loans.{Lent}
+
+-- a loan that is made with this
+abbrev pub lent_with : (slot incarnation turns budget : ℕ) → Checkout → Lent
+lent_with slot incarnation turns budget c = record {
+  slot = slot;
+  incarnation = incarnation;
+  id = (arc_value c.shared).id;
+  bytes = arc_value (arc_value c.shared).bytes;
+  «module» = (arc_value c.shared).valid;
+  process = (arc_value c.shared).process;
+  turns = turns;
+  breaks = arc_value c.breaks;
+  budget = budget;
+  ran = false;
+}
+
+abbrev pub lent_of : loan.Inside → Lent
+lent_of l = record (lent_with l.slot l.incarnation l.turns l.budget l.checkout) { ran = is_some l.outcome }
+
+abbrev pub task_of : task.Inside → Task
+task_of t = record {
+  id = (arc_value t.shared).id;
+  incarnation = t.incarnation;
+  bytes = arc_value (arc_value t.shared).bytes;
+  «module» = (arc_value t.shared).valid;
+  process = (arc_value t.shared).process;
+  turns = t.turns;
+  status = t.status;
+  breaks = arc_value t.breaks;
+  out = t.out;
+  signal = t.signal;
+  end = t.end;
+}
+
+abbrev pub board_state_of : tables.Inside → BoardState
+board_state_of b = record { contents = b.contents.items; leases = []; tasks = entries b.tasks; creates = b.creates }
+
+abbrev pub board_of : tables.Inside → BoardValue
+board_of b = record {
+  state = board_state_of b;
+  waiting = [];
+  room = record {
+    contents = vec_capacity b.contents - length b.contents.items;
+    tasks = b.tasks.capacity - length (entries b.tasks);
+  };
+}

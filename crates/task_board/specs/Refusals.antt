@@ -1,0 +1,106 @@
+-- The refusals of each request, in the order in which they are tried.
+use Rattle.std.specs.Prelude.{◌≡◌, ℕ, ◌≤◌, List, [], ◌∷◌, length, bytes_eq, nat_le, nat_lt, Bool, true, false, not, ◌||◌, if◌then◌else◌, Option, Some, None, is_some, is_none, option_and_then}
+use Rattle.wasm_ast.specs.declared.module.Module.{Module}
+use Rattle.wasm_ast.specs.declared.refusal.Refusal.{Refusal}
+use Rattle.wasm_ast.specs.declared.refusal.Refusal.TheVariants as refusal
+use Rattle.wasm_ast.specs.Limits.{max_module_bytes, Within}
+use Rattle.wasm_binary.specs.Grammar.{Spells}
+use Rattle.wasm_binary.specs.Limits.{Over}
+use Rattle.step_machine.specs.declared.process.ProcessConfig.{ProcessConfig}
+use Rattle.step_machine.specs.Typing.{ValidModule}
+use Rattle.step_machine.specs.Instantiation.{instantiation_refusal}
+use Rattle.task_board.specs.declared.lifecycle.TaskCall.TheVariants as call
+use Rattle.task_board.specs.Limits.{max_contents, max_tasks, max_creates}
+use Rattle.task_board.specs.Identifiers.{is_id, digest_of}
+use Rattle.task_board.specs.Config.{process_read}
+use Rattle.task_board.specs.Lifecycle.{allowed}
+use Rattle.task_board.specs.BoardState.{Task, BoardState, content_in, task_of}
+
+-- refusals, each with the condition under which it is answered
+abbrev pub Refusals : Type 0
+Refusals = List (Bool × Refusal)
+
+-- the first whose condition holds
+abbrev pub first_refusal : Refusals → Option Refusal
+first_refusal [] = None
+first_refusal (c ∷ cs) = if c.0 then Some c.1 else first_refusal cs
+
+-- ---- contents
+
+abbrev pub is_bytes : List ℕ → Option (List ℕ) → Bool
+is_bytes bytes None = false
+is_bytes bytes (Some stored) = bytes_eq stored bytes
+
+-- other bytes are stored under the same digest
+abbrev pub has_conflict : Option (List ℕ) → (bytes : List ℕ) → Bool
+has_conflict None bytes = false
+has_conflict (Some stored) bytes = not (bytes_eq stored bytes)
+
+abbrev pub put_refusals : BoardState → (bytes : List ℕ) → Refusals
+put_refusals s bytes =
+    (nat_lt max_module_bytes (length bytes), refusal.Limit)
+    ∷ (is_bytes bytes (content_in s.contents (digest_of bytes)), refusal.Exists)
+    ∷ (has_conflict (content_in s.contents (digest_of bytes)) bytes, refusal.DigestConflict)
+    ∷ (nat_le max_contents (length s.contents), refusal.TooMany)
+    ∷ []
+
+-- ---- create
+
+-- no other task can be created
+abbrev pub is_full : BoardState → Bool
+is_full s = nat_le max_tasks (length s.tasks) || nat_le max_creates s.creates
+
+-- the stored bytes of the module that a config names
+abbrev pub named_bytes : BoardState → (config : List ℕ) → Option (List ℕ)
+named_bytes s config = option_and_then (λ (p : ProcessConfig). content_in s.contents p.module) (process_read config)
+
+-- those before the bytes are read
+abbrev pub create_refusals : BoardState → (config id : List ℕ) → Refusals
+create_refusals s config id =
+    (not (is_id id), refusal.BadId)
+    ∷ (is_some (task_of id s.tasks), refusal.Exists)
+    ∷ (is_full s, refusal.TooMany)
+    ∷ (is_none (process_read config), refusal.BadConfig)
+    ∷ (is_none (named_bytes s config), refusal.NoContent)
+    ∷ []
+
+-- the bytes spell this module, within the limits of the profile
+pub record IsSpelled (bytes : List ℕ) (m : Module) : Type 0 where
+  pub spells : Spells bytes m
+  pub within : Within m
+  pub short : length bytes ≤ max_module_bytes
+
+-- why no task can be created from bytes under a process
+pub data CannotOpen (bytes : List ℕ) (p : ProcessConfig) : Refusal → Type 0 where
+  -- they spell no module
+  no_module : ((m : Module) → Spells bytes m → ⊥) → CannotOpen bytes p refusal.BadModule
+  -- they pass a limit, and spell no module within the limits
+  too_much : Over bytes → ((m : Module) → IsSpelled bytes m → ⊥) → CannotOpen bytes p refusal.Limit
+  -- nothing is claimed of a module that the validator refuses: it may have a typing
+  doubted : (m : Module) → IsSpelled bytes m → CannotOpen bytes p refusal.Invalid
+  -- a valid module that cannot be instantiated under the process
+  refused :
+      (m : Module) → (e : Refusal) → IsSpelled bytes m → ValidModule m → instantiation_refusal m p ≡ Some e
+      → CannotOpen bytes p e
+
+-- the bytes spell a valid module that can be instantiated under the process
+pub record Openable (bytes : List ℕ) (p : ProcessConfig) (m : Module) : Type 0 where
+  pub spelled : IsSpelled bytes m
+  pub valid : ValidModule m
+  pub opens : instantiation_refusal m p ≡ None
+
+-- ---- requests to a task
+
+abbrev pub start_refusals : Task → Refusals
+start_refusals t = (not (allowed call.Start t.status), refusal.WrongStatus) ∷ []
+
+abbrev pub state_refusals : Task → Refusals
+state_refusals t = []
+
+abbrev pub wait_refusals : Task → Refusals
+wait_refusals t = (not (allowed call.Wait t.status), refusal.Busy) ∷ []
+
+-- the id is malformed, then no task has it, then the request's own
+abbrev pub task_refusals : (id : List ℕ) → (own : Task → Refusals) → Option Task → Refusals
+task_refusals id own None = (not (is_id id), refusal.BadId) ∷ (true, refusal.NotFound) ∷ []
+task_refusals id own (Some t) = (not (is_id id), refusal.BadId) ∷ own t

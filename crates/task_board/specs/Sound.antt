@@ -1,0 +1,71 @@
+-- What holds of every board that events lead to.
+use Rattle.std.specs.Prelude.{◌≡◌, ◌≢◌, ℕ, ◌<◌, ◌≤◌, List, [], ◌∷◌, map, length, true, Some, None, is_some}
+use Rattle.step_machine.specs.Instantiation.{ended}
+use Rattle.wasm_ast.specs.Limits.{max_module_bytes}
+use Rattle.task_board.specs.declared.status.Status.TheVariants.{Created, Pausing}
+use Rattle.task_board.specs.Limits.{max_tasks, max_contents, max_creates, max_budget}
+use Rattle.task_board.specs.Identifiers.{is_id, digest_of}
+use Rattle.task_board.specs.Lifecycle.{takes_turns, is_stopped, is_going}
+use Rattle.task_board.specs.BoardState.{Content, Task, Entries, BoardState}
+use Rattle.task_board.specs.Tasks.{execution_at}
+use Rattle.task_board.specs.Refusals.{Openable}
+
+-- each of them is so
+abbrev pub Each : {X : Type 0} → (X → Type 0) → List X → Type 0
+Each P [] = Unit {0}
+Each P (x ∷ xs) = P x × Each P xs
+
+-- no two of them are the same
+abbrev pub AreDistinct : {X : Type 0} → List X → Type 0
+AreDistinct [] = Unit {0}
+AreDistinct (x ∷ xs) = Each (λ y. x ≢ y) xs × AreDistinct xs
+
+-- each is greater than the one before
+abbrev pub AreRising : List ℕ → Type 0
+AreRising [] = Unit {0}
+AreRising (n ∷ ns) = Each (λ m. n < m) ns × AreRising ns
+
+-- a task of a board that has accepted this number of creates
+pub record IsSound (creates : ℕ) (t : Task) : Type 0 where
+  pub named : is_id t.id ≡ true
+  pub earlier : t.incarnation < creates
+  pub opens : Openable t.bytes t.process t.module
+  pub digest : t.process.module ≡ digest_of t.bytes
+  -- a task that is not started has made no turn
+  pub fresh : t.status ≡ Created → t.turns ≡ 0
+  -- a task that is out is running or pausing, and its slice has a budget; a pausing one is out
+  pub out : is_some t.out ≡ true → takes_turns t.status ≡ true
+  pub budget : (n : ℕ) → t.out ≡ Some n → (1 ≤ n) × (n ≤ max_budget)
+  pub pausing : t.status ≡ Pausing → is_some t.out ≡ true
+  pub signal : is_some t.signal ≡ true → is_some t.out ≡ true
+  -- it is stopped exactly if it has ended; a task that goes on has not halted
+  pub stopped : is_stopped t.status ≡ is_some t.end
+  pub goes : is_going t.status ≡ true → ended (execution_at t t.turns) ≡ None
+
+-- a content is stored under its own digest
+pub record IsContent (c : Content) : Type 0 where
+  pub digest : c.digest ≡ digest_of c.bytes
+  pub short : length c.bytes ≤ max_module_bytes
+
+abbrev pub slots_of : Entries → List ℕ
+slots_of es = map (λ (e : ℕ × Task). e.0) es
+
+abbrev pub ids_of : Entries → List (List ℕ)
+ids_of es = map (λ (e : ℕ × Task). e.1.id) es
+
+abbrev pub incarnations_of : Entries → List ℕ
+incarnations_of es = map (λ (e : ℕ × Task). e.1.incarnation) es
+
+abbrev pub digests_of : List Content → List (List ℕ)
+digests_of cs = map (λ (c : Content). c.digest) cs
+
+pub record IsBoard (s : BoardState) : Type 0 where
+  pub tasks : Each (λ (e : ℕ × Task). IsSound s.creates e.1) s.tasks
+  pub slots : AreRising (slots_of s.tasks)
+  pub ids : AreDistinct (ids_of s.tasks)
+  pub incarnations : AreDistinct (incarnations_of s.tasks)
+  pub contents : Each IsContent s.contents
+  pub digests : AreDistinct (digests_of s.contents)
+  pub few_tasks : length s.tasks ≤ max_tasks
+  pub few_contents : length s.contents ≤ max_contents
+  pub few_creates : s.creates ≤ max_creates
