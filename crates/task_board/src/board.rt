@@ -79,7 +79,8 @@ impl Board {
     // What a put is prepared as.
     fn prepare_put(&mut self, bytes: Bytes) -> Result<Plan, AllocError>
         ensures same { (self.new.state ≡ self.old.state) × (self.new.waiting ≡ self.old.waiting) }
-        ensures ok { IfOk result (λ p. Plans self.new.state self.new.room.contents (request.Put bytes) p) }
+        ensures ok { IfOk result
+            (λ p. Plans self.new.state self.new.room.contents (request.Put bytes) p) }
     {
         let digest = digest_of(self.alloc, bytes.as_slice())?;
         if let Some(refusal) = self.tables.refusal_of_put(&digest, &bytes) {
@@ -127,7 +128,8 @@ impl Board {
         bytes: &Arc<Bytes>,
     ) -> Result<Plan, AllocError>
         requires nothing_written { (process.out ≡ []) × (process.err ≡ []) }
-        ensures { IfOk result (λ p. PlansTask self.now.state id (arc_value bytes.now) (config_of process) p) }
+        ensures { IfOk result
+            (λ p. PlansTask self.now.state id (arc_value bytes.now) (config_of process) p) }
     {
         let config = process.config(self.alloc)?;
         match instantiate(self.alloc, bytes.as_slice(), process) {
@@ -139,7 +141,8 @@ impl Board {
 
     // What a create is prepared as.
     fn prepare_create(&self, config: Text, id: Text) -> Result<Plan, AllocError>
-        ensures { IfOk result (λ p. Plans self.now.state self.now.room.contents (request.Create config id) p) }
+        ensures { IfOk result
+            (λ p. Plans self.now.state self.now.room.contents (request.Create config id) p) }
     {
         if let Some(refusal) = self.tables.refusal_of_id(id.as_str()) {
             return Ok(Plan::Refused(refusal));
@@ -188,7 +191,8 @@ impl Board {
     /// Answers a request, by preparing and applying it. `NoMemory` if an allocation failed, and then
     /// nothing has changed; start, state and wait allocate nothing and are never answered so.
     pub fn call(&mut self, request: Request) -> Result<Reply, Refusal>
-        ensures answers { result ≢ Err Refusal.NoMemory → Answers self.old.state request result self.new.state }
+        ensures answers { result ≢ Err Refusal.NoMemory
+            → Answers self.old.state request result self.new.state }
         ensures no_memory { result ≡ Err Refusal.NoMemory → self.new.state ≡ self.old.state }
         ensures quiet { takes_memory request ≡ false → result ≢ Err Refusal.NoMemory }
         ensures waiting { self.new.waiting ≡ self.old.waiting }
@@ -210,7 +214,8 @@ impl Board {
     pub fn take(&mut self, ticket: Ticket, budget: u64) -> Option<Loan>
         requires { (1 ≤ budget) × (budget ≤ max_budget) }
         ensures some { IfSome result (λ l. Lends self.old.state ticket budget l self.new.state) }
-        ensures step { IfSome result (λ l. Step self.old.state (event.Take l.id budget) (answer.Taken true) self.new.state) }
+        ensures step { IfSome result
+            (λ l. Step self.old.state (event.Take l.id budget) (answer.Taken true) self.new.state) }
         ensures none { IfNone result ((t : TaskValue) → CanLend ticket self.old.state.tasks t → ⊥) }
         ensures same { IfNone result (self.new ≡ self.old) }
         ensures waiting { self.new.waiting ≡ self.old.waiting }
@@ -234,8 +239,10 @@ impl Board {
         requires { loan.ran ≡ true }
         ensures home { Fits loan self.old.state.tasks
             → Step self.old.state (event.Return loan.id) (answer.Returned true) self.new.state }
-        ensures ticket { Fits loan self.old.state.tasks → result ≡ ticket_in loan.slot self.new.state.tasks }
-        ensures unfit { (Fits loan self.old.state.tasks → ⊥) → (self.new ≡ self.old) × (result ≡ None) }
+        ensures ticket { Fits loan self.old.state.tasks
+            → result ≡ ticket_in loan.slot self.new.state.tasks }
+        ensures unfit { (Fits loan self.old.state.tasks → ⊥)
+            → (self.new ≡ self.old) × (result ≡ None) }
         ensures waiting { self.new.waiting ≡ self.old.waiting }
         ensures capacity { KeepsCapacity self.old self.new }
     {

@@ -32,7 +32,8 @@ impl Checkout {
         machine: Box<Machine>,
         shared: &Arc<Shared>,
     ) -> Result<Checkout, AllocError>
-        ensures { IfOk result (λ c. (c.machine ≡ machine) × (arc_value c.shared ≡ arc_value shared.now) × (arc_value c.breaks ≡ [])) }
+        ensures { IfOk result (λ c. (c.machine ≡ machine)
+            × (arc_value c.shared ≡ arc_value shared.now) × (arc_value c.breaks ≡ [])) }
     {
         let breaks = no_breaks(alloc)?;
         let shared = Arc::try_clone(shared)?;

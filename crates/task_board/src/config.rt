@@ -104,7 +104,8 @@ fn are_texts(members: &Map<String, Value>) -> bool
 
 // The texts of a list, if all its items are texts.
 fn texts_in(alloc: Global, items: &Vec<Value>) -> Result<Option<Vec<Text>>, AllocError>
-    ensures { IfOk result (λ o. option_map (λ v. v.items) o ≡ texts_in (items_view items.now.items)) }
+    ensures { IfOk result (λ o. option_map (λ v. v.items) o
+        ≡ texts_in (items_view items.now.items)) }
 {
     let mut texts = Vec::with_capacity(alloc, items.len())?;
     for item in items {
@@ -236,7 +237,8 @@ fn process_of(alloc: Global, config: &Value) -> Result<Option<Process>, AllocErr
 
 // A process that has written nothing, with the default limit on pages and without an environment.
 fn new_process(alloc: Global, digest: &str, args: Vec<Text>) -> Result<Process, AllocError>
-    ensures config { IfOk result (λ p. config_of p ≡ record { «module» = digest.now; args = args.items; env = []; cap = default_pages }) }
+    ensures config { IfOk result (λ p. config_of p
+        ≡ record { «module» = digest.now; args = args.items; env = []; cap = default_pages }) }
     ensures nothing_written { IfOk result (λ p. (p.out ≡ []) × (p.err ≡ [])) }
 {
     Ok(Process {

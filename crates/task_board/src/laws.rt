@@ -18,7 +18,8 @@ use wasm_binary::laws::spells_one;
 
 /// Every board that events lead to is sound, and an event leaves a sound board sound.
 pub fn boards_are_sound()
-    ensures reached { (es : List Event) (rs : List EventReply) (s : BoardState) → Run empty es rs s → IsBoard s }
+    ensures reached { (es : List Event) (rs : List EventReply) (s : BoardState)
+        → Run empty es rs s → IsBoard s }
     ensures kept { (s : BoardState) (e : Event) (r : EventReply) (s' : BoardState)
         → IsBoard s → Happens s e r s' → IsBoard s' }
 {}
@@ -27,7 +28,8 @@ pub fn boards_are_sound()
 /// which only a created one is, that its slice is taken, which only that of a running idle one is, or that
 /// its slice returns.
 pub fn tasks_move()
-    ensures { (s : BoardState) (e : Event) (r : EventReply) (s' : BoardState) → AreRising (slots_of s.tasks)
+    ensures { (s : BoardState) (e : Event) (r : EventReply) (s' : BoardState)
+        → AreRising (slots_of s.tasks)
         → Happens s e r s' → (k : ℕ) (t : Task) → task_in k s.tasks ≡ Some t
         → (t' : Task) × (task_in k s'.tasks ≡ Some t') × Moves t t' }
 {}
@@ -51,14 +53,16 @@ pub fn slices_advance_legally()
 
 /// Contents are never removed, and new ones come after them.
 pub fn contents_grow()
-    ensures { (s : BoardState) (es : List Event) (rs : List EventReply) (s' : BoardState) → Run s es rs s'
+    ensures { (s : BoardState) (es : List Event) (rs : List EventReply) (s' : BoardState)
+        → Run s es rs s'
         → (more : List Content) × (s'.contents ≡ s.contents ++ more) }
 {}
 
 /// The answer to an event, and the board that it leaves, are determined by the board and the event, unless
 /// it is a create or runs out of memory.
 pub fn events_are_determined()
-    ensures { (s : BoardState) (e : Event) (r : EventReply) (s1 : BoardState) (r' : EventReply) (s2 : BoardState)
+    ensures { (s : BoardState) (e : Event)
+        (r : EventReply) (s1 : BoardState) (r' : EventReply) (s2 : BoardState)
         → IsDetermined e → met_no_memory e r ≡ false → met_no_memory e r' ≡ false
         → Happens s e r s1 → Happens s e r' s2 → (r ≡ r') × (s1 ≡ s2) }
 {}
@@ -66,7 +70,8 @@ pub fn events_are_determined()
 /// The answer to a create is determined but for the choices that are open: which of two refusals is told,
 /// and the slot of the task.
 pub fn creates_are_determined()
-    ensures { (s : BoardState) (config id : List ℕ) (r : Answer) (s1 : BoardState) (r' : Answer) (s2 : BoardState)
+    ensures { (s : BoardState) (config id : List ℕ)
+        (r : Answer) (s1 : BoardState) (r' : Answer) (s2 : BoardState)
         → Answers s (request.Create config id) r s1 → Answers s (request.Create config id) r' s2
         → AgreeOnCreate s r s1 r' s2 }
 {

@@ -51,7 +51,8 @@ impl Loan {
         budget: u64,
         checkout: Checkout,
     ) -> Loan
-        requires { IsLoan (lent_with slot incarnation turns budget checkout) checkout.machine.value None }
+        requires { let lent = lent_with slot incarnation turns budget checkout in
+            IsLoan lent checkout.machine.value None }
         ensures { result ≡ lent_with slot incarnation turns budget checkout }
     {
         Loan {
@@ -101,7 +102,8 @@ impl Loan {
 
     // Whether it was taken from a task with these numbers.
     pub(crate) fn is_numbered(&self, incarnation: u64, turns: u64, out: Option<u64>) -> bool
-        ensures { IsTrue result ↔ ((self.now.incarnation ≡ incarnation) × (self.now.turns ≡ turns) × (out ≡ Some self.now.budget)) }
+        ensures { IsTrue result ↔ ((self.now.incarnation ≡ incarnation) × (self.now.turns ≡ turns)
+            × (out ≡ Some self.now.budget)) }
     {
         self.incarnation == incarnation && self.turns == turns && out == Some(self.budget)
     }

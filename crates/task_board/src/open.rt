@@ -16,7 +16,8 @@ use wasm_binary::decode;
 // The valid module that the bytes spell.
 fn valid_of(alloc: Global, bytes: &[u8]) -> Result<Valid, Refusal>
     ensures ok { IfOk result (λ v. IsSpelled bytes.now v × ValidModule v) }
-    ensures refused { (e : Reason) (p : ProcessConfig) → result ≡ Err e → e ≢ reason.NoMemory → CannotOpen bytes.now p e }
+    ensures refused { (e : Reason) (p : ProcessConfig) → result ≡ Err e → e ≢ reason.NoMemory
+        → CannotOpen bytes.now p e }
 {
     let module = decode(alloc, bytes)?;
     validate(alloc, module)
@@ -27,8 +28,10 @@ fn valid_of(alloc: Global, bytes: &[u8]) -> Result<Valid, Refusal>
 pub fn instantiate(alloc: Global, bytes: &[u8], process: Process) -> Result<Machine, Refusal>
     requires nothing_written { (process.out ≡ []) × (process.err ≡ []) }
     ensures opens { IfOk result (λ r. Openable bytes.now (config_of process) r.module) }
-    ensures machine { IfOk result (λ r. r ≡ record { «module» = r.module; process = config_of process; turns = 0 }) }
-    ensures refused { (e : Reason) → result ≡ Err e → e ≢ reason.NoMemory → CannotOpen bytes.now (config_of process) e }
+    ensures machine { IfOk result (λ r. r
+        ≡ record { «module» = r.module; process = config_of process; turns = 0 }) }
+    ensures refused { (e : Reason) → result ≡ Err e → e ≢ reason.NoMemory
+        → CannotOpen bytes.now (config_of process) e }
 {
     let valid = valid_of(alloc, bytes)?;
     Machine::new(alloc, valid, process)

@@ -47,8 +47,10 @@ fn end_all(mut loans: Vec<Loan>) {
 
 // A take: whether the task's slice was taken.
 fn take(board: &mut Board, loans: &mut Vec<Loan>, id: Text, budget: u64) -> Result<bool, AllocError>
-    ensures taken { IfOk result (λ b. Step board.old.state (event.Take id budget) (answer.Taken b) board.new.state) }
-    ensures covered { OnOk result (Covered loans.old.items board.old.state.tasks → Covered loans.new.items board.new.state.tasks) }
+    ensures taken { IfOk result
+        (λ b. Step board.old.state (event.Take id budget) (answer.Taken b) board.new.state) }
+    ensures covered { OnOk result (Covered loans.old.items board.old.state.tasks
+        → Covered loans.new.items board.new.state.tasks) }
 {
     if budget < 1 || budget > MAX_BUDGET {
         return Ok(false);
@@ -68,7 +70,8 @@ fn take(board: &mut Board, loans: &mut Vec<Loan>, id: Text, budget: u64) -> Resu
 // A return: whether the task was out; its slice is run and given back.
 fn give_back(board: &mut Board, loans: &mut Vec<Loan>, id: Text) -> bool
     requires { Covered loans.old.items board.old.state.tasks }
-    ensures returned { Step board.old.state (event.Return id) (answer.Returned result) board.new.state }
+    ensures returned { Step board.old.state
+        (event.Return id) (answer.Returned result) board.new.state }
     ensures covered { Covered loans.new.items board.new.state.tasks }
 {
     let Some(ticket) = board.ticket(id.as_str()) else {

@@ -106,7 +106,8 @@ impl Tables {
 
     /// The bytes that are stored under a digest.
     pub fn content(&self, digest: &str) -> Option<&Arc<Bytes>>
-        ensures { option_map (λ b. arc_value b.now) result ≡ content_in self.now.state.contents digest.now }
+        ensures { option_map (λ b. arc_value b.now) result
+            ≡ content_in self.now.state.contents digest.now }
     {
         content_of(self.contents.as_slice(), digest)
     }
@@ -213,7 +214,8 @@ impl Tables {
     // Stores the content; there is room for it.
     fn add_content(&mut self, content: Content, digest: Text) -> Reply
         requires { PutPrepared self.old.state self.old.room.contents content digest }
-        ensures answers { Answers self.old.state (request.Put content.bytes) (Ok result) self.new.state }
+        ensures answers { Answers self.old.state
+            (request.Put content.bytes) (Ok result) self.new.state }
         ensures waiting { self.new.waiting ≡ self.old.waiting }
         ensures capacity { KeepsCapacity self.old self.new }
     {
@@ -287,7 +289,8 @@ impl Tables {
     pub fn take(&mut self, ticket: Ticket, budget: u64) -> Option<Loan>
         requires { (1 ≤ budget) × (budget ≤ max_budget) }
         ensures some { IfSome result (λ l. Lends self.old.state ticket budget l self.new.state) }
-        ensures step { IfSome result (λ l. Step self.old.state (event.Take l.id budget) (answer.Taken true) self.new.state) }
+        ensures step { IfSome result
+            (λ l. Step self.old.state (event.Take l.id budget) (answer.Taken true) self.new.state) }
         ensures none { IfNone result ((t : TaskValue) → CanLend ticket self.old.state.tasks t → ⊥) }
         ensures same { IfNone result (self.new ≡ self.old) }
         ensures waiting { self.new.waiting ≡ self.old.waiting }
@@ -315,7 +318,8 @@ impl Tables {
     fn receive(&mut self, loan: Loan) -> Option<Ticket>
         requires ran { loan.ran ≡ true }
         requires fits { Fits loan self.old.state.tasks }
-        ensures home { Step self.old.state (event.Return loan.id) (answer.Returned true) self.new.state }
+        ensures home { Step self.old.state
+            (event.Return loan.id) (answer.Returned true) self.new.state }
         ensures ticket { result ≡ ticket_in loan.slot self.new.state.tasks }
         ensures waiting { self.new.waiting ≡ self.old.waiting }
         ensures capacity { KeepsCapacity self.old self.new }
@@ -336,8 +340,10 @@ impl Tables {
         requires { loan.ran ≡ true }
         ensures home { Fits loan self.old.state.tasks
             → Step self.old.state (event.Return loan.id) (answer.Returned true) self.new.state }
-        ensures ticket { Fits loan self.old.state.tasks → result ≡ ticket_in loan.slot self.new.state.tasks }
-        ensures unfit { (Fits loan self.old.state.tasks → ⊥) → (self.new ≡ self.old) × (result ≡ None) }
+        ensures ticket { Fits loan self.old.state.tasks
+            → result ≡ ticket_in loan.slot self.new.state.tasks }
+        ensures unfit { (Fits loan self.old.state.tasks → ⊥)
+            → (self.new ≡ self.old) × (result ≡ None) }
         ensures waiting { self.new.waiting ≡ self.old.waiting }
         ensures capacity { KeepsCapacity self.old self.new }
     {

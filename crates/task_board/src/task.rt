@@ -67,7 +67,8 @@ impl Task {
     ) -> Result<Task, AllocError>
         requires opens { Openable (arc_value shared.bytes) shared.process shared.valid }
         requires fresh { IsMachine machine.value shared.valid shared.process 0 }
-        ensures { IfOk result (λ t. t ≡ created_task shared.id incarnation (arc_value shared.bytes) shared.valid shared.process) }
+        ensures { let bytes = arc_value shared.bytes in IfOk result
+            (λ t. t ≡ created_task shared.id incarnation bytes shared.valid shared.process) }
     {
         let shared = Arc::new(alloc, shared)?;
         let checkout = Checkout::new(alloc, machine, &shared)?;
@@ -150,7 +151,8 @@ impl Task {
     /// Lends its machine for a slice of at most `budget` turns. None, and nothing has changed, if it is
     /// not running or is out already.
     pub fn lend(&mut self, slot: usize, budget: u64) -> Option<Loan>
-        ensures some { IfSome result (λ l. (can_lend self.old ≡ true) × (l ≡ loan_of slot budget self.old) × (self.new ≡ lent self.old budget)) }
+        ensures some { IfSome result (λ l. (can_lend self.old ≡ true)
+            × (l ≡ loan_of slot budget self.old) × (self.new ≡ lent self.old budget)) }
         ensures none { IfNone result ((can_lend self.old ≡ false) × (self.new ≡ self.old)) }
     {
         if self.status != Status::Running {
