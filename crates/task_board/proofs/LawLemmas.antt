@@ -6,6 +6,8 @@ use Rattle.wasm_ast.specs.declared.refusal.Refusal.{Refusal}
 use Rattle.wasm_ast.specs.declared.refusal.Refusal.TheVariants as refusal
 use Rattle.wasm_binary.specs.Grammar.{Spells}
 use Rattle.step_machine.specs.declared.process.ProcessConfig.{ProcessConfig}
+use Rattle.step_machine.specs.Typing.{ValidModule}
+use Rattle.step_machine.specs.Runs.{RunsModule}
 use Rattle.step_machine.specs.Instantiation.{instantiation_refusal}
 use Rattle.task_board.specs.declared.event.Event.{Event}
 use Rattle.task_board.specs.declared.event.Event.TheVariants as event
@@ -20,7 +22,7 @@ use Rattle.task_board.specs.Identifiers.{digest_of}
 use Rattle.task_board.specs.Lifecycle.{takes_turns}
 use Rattle.task_board.specs.BoardState.{Content, Task, Entries, BoardState, empty, created_task, content_in, with_content, task_in, entry_of, task_of, change_task, with_task, with_new_task}
 use Rattle.task_board.specs.Tasks.{started, can_lend, lent, advanced, slice_turns, state_of}
-use Rattle.task_board.specs.Refusals.{Refusals, first_refusal, put_refusals, create_refusals, start_refusals, state_refusals, wait_refusals, task_refusals, Openable, CannotOpen, no_module, too_much, doubted, refused}
+use Rattle.task_board.specs.Refusals.{Refusals, first_refusal, put_refusals, create_refusals, start_refusals, state_refusals, wait_refusals, task_refusals, Openable, CannotOpen, no_module, too_much, invalid, refused, IsSpelled}
 use Rattle.task_board.specs.Step.{Answer, DecidedBy, OnFound, Opens, Creates, Answers, is_budget, lends, taken, is_out, Returns, Step}
 use Rattle.task_board.specs.Run.{met_no_memory, Happens, Run}
 use Rattle.task_board.specs.Sound.{AreRising, slots_of, IsBoard}
@@ -393,11 +395,11 @@ events_same s e r s1 r' s2 d a b h g = step_same s e r s1 r' s2 d (is_step s e r
 abbrev pub One : Type 0
 One = (bytes : List ℕ) (m n : Module) → Spells bytes m → Spells bytes n → m ≡ n
 
--- bytes that can be opened are refused only as doubted
+-- bytes that can be opened are refused only as what the machine cannot run yet
 opened_refused : (bytes : List ℕ) (p : ProcessConfig) (m : Module) (e : Refusal) → One → Openable bytes p m → CannotOpen bytes p e → e ≡ refusal.Invalid
 opened_refused bytes p m _ one opens (no_module none) = absurd (none m opens.spelled.spells)
 opened_refused bytes p m _ one opens (too_much over none) = absurd (none m opens.spelled)
-opened_refused bytes p m _ one opens (doubted n spelled) = refl
+opened_refused bytes p m _ one opens (invalid n spelled unfit) = refl
 opened_refused bytes p m _ one opens (refused n e spelled valid is) =
     let same : n ≡ m = one bytes n m spelled.spells opens.spelled.spells in
     absurd (none_is_not e (sym opens.opens ∙ subst (λ (x : Module). instantiation_refusal x p ≡ Some e) same is))
@@ -406,16 +408,16 @@ opened_refused bytes p m _ one opens (refused n e spelled valid is) =
 refused_agree : (bytes : List ℕ) (p : ProcessConfig) (e e' : Refusal) → One → CannotOpen bytes p e → CannotOpen bytes p e' → AgreeOnRefusal e e'
 refused_agree bytes p _ _ one (no_module none) (no_module none') = inl refl
 refused_agree bytes p _ _ one (no_module none) (too_much over none') = inr (inl (inl (refl, refl)))
-refused_agree bytes p _ _ one (no_module none) (doubted m spelled) = absurd (none m spelled.spells)
+refused_agree bytes p _ _ one (no_module none) (invalid m spelled unfit) = absurd (none m spelled.spells)
 refused_agree bytes p _ _ one (no_module none) (refused m e spelled valid is) = absurd (none m spelled.spells)
 refused_agree bytes p _ _ one (too_much over none) (no_module none') = inr (inl (inr (refl, refl)))
 refused_agree bytes p _ _ one (too_much over none) (too_much over' none') = inl refl
-refused_agree bytes p _ _ one (too_much over none) (doubted m spelled) = absurd (none m spelled)
+refused_agree bytes p _ _ one (too_much over none) (invalid m spelled unfit) = absurd (none m spelled)
 refused_agree bytes p _ _ one (too_much over none) (refused m e spelled valid is) = absurd (none m spelled)
-refused_agree bytes p _ _ one (doubted m spelled) other = inr (inr (inl refl))
+refused_agree bytes p _ _ one (invalid m spelled unfit) other = inr (inr (inl refl))
 refused_agree bytes p _ _ one (refused m e spelled valid is) (no_module none) = absurd (none m spelled.spells)
 refused_agree bytes p _ _ one (refused m e spelled valid is) (too_much over none) = absurd (none m spelled)
-refused_agree bytes p _ _ one (refused m e spelled valid is) (doubted n spelled') = inr (inr (inr refl))
+refused_agree bytes p _ _ one (refused m e spelled valid is) (invalid n spelled' unfit) = inr (inr (inr refl))
 refused_agree bytes p _ _ one (refused m e spelled valid is) (refused n e' spelled' valid' is') =
     let same : n ≡ m = one bytes n m spelled'.spells spelled.spells in
     inl (some_is e e' (sym is ∙ subst (λ (x : Module). instantiation_refusal x p ≡ Some e') same is'))
@@ -449,3 +451,25 @@ create_agrees_by s config id (Some e) r s1 r' s2 one a b =
 pub create_agrees : (s : BoardState) (config id : List ℕ) (r : Answer) (s1 : BoardState) (r' : Answer) (s2 : BoardState) → One
     → Answers s (request.Create config id) r s1 → Answers s (request.Create config id) r' s2 → AgreeOnCreate s r s1 r' s2
 create_agrees s config id r s1 r' s2 one a b = create_agrees_by s config id (first_refusal (create_refusals s config id)) r s1 r' s2 one a b
+
+-- ---- what is never invalid
+
+never_invalid_by : (a b c : Bool) → cond a (Some refusal.NoEntry) (cond b (Some refusal.BadImport) (cond c (Some refusal.Limit) None)) ≡ Some refusal.Invalid → ⊥
+never_invalid_by true b c h = cc
+never_invalid_by false true c h = cc
+never_invalid_by false false true h = cc
+never_invalid_by false false false h = cc
+
+never_invalid : (m : Module) (p : ProcessConfig) → instantiation_refusal m p ≡ Some refusal.Invalid → ⊥
+never_invalid m p h = never_invalid_by _ _ _ h
+
+not_invalid_by : (bytes : List ℕ) (p : ProcessConfig) (m : Module) (e : Refusal) → One → IsSpelled bytes m → ValidModule m → RunsModule m → e ≡ refusal.Invalid → CannotOpen bytes p e → ⊥
+not_invalid_by bytes p m _ one spelled valid runs is (no_module none) = none m spelled.spells
+not_invalid_by bytes p m _ one spelled valid runs is (too_much over none) = none m spelled
+not_invalid_by bytes p m _ one spelled valid runs is (invalid n other unfit) =
+    let same : m ≡ n = one bytes m n spelled.spells other.spells in
+    unfit (subst ValidModule same valid) (subst RunsModule same runs)
+not_invalid_by bytes p m _ one spelled valid runs is (refused n e other ok why) = never_invalid n p (why ∙ ap Some is)
+
+pub not_invalid : (bytes : List ℕ) (p : ProcessConfig) (m : Module) → One → IsSpelled bytes m → ValidModule m → RunsModule m → CannotOpen bytes p refusal.Invalid → ⊥
+not_invalid bytes p m one spelled valid runs h = not_invalid_by bytes p m refusal.Invalid one spelled valid runs refl h

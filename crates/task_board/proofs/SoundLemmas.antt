@@ -206,7 +206,7 @@ content_named digest bytes (c ∷ cs) each h =
 -- ---- what happens to a task leaves it sound
 
 -- what a standing says of a task that is idle with it, at this state of execution
-pub record Stands (x : Standing) (e : ExecutionState) : Type 0 where
+pub record IsStanding (x : Standing) (e : ExecutionState) : Type 0 where
   pub begun : x.0 ≡ Created → ⊥
   pub resting : x.0 ≡ Pausing → ⊥
   pub stopped : is_stopped x.0 ≡ is_some x.1
@@ -214,43 +214,43 @@ pub record Stands (x : Standing) (e : ExecutionState) : Type 0 where
 
 -- a task that is idle in a fitting way
 pub idle_sound : (creates : ℕ) (t : Task) (x : Standing) → is_id t.id ≡ true → t.incarnation < creates → Openable t.bytes t.process t.module → t.process.module ≡ digest_of t.bytes
-    → Stands x (execution_at t t.turns) → IsSound creates (idle_task t x)
-idle_sound creates t x named earlier opens digest stands = record {
+    → IsStanding x (execution_at t t.turns) → IsSound creates (idle_task t x)
+idle_sound creates t x named earlier opens digest standing = record {
   named = named;
   earlier = earlier;
   opens = opens;
   digest = digest;
-  fresh = λ h. absurd (stands.begun h);
+  fresh = λ h. absurd (standing.begun h);
   out = λ h. cc;
   budget = λ n h. cc;
-  pausing = λ h. absurd (stands.resting h);
+  pausing = λ h. absurd (standing.resting h);
   signal = λ h. cc;
-  stopped = stands.stopped;
-  goes = stands.goes;
+  stopped = standing.stopped;
+  goes = standing.goes;
 }
 
-start_stands : (o : Option End) (b : Bool) (e : ExecutionState) → ended e ≡ o → Stands (standing_at_start o b) e
-start_stands (Some x) b e is = record { begun = λ h. cc; resting = λ h. cc; stopped = refl; goes = λ h. cc }
-start_stands None true e is = record { begun = λ h. cc; resting = λ h. cc; stopped = refl; goes = λ h. is }
-start_stands None false e is = record { begun = λ h. cc; resting = λ h. cc; stopped = refl; goes = λ h. is }
+standing_begun : (o : Option End) (b : Bool) (e : ExecutionState) → ended e ≡ o → IsStanding (standing_at_start o b) e
+standing_begun (Some x) b e is = record { begun = λ h. cc; resting = λ h. cc; stopped = refl; goes = λ h. cc }
+standing_begun None true e is = record { begun = λ h. cc; resting = λ h. cc; stopped = refl; goes = λ h. is }
+standing_begun None false e is = record { begun = λ h. cc; resting = λ h. cc; stopped = refl; goes = λ h. is }
 
 pub started_sound : (creates : ℕ) (t : Task) → IsSound creates t → IsSound creates (started t)
 started_sound creates t h =
     idle_sound creates t (standing_at_start (ended (execution_at t t.turns)) (at_break t.breaks (execution_at t t.turns))) h.named h.earlier h.opens h.digest
-    (start_stands (ended (execution_at t t.turns)) (at_break t.breaks (execution_at t t.turns)) (execution_at t t.turns) refl)
+    (standing_begun (ended (execution_at t t.turns)) (at_break t.breaks (execution_at t t.turns)) (execution_at t t.turns) refl)
 
-onward_stands : (signal : Option Signal) (b : Bool) (e : ExecutionState) → ended e ≡ None → Stands (standing_onward signal b) e
-onward_stands (Some x) b e is = record { begun = λ h. cc; resting = λ h. cc; stopped = refl; goes = λ h. cc }
-onward_stands None true e is = record { begun = λ h. cc; resting = λ h. cc; stopped = refl; goes = λ h. is }
-onward_stands None false e is = record { begun = λ h. cc; resting = λ h. cc; stopped = refl; goes = λ h. is }
+standing_goes_on : (signal : Option Signal) (b : Bool) (e : ExecutionState) → ended e ≡ None → IsStanding (standing_onward signal b) e
+standing_goes_on (Some x) b e is = record { begun = λ h. cc; resting = λ h. cc; stopped = refl; goes = λ h. cc }
+standing_goes_on None true e is = record { begun = λ h. cc; resting = λ h. cc; stopped = refl; goes = λ h. is }
+standing_goes_on None false e is = record { begun = λ h. cc; resting = λ h. cc; stopped = refl; goes = λ h. is }
 
-pub after_stands : (x : SliceEnd) (signal : Option Signal) (status : Status) (e : ExecutionState)
-    → (x ≡ slice.Budget → ended e ≡ None) → (x ≡ slice.Break → ended e ≡ None) → Stands (standing_after x signal status) e
-after_stands slice.Budget signal status e f g = onward_stands signal (is_pausing status) e (f refl)
-after_stands slice.Break signal status e f g = onward_stands signal true e (g refl)
-after_stands slice.Returned signal status e f g = record { begun = λ h. cc; resting = λ h. cc; stopped = refl; goes = λ h. cc }
-after_stands (slice.Exited n) signal status e f g = record { begun = λ h. cc; resting = λ h. cc; stopped = refl; goes = λ h. cc }
-after_stands (slice.Trapped x) signal status e f g = record { begun = λ h. cc; resting = λ h. cc; stopped = refl; goes = λ h. cc }
+pub standing_lasts : (x : SliceEnd) (signal : Option Signal) (status : Status) (e : ExecutionState)
+    → (x ≡ slice.Budget → ended e ≡ None) → (x ≡ slice.Break → ended e ≡ None) → IsStanding (standing_after x signal status) e
+standing_lasts slice.Budget signal status e f g = standing_goes_on signal (is_pausing status) e (f refl)
+standing_lasts slice.Break signal status e f g = standing_goes_on signal true e (g refl)
+standing_lasts slice.Returned signal status e f g = record { begun = λ h. cc; resting = λ h. cc; stopped = refl; goes = λ h. cc }
+standing_lasts (slice.Exited n) signal status e f g = record { begun = λ h. cc; resting = λ h. cc; stopped = refl; goes = λ h. cc }
+standing_lasts (slice.Trapped x) signal status e f g = record { begun = λ h. cc; resting = λ h. cc; stopped = refl; goes = λ h. cc }
 
 no_own_budget : (e : End) → own_end e ≡ slice.Budget → ⊥
 no_own_budget own.Returned h = cc
@@ -272,4 +272,4 @@ pub advanced_sound : (creates : ℕ) (t : Task) (k : ℕ) → IsSound creates t 
 advanced_sound creates t k h =
     let e = execution_at t (t.turns + k) in
     idle_sound creates (record t { turns = t.turns + k }) (standing_after (end_at t.breaks k e) t.signal t.status) h.named h.earlier h.opens h.digest
-    (after_stands (end_at t.breaks k e) t.signal t.status e (λ x. not_ended_by t.breaks k e (ended e) refl (inl x)) (λ x. not_ended_by t.breaks k e (ended e) refl (inr x)))
+    (standing_lasts (end_at t.breaks k e) t.signal t.status e (λ x. not_ended_by t.breaks k e (ended e) refl (inl x)) (λ x. not_ended_by t.breaks k e (ended e) refl (inr x)))

@@ -18,7 +18,7 @@ abbrev pub AreEither : Refusal → Refusal → Type 0
 AreEither e e' = ((e ≡ refusal.BadModule) × (e' ≡ refusal.Limit)) ⊎ ((e ≡ refusal.Limit) × (e' ≡ refusal.BadModule))
 
 -- two refusals of one create: the same; or BadModule and Limit, of bytes that spell no module and pass a
--- limit; or Invalid in place of the other, since nothing is claimed of the validator's no
+-- limit; or Invalid in place of the other, of a module that the machine cannot run yet
 abbrev pub AgreeOnRefusal : Refusal → Refusal → Type 0
 AgreeOnRefusal e e' = (e ≡ e') ⊎ (AreEither e e' ⊎ ((e ≡ refusal.Invalid) ⊎ (e' ≡ refusal.Invalid)))
 

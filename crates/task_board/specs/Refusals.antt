@@ -8,6 +8,7 @@ use Rattle.wasm_binary.specs.Grammar.{Spells}
 use Rattle.wasm_binary.specs.Limits.{Over}
 use Rattle.step_machine.specs.declared.process.ProcessConfig.{ProcessConfig}
 use Rattle.step_machine.specs.Typing.{ValidModule}
+use Rattle.step_machine.specs.Runs.{RunsModule}
 use Rattle.step_machine.specs.Instantiation.{instantiation_refusal}
 use Rattle.task_board.specs.declared.lifecycle.TaskCall.TheVariants as call
 use Rattle.task_board.specs.Limits.{max_contents, max_tasks, max_creates}
@@ -76,8 +77,9 @@ pub data CannotOpen (bytes : List ℕ) (p : ProcessConfig) : Refusal → Type 0 
   no_module : ((m : Module) → Spells bytes m → ⊥) → CannotOpen bytes p refusal.BadModule
   -- they pass a limit, and spell no module within the limits
   too_much : Over bytes → ((m : Module) → IsSpelled bytes m → ⊥) → CannotOpen bytes p refusal.Limit
-  -- nothing is claimed of a module that the validator refuses: it may have a typing
-  doubted : (m : Module) → IsSpelled bytes m → CannotOpen bytes p refusal.Invalid
+  -- they spell a module that is not valid, or that the machine cannot run yet
+  invalid :
+      (m : Module) → IsSpelled bytes m → (ValidModule m → RunsModule m → ⊥) → CannotOpen bytes p refusal.Invalid
   -- a valid module that cannot be instantiated under the process
   refused :
       (m : Module) → (e : Refusal) → IsSpelled bytes m → ValidModule m → instantiation_refusal m p ≡ Some e

@@ -33,14 +33,12 @@ impl Content {
         Content { digest, bytes }
     }
 
-    /// The digest.
     pub fn digest(&self) -> &Text
         ensures { result.now ≡ self.now.digest }
     {
         &self.digest
     }
 
-    /// The bytes.
     pub fn bytes(&self) -> &Arc<Bytes>
         ensures { arc_value result.now ≡ self.now.bytes }
     {
@@ -48,7 +46,7 @@ impl Content {
     }
 }
 
-/// The bytes that stand under a digest.
+/// The bytes that are stored under a digest.
 pub fn content_of<'a>(contents: &'a [Content], digest: &str) -> Option<&'a Arc<Bytes>>
     ensures { option_map (λ b. arc_value b.now) result ≡ content_in contents.now digest.now }
 {

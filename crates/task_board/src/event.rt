@@ -6,11 +6,11 @@ use wasm_ast::{Refusal, Text};
 /// An event.
 #[derive(Drop)]
 pub enum Event {
-    /// A request is made.
+    /// A request is called.
     Call(Request),
-    /// A slice of the task with this id, of at most so many turns, goes out.
+    /// A slice of the task with this id, of at most this number of turns, is taken.
     Take(Text, u64),
-    /// The slice of the task with this id is run and comes home.
+    /// The slice of the task with this id is run and given back.
     Return(Text),
 }
 
@@ -21,6 +21,6 @@ pub enum EventReply {
     Called(Result<Reply, Refusal>),
     /// Whether a slice was taken.
     Taken(bool),
-    /// Whether a slice came home.
+    /// Whether a slice was given back.
     Returned(bool),
 }

@@ -1,19 +1,28 @@
 //! Laws of the abstract board. Each function is nothing but its contract.
 
 ghost use Rattle.std.specs.Prelude.{◌≡◌, ◌++◌, ℕ, List, Some, true, false};
+ghost use Rattle.wasm_ast.specs.declared.module.Module.{Module};
+ghost use Rattle.step_machine.specs.declared.process.ProcessConfig.{ProcessConfig};
+ghost use Rattle.step_machine.specs.Runs.{RunsModule};
+ghost use Rattle.step_machine.specs.Typing.{ValidModule};
 ghost use Rattle.task_board.specs.declared.event.Event.{Event};
+ghost use Rattle.task_board.specs.declared.event.Event.TheVariants as event;
 ghost use Rattle.task_board.specs.declared.event.EventReply.{EventReply};
 ghost use Rattle.task_board.specs.declared.request.Request.TheVariants as request;
 ghost use Rattle.task_board.specs.BoardState.{Content, Task, BoardState, empty, task_in};
 ghost use Rattle.task_board.specs.Choices.{IsDetermined, AgreeOnCreate};
 ghost use Rattle.task_board.specs.Lifecycle.{takes_turns};
 ghost use Rattle.task_board.specs.Moves.{Moves};
-ghost use Rattle.task_board.specs.Run.{met_no_memory, Happens, Run};
+ghost use Rattle.task_board.specs.Names.{exit_status};
+ghost use Rattle.task_board.specs.Refusals.{IsSpelled, CannotOpen};
+ghost use Rattle.task_board.specs.Run.{takes_memory, met_no_memory, Happens, Run};
 ghost use Rattle.task_board.specs.Sound.{AreRising, slots_of, IsSound, IsBoard};
 ghost use Rattle.task_board.specs.Step.{Answer, Answers};
 ghost use Rattle.task_board.specs.Tasks.{slice_turns, MayAdvance};
 
+use crate::status::{ExitRecord, Signal};
 use step_machine::laws::{slices_go_forward, slices_stop_first};
+use wasm_ast::Refusal;
 use wasm_binary::laws::spells_one;
 
 /// Every board that events lead to is sound, and an event leaves a sound board sound.
@@ -74,6 +83,30 @@ pub fn creates_are_determined()
         (r : Answer) (s1 : BoardState) (r' : Answer) (s2 : BoardState)
         → Answers s (request.Create config id) r s1 → Answers s (request.Create config id) r' s2
         → AgreeOnCreate s r s1 r' s2 }
+{
+    spells_one();
+}
+
+/// Only a put and a create allocate: no other request, no take and no return may be left out for lack of
+/// memory.
+pub fn puts_and_creates_allocate()
+    ensures start { (id : List ℕ) → takes_memory (request.Start id) ≡ false }
+    ensures state { (id : List ℕ) → takes_memory (request.State id) ≡ false }
+    ensures wait { (id : List ℕ) → takes_memory (request.Wait id) ≡ false }
+    ensures take { (id : List ℕ) (n : ℕ) (r : EventReply) → met_no_memory (event.Take id n) r ≡ false }
+    ensures give_back { (id : List ℕ) (r : EventReply) → met_no_memory (event.Return id) r ≡ false }
+{}
+
+/// The exit status of a task that was killed is 128 plus the number of the signal.
+pub fn kills_exit_by_their_signal()
+    ensures kill { exit_status (ExitRecord.Kill Signal.Kill) ≡ 137 }
+    ensures terminate { exit_status (ExitRecord.Kill Signal.Terminate) ≡ 143 }
+{}
+
+/// A valid module that the machine can run is never refused as invalid.
+pub fn valid_modules_are_not_invalid()
+    ensures { (bytes : List ℕ) (p : ProcessConfig) (m : Module) → IsSpelled bytes m → ValidModule m
+        → RunsModule m → CannotOpen bytes p Refusal.Invalid → ⊥ }
 {
     spells_one();
 }

@@ -19,7 +19,7 @@ pub enum Request {
 }
 
 /// What a call can see of a task: its id, how many turns it has made, its status, and how it ended,
-/// which is there exactly where it has stopped.
+/// which is there exactly if it has stopped.
 #[derive(Drop)]
 pub struct TaskState {
     pub id: Text,

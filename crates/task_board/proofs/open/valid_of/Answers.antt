@@ -1,7 +1,7 @@
 use Rattle.std.proofs.Common.{◌≡◌, ◌⊎◌, ◌∙◌, sym, ap, subst, Err, rules}
 use Rattle.wasm_ast.specs.declared.refusal.Refusal.{Refusal}
 use Rattle.wasm_ast.specs.declared.refusal.Refusal.TheVariants as refusal
-use Rattle.task_board.specs.Refusals.{IsSpelled, CannotOpen, doubted}
+use Rattle.task_board.specs.Refusals.{IsSpelled, CannotOpen, invalid}
 use Rattle.task_board.proofs.InstantiateLemmas.{undecoded, unchecked}
 use Rattle.task_board.proofs.open.valid_of.Goals as goal
 
@@ -19,4 +19,6 @@ pub returns-clause-refused : goal.returns-clause-refused
 returns-clause-refused c e p is other =
     let m = c.in_ok-module.module in
     let spelled : IsSpelled c.args.bytes.now m = record { spells = c.in_ok-module.ensures.spelled; within = c.in_ok-module.ensures.within.0; short = c.in_ok-module.ensures.within.1 } in
-    subst (λ (x : Refusal). CannotOpen c.args.bytes.now p x) (sym (unchecked c.validate.result e c.validate.ensures.err is other)) (doubted m spelled)
+    let why = unchecked c.validate.result e c.validate.ensures.err is other in
+    subst (λ (x : Refusal). CannotOpen c.args.bytes.now p x) (sym why)
+    (invalid m spelled (c.validate.ensures.invalid (is ∙ ap Err why)))
