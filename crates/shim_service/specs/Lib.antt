@@ -1,9 +1,10 @@
 pub mod Shape
 pub mod Request
-pub mod Fields
 pub mod Reply
-pub mod Words
-pub mod Examples
 pub mod Lines
-pub mod Input
+pub mod Session
+pub mod Replay
 pub mod Serving
+pub mod Command
+pub mod Examples
+pub mod Inside

@@ -1,20 +1,22 @@
--- Objects of two and of three members, and the text and JSON value of a line.
-use Rattle.std.specs.Prelude.{◌≡◌, ◌≤◌, ℕ, List, Some, IsUtf8, length}
-use Rattle.serde_json.specs.Data.{Data, object, member, no_members}
+-- The text and JSON value of a line, and objects by the list of their members.
+use Rattle.std.specs.Prelude.{◌≡◌, ◌≤◌, ℕ, List, [], ◌∷◌, Some, IsUtf8, length}
+use Rattle.serde_json.specs.Data.{Data, object, Members, member, no_members}
 use Rattle.serde_json.specs.Read.{read}
 
--- how many bytes a line has at most, its line feed not counted
-abbrev pub line_limit : ℕ
-line_limit = 1048576
+-- bytes of a line at most, its line feed not counted
+abbrev pub max_line_bytes : ℕ
+max_line_bytes = 1048576
 
 -- the line is UTF-8, no longer than a line may be, and reads as this JSON value
 pub record IsJson (line : List ℕ) (d : Data) : Type 0 where
-  pub short : length line ≤ line_limit
+  pub short : length line ≤ max_line_bytes
   pub utf8 : IsUtf8 line
   pub value : read line ≡ Some d
 
-abbrev pub two_members : List ℕ → Data → List ℕ → Data → Data
-two_members k d l e = object (member k d (member l e no_members))
+-- members by key and value, in the order of their keys
+abbrev pub members : List (List ℕ × Data) → Members
+members [] = no_members
+members (m ∷ ms) = member m.0 m.1 (members ms)
 
-abbrev pub three_members : List ℕ → Data → List ℕ → Data → List ℕ → Data → Data
-three_members k d l e m f = object (member k d (member l e (member m f no_members)))
+abbrev pub object_of : List (List ℕ × Data) → Data
+object_of ms = object (members ms)

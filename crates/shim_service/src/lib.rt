@@ -2,21 +2,21 @@
 //! and streams of lines.
 #![tactic(auto)]
 
-mod event;
-mod fields;
-mod input;
-mod laws;
-mod line;
+mod command;
+pub mod laws;
+mod line_error;
+mod line_reader;
+mod members;
+mod parse_event;
+mod parse_request;
 mod replay;
-mod reply;
-mod request;
+mod reply_line;
+mod reply_value;
 mod serve;
-mod words;
 
-pub use event::event_of;
-pub use laws::{examples, one_event_to_a_line, requests_are_events};
-pub use line::{bad_request_line, event_line_of, line_of, no_memory_line};
+pub use command::{Command, CommandError, command_of};
+pub use parse_event::event_of;
+pub use parse_request::request_of;
 pub use replay::replay_lines;
-pub use request::request_of;
+pub use reply_line::{bad_request_line, event_line_of, line_of, no_memory_line};
 pub use serve::serve_lines;
-pub use words::{Command, Fault, command_of};

@@ -1,35 +1,36 @@
 //! Runs a file of lines.
 
-ghost use Rattle.std.specs.Prelude.{◌≡◌, ◌<◌, ◌∷◌, ◌++◌, [], IfOk, IfErr, OnOk, OnErr, length, vec_len, List};
+ghost use Rattle.std.specs.Prelude.{◌≡◌, ◌<◌, ◌∷◌, ◌++◌, [], IfOk, IfErr, OnOk, length, List};
 ghost use Rattle.shim_service.specs.declared.replay.Mark.{Mark};
-ghost use Rattle.shim_service.specs.Lines.{lines_of, AreRead, Adds, AreAnswers, answers};
+ghost use Rattle.shim_service.specs.Lines.{lines_of};
+ghost use Rattle.shim_service.specs.Replay.{IsReplay};
+ghost use Rattle.shim_service.specs.Inside.Script.{AreMarked, Adds, replay_text};
 
-use crate::event::event_of;
-use crate::line::{bad_request_line, event_line_of, no_memory_line};
-use std::alloc::Global;
+use crate::line_error::LineError;
+use crate::parse_event::read_event_line;
+use crate::reply_line::{bad_request_line, event_line};
+use std::alloc::{AllocError, Global};
 use task_board::{Event, EventReply, run_events};
 use wasm_ast::Refusal;
 
-// What was made of a line.
+/// What a line of a script is.
 #[derive(Clone, Copy, PartialEq, Eq, Debug)]
 pub(crate) enum Mark {
-    // It is an event.
+    /// An event.
     Event,
-    // It is none.
+    /// No event.
     Bad,
-    // Memory was refused while it was read.
-    Unread,
 }
 
-// What was made of some lines: a mark for each, and the events among them.
+/// The lines of a script that are read: a mark for each, and the events among them.
 #[derive(Drop)]
 pub(crate) struct Script {
     marks: Vec<Mark>,
     events: Vec<Event>,
 }
 
-// The first line, and the bytes behind its line feed.
-fn first_line(bytes: &[u8]) -> (&[u8], &[u8])
+/// Splits off the first line; the second part is what follows its line feed.
+fn split_line(bytes: &[u8]) -> (&[u8], &[u8])
     requires { 0 < length bytes.now }
     ensures lines { lines_of bytes.now ≡ result.0.now ∷ lines_of result.1.now }
     ensures shorter { length result.1.now < length bytes.now }
@@ -41,44 +42,41 @@ fn first_line(bytes: &[u8]) -> (&[u8], &[u8])
 }
 
 impl Script {
-    // Marks a line.
-    fn mark(&mut self, mark: Mark) -> Result<(), Refusal>
-        ensures ok { OnOk result (self.new.marks.items ≡ self.old.marks.items ++ mark ∷ []) }
+    /// Adds a line that is no event.
+    fn add_bad(&mut self) -> Result<(), AllocError>
+        ensures ok { OnOk result (self.new.marks.items ≡ self.old.marks.items ++ Mark.Bad ∷ []) }
         ensures events { self.new.events ≡ self.old.events }
-        ensures errors { IfErr result (λ e. e ≡ Refusal.NoMemory) }
     {
-        self.marks.push(mark).map_err(|_| Refusal::NoMemory)
+        self.marks.push(Mark::Bad)?;
+        Ok(())
     }
 
-    // Adds a line that is an event.
-    fn add(&mut self, event: Event) -> Result<(), Refusal>
+    /// Adds a line that is an event.
+    fn add_event(&mut self, event: Event) -> Result<(), AllocError>
         ensures ok { OnOk result ((self.new.marks.items ≡ self.old.marks.items ++ Mark.Event ∷ [])
             × (self.new.events.items ≡ self.old.events.items ++ event ∷ [])) }
-        ensures errors { IfErr result (λ e. e ≡ Refusal.NoMemory) }
     {
-        if self.events.push(event).is_err() {
-            return Err(Refusal::NoMemory);
-        }
-        self.mark(Mark::Event)
+        self.events.push(event)?;
+        self.marks.push(Mark::Event)?;
+        Ok(())
     }
 
-    // Reads a line.
-    fn read(&mut self, alloc: Global, line: &[u8]) -> Result<(), Refusal>
-        ensures ok { OnOk result (Adds line.now self.old.marks.items self.old.events.items self.new.marks.items self.new.events.items) }
-        ensures errors { IfErr result (λ e. e ≡ Refusal.NoMemory) }
+    /// Reads a line and adds it.
+    fn read(&mut self, alloc: Global, line: &[u8]) -> Result<(), AllocError>
+        ensures { OnOk result (Adds line.now self.old.marks.items self.old.events.items
+            self.new.marks.items self.new.events.items) }
     {
-        match event_of(alloc, line) {
-            Ok(event) => self.add(event),
-            Err(Refusal::BadRequest) => self.mark(Mark::Bad),
-            Err(_) => self.mark(Mark::Unread),
+        match read_event_line(alloc, line) {
+            Ok(event) => self.add_event(event),
+            Err(LineError::NoRequest) => self.add_bad(),
+            Err(LineError::OutOfMemory) => Err(AllocError),
         }
     }
 }
 
-// What was made of each line of these bytes.
-fn script_of(alloc: Global, bytes: &[u8]) -> Result<Script, Refusal>
-    ensures ok { IfOk result (λ s. AreRead (lines_of bytes.now) s.marks.items s.events.items) }
-    ensures errors { IfErr result (λ e. e ≡ Refusal.NoMemory) }
+/// Reads each line of a script.
+fn read_script(alloc: Global, bytes: &[u8]) -> Result<Script, AllocError>
+    ensures { IfOk result (λ s. AreMarked (lines_of bytes.now) s.marks.items s.events.items) }
 {
     let mut script = Script {
         marks: Vec::new(alloc),
@@ -86,52 +84,46 @@ fn script_of(alloc: Global, bytes: &[u8]) -> Result<Script, Refusal>
     };
     let mut left = bytes;
     while !left.is_empty() {
-        let (line, rest) = first_line(left);
+        let (line, rest) = split_line(left);
         script.read(alloc, line)?;
         left = rest;
     }
     Ok(script)
 }
 
-// Writes a text behind what was written.
-fn write_text(out: &mut Vec<u8>, text: &str) -> Result<(), Refusal>
-    ensures ok { OnOk result (out.new.items ≡ out.old.items ++ text.now) }
-    ensures errors { IfErr result (λ e. e ≡ Refusal.NoMemory) }
-{
-    out.extend_from_slice(text.as_bytes())
-        .map_err(|_| Refusal::NoMemory)
-}
-
-// Writes the answer to a line with this mark, and says which replies are left.
+/// Writes the answer to a line with this mark, and gives the replies that are left.
 fn write_answer<'a>(
     alloc: Global,
     mark: Mark,
     replies: &'a [EventReply],
     out: &mut Vec<u8>,
-) -> Result<&'a [EventReply], Refusal>
-    ensures ok { IfOk result (λ left. (marks : List Mark) → out.new.items ++ answers marks left.now
-        ≡ out.old.items ++ answers (mark ∷ marks) replies.now) }
-    ensures errors { IfErr result (λ e. e ≡ Refusal.NoMemory) }
+) -> Result<&'a [EventReply], AllocError>
+    ensures { IfOk result (λ left. (marks : List Mark) → out.new.items ++ replay_text marks left.now
+        ≡ out.old.items ++ replay_text (mark ∷ marks) replies.now) }
 {
     match mark {
-        Mark::Bad => write_text(out, bad_request_line())?,
-        Mark::Unread => write_text(out, no_memory_line())?,
+        Mark::Bad => {
+            out.extend_from_slice(bad_request_line().as_bytes())?;
+            Ok(replies)
+        }
         Mark::Event => {
             let Some((reply, left)) = replies.split_first() else {
                 return Ok(replies);
             };
-            let line = event_line_of(alloc, reply)?;
-            write_text(out, line.as_str())?;
-            return Ok(left);
+            let line = event_line(alloc, reply)?;
+            out.extend_from_slice(line.as_bytes())?;
+            Ok(left)
         }
     }
-    Ok(replies)
 }
 
-// Writes the answers to lines with these marks.
-fn answers_of(alloc: Global, marks: &[Mark], replies: &[EventReply]) -> Result<Vec<u8>, Refusal>
-    ensures ok { IfOk result (λ v. v.items ≡ answers marks.now replies.now) }
-    ensures errors { IfErr result (λ e. e ≡ Refusal.NoMemory) }
+/// Writes the answers to lines with these marks.
+fn write_answers(
+    alloc: Global,
+    marks: &[Mark],
+    replies: &[EventReply],
+) -> Result<Vec<u8>, AllocError>
+    ensures { IfOk result (λ v. v.items ≡ replay_text marks.now replies.now) }
 {
     let mut out = Vec::new(alloc);
     let mut left = replies;
@@ -142,15 +134,15 @@ fn answers_of(alloc: Global, marks: &[Mark], replies: &[EventReply]) -> Result<V
 }
 
 /// The answers to the lines of a script, a line each, in their order. Its lines are run as one list of
-/// events on a board of their own.
+/// events on a board of their own. A request that allocates is answered `NoMemory` if memory runs out
+/// for it; no other line is.
 ///
-/// `NoMemory` where memory was refused but for the reading of a line, which is answered so; and no
-/// other refusal.
+/// `NoMemory`, and no other refusal, if memory runs out for anything but such a request.
 pub fn replay_lines(alloc: Global, bytes: &[u8]) -> Result<Vec<u8>, Refusal>
-    ensures ok { IfOk result (λ v. AreAnswers bytes.now v.items) }
+    ensures ok { IfOk result (λ v. IsReplay bytes.now v.items) }
     ensures errors { IfErr result (λ e. e ≡ Refusal.NoMemory) }
 {
-    let Script { marks, events } = script_of(alloc, bytes)?;
+    let Script { marks, events } = read_script(alloc, bytes)?;
     let replies = run_events(alloc, events)?;
-    answers_of(alloc, marks.as_slice(), replies.as_slice())
+    Ok(write_answers(alloc, marks.as_slice(), replies.as_slice())?)
 }

@@ -1,32 +1,42 @@
 //! Answers lines as they come.
 
-ghost use Rattle.std.specs.Prelude.{◌≡◌, ◌⊎◌, List, ℕ, [], IsTrue, Err, MatchBool};
+ghost use Rattle.std.specs.Prelude.{◌≡◌, ◌<◌, List, ℕ, IsTrue, MatchBool, true, false};
 ghost use Rattle.std.specs.Io.KnownBytes.{Appends};
+ghost use Rattle.task_board.specs.declared.event.Event.TheVariants as Happening;
+ghost use Rattle.task_board.specs.declared.event.EventReply.TheVariants as Answered;
 ghost use Rattle.task_board.specs.declared.request.Request.TheVariants as Asked;
+ghost use Rattle.task_board.specs.Run.{Happens};
 ghost use Rattle.shim_service.specs.Reply.{json_of, line_text};
-ghost use Rattle.shim_service.specs.Input.{IsKept};
-ghost use Rattle.shim_service.specs.Serving.{OneSlice, IsIdle, RunsTask, Calls, Answers, Writes, Serves};
+ghost use Rattle.shim_service.specs.Serving.{OneSlice, IsIdle, RunsTask, IsAnswered, Serves, Stops};
+ghost use Rattle.shim_service.specs.Inside.Input.{IsKept};
+ghost use Rattle.shim_service.specs.Inside.Calls.{Calls};
+ghost use Rattle.shim_service.specs.Inside.Turns.{turns_left_to};
 
-use crate::input::{Chunk, Line, next_line};
-use crate::line::{line_of, no_memory_line};
-use crate::request::request_of;
+use crate::line_reader::{Chunk, Line, next_line};
+use crate::parse_request::read_request_line;
+use crate::reply_line::{answer_line, no_memory_line};
 use std::alloc::Global;
 use std::io::{Read, Write};
+use step_machine::laws::turns_are_limited;
 use task_board::{Board, Reply, Request};
 use wasm_ast::{Refusal, Text};
 
-// How many turns a slice has at most.
-const SLICE: u64 = 10_000;
+/// Turns of a slice at most.
+const SLICE_BUDGET: u64 = 10_000;
 
-// Runs a slice of a task, and says whether one could go out.
+/// Runs a slice of a task; false if none can be taken.
 fn run_slice(board: &mut Board, id: &str) -> bool
-    ensures { MatchBool result (OneSlice id.now board.old board.new)
-        ((board.new ≡ board.old) × IsIdle id.now board.old) }
+    ensures slice { MatchBool result (OneSlice id.now board.old.state board.new.state)
+        ((board.new ≡ board.old) × IsIdle id.now board.old.state) }
+    ensures fewer { result ≡ true
+        → turns_left_to id.now board.new.state < turns_left_to id.now board.old.state }
 {
+    board.sound();
+    turns_are_limited();
     let Some(ticket) = board.ticket(id) else {
         return false;
     };
-    let Some(mut loan) = board.take(ticket, SLICE) else {
+    let Some(mut loan) = board.take(ticket, SLICE_BUDGET) else {
         return false;
     };
     loan.run();
@@ -34,28 +44,24 @@ fn run_slice(board: &mut Board, id: &str) -> bool
     true
 }
 
-// Runs a task, slice by slice, until it is not running.
+/// Runs a task, slice by slice, until no slice of it can be taken.
 fn run_task(board: &mut Board, id: &str)
-    ensures { RunsTask id.now board.old board.new }
+    ensures { RunsTask id.now board.old.state board.new.state }
 {
-    for _ in 0..u64::MAX {
-        if !run_slice(board, id) {
-            return;
-        }
-    }
+    while run_slice(board, id) {}
 }
 
-// Runs a task, and then makes the call.
+/// Runs a task, and then makes the call.
 fn wait(board: &mut Board, id: Text) -> Result<Reply, Refusal>
-    ensures { Calls board.old (Asked.Wait id) result board.new }
+    ensures { Calls board.old.state (Asked.Wait id) result board.new.state }
 {
     run_task(board, id.as_str());
     board.call(Request::Wait { id })
 }
 
-// Makes a call. A wait runs its task first.
+/// Makes a call. A wait runs its task first.
 fn call(board: &mut Board, request: Request) -> Result<Reply, Refusal>
-    ensures { Calls board.old request result board.new }
+    ensures { Calls board.old.state request result board.new.state }
 {
     match request {
         Request::Wait { id } => wait(board, id),
@@ -63,37 +69,35 @@ fn call(board: &mut Board, request: Request) -> Result<Reply, Refusal>
     }
 }
 
-// What a line is answered.
-fn answer_of(alloc: Global, board: &mut Board, line: &Line) -> Result<Reply, Refusal>
-    ensures { (text : List ℕ) → IsKept line.now.is_long line.now.kept.items text
-        → Answers board.old text result board.new }
+/// Answers a line.
+fn answer(alloc: Global, board: &mut Board, line: &Line) -> Result<Reply, Refusal>
+    ensures { (text : List ℕ) → IsKept line.now text
+        → IsAnswered board.old.state text result board.new.state }
 {
-    if line.is_long {
+    let Some(bytes) = line.bytes() else {
         return Err(Refusal::BadRequest);
-    }
-    match request_of(alloc, line.kept.as_slice()) {
-        Ok(request) => call(board, request),
-        Err(refusal) => Err(refusal),
-    }
+    };
+    let request = read_request_line(alloc, bytes)?;
+    call(board, request)
 }
 
-// Writes a text at once, and says whether that went well.
+/// Writes a text and flushes; false if either failed.
 fn write_text<W: Write>(writer: &mut W, text: &str) -> bool
     ensures { IsTrue result → Appends (W.contents writer.old) (W.contents writer.new) text.now }
 {
     writer.write_all(text.as_bytes()).is_ok() && writer.flush().is_ok()
 }
 
-// Writes the line of an answer, and says whether that went well. That of `NoMemory` needs no memory; any
-// other that finds no room is not written, since its request has been made.
+/// Writes the line of an answer; false if that failed. The line of `NoMemory` needs no memory; any other
+/// is not written if memory runs out, since its request has been made.
 fn write_answer<W: Write>(alloc: Global, answer: &Result<Reply, Refusal>, writer: &mut W) -> bool
-    ensures { IsTrue result → (text : List ℕ) × Writes answer.now text
-        × Appends (W.contents writer.old) (W.contents writer.new) text }
+    ensures { IsTrue result → Appends (W.contents writer.old) (W.contents writer.new)
+        (line_text (json_of answer.now)) }
 {
     if let Err(Refusal::NoMemory) = answer {
         return write_text(writer, no_memory_line());
     }
-    match line_of(alloc, answer) {
+    match answer_line(alloc, answer) {
         Ok(line) => write_text(writer, line.as_str()),
         Err(_) => false,
     }
@@ -102,16 +106,17 @@ fn write_answer<W: Write>(alloc: Global, answer: &Result<Reply, Refusal>, writer
 /// Answers each line of a reader by one line, written at once, until the reader is at its end: then
 /// it is true. A `wait` runs its task, in slices of 10,000 turns, until it is not running.
 ///
-/// False where the reader or the writer failed, or there was no room for a line that came in or for a
-/// reply; the last request may have been made then.
+/// False if the reader or the writer failed, or memory ran out for a line that was read or for a reply;
+/// the last request may have been made then.
 pub fn serve_lines<R: Read, W: Write>(
     alloc: Global,
     board: &mut Board,
     reader: &mut R,
     writer: &mut W,
 ) -> bool
-    ensures { IsTrue result → Serves board.old (R.remaining reader.old) (W.contents writer.old)
-        (W.contents writer.new) board.new }
+    ensures served { result ≡ true → Serves board.old.state (R.remaining reader.old)
+        (W.contents writer.old) (W.contents writer.new) board.new.state }
+    ensures stopped { result ≡ false → Stops board.old.state (R.remaining reader.old) board.new.state }
 {
     let Ok(mut chunk) = Chunk::new(alloc) else {
         return false;
@@ -123,7 +128,7 @@ pub fn serve_lines<R: Read, W: Write>(
             Ok(false) => return true,
             Err(_) => return false,
         }
-        let answer = answer_of(alloc, board, &line);
+        let answer = answer(alloc, board, &line);
         if !write_answer(alloc, &answer, writer) {
             return false;
         }

@@ -1,6 +1,10 @@
 //! Requests and events on a board.
 
-use crate::checks::{check_count, check_text};
+use crate::checks::check_text;
+use crate::fixtures::{
+    CREATED_LINE, EXIT_SEVEN_CONFIG, EXIT_SEVEN_HEX, EXITED_LINE, NOT_RETURNED_LINE,
+    NOT_TAKEN_LINE, ONE_TURN_LINE, PUT_LINE, RETURNED_LINE, STARTED_LINE, TAKEN_LINE,
+};
 use shim_service::{event_line_of, line_of};
 use std::alloc::{AllocError, Global};
 use std::process::Abort;
@@ -8,28 +12,8 @@ use std::test::Fail;
 use task_board::{Board, Event, EventReply, Reply, Request, run_events};
 use wasm_ast::{Refusal, Sequence, Text};
 
-/// A module whose entry is `i32.const 7 call $exit`.
-const EXIT_SEVEN: &str =
-    "0061736d0100000001080260017f0060000002240116776173695f736e617073686f745f70726576696577310970726f635f65786974000003020101070a01065f737461727400010a08010600410710000b";
-
-/// A config that names it.
-const OF_EXIT_SEVEN: &str =
-    r#"{"ociVersion":"1.0.2","process":{"args":["a"],"cwd":"/"},"annotations":{"dev.shim.module":"sha256:2194f0d23626e6104d4a7a891350fbd0e82a54a29dd596a672d41474e9b6ee0a"}}"#;
-
-const IS_PUT: &str =
-    "{\"digest\":\"sha256:2194f0d23626e6104d4a7a891350fbd0e82a54a29dd596a672d41474e9b6ee0a\",\"ok\":true,\"size\":82}\n";
-
-const IS_CREATED: &str = "{\"id\":\"a\",\"ok\":true,\"status\":\"created\"}\n";
-
-const IS_STARTED: &str = "{\"id\":\"a\",\"ok\":true,\"status\":\"running\"}\n";
-
-const HAS_RUN_ONE: &str = "{\"id\":\"a\",\"n\":1,\"ok\":true,\"status\":\"running\"}\n";
-
-const HAS_EXITED: &str =
-    "{\"cause\":\"exit\",\"exit\":7,\"id\":\"a\",\"n\":2,\"ok\":true,\"status\":\"stopped\"}\n";
-
 fn put(alloc: Global) -> Result<Request, Fail> {
-    let bytes = Sequence::new(hex::decode(alloc, EXIT_SEVEN)?);
+    let bytes = Sequence::new(hex::decode(alloc, EXIT_SEVEN_HEX)?);
     Ok(Request::Put { bytes })
 }
 
@@ -38,7 +22,7 @@ fn id(alloc: Global) -> Result<Text, AllocError> {
 }
 
 fn create(alloc: Global) -> Result<Request, AllocError> {
-    let config = Text::from_str(alloc, OF_EXIT_SEVEN)?;
+    let config = Text::from_str(alloc, EXIT_SEVEN_CONFIG)?;
     let id = id(alloc)?;
     Ok(Request::Create { config, id })
 }
@@ -78,18 +62,18 @@ fn check_answer(
 fn put_is_applied(rt: &impl Abort, alloc: Global, board: &mut Board) -> Result<(), Fail> {
     let prepared = board.prepare(put(alloc)?)?;
     let answer = board.apply(prepared);
-    check_answer(rt, alloc, &answer, IS_PUT)
+    check_answer(rt, alloc, &answer, PUT_LINE)
 }
 
 fn create_is_applied(rt: &impl Abort, alloc: Global, board: &mut Board) -> Result<(), Fail> {
     let prepared = board.prepare(create(alloc)?)?;
     let answer = board.apply(prepared);
-    check_answer(rt, alloc, &answer, IS_CREATED)
+    check_answer(rt, alloc, &answer, CREATED_LINE)
 }
 
 fn start_is_called(rt: &impl Abort, alloc: Global, board: &mut Board) -> Result<(), Fail> {
     let answer = board.call(start(alloc)?);
-    check_answer(rt, alloc, &answer, IS_STARTED)
+    check_answer(rt, alloc, &answer, STARTED_LINE)
 }
 
 // A valid module is accepted, by prepare and apply as by call.
@@ -102,9 +86,9 @@ fn requests_are_prepared_and_applied(rt: HostRuntime) -> Result<(), Fail> {
     start_is_called(&rt, alloc, &mut board)
 }
 
-/// An event of a run.
+/// An event of a run, of the one task.
 #[derive(Clone, Copy)]
-enum Step {
+enum Action {
     Put,
     Create,
     Start,
@@ -114,63 +98,88 @@ enum Step {
     Return,
 }
 
-// The event of a step, of the one task.
-fn event(alloc: Global, step: Step) -> Result<Event, Fail> {
-    match step {
-        Step::Put => Ok(Event::Call(put(alloc)?)),
-        Step::Create => Ok(Event::Call(create(alloc)?)),
-        Step::Start => Ok(Event::Call(start(alloc)?)),
-        Step::State => Ok(Event::Call(state(alloc)?)),
-        Step::Wait => Ok(Event::Call(wait(alloc)?)),
-        Step::Take(budget) => Ok(Event::Take(id(alloc)?, budget)),
-        Step::Return => Ok(Event::Return(id(alloc)?)),
+fn event(alloc: Global, action: Action) -> Result<Event, Fail> {
+    match action {
+        Action::Put => Ok(Event::Call(put(alloc)?)),
+        Action::Create => Ok(Event::Call(create(alloc)?)),
+        Action::Start => Ok(Event::Call(start(alloc)?)),
+        Action::State => Ok(Event::Call(state(alloc)?)),
+        Action::Wait => Ok(Event::Call(wait(alloc)?)),
+        Action::Take(budget) => Ok(Event::Take(id(alloc)?, budget)),
+        Action::Return => Ok(Event::Return(id(alloc)?)),
     }
 }
 
-/// The steps of a whole run.
-const STEPS: &[Step] = &[
-    Step::Put,
-    Step::Create,
-    Step::Start,
-    Step::Take(1),
-    Step::Return,
-    Step::State,
-    Step::Take(0),
-    Step::Take(1_000_001),
-    Step::Take(1_000_000),
-    Step::Take(1),
-    Step::Return,
-    Step::Return,
-    Step::Wait,
+/// An event and the line of its reply.
+struct Row {
+    action: Action,
+    line: &'static str,
+}
+
+/// A whole run.
+const ROWS: &[Row] = &[
+    Row {
+        action: Action::Put,
+        line: PUT_LINE,
+    },
+    Row {
+        action: Action::Create,
+        line: CREATED_LINE,
+    },
+    Row {
+        action: Action::Start,
+        line: STARTED_LINE,
+    },
+    Row {
+        action: Action::Take(1),
+        line: TAKEN_LINE,
+    },
+    Row {
+        action: Action::Return,
+        line: RETURNED_LINE,
+    },
+    Row {
+        action: Action::State,
+        line: ONE_TURN_LINE,
+    },
+    Row {
+        action: Action::Take(0),
+        line: NOT_TAKEN_LINE,
+    },
+    Row {
+        action: Action::Take(1_000_001),
+        line: NOT_TAKEN_LINE,
+    },
+    Row {
+        action: Action::Take(1_000_000),
+        line: TAKEN_LINE,
+    },
+    Row {
+        action: Action::Take(1),
+        line: NOT_TAKEN_LINE,
+    },
+    Row {
+        action: Action::Return,
+        line: RETURNED_LINE,
+    },
+    Row {
+        action: Action::Return,
+        line: NOT_RETURNED_LINE,
+    },
+    Row {
+        action: Action::Wait,
+        line: EXITED_LINE,
+    },
 ];
 
-// Events of a whole run.
 fn events(alloc: Global) -> Result<Vec<Event>, Fail> {
     let mut events = Vec::new(alloc);
-    for step in STEPS {
-        events.push(event(alloc, *step)?)?;
+    for row in ROWS {
+        events.push(event(alloc, row.action)?)?;
     }
     Ok(events)
 }
 
-/// What they are answered.
-const ANSWERS: &[&str] = &[
-    IS_PUT,
-    IS_CREATED,
-    IS_STARTED,
-    "{\"ok\":true,\"taken\":true}\n",
-    "{\"ok\":true,\"returned\":true}\n",
-    HAS_RUN_ONE,
-    "{\"ok\":true,\"taken\":false}\n",
-    "{\"ok\":true,\"taken\":false}\n",
-    "{\"ok\":true,\"taken\":true}\n",
-    "{\"ok\":true,\"taken\":false}\n",
-    "{\"ok\":true,\"returned\":true}\n",
-    "{\"ok\":true,\"returned\":false}\n",
-    HAS_EXITED,
-];
-
-// Whether an event was answered by this line.
 fn check_reply(rt: &impl Abort, alloc: Global, reply: &EventReply, line: &str) -> Result<(), Fail> {
     let found = event_line_of(alloc, reply)?;
     check_text(rt, "the line of an event", found.as_str(), line);
@@ -178,8 +187,8 @@ fn check_reply(rt: &impl Abort, alloc: Global, reply: &EventReply, line: &str) -
 }
 
 fn check_replies(rt: &impl Abort, alloc: Global, replies: &[EventReply]) -> Result<(), Fail> {
-    for (reply, line) in replies.iter().zip(ANSWERS) {
-        check_reply(rt, alloc, reply, line)?;
+    for (reply, row) in replies.iter().zip(ROWS) {
+        check_reply(rt, alloc, reply, row.line)?;
     }
     Ok(())
 }
@@ -188,6 +197,6 @@ fn check_replies(rt: &impl Abort, alloc: Global, replies: &[EventReply]) -> Resu
 fn events_are_run(rt: HostRuntime) -> Result<(), Fail> {
     let alloc = rt.alloc();
     let replies = run_events(alloc, events(alloc)?)?;
-    check_count(&rt, replies.len(), ANSWERS.len());
+    assert_eq!(rt; replies.len(), ROWS.len());
     check_replies(&rt, alloc, replies.as_slice())
 }

@@ -2,17 +2,12 @@
 
 use std::process::Abort;
 
-/// Whether a text is the one that is wanted. A failure names what it is of.
-pub fn check_text(rt: &impl Abort, of: &str, found: &str, wanted: &str) {
-    assert_eq!(rt; found, wanted, "{of}");
+/// Asserts that a text is the one that is wanted; a failure says what is compared.
+pub fn check_text(rt: &impl Abort, what: &str, found: &str, wanted: &str) {
+    assert_eq!(rt; found, wanted, "{what}");
 }
 
-/// Whether there are as many as are wanted.
-pub fn check_count(rt: &impl Abort, found: usize, wanted: usize) {
-    assert_eq!(rt; found, wanted);
-}
-
-/// Whether bytes are those that are wanted. A failure says for which number.
+/// Asserts that bytes are those that are wanted; a failure says at which number.
 pub fn check_bytes(rt: &impl Abort, at: usize, found: &[u8], wanted: &[u8]) {
     assert_eq!(rt; found, wanted, "at {at}");
 }

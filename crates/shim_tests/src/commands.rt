@@ -1,7 +1,7 @@
-//! Command lines, and the texts of help and of faults.
+//! Command lines, and the texts of help and of errors.
 
 use crate::checks::check_text;
-use shim_service::{Command, Fault, command_of};
+use shim_service::{Command, CommandError, command_of};
 use std::alloc::{AllocError, Global};
 use std::process::Abort;
 use std::test::Fail;
@@ -50,64 +50,104 @@ Usage: wasm-shim replay <FILE>
 For more information, try '--help'.
 ";
 
-/// Command lines behind the program's name, and what they are.
-const LINES: &[(&str, &str, &str)] = &[
-    ("serve", "serves", ""),
-    ("replay script", "replays", "script"),
-    ("--version", "shows", "wasm-shim 0.1.0\n"),
-    ("--help", "shows", HELP),
-    ("-h", "shows", HELP),
-    ("help", "shows", HELP),
-    ("", "refuses", NO_COMMAND),
-    ("asm a", "refuses", NO_SUCH_COMMAND),
-    ("replay", "refuses", NO_FILE),
-    ("replay a b", "refuses", TWO_FILES),
-];
-
-// The words of a command line.
-fn words(alloc: Global, line: &str) -> Result<Vec<String>, AllocError> {
-    let mut words = Vec::new(alloc);
-    words.push(String::from_str(alloc, "wasm-shim")?)?;
-    for word in line.split_whitespace() {
-        words.push(String::from_str(alloc, word)?)?;
-    }
-    Ok(words)
+/// What a command line does.
+struct Row {
+    /// The arguments after the program's name.
+    arguments: &'static str,
+    does: &'static str,
+    /// The file or the text with it.
+    text: &'static str,
 }
 
-// What a command line is, and the file or the text with it.
+const ROWS: &[Row] = &[
+    Row {
+        arguments: "serve",
+        does: "serves",
+        text: "",
+    },
+    Row {
+        arguments: "replay script",
+        does: "replays",
+        text: "script",
+    },
+    Row {
+        arguments: "--version",
+        does: "shows",
+        text: "wasm-shim 0.1.0\n",
+    },
+    Row {
+        arguments: "--help",
+        does: "shows",
+        text: HELP,
+    },
+    Row {
+        arguments: "-h",
+        does: "shows",
+        text: HELP,
+    },
+    Row {
+        arguments: "help",
+        does: "shows",
+        text: HELP,
+    },
+    Row {
+        arguments: "",
+        does: "refuses",
+        text: NO_COMMAND,
+    },
+    Row {
+        arguments: "asm a",
+        does: "refuses",
+        text: NO_SUCH_COMMAND,
+    },
+    Row {
+        arguments: "replay",
+        does: "refuses",
+        text: NO_FILE,
+    },
+    Row {
+        arguments: "replay a b",
+        does: "refuses",
+        text: TWO_FILES,
+    },
+];
+
+fn arguments(alloc: Global, line: &str) -> Result<Vec<String>, AllocError> {
+    let mut arguments = Vec::new(alloc);
+    arguments.push(String::from_str(alloc, "wasm-shim")?)?;
+    for argument in line.split_whitespace() {
+        arguments.push(String::from_str(alloc, argument)?)?;
+    }
+    Ok(arguments)
+}
+
+// What a command line does, and the file or the text with it.
 fn found(alloc: Global, line: &str) -> Result<(&'static str, String), Fail> {
-    match command_of(alloc, words(alloc, line)?.as_slice()) {
+    match command_of(alloc, arguments(alloc, line)?.as_slice()) {
         Ok(Command::Serve) => Ok(("serves", String::new(alloc))),
         Ok(Command::Replay { file }) => Ok(("replays", file)),
         Ok(Command::Show { text }) => Ok(("shows", text)),
-        Err(fault) => Ok(("refuses", fault.to_string(alloc)?)),
+        Err(error) => Ok(("refuses", error.to_string(alloc)?)),
     }
 }
 
-// Whether a command line is what it should be, with the text that it should have.
-fn check_line(
-    rt: &impl Abort,
-    alloc: Global,
-    line: &str,
-    does: &str,
-    text: &str,
-) -> Result<(), Fail> {
-    let (done, told) = found(alloc, line)?;
-    check_text(rt, line, done, does);
-    check_text(rt, line, told.as_str(), text);
+fn check_row(rt: &impl Abort, alloc: Global, row: &Row) -> Result<(), Fail> {
+    let (does, text) = found(alloc, row.arguments)?;
+    check_text(rt, row.arguments, does, row.does);
+    check_text(rt, row.arguments, text.as_str(), row.text);
     Ok(())
 }
 
 fn check_memory(rt: &impl Abort, alloc: Global) -> Result<(), Fail> {
-    let fault = Fault::Memory.to_string(alloc)?;
-    check_text(rt, "no memory", fault.as_str(), "out of memory");
+    let text = CommandError::OutOfMemory.to_string(alloc)?;
+    check_text(rt, "no memory", text.as_str(), "out of memory");
     Ok(())
 }
 
 #[test]
-fn words_are_commands(rt: HostRuntime) -> Result<(), Fail> {
-    for &(line, does, text) in LINES {
-        check_line(&rt, rt.alloc(), line, does, text)?;
+fn arguments_are_commands(rt: HostRuntime) -> Result<(), Fail> {
+    for row in ROWS {
+        check_row(&rt, rt.alloc(), row)?;
     }
     check_memory(&rt, rt.alloc())
 }

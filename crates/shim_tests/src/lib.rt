@@ -9,6 +9,8 @@ mod checks;
 #[cfg(test)]
 mod commands;
 #[cfg(test)]
+mod fixtures;
+#[cfg(test)]
 mod lines;
 #[cfg(test)]
 mod modules;

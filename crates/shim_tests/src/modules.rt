@@ -1,18 +1,17 @@
 //! Modules are read, written and run.
 
+ghost use Rattle.std.specs.Prelude.{◌≡◌, [], IfOk};
+
 use crate::checks::{check_bytes, check_text};
+use crate::fixtures::EXIT_SEVEN_HEX;
 use std::alloc::{AllocError, Global};
 use std::process::Abort;
 use std::test::Fail;
-use step_machine::{Breaks, Machine, Process, SliceEnd, Valid, validate};
+use step_machine::{Breaks, Machine, Output, Process, ProcessConfig, SliceEnd, Valid, validate};
 use wasm_ast::{Export, Func, FuncType, Import, Instr, Module, Refusal, Sequence, Text};
 use wasm_binary::{decode, encode};
 
-/// A module whose entry is `i32.const 7 call $exit`, in 82 bytes.
-const EXIT_SEVEN: &str =
-    "0061736d0100000001080260017f0060000002240116776173695f736e617073686f745f70726576696577310970726f635f65786974000003020101070a01065f737461727400010a08010600410710000b";
-
-/// The same module with the number 7 in five bytes.
+/// The module of the fixtures with the number 7 in five bytes.
 const SEVEN_IN_FIVE: &str =
     "0061736d0100000001080260017f0060000002240116776173695f736e617073686f745f70726576696577310970726f635f65786974000003020101070a01065f737461727400010a0c010a0041878080800010000b";
 
@@ -20,8 +19,10 @@ fn text(alloc: Global, text: &str) -> Result<Text, AllocError> {
     Text::from_str(alloc, text)
 }
 
-// A process with one argument.
-fn process(alloc: Global) -> Result<Process, AllocError> {
+// A process with one argument that has written nothing.
+fn process(alloc: Global) -> Result<Process, AllocError>
+    ensures { IfOk result (λ p. (p.out ≡ []) × (p.err ≡ [])) }
+{
     let mut args = Vec::new(alloc);
     args.push(text(alloc, "a")?)?;
     Ok(Process {
@@ -29,8 +30,8 @@ fn process(alloc: Global) -> Result<Process, AllocError> {
         args: Sequence::new(args),
         env: Sequence::new(Vec::new(alloc)),
         cap: 16,
-        out: Sequence::new(Vec::new(alloc)),
-        err: Sequence::new(Vec::new(alloc)),
+        out: Output::new(alloc)?,
+        err: Output::new(alloc)?,
     })
 }
 
@@ -54,6 +55,21 @@ fn show_imports(shown: &mut String, imports: &[Import]) -> Result<(), Fail> {
     Ok(())
 }
 
+fn show_instr(shown: &mut String, instr: &Instr) -> Result<(), Fail> {
+    match instr {
+        Instr::Simple(simple) => write!(shown, "{simple:?} ")?,
+        _ => write!(shown, "block ")?,
+    }
+    Ok(())
+}
+
+fn show_body(shown: &mut String, body: &[Instr]) -> Result<(), Fail> {
+    for instr in body {
+        show_instr(shown, instr)?;
+    }
+    Ok(())
+}
+
 fn show_funcs(shown: &mut String, funcs: &[Func]) -> Result<(), Fail> {
     for Func {
         type_index,
@@ -61,8 +77,8 @@ fn show_funcs(shown: &mut String, funcs: &[Func]) -> Result<(), Fail> {
         body,
     } in funcs {
         let locals = locals.as_slice();
-        let body = body.as_slice();
-        write!(shown, "func {type_index} {locals:?} {body:?}; ")?;
+        write!(shown, "func {type_index} {locals:?} ")?;
+        show_body(shown, body.as_slice())?;
     }
     Ok(())
 }
@@ -84,7 +100,7 @@ fn show(alloc: Global, module: &Module) -> Result<String, Fail> {
     Ok(shown)
 }
 
-// The module that is spelled so in hexadecimal digits.
+// The module of these hexadecimal digits.
 fn module_of(alloc: Global, spelling: &str) -> Result<Module, Fail> {
     let bytes = hex::decode(alloc, spelling)?;
     Ok(decode(alloc, bytes.as_slice())?)
@@ -94,14 +110,14 @@ fn check_shown(rt: &impl Abort, alloc: Global, module: &Module) -> Result<(), Fa
     let shown = show(alloc, module)?;
     let wanted = "type [I32] to []; type [] to []; \
         import wasi_snapshot_preview1 proc_exit 0; \
-        func 1 [] [I32Const(7), Call(0)]; export _start Func 1";
+        func 1 [] Const(I32(7)) Call(0) export _start Func 1";
     check_text(rt, "shown", shown.as_str(), wanted);
     Ok(())
 }
 
 fn check_written(rt: &impl Abort, alloc: Global, module: &Module) -> Result<(), Fail> {
     let written = hex::encode(alloc, encode(alloc, module)?)?;
-    check_text(rt, "written", written.as_str(), EXIT_SEVEN);
+    check_text(rt, "written", written.as_str(), EXIT_SEVEN_HEX);
     Ok(())
 }
 
@@ -113,14 +129,14 @@ fn check_module(rt: &impl Abort, alloc: Global, spelling: &str) -> Result<(), Fa
 
 #[test]
 fn modules_are_read_and_written(rt: HostRuntime) -> Result<(), Fail> {
-    for spelling in [EXIT_SEVEN, SEVEN_IN_FIVE] {
+    for spelling in [EXIT_SEVEN_HEX, SEVEN_IN_FIVE] {
         check_module(&rt, rt.alloc(), spelling)?;
     }
     Ok(())
 }
 
 fn valid_module(alloc: Global) -> Result<Valid, Fail> {
-    let module = module_of(alloc, EXIT_SEVEN)?;
+    let module = module_of(alloc, EXIT_SEVEN_HEX)?;
     Ok(validate(alloc, module)?)
 }
 
@@ -169,22 +185,17 @@ fn check_copy_of_bytes(rt: &impl Abort, alloc: Global) -> Result<(), Fail> {
     Ok(())
 }
 
-fn new_process(alloc: Global) -> Result<Box<Process>, AllocError> {
+fn new_config(alloc: Global) -> Result<ProcessConfig, AllocError> {
     let process = process(alloc)?;
-    Ok(Box::new(alloc, process)?)
+    process.config(alloc)
 }
 
-fn copy_process(alloc: Global, process: &Process) -> Result<Box<Process>, AllocError> {
-    let copy = process.copy(alloc)?;
-    Ok(Box::new(alloc, copy)?)
-}
-
-fn check_copy_of_process(rt: &impl Abort, alloc: Global) -> Result<(), Fail> {
-    let process = new_process(alloc)?;
-    let mut copy = copy_process(alloc, &process)?;
-    assert!(rt; copy.is(&process));
+fn check_copy_of_config(rt: &impl Abort, alloc: Global) -> Result<(), Fail> {
+    let config = new_config(alloc)?;
+    let mut copy = config.copy(alloc)?;
+    assert!(rt; copy.is(&config));
     copy.cap = 17;
-    assert!(rt; !copy.is(&process));
+    assert!(rt; !copy.is(&config));
     Ok(())
 }
 
@@ -192,71 +203,92 @@ fn check_copy_of_process(rt: &impl Abort, alloc: Global) -> Result<(), Fail> {
 fn copies_are_the_same(rt: HostRuntime) -> Result<(), Fail> {
     check_copy_of_text(&rt, rt.alloc())?;
     check_copy_of_bytes(&rt, rt.alloc())?;
-    check_copy_of_process(&rt, rt.alloc())
+    check_copy_of_config(&rt, rt.alloc())
 }
 
-/// Bytes with a fault or a number over a limit, or both: the one that stands first from the front is
+/// Bytes with a fault or a number over a limit, or both: the one that comes first from the front is
 /// answered.
-const FAULTS: &[(&str, Refusal)] = &[
-    // A body with an instruction that is none.
-    (
-        "0061736d0100000001080260017f0060000002240116776173695f736e617073686f745f70726576696577310970726f635f65786974000003020101070a01065f737461727400010a05010300ff0b",
-        Refusal::BadModule,
-    ),
-    // Too many locals, and such an instruction behind them.
-    (
-        "0061736d0100000001080260017f0060000002240116776173695f736e617073686f745f70726576696577310970726f635f65786974000003020101070a01065f737461727400010a0b010901ffffffff0f7fff0b",
-        Refusal::Limit,
-    ),
-    // A local of no type, and too many locals behind it.
-    (
-        "0061736d0100000001080260017f0060000002240116776173695f736e617073686f745f70726576696577310970726f635f65786974000003020101070a01065f737461727400010a0c010a02017dffffffff0f7f0b",
-        Refusal::BadModule,
-    ),
-    // Too many locals, and one of no type behind them.
-    (
-        "0061736d0100000001080260017f0060000002240116776173695f736e617073686f745f70726576696577310970726f635f65786974000003020101070a01065f737461727400010a0c010a02ffffffff0f7f017d0b",
-        Refusal::Limit,
-    ),
-    // 1,024 locals and one more, and an instruction that is none.
-    (
-        "0061736d0100000001080260017f0060000002240116776173695f736e617073686f745f70726576696577310970726f635f65786974000003020101070a01065f737461727400010a0a01080280087f017fff0b",
-        Refusal::Limit,
-    ),
-    // 1,024 locals, and an instruction that is none.
-    (
-        "0061736d0100000001080260017f0060000002240116776173695f736e617073686f745f70726576696577310970726f635f65786974000003020101070a01065f737461727400010a0801060180087fff0b",
-        Refusal::BadModule,
-    ),
-    // 4,097 functions, of which no type follows.
-    ("0061736d0100000001040160000003028120", Refusal::Limit),
-    // A type of no form, and 4,097 functions behind it.
-    ("0061736d0100000001040161000003028120", Refusal::BadModule),
-    // Another version, and 4,097 functions behind it.
-    ("0061736d0200000001040160000003028120", Refusal::BadModule),
+struct Faulty {
+    what: &'static str,
+    hex: &'static str,
+    refusal: Refusal,
+}
+
+const FAULTS: &[Faulty] = &[
+    Faulty {
+        what: "a body with an instruction that is none",
+        hex: "0061736d0100000001080260017f0060000002240116776173695f736e617073686f745f70726576696577310970726f635f65786974000003020101070a01065f737461727400010a05010300ff0b",
+        refusal: Refusal::BadModule,
+    },
+    Faulty {
+        what: "too many locals, and such an instruction after them",
+        hex: "0061736d0100000001080260017f0060000002240116776173695f736e617073686f745f70726576696577310970726f635f65786974000003020101070a01065f737461727400010a0b010901ffffffff0f7fff0b",
+        refusal: Refusal::Limit,
+    },
+    Faulty {
+        what: "a local of no type, and too many locals after it",
+        hex: "0061736d0100000001080260017f0060000002240116776173695f736e617073686f745f70726576696577310970726f635f65786974000003020101070a01065f737461727400010a0c010a02017dffffffff0f7f0b",
+        refusal: Refusal::BadModule,
+    },
+    Faulty {
+        what: "too many locals, and one of no type after them",
+        hex: "0061736d0100000001080260017f0060000002240116776173695f736e617073686f745f70726576696577310970726f635f65786974000003020101070a01065f737461727400010a0c010a02ffffffff0f7f017d0b",
+        refusal: Refusal::Limit,
+    },
+    Faulty {
+        what: "1,024 locals and one more, and an instruction that is none",
+        hex: "0061736d0100000001080260017f0060000002240116776173695f736e617073686f745f70726576696577310970726f635f65786974000003020101070a01065f737461727400010a0a01080280087f017fff0b",
+        refusal: Refusal::Limit,
+    },
+    Faulty {
+        what: "1,024 locals, and an instruction that is none",
+        hex: "0061736d0100000001080260017f0060000002240116776173695f736e617073686f745f70726576696577310970726f635f65786974000003020101070a01065f737461727400010a0801060180087fff0b",
+        refusal: Refusal::BadModule,
+    },
+    Faulty {
+        what: "4,097 functions, of which no type follows",
+        hex: "0061736d0100000001040160000003028120",
+        refusal: Refusal::Limit,
+    },
+    Faulty {
+        what: "a type of no form, and 4,097 functions after it",
+        hex: "0061736d0100000001040161000003028120",
+        refusal: Refusal::BadModule,
+    },
+    Faulty {
+        what: "another version, and 4,097 functions after it",
+        hex: "0061736d0200000001040160000003028120",
+        refusal: Refusal::BadModule,
+    },
+    // Nothing is allocated for a count before the items are there.
+    Faulty {
+        what: "4,294,967,295 types in a section of six bytes",
+        hex: "0061736d010000000106ffffffff0f60",
+        refusal: Refusal::BadModule,
+    },
 ];
 
-// Whether decoding is refused so.
-fn check_refusal(rt: &impl Abort, alloc: Global, of: &str, bytes: &[u8], refusal: Refusal) {
+// Asserts that decoding is refused so.
+fn check_refusal(rt: &impl Abort, alloc: Global, what: &str, bytes: &[u8], refusal: Refusal) {
     let length = bytes.len();
     assert_eq!(rt;
         decode(alloc, bytes).err(),
         Some(refusal),
-        "{of}, {length} bytes"
+        "{what}, {length} bytes"
     );
 }
 
 #[test]
 fn the_first_fault_is_answered(rt: HostRuntime) -> Result<(), Fail> {
     let alloc = rt.alloc();
-    for &(spelling, refusal) in FAULTS {
-        let bytes = hex::decode(alloc, spelling)?;
-        check_refusal(&rt, alloc, spelling, bytes.as_slice(), refusal);
+    for fault in FAULTS {
+        let bytes = hex::decode(alloc, fault.hex)?;
+        check_refusal(&rt, alloc, fault.what, bytes.as_slice(), fault.refusal);
     }
     Ok(())
 }
 
-// The length of the whole stands before all else.
+// The length of the whole comes before all else.
 #[test]
 fn too_many_bytes(rt: HostRuntime) -> Result<(), Fail> {
     let alloc = rt.alloc();

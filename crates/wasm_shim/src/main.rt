@@ -1,14 +1,14 @@
 //! The program `wasm-shim`: WebAssembly modules, run as container tasks.
 #![tactic(auto)]
 
-use shim_service::{Command, Fault, command_of, replay_lines, serve_lines};
+use shim_service::{Command, CommandError, command_of, replay_lines, serve_lines};
 use std::io::Write;
 use std::process::ExitCode;
 use std::{env, fs, io};
 use task_board::Board;
 
-// The exit status where the words are not those of a command.
-const FAULTY: u8 = 2;
+// The exit status if the arguments are those of no command.
+const EXIT_USAGE: u8 = 2;
 
 // Says on standard error why the program failed.
 fn failed(rt: &HostRuntime, cause: &str) -> ExitCode {
@@ -43,7 +43,7 @@ fn serve(rt: &HostRuntime) -> ExitCode {
     } else {
         failed(
             rt,
-            "standard input or output failed, or a line found no room",
+            "standard input or output failed, or memory ran out for a line",
         )
     }
 }
@@ -60,30 +60,30 @@ fn replay(rt: &HostRuntime, file: &str) -> ExitCode {
     }
 }
 
-// Says on standard error what is wrong with the words.
-fn refuse(rt: &HostRuntime, fault: &Fault) -> ExitCode {
-    if let Fault::Memory = fault {
+// Says on standard error what is wrong with the arguments.
+fn refuse(rt: &HostRuntime, error: &CommandError) -> ExitCode {
+    if let CommandError::OutOfMemory = error {
         return failed(rt, "out of memory");
     }
-    let _told = eprint!(rt; "{fault}");
-    ExitCode::from(FAULTY)
+    let _told = eprint!(rt; "{error}");
+    ExitCode::from(EXIT_USAGE)
 }
 
-// The words of the command line.
-fn words(rt: &HostRuntime) -> io::Result<Vec<String>> {
-    let words = env::args(rt)?.collect(rt.alloc())?;
-    Ok(words)
+// The program's name and its arguments.
+fn arguments(rt: &HostRuntime) -> io::Result<Vec<String>> {
+    let arguments = env::args(rt)?.collect(rt.alloc())?;
+    Ok(arguments)
 }
 
 fn main(rt: HostRuntime) -> ExitCode {
-    let words = match words(&rt) {
-        Ok(words) => words,
+    let given = match arguments(&rt) {
+        Ok(given) => given,
         Err(error) => return stream_failed(&rt, "the command line", &error),
     };
-    match command_of(rt.alloc(), words.as_slice()) {
+    match command_of(rt.alloc(), given.as_slice()) {
         Ok(Command::Serve) => serve(&rt),
         Ok(Command::Replay { file }) => replay(&rt, file.as_str()),
         Ok(Command::Show { text }) => write_out(&rt, text.as_bytes()),
-        Err(fault) => refuse(&rt, &fault),
+        Err(error) => refuse(&rt, &error),
     }
 }

@@ -11,7 +11,7 @@ unfolding serde_json_on_literals hex_on_literals is_utf8 chars
 returns-clause-put c = record {
   value = _;
   reads = record { short = omega arith; utf8 = IsUtf8-from_is_utf8 (codes "{\"op\":\"put\",\"hex\":\"00fF\"}") refl; value = refl };
-  asks = record { hex = _; keys = refl; spells = record { digits = _; text = refl; decodes = refl } };
+  asks = (_, refl, (_, refl, refl));
 }
 
 pub returns-clause-twice : goal.returns-clause-twice
@@ -19,7 +19,7 @@ unfolding serde_json_on_literals is_utf8 chars
 returns-clause-twice c = record {
   value = _;
   reads = record { short = omega arith; utf8 = IsUtf8-from_is_utf8 (codes "{\"op\":\"start\",\"id\":\"a\",\"op\":\"state\"}") refl; value = refl };
-  asks = refl;
+  asks = (_, refl, refl);
 }
 
 pub returns-clause-take : goal.returns-clause-take
@@ -27,7 +27,7 @@ unfolding serde_json_on_literals is_utf8 chars
 returns-clause-take c = record {
   value = _;
   reads = record { short = omega arith; utf8 = IsUtf8-from_is_utf8 (codes "{\"op\":\"take\",\"id\":\"a\",\"budget\":100}") refl; value = refl };
-  asks = record { keys = refl; least = omega arith; most = omega arith };
+  asks = (_, refl, (refl, omega arith, omega arith));
 }
 
 pub returns-clause-stopped : goal.returns-clause-stopped

@@ -1,4 +1,4 @@
-use Rattle.shim_service.proofs.Single.{one_event}
+use Rattle.shim_service.proofs.OneEvent.{one_event}
 use Rattle.shim_service.proofs.laws.one_event_to_a_line.Goals as goal
 
 pub returns : goal.returns

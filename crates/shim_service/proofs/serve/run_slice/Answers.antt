@@ -1,19 +1,22 @@
-use Rattle.std.proofs.Common.{sym, subst}
-use Rattle.task_board.specs.Loans.{Fits}
-use Rattle.task_board.specs.Tickets.{ComesHome}
-use Rattle.shim_service.proofs.Lending.{fits_lent}
+use Rattle.std.proofs.Common.{sym}
+use Rattle.task_board.proofs.LoanCover.{not_taken}
+use Rattle.shim_service.specs.Serving.{slice_budget}
+use Rattle.shim_service.proofs.SliceLemmas.{slice_of, slice_fewer}
 use Rattle.shim_service.proofs.serve.run_slice.Goals as goal
 
-pub returns : goal.returns
-returns c =
-    let goes = c.in-Some-take.ensures.some in
-    let fits = fits_lent c.args.board.now c.in-Some.ticket 10000 c.in-Some-take.loan c.take.new.self goes in
-    let home = c.give_back-ticket.ensures.home (subst (λ l. Fits l c.take.new.self.tasks) (sym c.run.ensures) fits) in
-    record {
-      ticket = c.in-Some.ticket;
-      loan = c.in-Some-take.loan;
-      mid = c.take.new.self;
-      named = sym c.in-Some.ensures;
-      goes = goes;
-      comes = subst (λ l. ComesHome c.take.new.self l c.give_back-ticket.new.self) c.run.ensures home;
-    }
+pub returns-in_default-take-clause-slice : goal.returns-in_default-take-clause-slice
+returns-in_default-take-clause-slice c = (
+  c.in_default-take.ensures.same,
+  not_taken c.args.board.now.state c.args.id.now c.in-Some.ticket slice_budget c.sound.ensures (sym c.in-Some.ensures) c.in_default-take.ensures.none,
+)
+
+pub returns-clause-slice : goal.returns-clause-slice
+returns-clause-slice c =
+    slice_of c.args.board.now.state c.take.new.self.state c.give_back-ticket.new.self.state c.args.id.now c.in-Some.ticket c.in-Some-take.loan c.run.new.self
+    c.sound.ensures (sym c.in-Some.ensures) c.in-Some-take.ensures.some c.in-Some-take.ensures.step c.run.ensures c.give_back-ticket.ensures.home
+
+pub returns-clause-fewer : goal.returns-clause-fewer
+returns-clause-fewer c _ =
+    slice_fewer c.args.id.now c.args.board.now.state c.give_back-ticket.new.self.state c.turns_are_limited.ensures
+    (slice_of c.args.board.now.state c.take.new.self.state c.give_back-ticket.new.self.state c.args.id.now c.in-Some.ticket c.in-Some-take.loan c.run.new.self
+    c.sound.ensures (sym c.in-Some.ensures) c.in-Some-take.ensures.some c.in-Some-take.ensures.step c.run.ensures c.give_back-ticket.ensures.home)

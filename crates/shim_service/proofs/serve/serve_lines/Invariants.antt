@@ -1,7 +1,7 @@
 use Rattle.std.specs.Io.KnownBytes.{prepend_known}
-use Rattle.shim_service.proofs.Answering.{Serving}
+use Rattle.shim_service.proofs.ServeLemmas.{Serving}
 use Rattle.shim_service.proofs.serve.serve_lines.Given as goal
 
 abbrev pub invariant-loop : goal.invariant-loop
 invariant-loop g l =
-    Serving l.fn.board (g.R.Read.remaining l.fn.reader) (prepend_known l.chunk (g.R.Read.remaining l.reader)) (g.W.Write.contents l.fn.writer) (g.W.Write.contents l.writer) l.board
+    Serving l.fn.board.state (g.R.Read.remaining l.fn.reader) (prepend_known l.chunk (g.R.Read.remaining l.reader)) (g.W.Write.contents l.fn.writer) (g.W.Write.contents l.writer) l.board.state

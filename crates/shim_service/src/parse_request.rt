@@ -1,0 +1,119 @@
+//! Lines to requests.
+
+ghost use Rattle.std.specs.Prelude.{◌≡◌, ◌⊎◌, ◌<◌, length, IfErr, IfOk, IfSome, IfNone, Ok, Err, List, ℕ};
+ghost use Rattle.hex.specs.Hex.{decode_of};
+ghost use Rattle.serde_json.specs.View.{view, members_view};
+ghost use Rattle.task_board.specs.declared.request.Request.{Request};
+ghost use Rattle.task_board.specs.declared.request.Request.TheVariants as Asked;
+ghost use Rattle.shim_service.specs.Request.{HasKeys, AsksFor, IsRequest};
+ghost use Rattle.shim_service.specs.Shape.{max_line_bytes};
+ghost use Rattle.shim_service.specs.Inside.Parse.{Parses, IsAsked};
+
+use crate::line_error::LineError;
+use crate::members::{Members, is_done, read_only_id, read_value, split_op, take_text};
+use hex::FromHexError;
+use serde_json::Value;
+use std::alloc::Global;
+use task_board::Request;
+use wasm_ast::{Bytes, Refusal, Sequence, Text};
+
+/// Reads hexadecimal digits of either case, two to a byte.
+fn read_hex(alloc: Global, digits: &str) -> Result<Bytes, LineError>
+    ensures { Parses (λ b. decode_of digits.now ≡ Ok b) result }
+{
+    match hex::decode(alloc, digits) {
+        Ok(bytes) => Ok(Sequence::new(bytes)),
+        Err(FromHexError::OutOfMemory) => Err(LineError::OutOfMemory),
+        Err(_) => Err(LineError::NoRequest),
+    }
+}
+
+/// Reads the members beside `op` of a put: the digits of its bytes.
+fn read_put(alloc: Global, members: Members) -> Result<Bytes, LineError>
+    ensures { Parses (λ b. HasKeys (members_view members.entries) (Asked.Put b)) result }
+{
+    let mut left = members;
+    let Some(digits) = take_text(&mut left, "hex") else {
+        return Err(LineError::NoRequest);
+    };
+    if !is_done(&left) {
+        return Err(LineError::NoRequest);
+    }
+    read_hex(alloc, digits.as_str())
+}
+
+/// Reads the members beside `op` of a create: its config and its id.
+fn read_create(members: Members) -> Option<(Text, Text)>
+    ensures some { IfSome result (λ r.
+        HasKeys (members_view members.entries) (Asked.Create r.0 r.1)) }
+    ensures none { IfNone result ((config id : List ℕ) →
+        HasKeys (members_view members.entries) (Asked.Create config id) → ⊥) }
+{
+    let mut left = members;
+    let Some(config) = take_text(&mut left, "config") else {
+        return None;
+    };
+    let id = read_only_id(left)?;
+    Some((config, id))
+}
+
+/// Reads a request by its `op` and its other members.
+pub(crate) fn read_request(alloc: Global, op: &str, members: Members) -> Result<Request, LineError>
+    ensures { Parses (IsAsked op.now (members_view members.entries)) result }
+{
+    let request = match op {
+        "put" => Request::Put {
+            bytes: read_put(alloc, members)?,
+        },
+        "create" => {
+            let (config, id) = read_create(members).ok_or(LineError::NoRequest)?;
+            Request::Create { config, id }
+        }
+        "start" => Request::Start {
+            id: read_only_id(members).ok_or(LineError::NoRequest)?,
+        },
+        "state" => Request::State {
+            id: read_only_id(members).ok_or(LineError::NoRequest)?,
+        },
+        "wait" => Request::Wait {
+            id: read_only_id(members).ok_or(LineError::NoRequest)?,
+        },
+        _ => return Err(LineError::NoRequest),
+    };
+    Ok(request)
+}
+
+/// Reads the request that a value asks for.
+fn request_in(alloc: Global, value: Value) -> Result<Request, LineError>
+    ensures { Parses (AsksFor (view value)) result }
+{
+    let Some((op, members)) = split_op(value) else {
+        return Err(LineError::NoRequest);
+    };
+    read_request(alloc, op.as_str(), members)
+}
+
+/// Reads a line as a request.
+pub(crate) fn read_request_line(alloc: Global, line: &[u8]) -> Result<Request, LineError>
+    ensures ok { IfOk result (λ r. IsRequest line.now r) }
+    ensures none { result ≡ Err LineError.NoRequest → (r : Request) → IsRequest line.now r → ⊥ }
+    ensures long { max_line_bytes < length line.now → result ≡ Err LineError.NoRequest }
+{
+    let value = read_value(alloc, line)?;
+    request_in(alloc, value)
+}
+
+/// Reads a line, given without its line feed, as a request.
+///
+/// `BadRequest` exactly if the line is no request: it is over 1,048,576 bytes long, is not UTF-8, is no
+/// JSON value, is no object with `op` and exactly the keys of that request, one of them is of another
+/// kind, or `hex` is no even number of hexadecimal digits. `NoMemory` if memory runs out; a line that is
+/// too long is never answered so. Of a key that is there twice the last value counts.
+pub fn request_of(alloc: Global, line: &[u8]) -> Result<Request, Refusal>
+    ensures ok { IfOk result (λ r. IsRequest line.now r) }
+    ensures bad { result ≡ Err Refusal.BadRequest → (r : Request) → IsRequest line.now r → ⊥ }
+    ensures long { max_line_bytes < length line.now → result ≡ Err Refusal.BadRequest }
+    ensures errors { IfErr result (λ e. (e ≡ Refusal.BadRequest) ⊎ (e ≡ Refusal.NoMemory)) }
+{
+    Ok(read_request_line(alloc, line)?)
+}
