@@ -1,4 +1,4 @@
-//! Operators on integers (2.4.1). Which of the two widths they have stands beside them.
+//! Operators on integers (2.4.1). Their width is given beside them.
 
 /// An operator with one operand, and a result of its type.
 #[derive(Clone, Copy, PartialEq, Eq, Debug)]
