@@ -1,8 +1,8 @@
 -- Tasks with their slots: looked up by slot and by id, changed and added.
-use Rattle.std.proofs.Common.{◌≡◌, ◌≢◌, ℕ, suc, ◌<◌, List, [], ◌∷◌, length, Bool, true, false, cond, bytes_eq, nat_eq, nat_lt, Some, None, inl, inr, ◌⊎◌, refl, sym, ap, ap₂, ◌∙◌, subst, arith}
+use Rattle.std.proofs.Common.{◌≡◌, ◌≢◌, ℕ, suc, ◌<◌, List, [], ◌∷◌, map, length, Bool, true, false, cond, bytes_eq, nat_eq, nat_lt, Some, None, inl, inr, ◌⊎◌, refl, sym, ap, ap₂, ◌∙◌, subst, arith}
 use Rattle.std.proofs.lemmas.Bool.Decides.{eqb_tells, nat_tests}
 use Rattle.std.proofs.lemmas.Slice.Eq.{bytes_eq-Decides}
-use Rattle.task_board.specs.BoardState.{Task, Entries, task_in, entry_of, put_task, change_task}
+use Rattle.task_board.specs.BoardState.{Task, Entries, task_in, entry_of, put_task, change_task, remove_task}
 use Rattle.task_board.specs.Sound.{Each, AreDistinct, AreRising, slots_of, ids_of, incarnations_of}
 
 -- ---- tests
@@ -232,3 +232,100 @@ put_there k t (e ∷ es) free =
       | true ↦ cond_is_true (nat_eq k k) (Some t) (task_in k (e ∷ es)) (same_slot k k refl)
       | false ↦ cond_is_false (nat_eq e.0 k) (Some e.1) (task_in k (put_task k t es)) n ∙ put_there k t es rest
     ])
+
+-- ---- the first task with an id is changed, or removed
+
+-- a slot has what it had, or the new task in place of the one with its id
+abbrev pub IsChangedFrom : Task → Task → ℕ → Entries → Entries → Type 0
+IsChangedFrom old t j es new = (task_in j new ≡ task_in j es) ⊎ ((task_in j es ≡ Some old) × (task_in j new ≡ Some t))
+
+from_here : (old t : Task) (j : ℕ) (e : ℕ × Task) (es : Entries) → e.1 ≡ old → IsChangedFrom old t j (e ∷ es) ((e.0, t) ∷ es)
+from_here old t j e es same =
+    by_slot e.0 j
+    (λ here at. inr (cond_is_true (nat_eq e.0 j) (Some e.1) (task_in j es) here ∙ ap Some same, cond_is_true (nat_eq e.0 j) (Some t) (task_in j es) here))
+    (λ there other. inl (cond_is_false (nat_eq e.0 j) (Some t) (task_in j es) there ∙ sym (cond_is_false (nat_eq e.0 j) (Some e.1) (task_in j es) there)))
+
+from_below : (old t : Task) (j : ℕ) (e : ℕ × Task) (es new : Entries) → nat_eq e.0 j ≡ false → IsChangedFrom old t j es new → IsChangedFrom old t j (e ∷ es) (e ∷ new)
+from_below old t j e es new off (inl same) =
+    inl (cond_is_false (nat_eq e.0 j) (Some e.1) (task_in j new) off ∙ (same ∙ sym (cond_is_false (nat_eq e.0 j) (Some e.1) (task_in j es) off)))
+from_below old t j e es new off (inr one) =
+    inr (cond_is_false (nat_eq e.0 j) (Some e.1) (task_in j es) off ∙ one.0, cond_is_false (nat_eq e.0 j) (Some e.1) (task_in j new) off ∙ one.1)
+
+from_later : (old t : Task) (j : ℕ) (e : ℕ × Task) (es new : Entries) → IsChangedFrom old t j es new → IsChangedFrom old t j (e ∷ es) (e ∷ new)
+from_later old t j e es new is =
+    by_slot e.0 j
+    (λ here at. inl (cond_is_true (nat_eq e.0 j) (Some e.1) (task_in j new) here ∙ sym (cond_is_true (nat_eq e.0 j) (Some e.1) (task_in j es) here)))
+    (λ there other. from_below old t j e es new there is)
+
+pub changed_from_old : (old t : Task) (k j : ℕ) (es : Entries) → entry_of t.id es ≡ Some (k, old) → IsChangedFrom old t j es (change_task t es)
+changed_from_old old t k j [] h = inl refl
+changed_from_old old t k j (e ∷ es) h =
+    by_id e.1.id t.id
+    (λ y same. subst (IsChangedFrom old t j (e ∷ es)) (sym (cond_is_true (bytes_eq e.1.id t.id) ((e.0, t) ∷ es) (e ∷ change_task t es) y))
+    (from_here old t j e es (ap (λ (z : ℕ × Task). z.1) (some_is e (k, old) (cond_true (bytes_eq e.1.id t.id) (Some e) (entry_of t.id es) (Some (k, old)) y h)))))
+    (λ n other. subst (IsChangedFrom old t j (e ∷ es)) (sym (cond_is_false (bytes_eq e.1.id t.id) ((e.0, t) ∷ es) (e ∷ change_task t es) n))
+    (from_later old t j e es (change_task t es) (changed_from_old old t k j es (cond_false (bytes_eq e.1.id t.id) (Some e) (entry_of t.id es) (Some (k, old)) n h))))
+
+pub remove_each : {X : Type 0} (P : X → Type 0) (f : ℕ × Task → X) (id : List ℕ) (es : Entries) → Each P (map f es) → Each P (map f (remove_task id es))
+remove_each {X} P f id [] each = tt
+remove_each {X} P f id (e ∷ es) each =
+    elim (bytes_eq e.1.id id) as (λ (b : Bool). Each P (map f (cond b es (e ∷ remove_task id es)))) [ true ↦ each.1 | false ↦ (each.0, remove_each P f id es each.1) ]
+
+pub remove_entries : (P : ℕ × Task → Type 0) (id : List ℕ) (es : Entries) → Each P es → Each P (remove_task id es)
+remove_entries P id [] each = tt
+remove_entries P id (e ∷ es) each =
+    elim (bytes_eq e.1.id id) as (λ (b : Bool). Each P (cond b es (e ∷ remove_task id es))) [ true ↦ each.1 | false ↦ (each.0, remove_entries P id es each.1) ]
+
+pub remove_distinct : {X : Type 0} (f : ℕ × Task → X) (id : List ℕ) (es : Entries) → AreDistinct (map f es) → AreDistinct (map f (remove_task id es))
+remove_distinct {X} f id [] d = tt
+remove_distinct {X} f id (e ∷ es) d =
+    elim (bytes_eq e.1.id id) as (λ (b : Bool). AreDistinct (map f (cond b es (e ∷ remove_task id es)))) [ true ↦ d.1 | false ↦ (remove_each (λ (y : X). f e ≢ y) f id es d.0, remove_distinct f id es d.1) ]
+
+pub remove_rising : (id : List ℕ) (es : Entries) → AreRising (slots_of es) → AreRising (slots_of (remove_task id es))
+remove_rising id [] r = tt
+remove_rising id (e ∷ es) r =
+    elim (bytes_eq e.1.id id) as (λ (b : Bool). AreRising (slots_of (cond b es (e ∷ remove_task id es)))) [ true ↦ r.1 | false ↦ (remove_each (λ (m : ℕ). e.0 < m) (λ (z : ℕ × Task). z.0) id es r.0, remove_rising id es r.1) ]
+
+-- one entry less
+pub remove_length : (id : List ℕ) (e : ℕ × Task) (es : Entries) → entry_of id es ≡ Some e → suc (length (remove_task id es)) ≡ length es
+remove_length id e [] h = absurd (none_is_not e h)
+remove_length id e (x ∷ es) h =
+    by_id x.1.id id
+    (λ y same. ap (λ (xs : Entries). suc (length xs)) (cond_is_true (bytes_eq x.1.id id) es (x ∷ remove_task id es) y))
+    (λ n other. ap (λ (xs : Entries). suc (length xs)) (cond_is_false (bytes_eq x.1.id id) es (x ∷ remove_task id es) n)
+    ∙ ap (λ (m : ℕ). suc m) (remove_length id e es (cond_false (bytes_eq x.1.id id) (Some x) (entry_of id es) (Some e) n h)))
+
+-- no slot below these has a task
+nothing_below : (k : ℕ) (es : Entries) → Each (λ (m : ℕ). k < m) (slots_of es) → task_in k es ≡ None
+nothing_below k [] each = refl
+nothing_below k (e ∷ es) each =
+    let below : k < e.0 = each.0 in
+    cond_is_false (nat_eq e.0 k) (Some e.1) (task_in k es) (other_slot e.0 k (λ same. omega (arith, below, same))) ∙ nothing_below k es each.1
+
+-- its slot has no task afterwards
+pub removed_there : (id : List ℕ) (e : ℕ × Task) (es : Entries) → AreRising (slots_of es) → entry_of id es ≡ Some e → task_in e.0 (remove_task id es) ≡ None
+removed_there id e [] r h = absurd (none_is_not e h)
+removed_there id e (x ∷ es) r h =
+    by_id x.1.id id
+    (λ y same.
+    let is : x ≡ e = some_is x e (cond_true (bytes_eq x.1.id id) (Some x) (entry_of id es) (Some e) y h) in
+    ap (task_in e.0) (cond_is_true (bytes_eq x.1.id id) es (x ∷ remove_task id es) y)
+    ∙ subst (λ (z : ℕ × Task). task_in z.0 es ≡ None) is (nothing_below x.0 es r.0))
+    (λ n other.
+    let rest : entry_of id es ≡ Some e = cond_false (bytes_eq x.1.id id) (Some x) (entry_of id es) (Some e) n h in
+    let below : x.0 < e.0 = slot_away x.0 e.0 id e es r.0 rest in
+    ap (task_in e.0) (cond_is_false (bytes_eq x.1.id id) es (x ∷ remove_task id es) n)
+    ∙ (cond_is_false (nat_eq x.0 e.0) (Some x.1) (task_in e.0 (remove_task id es)) (other_slot x.0 e.0 (λ same. omega (arith, below, same))) ∙ removed_there id e es r.1 rest))
+
+-- every other slot keeps what it has
+pub removed_beside : (id : List ℕ) (e : ℕ × Task) (j : ℕ) (es : Entries) → entry_of id es ≡ Some e → j ≢ e.0 → task_in j (remove_task id es) ≡ task_in j es
+removed_beside id e j [] h other = refl
+removed_beside id e j (x ∷ es) h other =
+    by_id x.1.id id
+    (λ y same.
+    let is : x ≡ e = some_is x e (cond_true (bytes_eq x.1.id id) (Some x) (entry_of id es) (Some e) y h) in
+    ap (task_in j) (cond_is_true (bytes_eq x.1.id id) es (x ∷ remove_task id es) y)
+    ∙ sym (cond_is_false (nat_eq x.0 j) (Some x.1) (task_in j es) (other_slot x.0 j (λ at. other (sym at ∙ ap (λ (z : ℕ × Task). z.0) is)))))
+    (λ n differs.
+    ap (task_in j) (cond_is_false (bytes_eq x.1.id id) es (x ∷ remove_task id es) n)
+    ∙ ap (cond (nat_eq x.0 j) (Some x.1)) (removed_beside id e j es (cond_false (bytes_eq x.1.id id) (Some x) (entry_of id es) (Some e) n h) other))

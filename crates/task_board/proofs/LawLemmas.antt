@@ -19,17 +19,24 @@ use Rattle.task_board.specs.declared.request.Reply.{Reply}
 use Rattle.task_board.specs.declared.request.Reply.TheVariants as reply
 use Rattle.task_board.specs.Limits.{max_budget}
 use Rattle.task_board.specs.Identifiers.{digest_of}
-use Rattle.task_board.specs.Lifecycle.{takes_turns}
-use Rattle.task_board.specs.BoardState.{Content, Task, Entries, BoardState, empty, created_task, content_in, with_content, task_in, entry_of, task_of, change_task, with_task, with_new_task}
-use Rattle.task_board.specs.Tasks.{started, can_lend, lent, advanced, slice_turns, state_of}
-use Rattle.task_board.specs.Refusals.{Refusals, first_refusal, put_refusals, create_refusals, start_refusals, state_refusals, wait_refusals, task_refusals, Openable, CannotOpen, no_module, too_much, invalid, refused, IsSpelled}
+use Rattle.task_lifecycle.specs.declared.lifecycle.TaskCall.TheVariants as call
+use Rattle.task_lifecycle.specs.declared.status.Signal.{Signal}
+use Rattle.task_lifecycle.specs.Lifecycle.{allowed, takes_turns}
+use Rattle.task_lifecycle.specs.Names.{signal_of}
+use Rattle.task_board.specs.BoardState.{Content, Task, Entries, BoardState, empty, created_task, content_in, with_content, task_in, entry_of, task_of, put_task, change_task, remove_task, with_task, without_task, with_new_task}
+use Rattle.task_board.specs.Tasks.{started, paused, resumed, killed_while, killed_by, can_lend, lent, advanced, slice_turns, state_of}
+use Rattle.task_board.specs.Refusals.{Refusals, first_refusal, put_refusals, create_refusals, start_refusals, pause_refusals, resume_refusals, kill_refusals, delete_refusals, state_refusals, wait_refusals, task_refusals, Openable, CannotOpen, no_module, too_much, invalid, refused, IsSpelled}
 use Rattle.task_board.specs.Step.{Answer, DecidedBy, OnFound, Opens, Creates, Answers, is_budget, lends, taken, is_out, Returns, Step}
 use Rattle.task_board.specs.Run.{met_no_memory, Happens, Run}
 use Rattle.task_board.specs.Sound.{AreRising, slots_of, IsBoard}
-use Rattle.task_board.specs.Moves.{Moves}
+use Rattle.task_board.specs.declared.change.Change.{Change}
+use Rattle.task_board.specs.declared.change.Change.TheVariants as change
+use Rattle.task_board.specs.Inside.Changes.{change_call, changed}
+use Rattle.task_board.specs.Moves.{Moves, stays, starts, pauses, resumes, is_killed, is_taken, returns, Becomes, goes, remains}
 use Rattle.task_board.specs.Choices.{IsDetermined, AgreeOnRefusal, AgreeOnCreate}
-use Rattle.task_board.proofs.EntryLemmas.{none_is_not, some_is, by_slot, by_id, cond_true, cond_false, cond_is_true, cond_is_false, same_slot, other_slot, slot_away, named, in_slot, put_in}
-use Rattle.task_board.proofs.StepLemmas.{found, sound_of, changed_sound, decided, starts_created, answers_sound, lent_sound}
+use Rattle.task_board.proofs.EntryLemmas.{none_is_not, some_is, by_slot, by_id, cond_true, cond_false, cond_is_true, cond_is_false, same_slot, other_slot, slot_away, named, in_slot, put_in, removed_there, removed_beside}
+use Rattle.task_board.proofs.StepLemmas.{found, sound_of, changed_sound, lent_sound}
+use Rattle.task_board.proofs.EffectLemmas.{change_id, Effect, nothing, stores, enters, changes, deletes, effect_of, answers_sound}
 use Rattle.task_board.proofs.SoundLemmas.{advanced_sound}
 use Rattle.task_board.proofs.RunLemmas.{run_keeps}
 
@@ -130,10 +137,14 @@ run_sound es rs s run = run_keeps IsBoard happens_sound empty es rs s empty_soun
 -- ---- how tasks move
 
 abbrev pub AllMove : Entries → Entries → Type 0
-AllMove ts us = (k : ℕ) → (t : Task) → task_in k ts ≡ Some t → (t' : Task) × (task_in k us ≡ Some t') × Moves t t'
+AllMove ts us = (k : ℕ) → (t : Task) → task_in k ts ≡ Some t → Becomes t (task_in k us)
+
+-- what is in a slot is there afterwards
+moves_to : (us : Entries) (k : ℕ) (t t' : Task) → task_in k us ≡ Some t' → Moves t t' → Becomes t (task_in k us)
+moves_to us k t t' at m = subst (Becomes t) (sym at) (remains t' m)
 
 all_stay : (ts : Entries) → AllMove ts ts
-all_stay ts k t there = (t, there, inl refl)
+all_stay ts k t there = moves_to ts k t t there (stays refl)
 
 stay_same : (s s' : BoardState) → s' ≡ s → AllMove s.tasks s'.tasks
 stay_same s s' is = subst (λ (x : BoardState). AllMove s.tasks x.tasks) (sym is) (all_stay s.tasks)
@@ -172,12 +183,20 @@ one_moves s id old new r is same moves k t there =
     by_slot k f.0
     (λ y here.
     let is_old : old ≡ t = some_is old t (sym (in_slot id (f.0, old) s.tasks r f.1) ∙ subst (λ (j : ℕ). task_in j s.tasks ≡ Some t) here there) in
-    (new, ap (λ (j : ℕ). task_in j (change_task new s.tasks)) here ∙ change_there new old f.0 s.tasks r own, subst (λ (x : Task). Moves x new) is_old moves))
-    (λ n other. (t, change_beside new old f.0 k s.tasks own other ∙ there, inl refl))
+    moves_to (change_task new s.tasks) k t new (ap (λ (j : ℕ). task_in j (change_task new s.tasks)) here ∙ change_there new old f.0 s.tasks r own) (subst (λ (x : Task). Moves x new) is_old moves))
+    (λ n other. moves_to (change_task new s.tasks) k t t (change_beside new old f.0 k s.tasks own other ∙ there) (stays refl))
 
-move_by_effect : (s s' : BoardState) (o : Option Refusal) (E : Type 0) → (o ≡ None → E → AllMove s.tasks s'.tasks) → (s' ≡ s) ⊎ ((o ≡ None) × E) → AllMove s.tasks s'.tasks
-move_by_effect s s' o E f (inl same) = stay_same s s' same
-move_by_effect s s' o E f (inr e) = f e.0 e.1
+-- a task that is deleted leaves its slot, and the others stay
+one_goes : (s : BoardState) (id : List ℕ) (old : Task) → AreRising (slots_of s.tasks) → task_of id s.tasks ≡ Some old → allowed call.Delete old.status ≡ true → AllMove s.tasks (without_task s old.id).tasks
+one_goes s id old r is can k t there =
+    let f = found id s.tasks old is in
+    let own : entry_of old.id s.tasks ≡ Some (f.0, old) = ap (λ (x : List ℕ). entry_of x s.tasks) (named id s.tasks (f.0, old) f.1) ∙ f.1 in
+    by_slot k f.0
+    (λ y here.
+    let is_old : old ≡ t = some_is old t (sym (in_slot id (f.0, old) s.tasks r f.1) ∙ subst (λ (j : ℕ). task_in j s.tasks ≡ Some t) here there) in
+    let gone : task_in k (remove_task old.id s.tasks) ≡ None = ap (λ (j : ℕ). task_in j (remove_task old.id s.tasks)) here ∙ removed_there old.id (f.0, old) s.tasks r own in
+    subst (Becomes t) (sym gone) (goes (subst (λ (x : Task). allowed call.Delete x.status ≡ true) is_old can)))
+    (λ n other. moves_to (remove_task old.id s.tasks) k t t (removed_beside old.id (f.0, old) k s.tasks own other ∙ there) (stays refl))
 
 create_moves : (s : BoardState) (config id : List ℕ) (r : Answer) (s' : BoardState) → Creates s config id r s' → AllMove s.tasks s'.tasks
 create_moves s config id (Err e) s' effect = stay_same s s' effect.4.1
@@ -185,42 +204,34 @@ create_moves s config id (Ok r) s' effect =
     let enters = effect.4.3 in
     let t = created_task id s.creates effect.1 effect.4.0 effect.0 in
     subst (λ (x : BoardState). AllMove s.tasks x.tasks) (sym enters.2)
-    (λ k u there. (u, put_in enters.0 k t s.tasks (λ same. none_is_not u (sym enters.1 ∙ subst (λ (j : ℕ). task_in j s.tasks ≡ Some u) same there)) ∙ there, inl refl))
+    (λ k u there. moves_to (put_task enters.0 t s.tasks) k u u (put_in enters.0 k t s.tasks (λ same. none_is_not u (sym enters.1 ∙ subst (λ (j : ℕ). task_in j s.tasks ≡ Some u) same there)) ∙ there) (stays refl))
 
-on_task_moves : (s : BoardState) (id : List ℕ) (own : Task → Refusals) (rep : Task → Reply) (new : Task → BoardState) (o : Option Task) (r : Answer) (s' : BoardState)
-    → OnFound id own rep new o s r s' → ((t : Task) → o ≡ Some t → first_refusal (task_refusals id own (Some t)) ≡ None → AllMove s.tasks (new t).tasks) → AllMove s.tasks s'.tasks
-on_task_moves s id own rep new None r s' on f =
-    move_by_effect s s' (first_refusal (task_refusals id own None)) ⊥ (λ none e. absurd e) (decided (first_refusal (task_refusals id own None)) ⊥ s r s' on)
-on_task_moves s id own rep new (Some t) r s' on f =
-    move_by_effect s s' (first_refusal (task_refusals id own (Some t))) ((r ≡ Ok (rep t)) × (s' ≡ new t))
-    (λ none e. subst (λ (x : BoardState). AllMove s.tasks x.tasks) (sym e.1) (f t refl none))
-    (decided (first_refusal (task_refusals id own (Some t))) ((r ≡ Ok (rep t)) × (s' ≡ new t)) s r s' on)
+change_moves : (c : Change) (t : Task) → allowed (change_call c) t.status ≡ true → Moves t (changed c t)
+change_moves change.Start t can = starts can refl
+change_moves change.Pause t can = pauses can refl
+change_moves change.Resume t can = resumes can refl
+change_moves (change.Kill signal) t can = is_killed signal can refl
+
+effect_moves : (s s' : BoardState) → AreRising (slots_of s.tasks) → Effect s s' → AllMove s.tasks s'.tasks
+effect_moves s s' rising (nothing same) = stay_same s s' same
+effect_moves s s' rising (stores bytes none is) = subst (λ (x : BoardState). AllMove s.tasks x.tasks) (sym is) (all_stay s.tasks)
+effect_moves s s' rising (enters config id r none made) = create_moves s config id r s' made
+effect_moves s s' rising (changes c id t at can is) = subst (λ (x : BoardState). AllMove s.tasks x.tasks) (sym is) (one_moves s id t (changed c t) rising at (change_id c t) (change_moves c t can))
+effect_moves s s' rising (deletes id t at can is) = subst (λ (x : BoardState). AllMove s.tasks x.tasks) (sym is) (one_goes s id t rising at can)
 
 answers_move : (s : BoardState) (q : Request) (r : Answer) (s' : BoardState) → AreRising (slots_of s.tasks) → Answers s q r s' → AllMove s.tasks s'.tasks
-answers_move s (request.Put bytes) r s' rising a =
-    move_by_effect s s' (first_refusal (put_refusals s bytes)) ((r ≡ Ok (reply.Put (digest_of bytes) (length bytes))) × (s' ≡ with_content s bytes))
-    (λ none e. subst (λ (x : BoardState). AllMove s.tasks x.tasks) (sym e.1) (all_stay s.tasks)) (decided (first_refusal (put_refusals s bytes)) _ s r s' a)
-answers_move s (request.Create config id) r s' rising a =
-    move_by_effect s s' (first_refusal (create_refusals s config id)) (Creates s config id r s') (λ none e. create_moves s config id r s' e)
-    (decided (first_refusal (create_refusals s config id)) (Creates s config id r s') s r s' a)
-answers_move s (request.Start id) r s' rising a =
-    on_task_moves s id start_refusals (λ t. reply.Start t.id (started t).status) (λ t. with_task s (started t)) (task_of id s.tasks) r s' a
-    (λ t is none. one_moves s id t (started t) rising is refl (inr (inl ((starts_created id t none).1, refl))))
-answers_move s (request.State id) r s' rising a =
-    on_task_moves s id state_refusals (λ t. reply.State (state_of t)) (λ t. s) (task_of id s.tasks) r s' a (λ t is none. all_stay s.tasks)
-answers_move s (request.Wait id) r s' rising a =
-    on_task_moves s id wait_refusals (λ t. reply.Wait (state_of t)) (λ t. s) (task_of id s.tasks) r s' a (λ t is none. all_stay s.tasks)
+answers_move s q r s' rising a = effect_moves s s' rising (effect_of s q r s' a)
 
 take_moves : (s : BoardState) (id : List ℕ) (budget : ℕ) (s' : BoardState) → AreRising (slots_of s.tasks) → IsTakenOf s id budget s' → AllMove s.tasks s'.tasks
 take_moves s id budget s' r is =
     subst (λ (x : BoardState). AllMove s.tasks x.tasks) (sym is.leaves)
-    (one_moves s id is.task (lent is.task budget) r is.named refl (inr (inr (inl (budget, is.ready, refl)))))
+    (one_moves s id is.task (lent is.task budget) r is.named refl (is_taken budget is.ready refl))
 
 return_moves : (s : BoardState) (id : List ℕ) (o : Option Task) (s' : BoardState) → AreRising (slots_of s.tasks) → task_of id s.tasks ≡ o → Returns s o s' → AllMove s.tasks s'.tasks
 return_moves s id None s' r is back = absurd back
 return_moves s id (Some t) s' r is back =
     subst (λ (x : BoardState). AllMove s.tasks x.tasks) (sym back.2)
-    (one_moves s id t back.0 r is (ap (λ (x : Task). x.id) back.1.advances) (inr (inr (inr back.1))))
+    (one_moves s id t back.0 r is (ap (λ (x : Task). x.id) back.1.advances) (returns back.1))
 
 step_moves : (s : BoardState) (e : Event) (r : EventReply) (s' : BoardState) → AreRising (slots_of s.tasks) → Step s e r s' → AllMove s.tasks s'.tasks
 step_moves s (event.Call q) (answer.Called a) s' b step = answers_move s q a s' b step
@@ -242,17 +253,29 @@ moves_by s e r s' b (inr step) = step_moves s e r s' b step
 pub happens_moves : (s : BoardState) (e : Event) (r : EventReply) (s' : BoardState) → AreRising (slots_of s.tasks) → Happens s e r s' → AllMove s.tasks s'.tasks
 happens_moves s e r s' b h = moves_by s e r s' b (happens s e r s' h)
 
+no_turn : (b : Bool) → b ≡ true → b ≡ false → ⊥
+no_turn b is off = true≢false (sym is ∙ off)
+
+killed_turns : (signal : Signal) (t : Task) (o : Option ℕ) → (killed_while o signal t).turns ≡ t.turns
+killed_turns signal t None = refl
+killed_turns signal t (Some n) = refl
+
 same_turns : (t t' : Task) → takes_turns t.status ≡ false → Moves t t' → t'.turns ≡ t.turns
-same_turns t t' quiet (inl same) = ap (λ (x : Task). x.turns) same
-same_turns t t' quiet (inr (inl start)) = ap (λ (x : Task). x.turns) start.1
-same_turns t t' quiet (inr (inr (inl take))) = ap (λ (x : Task). x.turns) take.2
-same_turns t t' quiet (inr (inr (inr back))) = absurd (true≢false (sym back.legal.status ∙ quiet))
+same_turns t t' quiet (stays is) = ap (λ (x : Task). x.turns) is
+same_turns t t' quiet (starts can is) = ap (λ (x : Task). x.turns) is
+same_turns t t' quiet (pauses can is) = ap (λ (x : Task). x.turns) is
+same_turns t t' quiet (resumes can is) = ap (λ (x : Task). x.turns) is
+same_turns t t' quiet (is_killed signal can is) = ap (λ (x : Task). x.turns) is ∙ killed_turns signal t t.out
+same_turns t t' quiet (is_taken budget can is) = ap (λ (x : Task). x.turns) is
+same_turns t t' quiet (returns back) = absurd (no_turn (takes_turns t.status) back.legal.status quiet)
+
+stay_by : (t t' : Task) (o : Option Task) → takes_turns t.status ≡ false → Becomes t o → o ≡ Some t' → t'.turns ≡ t.turns
+stay_by t t' _ quiet (goes can) at = absurd (none_is_not t' at)
+stay_by t t' _ quiet (remains u m) at = ap (λ (x : Task). x.turns) (sym (some_is u t' at)) ∙ same_turns t u quiet m
 
 pub quiet_stays : (s : BoardState) (e : Event) (r : EventReply) (s' : BoardState) → IsBoard s → Happens s e r s' → (k : ℕ) (t : Task) → task_in k s.tasks ≡ Some t → takes_turns t.status ≡ false
-    → (t' : Task) × (task_in k s'.tasks ≡ Some t') × (t'.turns ≡ t.turns)
-quiet_stays s e r s' b h k t there quiet =
-    let m = happens_moves s e r s' b.slots h k t there in
-    (m.0, m.1, same_turns t m.0 quiet m.2)
+    → (t' : Task) → task_in k s'.tasks ≡ Some t' → t'.turns ≡ t.turns
+quiet_stays s e r s' b h k t there quiet t' at = stay_by t t' (task_in k s'.tasks) quiet (happens_moves s e r s' b.slots h k t there) at
 
 -- ---- contents
 
@@ -265,33 +288,19 @@ keeps_contents s s' same = ([], same ∙ sym (append-nil s.contents))
 same_contents : (s s' : BoardState) → s' ≡ s → Grows s s'
 same_contents s s' same = keeps_contents s s' (ap (λ (x : BoardState). x.contents) same)
 
-grow_by_effect : (s s' : BoardState) (o : Option Refusal) (E : Type 0) → (E → Grows s s') → (s' ≡ s) ⊎ ((o ≡ None) × E) → Grows s s'
-grow_by_effect s s' o E f (inl same) = same_contents s s' same
-grow_by_effect s s' o E f (inr e) = f e.1
-
 create_grows : (s : BoardState) (config id : List ℕ) (r : Answer) (s' : BoardState) → Creates s config id r s' → Grows s s'
 create_grows s config id (Err e) s' effect = same_contents s s' effect.4.1
 create_grows s config id (Ok r) s' effect = keeps_contents s s' (ap (λ (x : BoardState). x.contents) effect.4.3.2)
 
-on_task_grows : (s : BoardState) (id : List ℕ) (own : Task → Refusals) (rep : Task → Reply) (new : Task → BoardState) (o : Option Task) (r : Answer) (s' : BoardState)
-    → OnFound id own rep new o s r s' → ((t : Task) → (new t).contents ≡ s.contents) → Grows s s'
-on_task_grows s id own rep new None r s' on f =
-    grow_by_effect s s' (first_refusal (task_refusals id own None)) ⊥ (λ e. absurd e) (decided (first_refusal (task_refusals id own None)) ⊥ s r s' on)
-on_task_grows s id own rep new (Some t) r s' on f =
-    grow_by_effect s s' (first_refusal (task_refusals id own (Some t))) ((r ≡ Ok (rep t)) × (s' ≡ new t))
-    (λ e. keeps_contents s s' (ap (λ (x : BoardState). x.contents) e.1 ∙ f t))
-    (decided (first_refusal (task_refusals id own (Some t))) ((r ≡ Ok (rep t)) × (s' ≡ new t)) s r s' on)
+effect_grows : (s s' : BoardState) → Effect s s' → Grows s s'
+effect_grows s s' (nothing same) = same_contents s s' same
+effect_grows s s' (stores bytes none is) = (record { digest = digest_of bytes; bytes = bytes } ∷ [], ap (λ (x : BoardState). x.contents) is)
+effect_grows s s' (enters config id r none made) = create_grows s config id r s' made
+effect_grows s s' (changes c id t at can is) = keeps_contents s s' (ap (λ (x : BoardState). x.contents) is)
+effect_grows s s' (deletes id t at can is) = keeps_contents s s' (ap (λ (x : BoardState). x.contents) is)
 
 answers_grow : (s : BoardState) (q : Request) (r : Answer) (s' : BoardState) → Answers s q r s' → Grows s s'
-answers_grow s (request.Put bytes) r s' a =
-    grow_by_effect s s' (first_refusal (put_refusals s bytes)) ((r ≡ Ok (reply.Put (digest_of bytes) (length bytes))) × (s' ≡ with_content s bytes))
-    (λ e. (record { digest = digest_of bytes; bytes = bytes } ∷ [], ap (λ (x : BoardState). x.contents) e.1)) (decided (first_refusal (put_refusals s bytes)) _ s r s' a)
-answers_grow s (request.Create config id) r s' a =
-    grow_by_effect s s' (first_refusal (create_refusals s config id)) (Creates s config id r s') (λ e. create_grows s config id r s' e)
-    (decided (first_refusal (create_refusals s config id)) (Creates s config id r s') s r s' a)
-answers_grow s (request.Start id) r s' a = on_task_grows s id start_refusals (λ t. reply.Start t.id (started t).status) (λ t. with_task s (started t)) (task_of id s.tasks) r s' a (λ t. refl)
-answers_grow s (request.State id) r s' a = on_task_grows s id state_refusals (λ t. reply.State (state_of t)) (λ t. s) (task_of id s.tasks) r s' a (λ t. refl)
-answers_grow s (request.Wait id) r s' a = on_task_grows s id wait_refusals (λ t. reply.Wait (state_of t)) (λ t. s) (task_of id s.tasks) r s' a (λ t. refl)
+answers_grow s q r s' a = effect_grows s s' (effect_of s q r s' a)
 
 return_grows : (s : BoardState) (o : Option Task) (s' : BoardState) → Returns s o s' → Grows s s'
 return_grows s None s' back = absurd back
@@ -345,6 +354,11 @@ answers_same : (s : BoardState) (q : Request) (r : Answer) (s1 : BoardState) (r'
 answers_same s (request.Put bytes) r s1 r' s2 d a b = decided_same (first_refusal (put_refusals s bytes)) (reply.Put (digest_of bytes) (length bytes)) (with_content s bytes) s r s1 r' s2 a b
 answers_same s (request.Create config id) r s1 r' s2 d a b = absurd d
 answers_same s (request.Start id) r s1 r' s2 d a b = on_task_same s id start_refusals (λ t. reply.Start t.id (started t).status) (λ t. with_task s (started t)) (task_of id s.tasks) r s1 r' s2 a b
+answers_same s (request.Pause id) r s1 r' s2 d a b = on_task_same s id pause_refusals (λ t. reply.Pause t.id (paused t).status) (λ t. with_task s (paused t)) (task_of id s.tasks) r s1 r' s2 a b
+answers_same s (request.Resume id) r s1 r' s2 d a b = on_task_same s id resume_refusals (λ t. reply.Resume t.id (resumed t).status) (λ t. with_task s (resumed t)) (task_of id s.tasks) r s1 r' s2 a b
+answers_same s (request.Kill id number) r s1 r' s2 d a b =
+    on_task_same s id (kill_refusals number) (λ t. reply.Kill t.id (killed_by (signal_of number) t).status) (λ t. with_task s (killed_by (signal_of number) t)) (task_of id s.tasks) r s1 r' s2 a b
+answers_same s (request.Delete id) r s1 r' s2 d a b = on_task_same s id delete_refusals (λ t. reply.Delete (state_of t)) (λ t. without_task s t.id) (task_of id s.tasks) r s1 r' s2 a b
 answers_same s (request.State id) r s1 r' s2 d a b = on_task_same s id state_refusals (λ t. reply.State (state_of t)) (λ t. s) (task_of id s.tasks) r s1 r' s2 a b
 answers_same s (request.Wait id) r s1 r' s2 d a b = on_task_same s id wait_refusals (λ t. reply.Wait (state_of t)) (λ t. s) (task_of id s.tasks) r s1 r' s2 a b
 

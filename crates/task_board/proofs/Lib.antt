@@ -3,8 +3,10 @@ pub mod SlabLemmas
 pub mod SoundLemmas
 pub mod TaskInvariant
 pub mod StepLemmas
+pub mod EffectLemmas
 pub mod TableLemmas
 pub mod LoanCover
 pub mod InstantiateLemmas
 pub mod RunLemmas
+pub mod LifecycleLemmas
 pub mod LawLemmas

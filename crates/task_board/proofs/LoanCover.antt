@@ -1,24 +1,22 @@
 -- Of each task that is out the loan stays among those that are held.
-use Rattle.std.proofs.Common.{◌≡◌, ◌≢◌, ℕ, zero, suc, ◌+◌, ◌<◌, List, [], ◌∷◌, ◌++◌, Bool, true, false, cond, Option, Some, None, is_some, option_map, option_and_then, slice_get, take, length, get_or, slice_index_or, Ok, Err, inl, inr, ◌⊎◌, refl, sym, ap, ◌∙◌, subst, arith, add-one}
+use Rattle.std.proofs.Common.{◌≡◌, ◌≢◌, ℕ, zero, suc, ◌+◌, ◌<◌, List, [], ◌∷◌, ◌++◌, Bool, true, false, cond, Option, Some, None, is_some, option_map, option_and_then, slice_get, take, length, get_or, slice_index_or, Ok, Err, inl, inr, refl, sym, ap, ◌∙◌, subst, arith, add-one}
 use Rattle.std.specs.List.{remove}
 use Rattle.std.proofs.lemmas.Option.{slice_get_within, get_or_from_slice_get}
-use Rattle.wasm_ast.specs.declared.refusal.Refusal.{Refusal}
 use Rattle.task_board.specs.declared.ticket.Ticket.{Ticket}
 use Rattle.task_board.specs.declared.request.Request.{Request}
-use Rattle.task_board.specs.declared.request.Request.TheVariants as request
-use Rattle.task_board.specs.declared.request.Reply.{Reply}
-use Rattle.task_board.specs.declared.request.Reply.TheVariants as reply
-use Rattle.task_board.specs.Identifiers.{digest_of}
-use Rattle.task_board.specs.BoardState.{Task, Entries, BoardState, created_task, with_content, task_in, entry_of, task_of, put_task, change_task, with_task}
-use Rattle.task_board.specs.Tasks.{started, can_lend, lent, state_of}
-use Rattle.task_board.specs.Refusals.{Refusals, first_refusal, put_refusals, create_refusals, start_refusals, state_refusals, wait_refusals, task_refusals}
-use Rattle.task_board.specs.Step.{Answer, OnFound, Creates, Answers, is_budget, lends, taken, is_out, Returns}
+use Rattle.task_board.specs.declared.change.Change.{Change}
+use Rattle.task_board.specs.declared.change.Change.TheVariants as change
+use Rattle.task_board.specs.Inside.Changes.{changed}
+use Rattle.task_board.specs.BoardState.{Task, Entries, BoardState, created_task, task_in, entry_of, task_of, put_task, change_task, remove_task, with_task}
+use Rattle.task_board.specs.Tasks.{killed_while, can_lend, lent}
+use Rattle.task_board.specs.Step.{Answer, Creates, Answers, is_budget, lends, taken, is_out, Returns}
 use Rattle.task_board.specs.Sound.{AreDistinct, ids_of, IsBoard}
 use Rattle.task_board.specs.Loans.{Lent, FitsTask}
 use Rattle.task_board.specs.Tickets.{ticket_to, ticket_of, CanLend, Lends}
 use Rattle.task_board.specs.Inside.Covers.{IsFitting, FitsAt, NoneFits, SomeFits, Covered}
-use Rattle.task_board.proofs.EntryLemmas.{none_is_not, some_is, by_slot, entry_at, named, in_slot, change_in, changed_in, put_in, put_there, IsChangedIn, cond_is_false}
-use Rattle.task_board.proofs.StepLemmas.{decided}
+use Rattle.task_board.proofs.EntryLemmas.{none_is_not, some_is, by_slot, entry_at, named, in_slot, change_in, changed_in, put_in, put_there, IsChangedIn, IsChangedFrom, changed_from_old, removed_there, removed_beside, cond_is_false}
+use Rattle.task_board.proofs.StepLemmas.{found, task_named}
+use Rattle.task_board.proofs.EffectLemmas.{change_id, Effect, nothing, stores, enters, changes, deletes, effect_of}
 
 -- ---- what stays
 
@@ -47,13 +45,6 @@ idle_not_out o t u budget a idle b out =
     let same : t ≡ u = some_is t u (sym a ∙ b) in
     none_is_not budget (sym (subst (λ (x : Task). x.out ≡ None) same idle) ∙ out)
 
-changed_stay_by : (t : Task) (j : ℕ) (es us : Entries) (u : Task) (budget : ℕ) → t.out ≡ None → task_in j us ≡ Some u → u.out ≡ Some budget → IsChangedIn t j es us → task_in j us ≡ task_in j es
-changed_stay_by t j es us u budget idle there out (inl same) = same
-changed_stay_by t j es us u budget idle there out (inr one) = absurd (idle_not_out (task_in j us) t u budget one.3 idle there out)
-
-pub changed_stay : (t : Task) (es : Entries) → t.out ≡ None → OutStay es (change_task t es)
-changed_stay t es idle j u budget there out = changed_stay_by t j es (change_task t es) u budget idle there out (change_in t j es)
-
 put_stay : (k : ℕ) (t : Task) (es : Entries) → t.out ≡ None → task_in k es ≡ None → OutStay es (put_task k t es)
 put_stay k t es idle free j u budget there out =
     by_slot j k
@@ -65,10 +56,6 @@ put_stay k t es idle free j u budget there out =
 same_covered : (ls : List Lent) (s s' : BoardState) → s' ≡ s → Covered ls s.tasks → Covered ls s'.tasks
 same_covered ls s s' is covered = subst (λ (x : BoardState). Covered ls x.tasks) (sym is) covered
 
-by_effect : (ls : List Lent) (s s' : BoardState) (o : Option Refusal) (E : Type 0) → (E → Covered ls s'.tasks) → Covered ls s.tasks → (s' ≡ s) ⊎ ((o ≡ None) × E) → Covered ls s'.tasks
-by_effect ls s s' o E effect covered (inl same) = same_covered ls s s' same covered
-by_effect ls s s' o E effect covered (inr e) = effect e.1
-
 create_covered : (ls : List Lent) (s : BoardState) (config id : List ℕ) (r : Answer) (s' : BoardState) → Creates s config id r s' → Covered ls s.tasks → Covered ls s'.tasks
 create_covered ls s config id (Err e) s' effect covered = same_covered ls s s' effect.4.1 covered
 create_covered ls s config id (Ok r) s' effect covered =
@@ -76,29 +63,72 @@ create_covered ls s config id (Ok r) s' effect covered =
     let t = created_task id s.creates effect.1 effect.4.0 effect.0 in
     subst (λ (x : BoardState). Covered ls x.tasks) (sym enters.2) (covered_kept ls s.tasks (put_task enters.0 t s.tasks) (put_stay enters.0 t s.tasks refl enters.1) covered)
 
-on_task_covered : (ls : List Lent) (s : BoardState) (id : List ℕ) (own : Task → Refusals) (rep : Task → Reply) (new : Task → BoardState) (o : Option Task) (r : Answer) (s' : BoardState)
-    → OnFound id own rep new o s r s' → Covered ls s.tasks → ((t : Task) → Covered ls (new t).tasks) → Covered ls s'.tasks
-on_task_covered ls s id own rep new None r s' on covered f =
-    by_effect ls s s' (first_refusal (task_refusals id own None)) ⊥ (λ e. absurd e) covered (decided (first_refusal (task_refusals id own None)) ⊥ s r s' on)
-on_task_covered ls s id own rep new (Some t) r s' on covered f =
-    by_effect ls s s' (first_refusal (task_refusals id own (Some t))) ((r ≡ Ok (rep t)) × (s' ≡ new t))
-    (λ e. subst (λ (x : BoardState). Covered ls x.tasks) (sym e.1) (f t)) covered
-    (decided (first_refusal (task_refusals id own (Some t))) ((r ≡ Ok (rep t)) × (s' ≡ new t)) s r s' on)
+some_moved : (ts us : Entries) (j : ℕ) (ls : List Lent) → ((l : Lent) → IsFitting ts j l → IsFitting us j l) → SomeFits ts j ls → SomeFits us j ls
+some_moved ts us j [] f some = absurd some
+some_moved ts us j (l ∷ ls) f (inl fit) = inl (f l fit)
+some_moved ts us j (l ∷ ls) f (inr some) = inr (some_moved ts us j ls f some)
 
-pub answers_covered : (ls : List Lent) (s : BoardState) (q : Request) (r : Answer) (s' : BoardState) → Answers s q r s' → Covered ls s.tasks → Covered ls s'.tasks
-answers_covered ls s (request.Put bytes) r s' a covered =
-    by_effect ls s s' (first_refusal (put_refusals s bytes)) ((r ≡ Ok (reply.Put (digest_of bytes) (length bytes))) × (s' ≡ with_content s bytes))
-    (λ e. subst (λ (x : BoardState). Covered ls x.tasks) (sym e.1) covered) covered (decided (first_refusal (put_refusals s bytes)) _ s r s' a)
-answers_covered ls s (request.Create config id) r s' a covered =
-    by_effect ls s s' (first_refusal (create_refusals s config id)) (Creates s config id r s') (λ e. create_covered ls s config id r s' e covered) covered
-    (decided (first_refusal (create_refusals s config id)) (Creates s config id r s') s r s' a)
-answers_covered ls s (request.Start id) r s' a covered =
-    on_task_covered ls s id start_refusals (λ t. reply.Start t.id (started t).status) (λ t. with_task s (started t)) (task_of id s.tasks) r s' a covered
-    (λ t. covered_kept ls s.tasks (change_task (started t) s.tasks) (changed_stay (started t) s.tasks refl) covered)
-answers_covered ls s (request.State id) r s' a covered =
-    on_task_covered ls s id state_refusals (λ t. reply.State (state_of t)) (λ t. s) (task_of id s.tasks) r s' a covered (λ t. covered)
-answers_covered ls s (request.Wait id) r s' a covered =
-    on_task_covered ls s id wait_refusals (λ t. reply.Wait (state_of t)) (λ t. s) (task_of id s.tasks) r s' a covered (λ t. covered)
+-- a task that is out afterwards was out before, with the same budget
+out_before : (c : Change) (t : Task) (budget : ℕ) → (changed c t).out ≡ Some budget → t.out ≡ Some budget
+out_before change.Start t budget h = absurd (none_is_not budget h)
+out_before change.Pause t budget h = h
+out_before change.Resume t budget h = h
+out_before (change.Kill signal) t budget h = by t.out refl h
+  where
+    by : (o : Option ℕ) → t.out ≡ o → (killed_while o signal t).out ≡ Some budget → t.out ≡ Some budget
+    by None is g = absurd (none_is_not budget g)
+    by (Some n) is g = g
+
+-- a change keeps the loan of a task that is out afterwards
+loan_stays : (c : Change) (t : Task) (l : Lent) (budget : ℕ) → (changed c t).out ≡ Some budget → FitsTask l t → FitsTask l (changed c t)
+loan_stays change.Start t l budget h fits = absurd (none_is_not budget h)
+loan_stays change.Pause t l budget h fits = fits
+loan_stays change.Resume t l budget h fits = fits
+loan_stays (change.Kill signal) t l budget h fits = by t.out h
+  where
+    by : (o : Option ℕ) → (killed_while o signal t).out ≡ Some budget → FitsTask l (killed_while o signal t)
+    by None g = absurd (none_is_not budget g)
+    by (Some n) g = fits
+
+change_covered_by : (ls : List Lent) (c : Change) (t : Task) (es us : Entries) (j : ℕ) (u : Task) (budget : ℕ) → task_in j us ≡ Some u → u.out ≡ Some budget → Covered ls es
+    → IsChangedFrom t (changed c t) j es us → SomeFits us j ls
+change_covered_by ls c t es us j u budget there out covered (inl same) = some_kept es us j ls same (covered j u budget (sym same ∙ there) out)
+change_covered_by ls c t es us j u budget there out covered (inr one) =
+    let is : changed c t ≡ u = some_is (changed c t) u (sym one.1 ∙ there) in
+    let stays : (changed c t).out ≡ Some budget = ap (λ (x : Task). x.out) is ∙ out in
+    some_moved es us j ls
+    (λ l fit.
+    let own : fit.1.0 ≡ t = some_is fit.1.0 t (sym fit.1.1 ∙ (ap (λ (k : ℕ). task_in k es) fit.0 ∙ one.0)) in
+    let at : task_in l.slot us ≡ Some (changed c t) = ap (λ (k : ℕ). task_in k us) fit.0 ∙ one.1 in
+    (fit.0, (changed c t, at, loan_stays c t l budget stays (subst (λ (x : Task). FitsTask l x) own fit.1.2))))
+    (covered j t budget one.0 (out_before c t budget stays))
+
+change_covered : (ls : List Lent) (s : BoardState) (c : Change) (id : List ℕ) (t : Task) → task_of id s.tasks ≡ Some t → Covered ls s.tasks → Covered ls (change_task (changed c t) s.tasks)
+change_covered ls s c id t at covered j u budget there out =
+    let f = found id s.tasks t at in
+    let own : entry_of (changed c t).id s.tasks ≡ Some (f.0, t) = ap (λ (x : List ℕ). entry_of x s.tasks) (change_id c t ∙ task_named id s.tasks t at) ∙ f.1 in
+    change_covered_by ls c t s.tasks (change_task (changed c t) s.tasks) j u budget there out covered (changed_from_old t (changed c t) f.0 j s.tasks own)
+
+delete_covered : (ls : List Lent) (s : BoardState) (id : List ℕ) (t : Task) → IsBoard s → task_of id s.tasks ≡ Some t → Covered ls s.tasks → Covered ls (remove_task t.id s.tasks)
+delete_covered ls s id t b at covered j u budget there out =
+    let f = found id s.tasks t at in
+    let own : entry_of t.id s.tasks ≡ Some (f.0, t) = ap (λ (x : List ℕ). entry_of x s.tasks) (task_named id s.tasks t at) ∙ f.1 in
+    let us = remove_task t.id s.tasks in
+    by_slot j f.0
+    (λ y here. absurd (none_is_not u (sym (removed_there t.id (f.0, t) s.tasks b.slots own) ∙ subst (λ (k : ℕ). task_in k us ≡ Some u) here there)))
+    (λ n other.
+    let stays : task_in j us ≡ task_in j s.tasks = removed_beside t.id (f.0, t) j s.tasks own other in
+    some_kept s.tasks us j ls stays (covered j u budget (sym stays ∙ there) out))
+
+effect_covered : (ls : List Lent) (s s' : BoardState) → IsBoard s → Effect s s' → Covered ls s.tasks → Covered ls s'.tasks
+effect_covered ls s s' b (nothing same) covered = same_covered ls s s' same covered
+effect_covered ls s s' b (stores bytes none is) covered = subst (λ (x : BoardState). Covered ls x.tasks) (sym is) covered
+effect_covered ls s s' b (enters config id r none made) covered = create_covered ls s config id r s' made covered
+effect_covered ls s s' b (changes c id t at can is) covered = subst (λ (x : BoardState). Covered ls x.tasks) (sym is) (change_covered ls s c id t at covered)
+effect_covered ls s s' b (deletes id t at can is) covered = subst (λ (x : BoardState). Covered ls x.tasks) (sym is) (delete_covered ls s id t b at covered)
+
+pub answers_covered : (ls : List Lent) (s : BoardState) (q : Request) (r : Answer) (s' : BoardState) → IsBoard s → Answers s q r s' → Covered ls s.tasks → Covered ls s'.tasks
+answers_covered ls s q r s' b a covered = effect_covered ls s s' b (effect_of s q r s' a) covered
 
 -- ---- a loan more
 

@@ -7,6 +7,7 @@ use Rattle.task_board.specs.declared.request.Request.{Request}
 use Rattle.task_board.specs.BoardState.{BoardState}
 use Rattle.task_board.specs.Step.{Answer, Answers}
 use Rattle.task_board.specs.Run.{is_no_memory, Happens, Run}
+use Rattle.task_board.specs.Sound.{IsBoard}
 use Rattle.task_board.specs.Loans.{Lent}
 use Rattle.task_board.specs.Inside.Covers.{Covered}
 use Rattle.task_board.proofs.LoanCover.{answers_covered}
@@ -18,15 +19,15 @@ no_memory_is (Err refusal.NoMemory) e = refl
 no_memory_is (Err x) e = cc
 
 call_covered_by : (ls : List Lent) (s : BoardState) (q : Request) (r : Answer) (s' : BoardState) (b : Bool) → is_no_memory r ≡ b
-    → (r ≢ Err refusal.NoMemory → Answers s q r s') → (r ≡ Err refusal.NoMemory → s' ≡ s) → Covered ls s.tasks → Covered ls s'.tasks
-call_covered_by ls s q r s' true is answers same covered = subst (λ (x : BoardState). Covered ls x.tasks) (sym (same (no_memory_is r is))) covered
-call_covered_by ls s q r s' false is answers same covered =
-    answers_covered ls s q r s' (answers (λ e. true≢false (sym (ap is_no_memory e) ∙ is))) covered
+    → IsBoard s → (r ≢ Err refusal.NoMemory → Answers s q r s') → (r ≡ Err refusal.NoMemory → s' ≡ s) → Covered ls s.tasks → Covered ls s'.tasks
+call_covered_by ls s q r s' true is b answers same covered = subst (λ (x : BoardState). Covered ls x.tasks) (sym (same (no_memory_is r is))) covered
+call_covered_by ls s q r s' false is b answers same covered =
+    answers_covered ls s q r s' b (answers (λ e. true≢false (sym (ap is_no_memory e) ∙ is))) covered
 
 -- a call keeps the loans of the tasks that are out
 pub call_covered : (ls : List Lent) (s : BoardState) (q : Request) (r : Answer) (s' : BoardState)
-    → (r ≢ Err refusal.NoMemory → Answers s q r s') → (r ≡ Err refusal.NoMemory → s' ≡ s) → Covered ls s.tasks → Covered ls s'.tasks
-call_covered ls s q r s' answers same covered = call_covered_by ls s q r s' (is_no_memory r) refl answers same covered
+    → IsBoard s → (r ≢ Err refusal.NoMemory → Answers s q r s') → (r ≡ Err refusal.NoMemory → s' ≡ s) → Covered ls s.tasks → Covered ls s'.tasks
+call_covered ls s q r s' b answers same covered = call_covered_by ls s q r s' (is_no_memory r) refl b answers same covered
 
 -- a run goes on by one event
 pub run_more : (s : BoardState) (es : List Event) (rs : List EventReply) (mid : BoardState) (e : Event) (r : EventReply) (s' : BoardState)

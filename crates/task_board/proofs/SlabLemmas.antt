@@ -3,7 +3,7 @@ use Rattle.std.proofs.Common.{◌≡◌, ◌≢◌, ℕ, zero, suc, ◌+◌, ◌
 use Rattle.slab.specs.Slab.{Slab, entries, entries_from, get, slab_len, Updates}
 use Rattle.std.proofs.lemmas.Bool.Decides.{nat_tests}
 use Rattle.std.proofs.lemmas.List.Recursion.{is_count_by}
-use Rattle.task_board.specs.BoardState.{Task, Entries, task_in, put_task, change_task}
+use Rattle.task_board.specs.BoardState.{Task, Entries, task_in, put_task, change_task, remove_task}
 use Rattle.task_board.specs.Sound.{AreDistinct, ids_of}
 use Rattle.task_board.proofs.EntryLemmas.{cond_is_true, cond_is_false, by_slot, same_id, other_id, same_slot, other_slot, some_is, none_is_not, id_away}
 
@@ -49,6 +49,28 @@ changed_from key (suc i) old new (Some t ∷ xs) there same d =
 pub changed : (s : Slab Task) (k : ℕ) (old new : Task) → get s k ≡ Some old → old.id ≡ new.id → AreDistinct (ids_of (entries s))
     → change_task new (entries s) ≡ entries_from 0 (set s.slots k (Some new))
 changed s k old new there same d = changed_from 0 k old new s.slots there same d
+
+-- ---- a removal
+
+removed_from : (key i : ℕ) (old : Task) (xs : List (Option Task)) → slice_index_or xs i None ≡ Some old
+    → AreDistinct (ids_of (entries_from key xs)) → entries_from key (set xs i None) ≡ remove_task old.id (entries_from key xs)
+removed_from key i old [] there d = absurd (none_is_not old there)
+removed_from key zero old (None ∷ xs) there d = absurd (none_is_not old there)
+removed_from key zero old (Some t ∷ xs) there d =
+    sym (cond_is_true (bytes_eq t.id old.id) (entries_from (key + 1) xs) ((key, t) ∷ remove_task old.id (entries_from (key + 1) xs))
+    (same_id t.id old.id (ap (λ (u : Task). u.id) (some_is t old there))))
+removed_from key (suc i) old (None ∷ xs) there d = removed_from (key + 1) i old xs there d
+removed_from key (suc i) old (Some t ∷ xs) there d =
+    let j = key + 1 + i in
+    let at : task_in j (entries_from (key + 1) xs) ≡ Some old = in_from (key + 1) i j xs refl ∙ there in
+    let away : t.id ≢ old.id = id_away t.id j old (entries_from (key + 1) xs) d.0 at in
+    ap (λ (es : Entries). (key, t) ∷ es) (removed_from (key + 1) i old xs there d.1)
+    ∙ sym (cond_is_false (bytes_eq t.id old.id) (entries_from (key + 1) xs) ((key, t) ∷ remove_task old.id (entries_from (key + 1) xs)) (other_id t.id old.id away))
+
+-- a task is removed from where it is
+pub removed : (s : Slab Task) (k : ℕ) (old : Task) → get s k ≡ Some old → AreDistinct (ids_of (entries s))
+    → entries_from 0 (set s.slots k None) ≡ remove_task old.id (entries s)
+removed s k old there d = removed_from 0 k old s.slots there d
 
 -- ---- an insert
 

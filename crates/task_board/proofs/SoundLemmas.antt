@@ -11,17 +11,18 @@ use Rattle.step_machine.specs.Configuration.{State as ExecutionState}
 use Rattle.step_machine.specs.Instantiation.{ended}
 use Rattle.step_machine.specs.Slices.{own_end, end_after, end_at, at_break}
 use Rattle.wasm_ast.specs.Limits.{max_module_bytes}
-use Rattle.task_board.specs.declared.status.Status.{Status}
-use Rattle.task_board.specs.declared.status.Status.TheVariants.{Created, Pausing}
-use Rattle.task_board.specs.declared.status.Signal.{Signal}
+use Rattle.task_lifecycle.specs.declared.status.Status.{Status}
+use Rattle.task_lifecycle.specs.declared.status.Status.TheVariants.{Created, Running, Pausing, Paused}
+use Rattle.task_lifecycle.specs.declared.status.Signal.{Signal}
+use Rattle.task_lifecycle.specs.declared.status.ExitRecord.TheVariants as exit
 use Rattle.task_board.specs.Limits.{max_tasks, max_contents, max_creates}
 use Rattle.task_board.specs.Identifiers.{is_id, digest_of}
-use Rattle.task_board.specs.Lifecycle.{is_pausing, is_stopped, is_going}
-use Rattle.task_board.specs.BoardState.{Content, Task, Entries, BoardState, created_task, content_in, with_content, task_in, entry_of, task_of, put_task, with_task, with_new_task}
-use Rattle.task_board.specs.Tasks.{execution_at, Standing, idle_task, standing_at_start, started, standing_onward, standing_after, advanced}
+use Rattle.task_lifecycle.specs.Lifecycle.{takes_turns, is_pausing, is_stopped, is_going}
+use Rattle.task_board.specs.BoardState.{Content, Task, Entries, BoardState, created_task, content_in, with_content, task_in, entry_of, task_of, put_task, with_task, without_task, with_new_task}
+use Rattle.task_board.specs.Tasks.{execution_at, Standing, stopped_by, idle_task, standing_at_start, started, paused, resumed, killed_while, killed, standing_onward, standing_after, advanced}
 use Rattle.task_board.specs.Refusals.{Openable}
 use Rattle.task_board.specs.Sound.{Each, AreDistinct, AreRising, IsSound, IsContent, slots_of, ids_of, incarnations_of, digests_of, IsBoard}
-use Rattle.task_board.proofs.EntryLemmas.{none_is_not, some_is, cond_true, cond_false, by_slot, by_id, change_length, change_slots, change_ids, change_incarnations, change_each, put_length, put_each}
+use Rattle.task_board.proofs.EntryLemmas.{none_is_not, some_is, cond_true, cond_false, by_slot, by_id, change_length, change_slots, change_ids, change_incarnations, change_each, put_length, put_each, remove_entries, remove_distinct, remove_rising, remove_length}
 
 -- ---- lists
 
@@ -62,6 +63,21 @@ change_sound s k old t b found same sound = record {
   contents = b.contents;
   digests = b.digests;
   few_tasks = subst (λ (n : ℕ). n ≤ max_tasks) (sym (change_length t s.tasks)) b.few_tasks;
+  few_contents = b.few_contents;
+  few_creates = b.few_creates;
+}
+
+-- ---- one task less
+
+pub remove_sound : (s : BoardState) (id : List ℕ) (k : ℕ) (old : Task) → IsBoard s → entry_of id s.tasks ≡ Some (k, old) → IsBoard (without_task s id)
+remove_sound s id k old b found = record {
+  tasks = remove_entries (λ (e : ℕ × Task). IsSound s.creates e.1) id s.tasks b.tasks;
+  slots = remove_rising id s.tasks b.slots;
+  ids = remove_distinct (λ (e : ℕ × Task). e.1.id) id s.tasks b.ids;
+  incarnations = remove_distinct (λ (e : ℕ × Task). e.1.incarnation) id s.tasks b.incarnations;
+  contents = b.contents;
+  digests = b.digests;
+  few_tasks = let less = remove_length id (k, old) s.tasks found in let few = b.few_tasks in omega (arith, less, few);
   few_contents = b.few_contents;
   few_creates = b.few_creates;
 }
@@ -238,6 +254,70 @@ pub started_sound : (creates : ℕ) (t : Task) → IsSound creates t → IsSound
 started_sound creates t h =
     idle_sound creates t (standing_at_start (ended (execution_at t t.turns)) (at_break t.breaks (execution_at t t.turns))) h.named h.earlier h.opens h.digest
     (standing_begun (ended (execution_at t t.turns)) (at_break t.breaks (execution_at t t.turns)) (execution_at t t.turns) refl)
+
+-- what a pause makes of the status
+pub record IsPausing (out : Option ℕ) (status : Status) : Type 0 where
+  pub begun : status ≡ Created → ⊥
+  pub turns : is_some out ≡ true → takes_turns status ≡ true
+  pub pausing : status ≡ Pausing → is_some out ≡ true
+  pub goes_on : is_stopped status ≡ false
+
+pausing_of : (out : Option ℕ) → IsPausing out (cond (is_some out) Pausing Paused)
+pausing_of None = record { begun = λ h. cc; turns = λ h. cc; pausing = λ h. cc; goes_on = refl }
+pausing_of (Some n) = record { begun = λ h. cc; turns = λ h. refl; pausing = λ h. refl; goes_on = refl }
+
+pub paused_sound : (creates : ℕ) (t : Task) → IsSound creates t → t.status ≡ Running → IsSound creates (paused t)
+paused_sound creates t h is =
+    let f = pausing_of t.out in
+    record {
+      named = h.named;
+      earlier = h.earlier;
+      opens = h.opens;
+      digest = h.digest;
+      fresh = λ x. absurd (f.begun x);
+      out = f.turns;
+      budget = h.budget;
+      pausing = f.pausing;
+      signal = h.signal;
+      stopped = f.goes_on ∙ (sym (ap is_stopped is) ∙ h.stopped);
+      goes = λ x. h.goes (ap is_going is);
+    }
+
+pub resumed_sound : (creates : ℕ) (t : Task) → IsSound creates t → t.status ≡ Paused → IsSound creates (resumed t)
+resumed_sound creates t h is = record {
+  named = h.named;
+  earlier = h.earlier;
+  opens = h.opens;
+  digest = h.digest;
+  fresh = λ x. cc;
+  out = λ x. refl;
+  budget = h.budget;
+  pausing = λ x. cc;
+  signal = h.signal;
+  stopped = sym (ap is_stopped is) ∙ h.stopped;
+  goes = λ x. h.goes (ap is_going is);
+}
+
+killed_sound_by : (creates : ℕ) (signal : Signal) (t : Task) (out : Option ℕ) → t.out ≡ out → IsSound creates t → IsSound creates (killed_while out signal t)
+killed_sound_by creates signal t None is h =
+    idle_sound creates t (stopped_by (exit.Kill signal)) h.named h.earlier h.opens h.digest
+    (record { begun = λ x. cc; resting = λ x. cc; stopped = refl; goes = λ x. cc })
+killed_sound_by creates signal t (Some n) is h = record {
+  named = h.named;
+  earlier = h.earlier;
+  opens = h.opens;
+  digest = h.digest;
+  fresh = h.fresh;
+  out = h.out;
+  budget = h.budget;
+  pausing = h.pausing;
+  signal = λ x. ap (is_some {T = ℕ}) is;
+  stopped = h.stopped;
+  goes = h.goes;
+}
+
+pub killed_sound : (creates : ℕ) (signal : Signal) (t : Task) → IsSound creates t → IsSound creates (killed signal t)
+killed_sound creates signal t h = killed_sound_by creates signal t t.out refl h
 
 standing_goes_on : (signal : Option Signal) (b : Bool) (e : ExecutionState) → ended e ≡ None → IsStanding (standing_onward signal b) e
 standing_goes_on (Some x) b e is = record { begun = λ h. cc; resting = λ h. cc; stopped = refl; goes = λ h. cc }

@@ -9,25 +9,23 @@ use Rattle.step_machine.specs.declared.process.ProcessConfig.{ProcessConfig}
 use Rattle.wasm_ast.specs.declared.place.Place.{Place}
 use Rattle.step_machine.specs.Instantiation.{after, ended}
 use Rattle.step_machine.specs.Slices.{turns_made, ends_slice}
-use Rattle.task_board.specs.declared.lifecycle.TaskCall.TheVariants as call
 use Rattle.task_board.specs.declared.request.Request.{Request}
 use Rattle.task_board.specs.declared.request.Request.TheVariants as request
-use Rattle.task_board.specs.declared.request.Reply.{Reply}
 use Rattle.task_board.specs.declared.request.Reply.TheVariants as reply
-use Rattle.task_board.specs.declared.status.Status.{Status}
-use Rattle.task_board.specs.declared.status.Status.TheVariants.{Created, Running, Pausing, Paused, Stopped}
+use Rattle.task_lifecycle.specs.declared.status.Status.{Status}
+use Rattle.task_lifecycle.specs.declared.status.Status.TheVariants.{Created, Running, Pausing, Paused, Stopped}
 use Rattle.task_board.specs.Limits.{max_tasks, max_contents, max_creates, max_budget}
 use Rattle.task_board.specs.Identifiers.{is_id, digest_of}
 use Rattle.task_board.specs.Config.{process_read}
-use Rattle.task_board.specs.Lifecycle.{allowed, is_running, is_going, takes_turns}
+use Rattle.task_lifecycle.specs.Lifecycle.{is_running, is_going, takes_turns}
 use Rattle.task_board.specs.BoardState.{Task, Entries, BoardState, created_task, content_in, with_content, task_in, entry_of, task_of, with_task, with_new_task}
-use Rattle.task_board.specs.Tasks.{started, advanced, can_lend, lent, slice_turns, MayAdvance, HasReturned, state_of}
-use Rattle.task_board.specs.Refusals.{Refusals, first_refusal, put_refusals, create_refusals, named_bytes, is_full, has_conflict, is_bytes, start_refusals, state_refusals, wait_refusals, task_refusals}
-use Rattle.task_board.specs.Step.{Answer, DecidedBy, OnFound, Creates, Answers, is_budget, lends, taken, Returns}
+use Rattle.task_board.specs.Tasks.{advanced, can_lend, lent, slice_turns, MayAdvance, HasReturned}
+use Rattle.task_board.specs.Refusals.{Refusals, first_refusal, put_refusals, create_refusals, named_bytes, is_full, has_conflict, is_bytes}
+use Rattle.task_board.specs.Step.{Answer, DecidedBy, Creates, Answers, is_budget, lends, taken, Returns}
 use Rattle.task_board.specs.Sound.{IsSound, IsBoard}
 use Rattle.task_board.specs.Inside.Plans.{id_refusals, CreatePrepared}
 use Rattle.task_board.proofs.EntryLemmas.{none_is_not, some_is, cond_is_true, each_in, entry_at, named, in_slot}
-use Rattle.task_board.proofs.SoundLemmas.{change_sound, put_sound, created_sound, content_sound, content_named, started_sound, advanced_sound}
+use Rattle.task_board.proofs.SoundLemmas.{change_sound, put_sound, created_sound, content_sound, content_named, advanced_sound}
 
 -- ---- the task with an id
 
@@ -64,23 +62,9 @@ pub none_first : (b : Bool) (e : Refusal) (rest : Option Refusal) → cond b (So
 none_first true e rest h = absurd (none_is_not e (sym h))
 none_first false e rest h = (refl, h)
 
-not_true : (b : Bool) → not b ≡ false → b ≡ true
+pub not_true : (b : Bool) → not b ≡ false → b ≡ true
 not_true true h = refl
 not_true false h = cc
-
-pub created_only : (status : Status) → allowed call.Start status ≡ true → status ≡ Created
-created_only Created h = refl
-created_only Running h = cc
-created_only Pausing h = cc
-created_only Paused h = cc
-created_only Stopped h = cc
-
--- a start that is not refused is of a created task
-pub starts_created : (id : List ℕ) (t : Task) → first_refusal (task_refusals id start_refusals (Some t)) ≡ None → (is_id id ≡ true) × (allowed call.Start t.status ≡ true)
-starts_created id t h =
-    let a = none_first (not (is_id id)) refusal.BadId _ h in
-    let b = none_first (not (allowed call.Start t.status)) refusal.WrongStatus None a.1 in
-    (not_true (is_id id) a.0, not_true (allowed call.Start t.status) b.0)
 
 -- ---- what requests leave
 
@@ -109,7 +93,7 @@ neither_of : (a b : Bool) → (a || b) ≡ false → (a ≡ false) × (b ≡ fal
 neither_of true b h = cc
 neither_of false b h = (refl, h)
 
-create_leaves : (s : BoardState) (config id : List ℕ) (r : Answer) (s' : BoardState) → IsBoard s → first_refusal (create_refusals s config id) ≡ None
+pub create_leaves : (s : BoardState) (config id : List ℕ) (r : Answer) (s' : BoardState) → IsBoard s → first_refusal (create_refusals s config id) ≡ None
     → Creates s config id r s' → IsBoard s'
 create_leaves s config id (Err e) s' b none effect = subst IsBoard (sym effect.4.1) b
 create_leaves s config id (Ok r) s' b none effect =
@@ -129,42 +113,9 @@ create_leaves s config id (Ok r) s' b none effect =
     let sound : IsSound (s.creates + 1) t = created_sound id s.creates bytes opened.0 p (not_true (is_id id) n.0) opened.1 digest in
     subst IsBoard (sym opened.3.2) (put_sound s opened.3.0 t b opened.3.1 (no_task (task_of id s.tasks) x.0) refl sound few low)
 
--- a request to a task leaves a sound board if its effect does
-on_task_leaves : (s : BoardState) (id : List ℕ) (own : Task → Refusals) (rep : Task → Reply) (new : Task → BoardState) (o : Option Task) (r : Answer) (s' : BoardState)
-    → IsBoard s → OnFound id own rep new o s r s' → ((t : Task) → o ≡ Some t → first_refusal (task_refusals id own (Some t)) ≡ None → IsBoard (new t)) → IsBoard s'
-on_task_leaves s id own rep new None r s' b on f = by (decided (first_refusal (task_refusals id own None)) ⊥ s r s' on)
-  where
-    by : (s' ≡ s) ⊎ ((first_refusal (task_refusals id own None) ≡ None) × ⊥) → IsBoard s'
-    by (inl same) = subst IsBoard (sym same) b
-    by (inr e) = absurd e.1
-on_task_leaves s id own rep new (Some t) r s' b on f = by (decided (first_refusal (task_refusals id own (Some t))) ((r ≡ Ok (rep t)) × (s' ≡ new t)) s r s' on)
-  where
-    by : (s' ≡ s) ⊎ ((first_refusal (task_refusals id own (Some t)) ≡ None) × ((r ≡ Ok (rep t)) × (s' ≡ new t))) → IsBoard s'
-    by (inl same) = subst IsBoard (sym same) b
-    by (inr e) = subst IsBoard (sym e.1.1) (f t refl e.0)
-
-by_effect : (s s' : BoardState) (o : Option Refusal) (E : Type 0) → IsBoard s → (o ≡ None → E → IsBoard s') → (s' ≡ s) ⊎ ((o ≡ None) × E) → IsBoard s'
-by_effect s s' o E b f (inl same) = subst IsBoard (sym same) b
-by_effect s s' o E b f (inr e) = f e.0 e.1
-
-pub answers_sound : (s : BoardState) (q : Request) (r : Answer) (s' : BoardState) → IsBoard s → Answers s q r s' → IsBoard s'
-answers_sound s (request.Put bytes) r s' b a =
-    by_effect s s' (first_refusal (put_refusals s bytes)) ((r ≡ Ok (reply.Put (digest_of bytes) (length bytes))) × (s' ≡ with_content s bytes)) b
-    (λ none e. subst IsBoard (sym e.1) (put_leaves s bytes b none)) (decided (first_refusal (put_refusals s bytes)) _ s r s' a)
-answers_sound s (request.Create config id) r s' b a =
-    by_effect s s' (first_refusal (create_refusals s config id)) (Creates s config id r s') b
-    (λ none e. create_leaves s config id r s' b none e) (decided (first_refusal (create_refusals s config id)) (Creates s config id r s') s r s' a)
-answers_sound s (request.Start id) r s' b a =
-    on_task_leaves s id start_refusals (λ t. reply.Start t.id (started t).status) (λ t. with_task s (started t)) (task_of id s.tasks) r s' b a
-    (λ t is none. changed_sound s id t (started t) b is refl refl (started_sound s.creates t (sound_of s id t b is)))
-answers_sound s (request.State id) r s' b a =
-    on_task_leaves s id state_refusals (λ t. reply.State (state_of t)) (λ t. s) (task_of id s.tasks) r s' b a (λ t is none. b)
-answers_sound s (request.Wait id) r s' b a =
-    on_task_leaves s id wait_refusals (λ t. reply.Wait (state_of t)) (λ t. s) (task_of id s.tasks) r s' b a (λ t is none. b)
-
 -- ---- slices
 
-running_only : (status : Status) → is_running status ≡ true → status ≡ Running
+pub running_only : (status : Status) → is_running status ≡ true → status ≡ Running
 running_only Created h = cc
 running_only Running h = refl
 running_only Pausing h = cc
@@ -283,10 +234,6 @@ returns s k t id budget s' forward first b there same out leaves =
 pub returned_sound : (s : BoardState) (k : ℕ) (t : Task) (n : ℕ) → IsBoard s → task_in k s.tasks ≡ Some t → IsBoard (with_task s (advanced t n))
 returned_sound s k t n b there =
     changed_sound s t.id t (advanced t n) b (of_slot s k t b there) refl refl (advanced_sound s.creates t n (each_in (IsSound s.creates) k t s.tasks b.tasks there))
-
--- a start of a task whose status allows it is not refused
-pub start_accepted : (id : List ℕ) (t : Task) → is_id id ≡ true → allowed call.Start t.status ≡ true → first_refusal (task_refusals id start_refusals (Some t)) ≡ None
-start_accepted id t ok can = rw (ok, can) refl
 
 -- ---- refusals of a create
 

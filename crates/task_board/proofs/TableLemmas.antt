@@ -1,27 +1,29 @@
 -- The tables of a board after a write in a slot and after an insert.
-use Rattle.std.proofs.Common.{◌≡◌, ℕ, suc, ◌+◌, ◌-◌, ◌≤◌, List, length, Bool, true, IsTrue, ◌↔◌, Option, Some, None, option_map, Result, Ok, refl, sym, ap, ◌∙◌, subst, arith}
-use Rattle.slab.specs.Slab.{Slab, entries, get, with_value, Updates, HasRoomFor}
+use Rattle.std.proofs.Common.{slice_set, ◌≡◌, ℕ, suc, ◌+◌, ◌-◌, ◌≤◌, List, length, Bool, true, IsTrue, ◌↔◌, Option, Some, None, option_map, Ok, refl, sym, ap, ◌∙◌, subst, arith}
+use Rattle.slab.specs.Slab.{Slab, entries, entries_from, get, with_value, Updates, HasRoomFor}
 use Rattle.task_board.specs.declared.tables.Tables.TheInside as tables
 use Rattle.task_board.specs.declared.ticket.Ticket.{Ticket}
 use Rattle.task_board.specs.declared.request.Request.{Request}
 use Rattle.task_board.specs.declared.request.Request.TheVariants as request
-use Rattle.task_board.specs.declared.request.Reply.{Reply}
 use Rattle.task_board.specs.declared.request.Reply.TheVariants as reply
-use Rattle.task_board.specs.declared.status.Status.TheVariants.{Created}
+use Rattle.task_lifecycle.specs.declared.status.Status.TheVariants.{Created}
 use Rattle.task_board.specs.Limits.{max_budget}
-use Rattle.task_board.specs.BoardState.{Task, Entries, BoardState, task_in, entry_of, task_of, with_task, with_new_task}
+use Rattle.task_board.specs.BoardState.{Task, Entries, BoardState, task_in, entry_of, task_of, remove_task, with_task, without_task, with_new_task}
 use Rattle.task_board.specs.BoardValue.{KeepsCapacity}
-use Rattle.task_board.specs.Tasks.{started, can_lend, lent, advanced, slice_turns}
-use Rattle.task_board.specs.Refusals.{first_refusal, start_refusals, task_refusals}
+use Rattle.task_board.specs.Tasks.{can_lend, lent, advanced, slice_turns, state_of}
+use Rattle.task_board.specs.Refusals.{Refusals, delete_refusals}
 use Rattle.task_board.specs.Step.{Answers, taken, Returns}
 use Rattle.task_board.specs.Sound.{IsBoard}
 use Rattle.task_board.specs.Loans.{Lent, loan_of, FitsTask, Fits}
 use Rattle.task_board.specs.Tickets.{Lends}
-use Rattle.task_board.specs.Inside.Plans.{CreatePrepared, StartPrepared}
+use Rattle.task_board.specs.declared.change.Change.{Change}
+use Rattle.task_board.specs.Inside.Plans.{CreatePrepared, CallPrepared}
+use Rattle.task_board.specs.Inside.Changes.{change_request, change_reply, change_refusals, changed as changed_by}
 use Rattle.task_board.specs.Inside.Shown.{board_state_of, board_of}
-use Rattle.task_board.proofs.EntryLemmas.{none_is_not, some_is, change_length, put_length, named, in_slot, changed_in}
-use Rattle.task_board.proofs.SlabLemmas.{in_slab, changed, inserted, count}
-use Rattle.task_board.proofs.StepLemmas.{few_tasks, create_answers, starts_created, created_only, lends_sound, takes, GoForward, StopFirst, returns, returned_sound}
+use Rattle.task_board.proofs.EntryLemmas.{none_is_not, some_is, change_length, put_length, remove_length, named, in_slot, changed_in}
+use Rattle.task_board.proofs.SlabLemmas.{in_slab, changed, removed, inserted, count}
+use Rattle.task_board.proofs.EffectLemmas.{change_id, change_answers, delete_answers}
+use Rattle.task_board.proofs.StepLemmas.{few_tasks, create_answers, lends_sound, takes, GoForward, StopFirst, returns, returned_sound}
 
 -- the tables with another slab of tasks
 abbrev pub with_slab : tables.Inside → Slab Task → tables.Inside
@@ -76,46 +78,59 @@ pub lends_is_taken : (s : BoardState) (ticket : Ticket) (budget : ℕ) (l : Lent
 lends_is_taken s ticket budget l s' b low is =
     takes s ticket.slot is.task l.id budget b is.can.there is.can.ready low (ap (λ (x : Lent). x.id) is.loan) ∙ ap (λ (x : BoardState). Some x) (sym is.leaves)
 
--- ---- start
+-- ---- changes
 
-pub start_there : (b : tables.Inside) (slot : ℕ) (id : List ℕ) → IsBoard (board_state_of b) → (p : StartPrepared (board_state_of b) slot id) → get b.tasks slot ≡ Some p.task
-start_there b slot id sound p = sym (in_slab b.tasks slot) ∙ in_slot id (slot, p.task) (board_state_of b).tasks sound.slots p.found
+pub call_there : (b : tables.Inside) (own : Task → Refusals) (slot : ℕ) (id : List ℕ) → IsBoard (board_state_of b) → (p : CallPrepared (board_state_of b) own slot id) → get b.tasks slot ≡ Some p.task
+call_there b own slot id sound p = sym (in_slab b.tasks slot) ∙ in_slot id (slot, p.task) (board_state_of b).tasks sound.slots p.found
 
-pub start_created : (s : BoardState) (slot : ℕ) (id : List ℕ) → (p : StartPrepared s slot id) → p.task.status ≡ Created
-start_created s slot id p = created_only p.task.status (starts_created id p.task p.accepted).1
-
-start_answers_by : (s : BoardState) (id : List ℕ) (slot : ℕ) (t : Task) → entry_of id s.tasks ≡ Some (slot, t)
-    → first_refusal (task_refusals id start_refusals (Some t)) ≡ None → Answers s (request.Start id) (Ok (reply.Start t.id (started t).status)) (with_task s (started t))
-start_answers_by s id slot t found accepted =
-    let at : task_of id s.tasks ≡ Some t = ap (option_map (λ (e : ℕ × Task). e.1)) found in
-    let r : Result Reply _ = Ok (reply.Start t.id (started t).status) in
-    let P : Option Task → Type 0 = λ o. Rattle.task_board.specs.Step.OnFound id start_refusals (λ u. reply.Start u.id (started u).status) (λ u. with_task s (started u)) o s r (with_task s (started t)) in
-    let Q : Option _ → Type 0 = λ e. Rattle.task_board.specs.Step.DecidedBy e ((r ≡ Ok (reply.Start t.id (started t).status)) × (with_task s (started t) ≡ with_task s (started t))) s r (with_task s (started t)) in
-    subst P (sym at) (subst Q (sym accepted) (refl, refl))
-
-pub start_answers : (s : BoardState) (slot : ℕ) (id : List ℕ) (new : Task) (s' : BoardState) → (p : StartPrepared s slot id) → new ≡ started p.task → s' ≡ with_task s new
-    → Answers s (request.Start id) (Ok (reply.Start id new.status)) s'
-start_answers s slot id new s' p is leaves =
-    let done = start_answers_by s id slot p.task p.found p.accepted in
-    let name : p.task.id ≡ id = named id s.tasks (slot, p.task) p.found in
-    let same : s' ≡ with_task s (started p.task) = leaves ∙ ap (with_task s) is in
-    let a = subst (λ (x : List ℕ). Answers s (request.Start id) (Ok (reply.Start x (started p.task).status)) (with_task s (started p.task))) name done in
-    let d = subst (λ (u : Task). Answers s (request.Start id) (Ok (reply.Start id u.status)) (with_task s (started p.task))) (sym is) a in
-    subst (λ (x : BoardState). Answers s (request.Start id) (Ok (reply.Start id new.status)) x) (sym same) d
-
--- what a start in a slot does
-pub record IsStartedThere (b : tables.Inside) (slot : ℕ) (id : List ℕ) (new : Task) : Type 0 where
-  pub answers : Answers (board_state_of b) (request.Start id) (Ok (reply.Start id new.status)) (board_state_of (with_write b slot new))
+-- what a change in a slot does
+pub record IsChangedThere (b : tables.Inside) (c : Change) (slot : ℕ) (id : List ℕ) (new : Task) : Type 0 where
+  pub answers : Answers (board_state_of b) (change_request c id) (Ok (change_reply c id new.status)) (board_state_of (with_write b slot new))
   pub capacity : KeepsCapacity (board_of b) (board_of (with_write b slot new))
 
-pub started_there : (b : tables.Inside) (slot : ℕ) (id : List ℕ) (old new : Task) → IsBoard (board_state_of b) → (p : StartPrepared (board_state_of b) slot id)
-    → get b.tasks slot ≡ Some old → new ≡ started old → IsStartedThere b slot id new
-started_there b slot id old new sound p here is =
-    let same : old ≡ p.task = some_is old p.task (sym here ∙ start_there b slot id sound p) in
-    let leaves = written b slot old new sound here (ap (λ (u : Task). u.id) (sym is)) in
+pub changed_there : (b : tables.Inside) (c : Change) (slot : ℕ) (id : List ℕ) (old new : Task) → IsBoard (board_state_of b) → (p : CallPrepared (board_state_of b) (change_refusals c) slot id)
+    → get b.tasks slot ≡ Some old → new ≡ changed_by c old → IsChangedThere b c slot id new
+changed_there b c slot id old new sound p here is =
+    let s = board_state_of b in
+    let same : old ≡ p.task = some_is old p.task (sym here ∙ call_there b (change_refusals c) slot id sound p) in
+    let keeps : old.id ≡ new.id = sym (ap (λ (u : Task). u.id) is ∙ change_id c old) in
+    let leaves = written b slot old new sound here keeps in
+    let by_task : new ≡ changed_by c p.task = is ∙ ap (changed_by c) same in
+    let at : task_of id s.tasks ≡ Some p.task = ap (option_map (λ (e : ℕ × Task). e.1)) p.found in
+    let s' = board_state_of (with_write b slot new) in
+    let done = change_answers c s id p.task s' at p.accepted (leaves ∙ ap (with_task s) by_task) in
+    let name : p.task.id ≡ id = named id s.tasks (slot, p.task) p.found in
+    let own = subst (λ (x : List ℕ). Answers s (change_request c id) (Ok (change_reply c x (changed_by c p.task).status)) s') name done in
     record {
-      answers = start_answers (board_state_of b) slot id new (board_state_of (with_write b slot new)) p (is ∙ ap started same) leaves;
+      answers = subst (λ (u : Task). Answers s (change_request c id) (Ok (change_reply c id u.status)) s') (sym by_task) own;
       capacity = write_keeps b slot new leaves;
+    }
+
+-- ---- delete
+
+-- what a removal from a slot does
+pub record IsRemovedThere (b : tables.Inside) (slot : ℕ) (id : List ℕ) (new : Slab Task) (old : Task) : Type 0 where
+  pub answers : Answers (board_state_of b) (request.Delete id) (Ok (reply.Delete (state_of old))) (board_state_of (with_slab b new))
+  pub capacity : KeepsCapacity (board_of b) (board_of (with_slab b new))
+
+pub removed_there : (b : tables.Inside) (slot : ℕ) (id : List ℕ) (new : Slab Task) (old : Task) → 64 ≤ b.tasks.capacity → IsBoard (board_state_of b)
+    → (p : CallPrepared (board_state_of b) delete_refusals slot id) → get b.tasks slot ≡ Some old → new.slots ≡ slice_set b.tasks.slots slot None → new.capacity ≡ b.tasks.capacity
+    → IsRemovedThere b slot id new old
+removed_there b slot id new old room sound p here slots capacity =
+    let s = board_state_of b in
+    let same : old ≡ p.task = some_is old p.task (sym here ∙ call_there b delete_refusals slot id sound p) in
+    let left : entries new ≡ remove_task old.id (entries b.tasks) = ap (λ (xs : List (Option Task)). entries_from 0 xs) slots ∙ removed b.tasks slot old here sound.ids in
+    let leaves : board_state_of (with_slab b new) ≡ without_task s old.id = ap (λ (es : Entries). record s { tasks = es }) left in
+    let at : task_of id s.tasks ≡ Some p.task = ap (option_map (λ (e : ℕ × Task). e.1)) p.found in
+    let done = delete_answers s id p.task (board_state_of (with_slab b new)) at p.accepted (leaves ∙ ap (λ (u : Task). without_task s u.id) same) in
+    let name : p.task.id ≡ id = named id s.tasks (slot, p.task) p.found in
+    let own : entry_of old.id s.tasks ≡ Some (slot, p.task) = ap (λ (x : List ℕ). entry_of x s.tasks) (ap (λ (u : Task). u.id) same ∙ name) ∙ p.found in
+    let less = remove_length old.id (slot, p.task) s.tasks own in
+    let fewer : length (entries new) ≡ length (remove_task old.id (entries b.tasks)) = ap (λ (es : Entries). length es) left in
+    let few = sound.few_tasks in
+    record {
+      answers = subst (λ (u : Task). Answers s (request.Delete id) (Ok (reply.Delete (state_of u))) (board_state_of (with_slab b new))) (sym same) done;
+      capacity = record { contents = refl; tasks = omega (arith, less, fewer, few, room, capacity) };
     }
 
 -- ---- create

@@ -9,7 +9,7 @@ use Rattle.step_machine.specs.MachineView.{MachineView}
 use Rattle.step_machine.specs.Slices.{slice_end}
 use Rattle.task_board.specs.declared.checkout.Checkout.{Checkout}
 use Rattle.task_board.specs.BoardState.{Task}
-use Rattle.task_board.specs.Lifecycle.{takes_turns}
+use Rattle.task_lifecycle.specs.Lifecycle.{takes_turns}
 use Rattle.task_board.specs.Loans.{Lent, loan_of, FitsTask}
 use Rattle.task_board.specs.Refusals.{Openable}
 use Rattle.task_board.specs.Tasks.{Standing, idle_task, standing_after, advanced, slice_turns}

@@ -3,10 +3,10 @@ use Rattle.std.specs.Prelude.{ℕ, ◌+◌, ◌++◌, List, [], ◌∷◌, bytes
 use Rattle.wasm_ast.specs.declared.module.Module.{Module}
 use Rattle.step_machine.specs.declared.process.ProcessConfig.{ProcessConfig}
 use Rattle.wasm_ast.specs.declared.place.Place.{Place}
-use Rattle.task_board.specs.declared.status.Status.{Status}
-use Rattle.task_board.specs.declared.status.Status.TheVariants.{Created}
-use Rattle.task_board.specs.declared.status.Signal.{Signal}
-use Rattle.task_board.specs.declared.status.ExitRecord.{ExitRecord}
+use Rattle.task_lifecycle.specs.declared.status.Status.{Status}
+use Rattle.task_lifecycle.specs.declared.status.Status.TheVariants.{Created}
+use Rattle.task_lifecycle.specs.declared.status.Signal.{Signal}
+use Rattle.task_lifecycle.specs.declared.status.ExitRecord.{ExitRecord}
 use Rattle.task_board.specs.Identifiers.{digest_of}
 
 -- bytes that are stored under their digest
@@ -112,6 +112,15 @@ change_task t (e ∷ es) = if bytes_eq e.1.id t.id then (e.0, t) ∷ es else e �
 -- the board with the task of this one's id changed to it
 abbrev pub with_task : BoardState → Task → BoardState
 with_task s t = record s { tasks = change_task t s.tasks }
+
+-- the entries without the task of an id
+abbrev pub remove_task : (id : List ℕ) → Entries → Entries
+remove_task id [] = []
+remove_task id (e ∷ es) = if bytes_eq e.1.id id then es else e ∷ remove_task id es
+
+-- the board without the task of an id
+abbrev pub without_task : BoardState → (id : List ℕ) → BoardState
+without_task s id = record s { tasks = remove_task id s.tasks }
 
 -- the board with a new task in a slot; each accepted create is counted
 abbrev pub with_new_task : BoardState → ℕ → Task → BoardState

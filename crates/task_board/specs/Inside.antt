@@ -2,5 +2,6 @@
 pub mod Machines
 pub mod Shown
 pub mod Kept
+pub mod Changes
 pub mod Plans
 pub mod Covers

@@ -1,18 +1,23 @@
 -- What an event may make of a task.
-use Rattle.std.specs.Prelude.{◌≡◌, ℕ, ◌⊎◌, true}
-use Rattle.task_board.specs.declared.lifecycle.TaskCall.TheVariants as call
-use Rattle.task_board.specs.Lifecycle.{allowed}
+use Rattle.std.specs.Prelude.{◌≡◌, ℕ, true, Option, Some, None}
+use Rattle.task_lifecycle.specs.declared.lifecycle.TaskCall.TheVariants as call
+use Rattle.task_lifecycle.specs.declared.status.Signal.{Signal}
+use Rattle.task_lifecycle.specs.Lifecycle.{allowed}
 use Rattle.task_board.specs.BoardState.{Task}
-use Rattle.task_board.specs.Tasks.{started, can_lend, lent, HasReturned}
-
--- it is started, in a status that allows it
-abbrev pub IsStarted : Task → Task → Type 0
-IsStarted t t' = (allowed call.Start t.status ≡ true) × (t' ≡ started t)
-
--- its slice is taken, which only that of a running idle task is; its turns stay
-abbrev pub IsTaken : Task → Task → Type 0
-IsTaken t t' = (budget : ℕ) × (can_lend t ≡ true) × (t' ≡ lent t budget)
+use Rattle.task_board.specs.Tasks.{started, paused, resumed, killed, can_lend, lent, HasReturned}
 
 -- a task stays as it is, or one of these happens to it
-abbrev pub Moves : Task → Task → Type 0
-Moves t t' = (t' ≡ t) ⊎ (IsStarted t t' ⊎ (IsTaken t t' ⊎ HasReturned t t'))
+pub data Moves (t t' : Task) : Type 0 where
+  stays : t' ≡ t → Moves t t'
+  starts : allowed call.Start t.status ≡ true → t' ≡ started t → Moves t t'
+  pauses : allowed call.Pause t.status ≡ true → t' ≡ paused t → Moves t t'
+  resumes : allowed call.Resume t.status ≡ true → t' ≡ resumed t → Moves t t'
+  is_killed : (signal : Signal) → allowed call.Kill t.status ≡ true → t' ≡ killed signal t → Moves t t'
+  -- its slice is taken, which only that of a running idle task is; its turns stay
+  is_taken : (budget : ℕ) → can_lend t ≡ true → t' ≡ lent t budget → Moves t t'
+  returns : HasReturned t t' → Moves t t'
+
+-- what is in its slot afterwards: the task, or nothing if it was deleted
+pub data Becomes (t : Task) : Option Task → Type 0 where
+  goes : allowed call.Delete t.status ≡ true → Becomes t None
+  remains : (t' : Task) → Moves t t' → Becomes t (Some t')

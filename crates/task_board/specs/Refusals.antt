@@ -10,11 +10,12 @@ use Rattle.step_machine.specs.declared.process.ProcessConfig.{ProcessConfig}
 use Rattle.step_machine.specs.Typing.{ValidModule}
 use Rattle.step_machine.specs.Runs.{RunsModule}
 use Rattle.step_machine.specs.Instantiation.{instantiation_refusal}
-use Rattle.task_board.specs.declared.lifecycle.TaskCall.TheVariants as call
+use Rattle.task_lifecycle.specs.declared.lifecycle.TaskCall.TheVariants as call
 use Rattle.task_board.specs.Limits.{max_contents, max_tasks, max_creates}
 use Rattle.task_board.specs.Identifiers.{is_id, digest_of}
 use Rattle.task_board.specs.Config.{process_read}
-use Rattle.task_board.specs.Lifecycle.{allowed}
+use Rattle.task_lifecycle.specs.Lifecycle.{allowed}
+use Rattle.task_lifecycle.specs.Names.{signal_of}
 use Rattle.task_board.specs.BoardState.{Task, BoardState, content_in, task_of}
 
 -- refusals, each with the condition under which it is answered
@@ -95,6 +96,19 @@ pub record Openable (bytes : List ℕ) (p : ProcessConfig) (m : Module) : Type 0
 
 abbrev pub start_refusals : Task → Refusals
 start_refusals t = (not (allowed call.Start t.status), refusal.WrongStatus) ∷ []
+
+abbrev pub pause_refusals : Task → Refusals
+pause_refusals t = (not (allowed call.Pause t.status), refusal.WrongStatus) ∷ []
+
+abbrev pub resume_refusals : Task → Refusals
+resume_refusals t = (not (allowed call.Resume t.status), refusal.WrongStatus) ∷ []
+
+abbrev pub kill_refusals : (signal : ℕ) → Task → Refusals
+kill_refusals signal t =
+    (is_none (signal_of signal), refusal.OutOfRange) ∷ (not (allowed call.Kill t.status), refusal.WrongStatus) ∷ []
+
+abbrev pub delete_refusals : Task → Refusals
+delete_refusals t = (not (allowed call.Delete t.status), refusal.WrongStatus) ∷ []
 
 abbrev pub state_refusals : Task → Refusals
 state_refusals t = []

@@ -2,10 +2,10 @@
 use Rattle.std.specs.Prelude.{◌≡◌, ◌≢◌, ℕ, ◌<◌, ◌≤◌, List, [], ◌∷◌, map, length, true, Some, None, is_some}
 use Rattle.step_machine.specs.Instantiation.{ended}
 use Rattle.wasm_ast.specs.Limits.{max_module_bytes}
-use Rattle.task_board.specs.declared.status.Status.TheVariants.{Created, Pausing}
+use Rattle.task_lifecycle.specs.declared.status.Status.TheVariants.{Created, Pausing}
 use Rattle.task_board.specs.Limits.{max_tasks, max_contents, max_creates, max_budget}
 use Rattle.task_board.specs.Identifiers.{is_id, digest_of}
-use Rattle.task_board.specs.Lifecycle.{takes_turns, is_stopped, is_going}
+use Rattle.task_lifecycle.specs.Lifecycle.{takes_turns, is_stopped, is_going}
 use Rattle.task_board.specs.BoardState.{Content, Task, Entries, BoardState}
 use Rattle.task_board.specs.Tasks.{execution_at}
 use Rattle.task_board.specs.Refusals.{Openable}

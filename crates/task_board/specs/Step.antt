@@ -12,13 +12,14 @@ use Rattle.task_board.specs.declared.request.Request.{Request}
 use Rattle.task_board.specs.declared.request.Request.TheVariants as request
 use Rattle.task_board.specs.declared.request.Reply.{Reply}
 use Rattle.task_board.specs.declared.request.Reply.TheVariants as reply
-use Rattle.task_board.specs.declared.status.Status.TheVariants.{Created}
+use Rattle.task_lifecycle.specs.declared.status.Status.TheVariants.{Created}
+use Rattle.task_lifecycle.specs.Names.{signal_of}
 use Rattle.task_board.specs.Limits.{max_budget}
 use Rattle.task_board.specs.Identifiers.{digest_of}
 use Rattle.task_board.specs.Config.{process_read}
-use Rattle.task_board.specs.BoardState.{Task, created_task, BoardState, content_in, with_content, task_in, task_of, with_task, with_new_task}
-use Rattle.task_board.specs.Tasks.{state_of, started, can_lend, lent, HasReturned}
-use Rattle.task_board.specs.Refusals.{Refusals, first_refusal, put_refusals, create_refusals, CannotOpen, Openable, start_refusals, state_refusals, wait_refusals, task_refusals}
+use Rattle.task_board.specs.BoardState.{Task, created_task, BoardState, content_in, with_content, task_in, task_of, with_task, without_task, with_new_task}
+use Rattle.task_board.specs.Tasks.{state_of, started, paused, resumed, killed_by, can_lend, lent, HasReturned}
+use Rattle.task_board.specs.Refusals.{Refusals, first_refusal, put_refusals, create_refusals, CannotOpen, Openable, start_refusals, pause_refusals, resume_refusals, kill_refusals, delete_refusals, state_refusals, wait_refusals, task_refusals}
 
 -- ---- requests
 
@@ -71,6 +72,15 @@ Answers s (request.Put bytes) r s' =
 Answers s (request.Create config id) r s' = Decided (create_refusals s config id) (Creates s config id r s') s r s'
 Answers s (request.Start id) r s' =
     OnTask id start_refusals (λ t. reply.Start t.id (started t).status) (λ t. with_task s (started t)) s r s'
+Answers s (request.Pause id) r s' =
+    OnTask id pause_refusals (λ t. reply.Pause t.id (paused t).status) (λ t. with_task s (paused t)) s r s'
+Answers s (request.Resume id) r s' =
+    OnTask id resume_refusals (λ t. reply.Resume t.id (resumed t).status) (λ t. with_task s (resumed t)) s r s'
+Answers s (request.Kill id signal) r s' =
+    OnTask id (kill_refusals signal) (λ t. reply.Kill t.id (killed_by (signal_of signal) t).status)
+    (λ t. with_task s (killed_by (signal_of signal) t)) s r s'
+Answers s (request.Delete id) r s' =
+    OnTask id delete_refusals (λ t. reply.Delete (state_of t)) (λ t. without_task s t.id) s r s'
 Answers s (request.State id) r s' = OnTask id state_refusals (λ t. reply.State (state_of t)) (λ t. s) s r s'
 Answers s (request.Wait id) r s' = OnTask id wait_refusals (λ t. reply.Wait (state_of t)) (λ t. s) s r s'
 

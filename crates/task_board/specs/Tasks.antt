@@ -1,5 +1,5 @@
 -- What happens to a task: it is started, its slice goes out, and it advances by turns.
-use Rattle.std.specs.Prelude.{◌≡◌, ℕ, ◌+◌, ◌<◌, ◌≤◌, ◌&&◌, Bool, true, false, Option, Some, None, is_none}
+use Rattle.std.specs.Prelude.{◌≡◌, ℕ, ◌+◌, ◌<◌, ◌≤◌, ◌&&◌, Bool, true, false, Option, Some, None, is_some, is_none}
 use Rattle.step_machine.specs.declared.ends.End.{End}
 use Rattle.step_machine.specs.declared.ends.End.TheVariants as ends
 use Rattle.step_machine.specs.declared.ends.SliceEnd.{SliceEnd}
@@ -7,13 +7,15 @@ use Rattle.step_machine.specs.declared.ends.SliceEnd.TheVariants as slice
 use Rattle.step_machine.specs.Configuration.{State as ExecutionState}
 use Rattle.step_machine.specs.Instantiation.{after, ended}
 use Rattle.step_machine.specs.Slices.{at_break, ends_slice, end_at, turns_made}
+use Rattle.task_lifecycle.specs.declared.lifecycle.Situation.{Situation}
+use Rattle.task_lifecycle.specs.declared.lifecycle.TaskCall.TheVariants as call
 use Rattle.task_board.specs.declared.request.TaskState.{TaskState}
-use Rattle.task_board.specs.declared.status.Status.{Status}
-use Rattle.task_board.specs.declared.status.Status.TheVariants.{Running, Paused, Stopped}
-use Rattle.task_board.specs.declared.status.Signal.{Signal}
-use Rattle.task_board.specs.declared.status.ExitRecord.{ExitRecord}
-use Rattle.task_board.specs.declared.status.ExitRecord.TheVariants as exit
-use Rattle.task_board.specs.Lifecycle.{is_running, is_pausing, takes_turns}
+use Rattle.task_lifecycle.specs.declared.status.Status.{Status}
+use Rattle.task_lifecycle.specs.declared.status.Status.TheVariants.{Running, Paused, Stopped}
+use Rattle.task_lifecycle.specs.declared.status.Signal.{Signal}
+use Rattle.task_lifecycle.specs.declared.status.ExitRecord.{ExitRecord}
+use Rattle.task_lifecycle.specs.declared.status.ExitRecord.TheVariants as exit
+use Rattle.task_lifecycle.specs.Lifecycle.{after as after_call, is_running, is_pausing, takes_turns}
 use Rattle.task_board.specs.BoardState.{Task}
 
 -- what a call sees of a task
@@ -54,6 +56,40 @@ standing_at_start None false = going Running
 abbrev pub started : Task → Task
 started t =
     idle_task t (standing_at_start (ended (execution_at t t.turns)) (at_break t.breaks (execution_at t t.turns)))
+
+-- ---- pause, resume, kill
+
+-- what decides where a call leads
+abbrev pub situation_of : Task → Situation
+situation_of t = record {
+  out = is_some t.out;
+  ended = is_some (ended (execution_at t t.turns));
+  at_break = at_break t.breaks (execution_at t t.turns);
+}
+
+abbrev pub paused : Task → Task
+paused t = record t { status = after_call call.Pause (situation_of t) t.status }
+
+abbrev pub resumed : Task → Task
+resumed t = record t { status = after_call call.Resume (situation_of t) t.status }
+
+-- the first of two signals is kept
+abbrev pub first_signal : Option Signal → Signal → Signal
+first_signal None signal = signal
+first_signal (Some first) signal = first
+
+-- stopped at once if its machine is on the board; while its slice is out, the signal is pending
+abbrev pub killed_while : (out : Option ℕ) → Signal → Task → Task
+killed_while None signal t = idle_task t (stopped_by (exit.Kill signal))
+killed_while (Some budget) signal t = record t { signal = Some (first_signal t.signal signal) }
+
+abbrev pub killed : Signal → Task → Task
+killed signal t = killed_while t.out signal t
+
+-- killed by the signal with a number, if there is one
+abbrev pub killed_by : Option Signal → Task → Task
+killed_by None t = t
+killed_by (Some signal) t = killed signal t
 
 -- ---- turns
 

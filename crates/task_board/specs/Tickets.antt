@@ -2,7 +2,7 @@
 use Rattle.std.specs.Prelude.{◌≡◌, ℕ, List, true, if◌then◌else◌, Option, Some, None, option_map, option_and_then}
 use Rattle.task_board.specs.declared.ticket.Ticket.{Ticket}
 use Rattle.task_board.specs.BoardState.{Task, Entries, BoardState, task_in, entry_of, with_task}
-use Rattle.task_board.specs.Lifecycle.{is_running}
+use Rattle.task_lifecycle.specs.Lifecycle.{is_running}
 use Rattle.task_board.specs.Tasks.{can_lend, lent}
 use Rattle.task_board.specs.Loans.{Lent, loan_of}
 

@@ -21,6 +21,7 @@ ghost use Rattle.task_board.specs.Tickets.{ticket_of, CanLend, Lends, ticket_in}
 ghost use Rattle.task_board.specs.Inside.Machines.{IsMachine};
 ghost use Rattle.task_board.specs.Inside.Plans.{Plans, PlansTask};
 
+use crate::change::Change;
 use crate::checkout::Shared;
 use crate::config::read_config;
 use crate::contents::Content;
@@ -167,7 +168,11 @@ impl Board {
         let plan = match request {
             Request::Put { bytes } => self.prepare_put(bytes)?,
             Request::Create { config, id } => self.prepare_create(config, id)?,
-            Request::Start { id } => self.tables.plan_start(id),
+            Request::Start { id } => self.tables.plan_change(id, Change::Start),
+            Request::Pause { id } => self.tables.plan_change(id, Change::Pause),
+            Request::Resume { id } => self.tables.plan_change(id, Change::Resume),
+            Request::Kill { id, signal } => self.tables.plan_kill(id, signal),
+            Request::Delete { id } => self.tables.plan_delete(id),
             Request::State { id } => self.tables.plan_state(id),
             Request::Wait { id } => self.tables.plan_wait(id),
         };
@@ -189,7 +194,7 @@ impl Board {
     }
 
     /// Answers a request, by preparing and applying it. `NoMemory` if an allocation failed, and then
-    /// nothing has changed; start, state and wait allocate nothing and are never answered so.
+    /// nothing has changed; only a put and a create allocate, no other request is ever answered so.
     pub fn call(&mut self, request: Request) -> Result<Reply, Refusal>
         ensures answers { result ≢ Err Refusal.NoMemory
             → Answers self.old.state request result self.new.state }

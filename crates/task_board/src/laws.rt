@@ -3,6 +3,8 @@
 ghost use Rattle.std.specs.Prelude.{◌≡◌, ◌++◌, ℕ, List, Some, true, false};
 ghost use Rattle.wasm_ast.specs.declared.module.Module.{Module};
 ghost use Rattle.step_machine.specs.declared.process.ProcessConfig.{ProcessConfig};
+ghost use Rattle.step_machine.specs.declared.ends.End.{End as EndValue};
+ghost use Rattle.step_machine.specs.Instantiation.{ended};
 ghost use Rattle.step_machine.specs.Runs.{RunsModule};
 ghost use Rattle.step_machine.specs.Typing.{ValidModule};
 ghost use Rattle.task_board.specs.declared.event.Event.{Event};
@@ -11,17 +13,17 @@ ghost use Rattle.task_board.specs.declared.event.EventReply.{EventReply};
 ghost use Rattle.task_board.specs.declared.request.Request.TheVariants as request;
 ghost use Rattle.task_board.specs.BoardState.{Content, Task, BoardState, empty, task_in};
 ghost use Rattle.task_board.specs.Choices.{IsDetermined, AgreeOnCreate};
-ghost use Rattle.task_board.specs.Lifecycle.{takes_turns};
-ghost use Rattle.task_board.specs.Moves.{Moves};
-ghost use Rattle.task_board.specs.Names.{exit_status};
+ghost use Rattle.task_lifecycle.specs.declared.status.Signal.{Signal as SignalValue};
+ghost use Rattle.task_lifecycle.specs.Lifecycle.{after, takes_turns};
+ghost use Rattle.task_board.specs.Moves.{Becomes};
 ghost use Rattle.task_board.specs.Refusals.{IsSpelled, CannotOpen};
 ghost use Rattle.task_board.specs.Run.{takes_memory, met_no_memory, Happens, Run};
 ghost use Rattle.task_board.specs.Sound.{AreRising, slots_of, IsSound, IsBoard};
 ghost use Rattle.task_board.specs.Step.{Answer, Answers};
-ghost use Rattle.task_board.specs.Tasks.{slice_turns, MayAdvance};
+ghost use Rattle.task_board.specs.Tasks.{execution_at, exit_of, situation_of, started, paused, resumed, killed, slice_turns, MayAdvance, HasReturned};
 
-use crate::status::{ExitRecord, Signal};
 use step_machine::laws::{slices_go_forward, slices_stop_first};
+use task_lifecycle::{ExitRecord, Status, TaskCall};
 use wasm_ast::Refusal;
 use wasm_binary::laws::spells_one;
 
@@ -33,14 +35,42 @@ pub fn boards_are_sound()
         → IsBoard s → Happens s e r s' → IsBoard s' }
 {}
 
-/// No event removes a task, and what an event makes of one is that it stays as it is, that it is started,
-/// which only a created one is, that its slice is taken, which only that of a running idle one is, or that
-/// its slice returns.
+/// Only a delete removes a task, and only a stopped one. What another event makes of a task is that it stays
+/// as it is, that it is started, paused, resumed or killed, each only if its status allows it, that its slice is
+/// taken, which only that of a running idle one is, or that its slice returns.
 pub fn tasks_move()
     ensures { (s : BoardState) (e : Event) (r : EventReply) (s' : BoardState)
         → AreRising (slots_of s.tasks)
         → Happens s e r s' → (k : ℕ) (t : Task) → task_in k s.tasks ≡ Some t
-        → (t' : Task) × (task_in k s'.tasks ≡ Some t') × Moves t t' }
+        → Becomes t (task_in k s'.tasks) }
+{}
+
+/// Start, pause, resume and kill change the status of a task as the lifecycle's table says.
+pub fn calls_follow_the_table()
+    ensures start { (t : Task)
+        → (started t).status ≡ after TaskCall.Start (situation_of t) t.status }
+    ensures pause { (t : Task)
+        → (paused t).status ≡ after TaskCall.Pause (situation_of t) t.status }
+    ensures resume { (t : Task)
+        → (resumed t).status ≡ after TaskCall.Resume (situation_of t) t.status }
+    ensures kill { (t : Task) (signal : SignalValue)
+        → (killed signal t).status ≡ after TaskCall.Kill (situation_of t) t.status }
+{}
+
+/// A task whose slice returns is stopped by its own end if that has come, whatever signal is pending; else
+/// by the signal that is pending, if one is.
+pub fn pending_signals_end_tasks()
+    ensures own { (t t' : Task) (e : EndValue) → HasReturned t t'
+        → ended (execution_at t' t'.turns) ≡ Some e → (t'.status ≡ Status.Stopped) × (t'.end ≡ Some (exit_of e)) }
+    ensures signal { (t t' : Task) (signal : SignalValue) → HasReturned t t' → t.signal ≡ Some signal
+        → ended (execution_at t' t'.turns) ≡ None
+        → (t'.status ≡ Status.Stopped) × (t'.end ≡ Some (ExitRecord.Kill signal)) }
+{}
+
+/// A second kill while the slice is out does not replace the signal of the first.
+pub fn the_first_signal_is_kept()
+    ensures { (t : Task) (first second : SignalValue) (budget : ℕ) → t.out ≡ Some budget
+        → t.signal ≡ Some first → killed second t ≡ t }
 {}
 
 /// On every board that events lead to, a task that is created, paused or stopped takes no turn.
@@ -48,7 +78,7 @@ pub fn idle_tasks_take_no_turn()
     ensures { (es : List Event) (rs : List EventReply) (s : BoardState) → Run empty es rs s
         → (e : Event) (r : EventReply) (s' : BoardState) → Happens s e r s'
         → (k : ℕ) (t : Task) → task_in k s.tasks ≡ Some t → takes_turns t.status ≡ false
-        → (t' : Task) × (task_in k s'.tasks ≡ Some t') × (t'.turns ≡ t.turns) }
+        → (t' : Task) → task_in k s'.tasks ≡ Some t' → t'.turns ≡ t.turns }
 {}
 
 /// The slice of a sound task advances it legally.
@@ -91,16 +121,14 @@ pub fn creates_are_determined()
 /// memory.
 pub fn puts_and_creates_allocate()
     ensures start { (id : List ℕ) → takes_memory (request.Start id) ≡ false }
+    ensures pause { (id : List ℕ) → takes_memory (request.Pause id) ≡ false }
+    ensures resume { (id : List ℕ) → takes_memory (request.Resume id) ≡ false }
+    ensures kill { (id : List ℕ) (n : ℕ) → takes_memory (request.Kill id n) ≡ false }
+    ensures delete { (id : List ℕ) → takes_memory (request.Delete id) ≡ false }
     ensures state { (id : List ℕ) → takes_memory (request.State id) ≡ false }
     ensures wait { (id : List ℕ) → takes_memory (request.Wait id) ≡ false }
     ensures take { (id : List ℕ) (n : ℕ) (r : EventReply) → met_no_memory (event.Take id n) r ≡ false }
     ensures give_back { (id : List ℕ) (r : EventReply) → met_no_memory (event.Return id) r ≡ false }
-{}
-
-/// The exit status of a task that was killed is 128 plus the number of the signal.
-pub fn kills_exit_by_their_signal()
-    ensures kill { exit_status (ExitRecord.Kill Signal.Kill) ≡ 137 }
-    ensures terminate { exit_status (ExitRecord.Kill Signal.Terminate) ≡ 143 }
 {}
 
 /// A valid module that the machine can run is never refused as invalid.

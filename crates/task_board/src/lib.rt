@@ -2,19 +2,18 @@
 #![tactic(auto)]
 
 mod board;
+mod change;
 mod checkout;
 mod config;
 mod contents;
 mod event;
 mod identifier;
 pub mod laws;
-mod lifecycle;
 mod loan;
 mod open;
 mod prepared;
 mod request;
 mod run;
-mod status;
 mod tables;
 mod task;
 mod ticket;
@@ -22,10 +21,9 @@ mod ticket;
 pub use board::Board;
 pub use event::{Event, EventReply};
 pub use identifier::{digest_of, is_digest, is_id};
-pub use lifecycle::TaskCall;
 pub use loan::Loan;
 pub use prepared::Prepared;
 pub use request::{Reply, Request, TaskState};
 pub use run::run_events;
-pub use status::{ExitRecord, Signal, Status};
+pub use task_lifecycle::{ExitRecord, Signal, Status, TaskCall};
 pub use ticket::Ticket;

@@ -4,6 +4,7 @@ ghost use Rattle.std.specs.Prelude.{◌≡◌};
 ghost use Rattle.task_board.specs.Prepared.{refusal_of};
 ghost use Rattle.task_board.specs.Inside.Plans.{refusal_in};
 
+use crate::change::Change;
 use crate::contents::Content;
 use crate::request::Reply;
 use crate::task::Task;
@@ -33,11 +34,26 @@ pub enum Plan {
     /// The reply is all.
     Answered(Reply),
     /// A content is stored, and its digest answered.
-    Put { content: Content, digest: Text },
+    Put {
+        content: Content,
+        digest: Text,
+    },
     /// A task enters, and its id is answered.
-    Create { task: Task, id: Text },
-    /// The task in a slot is started, and its id answered.
-    Start { slot: usize, id: Text },
+    Create {
+        task: Task,
+        id: Text,
+    },
+    /// The task in a slot is changed, and its id answered.
+    Change {
+        change: Change,
+        slot: usize,
+        id: Text,
+    },
+    /// The task in a slot is removed, and its id answered.
+    Delete {
+        slot: usize,
+        id: Text,
+    },
 }
 
 impl Plan {

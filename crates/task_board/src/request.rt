@@ -1,6 +1,6 @@
 //! What is asked of the board, and what it answers.
 
-use crate::status::{ExitRecord, Status};
+use task_lifecycle::{ExitRecord, Status};
 use wasm_ast::{Bytes, Text};
 
 /// A request.
@@ -12,6 +12,14 @@ pub enum Request {
     Create { config: Text, id: Text },
     /// Starts a created task.
     Start { id: Text },
+    /// Pauses a running task.
+    Pause { id: Text },
+    /// Lets a paused task run on.
+    Resume { id: Text },
+    /// Ends a task by the signal with this number.
+    Kill { id: Text, signal: u64 },
+    /// Removes a stopped task.
+    Delete { id: Text },
     /// Asks for the state of a task.
     State { id: Text },
     /// Asks for the state of a task that is not running.
@@ -35,6 +43,11 @@ pub enum Reply {
     Put { digest: Text, size: u64 },
     Create { id: Text, status: Status },
     Start { id: Text, status: Status },
+    Pause { id: Text, status: Status },
+    Resume { id: Text, status: Status },
+    Kill { id: Text, status: Status },
+    /// The state of the task before it was removed.
+    Delete(TaskState),
     State(TaskState),
     Wait(TaskState),
 }

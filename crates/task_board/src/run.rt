@@ -94,7 +94,10 @@ fn happen(board: &mut Board, loans: &mut Vec<Loan>, event: Event) -> Result<Even
     ensures covered { OnOk result (Covered loans.new.items board.new.state.tasks) }
 {
     match event {
-        Event::Call(request) => Ok(EventReply::Called(board.call(request))),
+        Event::Call(request) => {
+            board.sound();
+            Ok(EventReply::Called(board.call(request)))
+        }
         Event::Take(id, budget) => Ok(EventReply::Taken(take(board, loans, id, budget)?)),
         Event::Return(id) => Ok(EventReply::Returned(give_back(board, loans, id))),
     }

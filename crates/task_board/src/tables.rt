@@ -7,25 +7,26 @@ ghost use Rattle.task_board.specs.declared.request.Request.{Request as RequestVa
 ghost use Rattle.task_board.specs.declared.request.Request.TheVariants as request;
 ghost use Rattle.task_board.specs.declared.event.Event.TheVariants as event;
 ghost use Rattle.task_board.specs.declared.event.EventReply.TheVariants as answer;
+ghost use Rattle.task_lifecycle.specs.Names.{signal_of};
 ghost use Rattle.task_board.specs.BoardState.{Task as TaskValue, empty, content_in};
 ghost use Rattle.task_board.specs.BoardValue.{KeepsCapacity};
 ghost use Rattle.task_board.specs.Identifiers.{digest_of};
 ghost use Rattle.task_board.specs.Limits.{max_budget};
 ghost use Rattle.task_board.specs.Loans.{Fits};
 ghost use Rattle.task_board.specs.Prepared.{Prepares, refusal_of, refusal_answered};
-ghost use Rattle.task_board.specs.Refusals.{first_refusal, put_refusals, is_full};
+ghost use Rattle.task_board.specs.Refusals.{first_refusal, put_refusals, is_full, delete_refusals};
 ghost use Rattle.task_board.specs.Sound.{IsBoard};
 ghost use Rattle.task_board.specs.Step.{Answers, Step};
 ghost use Rattle.task_board.specs.Tickets.{ticket_of, CanLend, Lends, ticket_in};
-ghost use Rattle.task_board.specs.Inside.Plans.{id_refusals, IsAllowed, RefusesTask, PutPrepared, CreatePrepared, StartPrepared, Plans};
+ghost use Rattle.task_board.specs.Inside.Plans.{id_refusals, IsAllowed, RefusesTask, RefusesKill, PutPrepared, CreatePrepared, CallPrepared, Plans};
+ghost use Rattle.task_board.specs.Inside.Changes.{change_request, change_refusals};
 
+use crate::change::Change;
 use crate::contents::{Content, content_of};
 use crate::identifier::is_id;
-use crate::lifecycle::TaskCall;
 use crate::loan::Loan;
 use crate::prepared::{Plan, Prepared};
 use crate::request::Reply;
-use crate::status::Status;
 use crate::task::{Task, find_task};
 use crate::ticket::Ticket;
 use slab::Slab;
@@ -33,6 +34,7 @@ use std::alloc::{AllocError, Global};
 use std::marker::Model;
 use std::sync::Arc;
 use step_machine::laws::{slices_go_forward, slices_stop_first};
+use task_lifecycle::{Signal, Status, TaskCall};
 use wasm_ast::{Bytes, MAX_MODULE_BYTES, Refusal, Text};
 
 /// The most tasks of a board.
@@ -181,12 +183,44 @@ impl Tables {
         }
     }
 
-    /// What a start is prepared as.
-    pub fn plan_start(&self, id: Text) -> Plan
-        ensures { Plans self.now.state self.now.room.contents (request.Start id) result }
+    /// What a request that changes a task is prepared as.
+    pub fn plan_change(&self, id: Text, change: Change) -> Plan
+        ensures { Plans self.now.state self.now.room.contents (change_request change id) result }
     {
-        match self.entry_for(id.as_str(), TaskCall::Start, Refusal::WrongStatus) {
-            Ok((slot, _task)) => Plan::Start { slot, id },
+        match self.entry_for(id.as_str(), change.call(), Refusal::WrongStatus) {
+            Ok((slot, _task)) => Plan::Change { change, slot, id },
+            Err(refusal) => Plan::Refused(refusal),
+        }
+    }
+
+    // Why a kill by a number that is no signal's is refused: an id that is malformed or that no task has
+    // comes first.
+    fn refusal_of_signal(&self, id: &str, number: u64) -> Refusal
+        requires { signal_of number ≡ None }
+        ensures { RefusesKill self.now.state id.now number result }
+    {
+        match self.entry_for(id, TaskCall::State, Refusal::WrongStatus) {
+            Ok(_) => Refusal::OutOfRange,
+            Err(refusal) => refusal,
+        }
+    }
+
+    /// What a kill by the signal with a number is prepared as.
+    pub fn plan_kill(&self, id: Text, number: u64) -> Plan
+        ensures { Plans self.now.state self.now.room.contents (request.Kill id number) result }
+    {
+        match Signal::from_number(number) {
+            Some(signal) => self.plan_change(id, Change::Kill(signal)),
+            None => Plan::Refused(self.refusal_of_signal(id.as_str(), number)),
+        }
+    }
+
+    /// What a delete is prepared as.
+    pub fn plan_delete(&self, id: Text) -> Plan
+        ensures { Plans self.now.state self.now.room.contents (request.Delete id) result }
+    {
+        match self.entry_for(id.as_str(), TaskCall::Delete, Refusal::WrongStatus) {
+            Ok((slot, _task)) => Plan::Delete { slot, id },
             Err(refusal) => Plan::Refused(refusal),
         }
     }
@@ -240,19 +274,33 @@ impl Tables {
         }
     }
 
-    // Starts the task in a slot.
-    fn start(&mut self, slot: usize, id: Text) -> Reply
-        requires { StartPrepared self.old.state slot id }
-        ensures answers { Answers self.old.state (request.Start id) (Ok result) self.new.state }
+    // Changes the task in a slot.
+    fn change(&mut self, slot: usize, id: Text, change: Change) -> Reply
+        requires { CallPrepared self.old.state (change_refusals change) slot id }
+        ensures answers { Answers self.old.state
+            (change_request change id) (Ok result) self.new.state }
         ensures waiting { self.new.waiting ≡ self.old.waiting }
         ensures capacity { KeepsCapacity self.old self.new }
     {
         let Some(task) = self.tasks.get_mut(slot) else {
             unreachable!();
         };
-        task.start();
+        task.change(change);
         let status = task.status();
-        Reply::Start { id, status }
+        change.reply(id, status)
+    }
+
+    // Removes the task in a slot.
+    fn delete(&mut self, slot: usize, id: Text) -> Reply
+        requires { CallPrepared self.old.state delete_refusals slot id }
+        ensures answers { Answers self.old.state (request.Delete id) (Ok result) self.new.state }
+        ensures waiting { self.new.waiting ≡ self.old.waiting }
+        ensures capacity { KeepsCapacity self.old self.new }
+    {
+        let Some(task) = self.tasks.try_remove(slot) else {
+            unreachable!();
+        };
+        Reply::Delete(task.state(id))
     }
 
     /// Makes the change that was prepared on these tables, and answers.
@@ -270,7 +318,8 @@ impl Tables {
             Plan::Answered(reply) => Ok(reply),
             Plan::Put { content, digest } => Ok(self.add_content(content, digest)),
             Plan::Create { task, id } => Ok(self.add_task(task, id)),
-            Plan::Start { slot, id } => Ok(self.start(slot, id)),
+            Plan::Change { change, slot, id } => Ok(self.change(slot, id, change)),
+            Plan::Delete { slot, id } => Ok(self.delete(slot, id)),
         }
     }
 

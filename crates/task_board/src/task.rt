@@ -5,23 +5,26 @@ ghost use Rattle.std.specs.Arc.{arc_value};
 ghost use Rattle.slab.specs.Slab.{entries};
 ghost use Rattle.step_machine.specs.Instantiation.{ended};
 ghost use Rattle.step_machine.specs.Slices.{at_break};
+ghost use Rattle.task_lifecycle.specs.Lifecycle.{allowed};
 ghost use Rattle.task_board.specs.BoardState.{created_task, entry_of};
 ghost use Rattle.task_board.specs.Loans.{Lent, loan_of, FitsTask};
 ghost use Rattle.task_board.specs.Refusals.{Openable};
-ghost use Rattle.task_board.specs.Tasks.{exit_of, standing_at_start, started, standing_onward, standing_after, advanced, slice_turns, can_lend, lent, state_of};
+ghost use Rattle.task_board.specs.Tasks.{exit_of, standing_at_start, started, paused, resumed, first_signal, killed, standing_onward, standing_after, advanced, slice_turns, can_lend, lent, state_of};
 ghost use Rattle.task_board.specs.Tickets.{ticket_if_running};
 ghost use Rattle.task_board.specs.Inside.Machines.{IsMachine};
+ghost use Rattle.task_board.specs.Inside.Changes.{change_call, changed};
 
+use crate::change::Change;
 use crate::checkout::{Checkout, Shared};
 use crate::loan::Loan;
 use crate::request::TaskState;
-use crate::status::{ExitRecord, Signal, Status};
 use crate::ticket::Ticket;
 use slab::Slab;
 use std::alloc::{AllocError, Global};
 use std::marker::Model;
 use std::sync::Arc;
 use step_machine::{Breaks, End, Machine, SliceEnd};
+use task_lifecycle::{ExitRecord, Signal, Status};
 use wasm_ast::Text;
 use wasm_binary::laws::spells_one;
 
@@ -148,6 +151,52 @@ impl Task {
         self.signal = None;
     }
 
+    /// Pauses it: at once if its machine is here, else once its slice returns.
+    pub fn pause(&mut self)
+        ensures { self.new ≡ paused self.old }
+    {
+        if self.out.is_some() {
+            self.status = Status::Pausing;
+        } else {
+            self.status = Status::Paused;
+        }
+    }
+
+    /// Lets it run on.
+    pub fn resume(&mut self)
+        ensures { self.new ≡ resumed self.old }
+    {
+        self.status = Status::Running;
+    }
+
+    /// Ends it by a signal: at once if its machine is here, else once its slice returns, if it has not
+    /// ended by itself then. The first of two signals is kept.
+    pub fn kill(&mut self, signal: Signal)
+        ensures { self.new ≡ killed signal self.old }
+    {
+        if self.out.is_some() {
+            let first = first_signal(self.signal, signal);
+            self.signal = Some(first);
+        } else {
+            self.status = Status::Stopped;
+            self.end = Some(ExitRecord::Kill(signal));
+            self.signal = None;
+        }
+    }
+
+    /// Changes it as its status allows.
+    pub fn change(&mut self, change: Change)
+        requires { allowed (change_call change) self.old.status ≡ true }
+        ensures { self.new ≡ changed change self.old }
+    {
+        match change {
+            Change::Start => self.start(),
+            Change::Pause => self.pause(),
+            Change::Resume => self.resume(),
+            Change::Kill(signal) => self.kill(signal),
+        }
+    }
+
     /// Lends its machine for a slice of at most `budget` turns. None, and nothing has changed, if it is
     /// not running or is out already.
     pub fn lend(&mut self, slot: usize, budget: u64) -> Option<Loan>
@@ -196,6 +245,16 @@ fn exit_of(end: End) -> ExitRecord
         End::Returned => ExitRecord::Return,
         End::Exited(code) => ExitRecord::Exit(code),
         End::Trapped(trap) => ExitRecord::Trapped(trap),
+    }
+}
+
+// The first of two signals.
+fn first_signal(pending: Option<Signal>, signal: Signal) -> Signal
+    ensures { result ≡ first_signal pending signal }
+{
+    match pending {
+        Some(first) => first,
+        None => signal,
     }
 }
 

@@ -10,7 +10,7 @@ use Rattle.step_machine.specs.Slices.{turns_made, slice_end}
 use Rattle.task_board.specs.declared.checkout.Checkout.{Checkout}
 use Rattle.task_board.specs.declared.checkout.Shared.{Shared}
 use Rattle.task_board.specs.BoardState.{Task}
-use Rattle.task_board.specs.Lifecycle.{takes_turns}
+use Rattle.task_lifecycle.specs.Lifecycle.{takes_turns}
 use Rattle.task_board.specs.Loans.{Lent}
 use Rattle.task_board.specs.Refusals.{Openable}
 use Rattle.task_board.specs.Inside.Machines.{IsMachine}

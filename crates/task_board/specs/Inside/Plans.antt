@@ -8,13 +8,14 @@ use Rattle.task_board.specs.declared.prepared.Plan.{Plan}
 use Rattle.task_board.specs.declared.prepared.Plan.TheVariants as plan
 use Rattle.task_board.specs.declared.request.Request.{Request}
 use Rattle.task_board.specs.declared.request.Request.TheVariants as request
-use Rattle.task_board.specs.declared.lifecycle.TaskCall.{TaskCall}
-use Rattle.task_board.specs.Lifecycle.{allowed}
+use Rattle.task_lifecycle.specs.declared.lifecycle.TaskCall.{TaskCall}
+use Rattle.task_lifecycle.specs.Lifecycle.{allowed}
 use Rattle.task_board.specs.Identifiers.{is_id, digest_of}
 use Rattle.task_board.specs.Config.{process_read}
 use Rattle.task_board.specs.BoardState.{Content, Task, created_task, BoardState, content_in, entry_of, task_of}
-use Rattle.task_board.specs.Refusals.{Refusals, is_full, first_refusal, put_refusals, create_refusals, start_refusals, task_refusals, Openable, CannotOpen}
+use Rattle.task_board.specs.Refusals.{Refusals, is_full, first_refusal, put_refusals, create_refusals, kill_refusals, delete_refusals, task_refusals, Openable, CannotOpen}
 use Rattle.task_board.specs.Step.{Answers}
+use Rattle.task_board.specs.Inside.Changes.{change_request, change_refusals}
 
 -- those of a create that concern its id alone
 abbrev pub id_refusals : BoardState → (id : List ℕ) → Refusals
@@ -35,6 +36,11 @@ abbrev pub RefusesTask : BoardState → (id : List ℕ) → TaskCall → (refuse
 RefusesTask s id c refused e =
     first_refusal (task_refusals id (λ t. (not (allowed c t.status), refused) ∷ []) (task_of id s.tasks)) ≡ Some e
 
+-- why a kill of the task with this id by that number is refused
+abbrev pub RefusesKill : BoardState → (id : List ℕ) → (number : ℕ) → (e : Refusal) → Type 0
+RefusesKill s id number e =
+    first_refusal (task_refusals id (kill_refusals number) (task_of id s.tasks)) ≡ Some e
+
 -- a content that may be stored, in the room for that number of contents
 pub record PutPrepared (s : BoardState) (free : ℕ) (content : Content) (digest : List ℕ) : Type 0 where
   pub accepted : first_refusal (put_refusals s content.bytes) ≡ None
@@ -52,11 +58,11 @@ pub record CreatePrepared (s : BoardState) (r : Request) (task : Task) (id : Lis
   pub openable : Openable task.bytes task.process task.module
   pub created : task ≡ created_task id s.creates task.bytes task.module task.process
 
--- a task in a slot that may be started
-pub record StartPrepared (s : BoardState) (slot : ℕ) (id : List ℕ) : Type 0 where
+-- the task of an id is in that slot, and a request with these refusals of its own is accepted
+pub record CallPrepared (s : BoardState) (own : Task → Refusals) (slot : ℕ) (id : List ℕ) : Type 0 where
   pub task : Task
   pub found : entry_of id s.tasks ≡ Some (slot, task)
-  pub accepted : first_refusal (task_refusals id start_refusals (Some task)) ≡ None
+  pub accepted : first_refusal (task_refusals id own (Some task)) ≡ None
 
 -- a task is prepared so from stored bytes under a process
 abbrev pub PlansTask : BoardState → (id bytes : List ℕ) → ProcessConfig → Plan → Type 0
@@ -71,7 +77,8 @@ Plans s room r (plan.Refused e) = (e ≢ refusal.NoMemory) × Answers s r (Err e
 Plans s room r (plan.Answered reply) = Answers s r (Ok reply) s
 Plans s room r (plan.Put content digest) = (r ≡ request.Put content.bytes) × PutPrepared s room content digest
 Plans s room r (plan.Create task id) = CreatePrepared s r task id
-Plans s room r (plan.Start slot id) = (r ≡ request.Start id) × StartPrepared s slot id
+Plans s room r (plan.Change c slot id) = (r ≡ change_request c id) × CallPrepared s (change_refusals c) slot id
+Plans s room r (plan.Delete slot id) = (r ≡ request.Delete id) × CallPrepared s delete_refusals slot id
 
 abbrev pub refusal_in : Plan → Option Refusal
 refusal_in (plan.Refused e) = Some e

@@ -1,11 +1,11 @@
 use Rattle.std.proofs.Common.{Ok, subst, ℕ, sym, ◌≤◌}
 use Rattle.task_board.specs.declared.request.Reply.TheVariants as reply
-use Rattle.task_board.specs.declared.status.Status.TheVariants.{Created}
+use Rattle.task_lifecycle.specs.declared.status.Status.TheVariants.{Created}
 use Rattle.task_board.specs.BoardValue.{BoardValue, KeepsCapacity}
 use Rattle.task_board.specs.Step.{Answers}
 use Rattle.task_board.specs.Inside.Plans.{CreatePrepared}
 use Rattle.task_board.specs.Inside.Shown.{board_state_of, board_of}
-use Rattle.task_board.proofs.StepLemmas.{answers_sound}
+use Rattle.task_board.proofs.EffectLemmas.{answers_sound}
 use Rattle.task_board.proofs.TableLemmas.{with_insert, room_for_task, inserted_answers, insert_keeps}
 use Rattle.task_board.proofs.tables.Tables.add_task.Goals as goal
 

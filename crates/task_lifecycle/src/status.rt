@@ -1,7 +1,7 @@
 //! What a task is doing, and how it ended.
 
 ghost use Rattle.std.specs.Prelude.{◌≡◌, Some};
-ghost use Rattle.task_board.specs.Names.{status_name, cause_name, signal_number, exit_status};
+ghost use Rattle.task_lifecycle.specs.Names.{status_name, cause_name, signal_number, signal_of, exit_status};
 
 use std::fmt;
 use wasm_ast::Trap;
@@ -34,7 +34,7 @@ impl Status {
 
 impl fmt::Display for Status {
     ghost use Rattle.std.specs.Prelude.{Some};
-    ghost use Rattle.task_board.specs.Names.{status_name};
+    ghost use Rattle.task_lifecycle.specs.Names.{status_name};
 
     ghost output = { λ s. Some (status_name s) };
 
@@ -60,6 +60,17 @@ impl Signal {
         match self {
             Signal::Kill => 9,
             Signal::Terminate => 15,
+        }
+    }
+
+    /// The signal with a number. None if that is neither 9 nor 15.
+    pub fn from_number(number: u64) -> Option<Signal>
+        ensures { result ≡ signal_of number }
+    {
+        match number {
+            9 => Some(Signal::Kill),
+            15 => Some(Signal::Terminate),
+            _ => None,
         }
     }
 }

@@ -1,10 +1,11 @@
 -- The lifecycle of a task: which call is allowed in which status (own profile; the statuses are those of
 -- the OCI Runtime Specification 1.0, runtime.md, and containerd's paused and pausing).
-use Rattle.std.specs.Prelude.{Bool, true, false}
-use Rattle.task_board.specs.declared.status.Status.{Status}
-use Rattle.task_board.specs.declared.status.Status.TheVariants.{Created, Running, Pausing, Paused, Stopped}
-use Rattle.task_board.specs.declared.lifecycle.TaskCall.{TaskCall}
-use Rattle.task_board.specs.declared.lifecycle.TaskCall.TheVariants as call
+use Rattle.std.specs.Prelude.{Bool, true, false, if◌then◌else◌}
+use Rattle.task_lifecycle.specs.declared.status.Status.{Status}
+use Rattle.task_lifecycle.specs.declared.status.Status.TheVariants.{Created, Running, Pausing, Paused, Stopped}
+use Rattle.task_lifecycle.specs.declared.lifecycle.Situation.{Situation}
+use Rattle.task_lifecycle.specs.declared.lifecycle.TaskCall.{TaskCall}
+use Rattle.task_lifecycle.specs.declared.lifecycle.TaskCall.TheVariants as call
 
 abbrev pub allowed : TaskCall → Status → Bool
 allowed call.Start Created = true
@@ -32,6 +33,16 @@ allowed call.State any = true
 allowed call.Wait Running = false
 allowed call.Wait Pausing = false
 allowed call.Wait other = true
+
+-- The status of a task after a call that its status allows. A call that is not named here leaves it; a
+-- delete removes the task.
+abbrev pub after : TaskCall → Situation → Status → Status
+after call.Start at status = if at.ended then Stopped else (if at.at_break then Paused else Running)
+after call.Pause at status = if at.out then Pausing else Paused
+after call.Resume at status = Running
+after call.Kill at status = if at.out then status else Stopped
+after call.Step at status = if at.ended then Stopped else Paused
+after other at status = status
 
 -- a slice may be taken
 abbrev pub is_running : Status → Bool

@@ -1,0 +1,319 @@
+-- What a request does to a board, whatever it is answered, and that the board stays sound.
+use Rattle.std.proofs.Common.{◌≡◌, ◌≢◌, ℕ, List, [], ◌∷◌, length, Bool, true, false, true≢false, cond, not, nat_eq, Option, Some, None, is_none, option_map, Ok, Err, inl, inr, ◌⊎◌, refl, sym, ap, ◌∙◌, subst, arith}
+use Rattle.std.proofs.lemmas.Bool.Decides.{nat_tests}
+use Rattle.wasm_ast.specs.declared.refusal.Refusal.{Refusal}
+use Rattle.wasm_ast.specs.declared.refusal.Refusal.TheVariants as refusal
+use Rattle.task_lifecycle.specs.declared.lifecycle.TaskCall.{TaskCall}
+use Rattle.task_lifecycle.specs.declared.lifecycle.TaskCall.TheVariants as call
+use Rattle.task_lifecycle.specs.declared.status.Status.{Status}
+use Rattle.task_lifecycle.specs.declared.status.Status.TheVariants.{Created, Running, Pausing, Paused, Stopped}
+use Rattle.task_lifecycle.specs.declared.status.Signal.{Signal}
+use Rattle.task_lifecycle.specs.declared.status.Signal.TheVariants as signal
+use Rattle.task_lifecycle.specs.Lifecycle.{allowed}
+use Rattle.task_lifecycle.specs.Names.{signal_number, signal_of}
+use Rattle.task_board.specs.declared.change.Change.{Change}
+use Rattle.task_board.specs.declared.change.Change.TheVariants as change
+use Rattle.task_board.specs.declared.request.Request.{Request}
+use Rattle.task_board.specs.declared.request.Request.TheVariants as request
+use Rattle.task_board.specs.declared.request.Reply.{Reply}
+use Rattle.task_board.specs.declared.request.Reply.TheVariants as reply
+use Rattle.task_board.specs.Identifiers.{is_id, digest_of}
+use Rattle.task_board.specs.BoardState.{Task, BoardState, entry_of, task_of, with_content, with_task, without_task}
+use Rattle.task_board.specs.Tasks.{started, paused, resumed, killed_while, killed_by, state_of}
+use Rattle.task_board.specs.Refusals.{Refusals, first_refusal, put_refusals, create_refusals, start_refusals, pause_refusals, resume_refusals, kill_refusals, delete_refusals, state_refusals, wait_refusals, task_refusals}
+use Rattle.task_board.specs.Step.{Answer, DecidedBy, OnFound, OnTask, Creates, Answers}
+use Rattle.task_board.specs.Sound.{IsSound, IsBoard}
+use Rattle.task_board.specs.Inside.Changes.{change_call, change_request, change_reply, change_refusals, changed}
+use Rattle.task_board.specs.Inside.Plans.{IsAllowed, RefusesTask, RefusesKill}
+use Rattle.task_board.proofs.EntryLemmas.{none_is_not, some_is}
+use Rattle.task_board.proofs.SoundLemmas.{started_sound, paused_sound, resumed_sound, killed_sound, remove_sound}
+use Rattle.task_board.proofs.StepLemmas.{found, task_named, sound_of, changed_sound, decided, none_first, not_true, put_leaves, create_leaves}
+
+-- ---- signals by their numbers
+
+signal_known_by : (n : ℕ) (s : Signal) (a b : Bool) → nat_eq n 9 ≡ a → nat_eq n 15 ≡ b
+    → cond a (Some signal.Kill) (cond b (Some signal.Terminate) None) ≡ Some s → signal_number s ≡ n
+signal_known_by n s true b is at h =
+    let same : n ≡ 9 = grind (arith, nat_tests, is) in
+    subst (λ (x : Signal). signal_number x ≡ n) (some_is signal.Kill s h) (sym same)
+signal_known_by n s false true is at h =
+    let same : n ≡ 15 = grind (arith, nat_tests, at) in
+    subst (λ (x : Signal). signal_number x ≡ n) (some_is signal.Terminate s h) (sym same)
+signal_known_by n s false false is at h = absurd (none_is_not s h)
+
+-- a number is that of the signal that it names
+pub signal_known : (n : ℕ) (s : Signal) → signal_of n ≡ Some s → signal_number s ≡ n
+signal_known n s h = signal_known_by n s (nat_eq n 9) (nat_eq n 15) refl refl h
+
+-- ---- changes
+
+pub change_id : (c : Change) (t : Task) → (changed c t).id ≡ t.id
+change_id change.Start t = refl
+change_id change.Pause t = refl
+change_id change.Resume t = refl
+change_id (change.Kill signal) t = by t.out
+  where
+    by : (o : Option ℕ) → (killed_while o signal t).id ≡ t.id
+    by None = refl
+    by (Some n) = refl
+
+pub change_incarnation : (c : Change) (t : Task) → (changed c t).incarnation ≡ t.incarnation
+change_incarnation change.Start t = refl
+change_incarnation change.Pause t = refl
+change_incarnation change.Resume t = refl
+change_incarnation (change.Kill signal) t = by t.out
+  where
+    by : (o : Option ℕ) → (killed_while o signal t).incarnation ≡ t.incarnation
+    by None = refl
+    by (Some n) = refl
+
+pub created_only : (status : Status) → allowed call.Start status ≡ true → status ≡ Created
+created_only Created h = refl
+created_only Running h = cc
+created_only Pausing h = cc
+created_only Paused h = cc
+created_only Stopped h = cc
+
+running_only : (status : Status) → allowed call.Pause status ≡ true → status ≡ Running
+running_only Created h = cc
+running_only Running h = refl
+running_only Pausing h = cc
+running_only Paused h = cc
+running_only Stopped h = cc
+
+paused_only : (status : Status) → allowed call.Resume status ≡ true → status ≡ Paused
+paused_only Created h = cc
+paused_only Running h = cc
+paused_only Pausing h = cc
+paused_only Paused h = refl
+paused_only Stopped h = cc
+
+pub stopped_only : (status : Status) → allowed call.Delete status ≡ true → status ≡ Stopped
+stopped_only Created h = cc
+stopped_only Running h = cc
+stopped_only Pausing h = cc
+stopped_only Paused h = cc
+stopped_only Stopped h = refl
+
+-- a change that its status allows leaves a task sound
+change_sound : (creates : ℕ) (c : Change) (t : Task) → IsSound creates t → allowed (change_call c) t.status ≡ true → IsSound creates (changed c t)
+change_sound creates change.Start t h can = started_sound creates t h
+change_sound creates change.Pause t h can = paused_sound creates t h (running_only t.status can)
+change_sound creates change.Resume t h can = resumed_sound creates t h (paused_only t.status can)
+change_sound creates (change.Kill signal) t h can = killed_sound creates signal t h
+
+one_accepted : (id : List ℕ) (t : Task) (c : TaskCall) → first_refusal ((not (is_id id), refusal.BadId) ∷ (not (allowed c t.status), refusal.WrongStatus) ∷ []) ≡ None
+    → allowed c t.status ≡ true
+one_accepted id t c h =
+    let a = none_first (not (is_id id)) refusal.BadId _ h in
+    not_true (allowed c t.status) (none_first (not (allowed c t.status)) refusal.WrongStatus None a.1).0
+
+-- a change that is not refused is allowed
+pub change_allowed : (c : Change) (id : List ℕ) (t : Task) → first_refusal (task_refusals id (change_refusals c) (Some t)) ≡ None → allowed (change_call c) t.status ≡ true
+change_allowed change.Start id t h = one_accepted id t call.Start h
+change_allowed change.Pause id t h = one_accepted id t call.Pause h
+change_allowed change.Resume id t h = one_accepted id t call.Resume h
+change_allowed (change.Kill signal.Kill) id t h = one_accepted id t call.Kill h
+change_allowed (change.Kill signal.Terminate) id t h = one_accepted id t call.Kill h
+
+-- and one that is allowed is not refused
+pub change_accepted : (c : Change) (id : List ℕ) (t : Task) → is_id id ≡ true → allowed (change_call c) t.status ≡ true → first_refusal (task_refusals id (change_refusals c) (Some t)) ≡ None
+change_accepted change.Start id t ok can = rw (ok, can) refl
+change_accepted change.Pause id t ok can = rw (ok, can) refl
+change_accepted change.Resume id t ok can = rw (ok, can) refl
+change_accepted (change.Kill signal.Kill) id t ok can = rw (ok, can) refl
+change_accepted (change.Kill signal.Terminate) id t ok can = rw (ok, can) refl
+
+pub delete_accepted : (id : List ℕ) (t : Task) → is_id id ≡ true → allowed call.Delete t.status ≡ true → first_refusal (task_refusals id delete_refusals (Some t)) ≡ None
+delete_accepted id t ok can = rw (ok, can) refl
+
+-- ---- answers to requests of one task
+
+-- a refusal of its own list
+pub refused_on : (s : BoardState) (id : List ℕ) (own : Task → Refusals) (rep : Task → Reply) (new : Task → BoardState) (o : Option Task) (e : Refusal)
+    → first_refusal (task_refusals id own o) ≡ Some e → OnFound id own rep new o s (Err e) s
+refused_on s id own rep new None e h = subst (λ (x : Option Refusal). DecidedBy x ⊥ s (Err e) s) (sym h) (refl, refl)
+refused_on s id own rep new (Some t) e h = subst (λ (x : Option Refusal). DecidedBy x ((Err e ≡ Ok (rep t)) × (s ≡ new t)) s (Err e) s) (sym h) (refl, refl)
+
+-- the effect, if no refusal's condition holds
+pub accepted_on : (s : BoardState) (id : List ℕ) (own : Task → Refusals) (rep : Task → Reply) (new : Task → BoardState) (t : Task) (s' : BoardState)
+    → task_of id s.tasks ≡ Some t → first_refusal (task_refusals id own (Some t)) ≡ None → s' ≡ new t → OnTask id own rep new s (Ok (rep t)) s'
+accepted_on s id own rep new t s' at none is =
+    let a : Answer = Ok (rep t) in
+    let P : Option Refusal → Type 0 = λ x. DecidedBy x ((a ≡ Ok (rep t)) × (s' ≡ new t)) s a s' in
+    subst (λ (o : Option Task). OnFound id own rep new o s a s') (sym at) (subst P (sym none) (refl, is))
+
+-- the answer to a change that is made
+pub change_answers : (c : Change) (s : BoardState) (id : List ℕ) (t : Task) (s' : BoardState) → task_of id s.tasks ≡ Some t
+    → first_refusal (task_refusals id (change_refusals c) (Some t)) ≡ None → s' ≡ with_task s (changed c t)
+    → Answers s (change_request c id) (Ok (change_reply c t.id (changed c t).status)) s'
+change_answers change.Start s id t s' at none is = accepted_on s id start_refusals (λ u. reply.Start u.id (started u).status) (λ u. with_task s (started u)) t s' at none is
+change_answers change.Pause s id t s' at none is = accepted_on s id pause_refusals (λ u. reply.Pause u.id (paused u).status) (λ u. with_task s (paused u)) t s' at none is
+change_answers change.Resume s id t s' at none is = accepted_on s id resume_refusals (λ u. reply.Resume u.id (resumed u).status) (λ u. with_task s (resumed u)) t s' at none is
+change_answers (change.Kill signal.Kill) s id t s' at none is =
+    accepted_on s id (kill_refusals 9) (λ u. reply.Kill u.id (killed_by (signal_of 9) u).status) (λ u. with_task s (killed_by (signal_of 9) u)) t s' at none is
+change_answers (change.Kill signal.Terminate) s id t s' at none is =
+    accepted_on s id (kill_refusals 15) (λ u. reply.Kill u.id (killed_by (signal_of 15) u).status) (λ u. with_task s (killed_by (signal_of 15) u)) t s' at none is
+
+pub delete_answers : (s : BoardState) (id : List ℕ) (t : Task) (s' : BoardState) → task_of id s.tasks ≡ Some t
+    → first_refusal (task_refusals id delete_refusals (Some t)) ≡ None → s' ≡ without_task s t.id → Answers s (request.Delete id) (Ok (reply.Delete (state_of t))) s'
+delete_answers s id t s' at none is = accepted_on s id delete_refusals (λ u. reply.Delete (state_of u)) (λ u. without_task s u.id) t s' at none is
+
+-- ---- refusals of requests of one task
+
+not_memory : (a b : Bool) (x e : Refusal) → x ≢ refusal.NoMemory → cond a (Some refusal.BadId) (cond b (Some x) None) ≡ Some e → e ≢ refusal.NoMemory
+not_memory true b x e known h is = cc
+not_memory false true x e known h is = known (some_is x e h ∙ is)
+not_memory false false x e known h is = cc
+
+task_known : (id : List ℕ) (c : TaskCall) (o : Option Task) (e : Refusal)
+    → first_refusal (task_refusals id (λ t. (not (allowed c t.status), refusal.WrongStatus) ∷ []) o) ≡ Some e → e ≢ refusal.NoMemory
+task_known id c None e h = not_memory (not (is_id id)) true refusal.NotFound e (λ x. cc) h
+task_known id c (Some t) e h = not_memory (not (is_id id)) (not (allowed c t.status)) refusal.WrongStatus e (λ x. cc) h
+
+same_refusal : (id : List ℕ) (c : Change) (o : Option Task) (e : Refusal) → first_refusal (task_refusals id (λ t. (not (allowed (change_call c) t.status), refusal.WrongStatus) ∷ []) o) ≡ Some e
+    → first_refusal (task_refusals id (change_refusals c) o) ≡ Some e
+same_refusal id change.Start None e h = h
+same_refusal id change.Start (Some t) e h = h
+same_refusal id change.Pause None e h = h
+same_refusal id change.Pause (Some t) e h = h
+same_refusal id change.Resume None e h = h
+same_refusal id change.Resume (Some t) e h = h
+same_refusal id (change.Kill signal.Kill) None e h = h
+same_refusal id (change.Kill signal.Kill) (Some t) e h = h
+same_refusal id (change.Kill signal.Terminate) None e h = h
+same_refusal id (change.Kill signal.Terminate) (Some t) e h = h
+
+refused_change_by : (c : Change) (s : BoardState) (id : List ℕ) (e : Refusal) → first_refusal (task_refusals id (change_refusals c) (task_of id s.tasks)) ≡ Some e
+    → Answers s (change_request c id) (Err e) s
+refused_change_by change.Start s id e h = refused_on s id start_refusals (λ u. reply.Start u.id (started u).status) (λ u. with_task s (started u)) (task_of id s.tasks) e h
+refused_change_by change.Pause s id e h = refused_on s id pause_refusals (λ u. reply.Pause u.id (paused u).status) (λ u. with_task s (paused u)) (task_of id s.tasks) e h
+refused_change_by change.Resume s id e h = refused_on s id resume_refusals (λ u. reply.Resume u.id (resumed u).status) (λ u. with_task s (resumed u)) (task_of id s.tasks) e h
+refused_change_by (change.Kill x) s id e h =
+    refused_on s id (kill_refusals (signal_number x)) (λ u. reply.Kill u.id (killed_by (signal_of (signal_number x)) u).status) (λ u. with_task s (killed_by (signal_of (signal_number x)) u)) (task_of id s.tasks) e h
+
+-- a change that is not allowed, or of no task
+pub refused_change : (c : Change) (s : BoardState) (id : List ℕ) (e : Refusal) → RefusesTask s id (change_call c) refusal.WrongStatus e
+    → (e ≢ refusal.NoMemory) × Answers s (change_request c id) (Err e) s
+refused_change c s id e h = (task_known id (change_call c) (task_of id s.tasks) e h, refused_change_by c s id e (same_refusal id c (task_of id s.tasks) e h))
+
+pub refused_delete : (s : BoardState) (id : List ℕ) (e : Refusal) → RefusesTask s id call.Delete refusal.WrongStatus e
+    → (e ≢ refusal.NoMemory) × Answers s (request.Delete id) (Err e) s
+refused_delete s id e h =
+    (task_known id call.Delete (task_of id s.tasks) e h, refused_on s id delete_refusals (λ u. reply.Delete (state_of u)) (λ u. without_task s u.id) (task_of id s.tasks) e h)
+
+-- a number that is no signal's, of a task that is there
+pub no_signal : (s : BoardState) (id : List ℕ) (number : ℕ) (e : ℕ × Task) → signal_of number ≡ None → IsAllowed s id call.State e → RefusesKill s id number refusal.OutOfRange
+no_signal s id number e none is =
+    let at : task_of id s.tasks ≡ Some e.1 = ap (option_map (λ (x : ℕ × Task). x.1)) is.found in
+    let off : is_none (signal_of number) ≡ true = ap is_none none in
+    let named = is.named in
+    let own : first_refusal (task_refusals id (kill_refusals number) (Some e.1)) ≡ Some refusal.OutOfRange = rw (named, off) refl in
+    ap (λ (o : Option Task). first_refusal (task_refusals id (kill_refusals number) o)) at ∙ own
+
+no_task_by : (id : List ℕ) (number : ℕ) (o : Option Task) (e : Refusal) → first_refusal (task_refusals id (λ t. (not (allowed call.State t.status), refusal.WrongStatus) ∷ []) o) ≡ Some e
+    → first_refusal (task_refusals id (kill_refusals number) o) ≡ Some e
+no_task_by id number None e h = h
+no_task_by id number (Some t) e h = by (not (is_id id)) h
+  where
+    by : (b : Bool) → cond b (Some refusal.BadId) None ≡ Some e → cond b (Some refusal.BadId) (first_refusal (kill_refusals number t)) ≡ Some e
+    by true g = g
+    by false g = absurd (none_is_not e g)
+
+pub no_task_to_kill : (s : BoardState) (id : List ℕ) (number : ℕ) (e : Refusal) → RefusesTask s id call.State refusal.WrongStatus e → RefusesKill s id number e
+no_task_to_kill s id number e h = no_task_by id number (task_of id s.tasks) e h
+
+kill_known : (id : List ℕ) (number : ℕ) (o : Option Task) (e : Refusal) → first_refusal (task_refusals id (kill_refusals number) o) ≡ Some e → e ≢ refusal.NoMemory
+kill_known id number None e h = not_memory (not (is_id id)) true refusal.NotFound e (λ x. cc) h
+kill_known id number (Some t) e h = by (not (is_id id)) (is_none (signal_of number)) (not (allowed call.Kill t.status)) h
+  where
+    by : (a b c : Bool) → cond a (Some refusal.BadId) (cond b (Some refusal.OutOfRange) (cond c (Some refusal.WrongStatus) None)) ≡ Some e → e ≢ refusal.NoMemory
+    by true b c g is = cc
+    by false true c g is = cc
+    by false false true g is = cc
+    by false false false g is = cc
+
+pub refused_kill : (s : BoardState) (id : List ℕ) (number : ℕ) (e : Refusal) → RefusesKill s id number e → (e ≢ refusal.NoMemory) × Answers s (request.Kill id number) (Err e) s
+refused_kill s id number e h = (
+  kill_known id number (task_of id s.tasks) e h,
+  refused_on s id (kill_refusals number) (λ u. reply.Kill u.id (killed_by (signal_of number) u).status) (λ u. with_task s (killed_by (signal_of number) u)) (task_of id s.tasks) e h,
+)
+
+-- ---- what requests do
+
+pub data Effect (s s' : BoardState) : Type 0 where
+  nothing : s' ≡ s → Effect s s'
+  stores : (bytes : List ℕ) → first_refusal (put_refusals s bytes) ≡ None → s' ≡ with_content s bytes → Effect s s'
+  enters : (config id : List ℕ) → (r : Answer) → first_refusal (create_refusals s config id) ≡ None → Creates s config id r s' → Effect s s'
+  changes : (c : Change) → (id : List ℕ) → (t : Task) → task_of id s.tasks ≡ Some t → allowed (change_call c) t.status ≡ true → s' ≡ with_task s (changed c t) → Effect s s'
+  deletes : (id : List ℕ) → (t : Task) → task_of id s.tasks ≡ Some t → allowed call.Delete t.status ≡ true → s' ≡ without_task s t.id → Effect s s'
+
+effect_by : (s s' : BoardState) (o : Option Refusal) (E : Type 0) → (o ≡ None → E → Effect s s') → (s' ≡ s) ⊎ ((o ≡ None) × E) → Effect s s'
+effect_by s s' o E f (inl same) = nothing same
+effect_by s s' o E f (inr e) = f e.0 e.1
+
+on_task_effect : (s : BoardState) (id : List ℕ) (own : Task → Refusals) (rep : Task → Reply) (new : Task → BoardState) (o : Option Task) (r : Answer) (s' : BoardState)
+    → OnFound id own rep new o s r s' → ((t : Task) → o ≡ Some t → first_refusal (task_refusals id own (Some t)) ≡ None → s' ≡ new t → Effect s s') → Effect s s'
+on_task_effect s id own rep new None r s' on f =
+    effect_by s s' (first_refusal (task_refusals id own None)) ⊥ (λ none e. absurd e) (decided (first_refusal (task_refusals id own None)) ⊥ s r s' on)
+on_task_effect s id own rep new (Some t) r s' on f =
+    effect_by s s' (first_refusal (task_refusals id own (Some t))) ((r ≡ Ok (rep t)) × (s' ≡ new t)) (λ none e. f t refl none e.1)
+    (decided (first_refusal (task_refusals id own (Some t))) ((r ≡ Ok (rep t)) × (s' ≡ new t)) s r s' on)
+
+-- a kill by a number is one by its signal
+kill_effect : (s s' : BoardState) (id : List ℕ) (t : Task) (o : Option Signal) → task_of id s.tasks ≡ Some t
+    → first_refusal ((not (is_id id), refusal.BadId) ∷ (is_none o, refusal.OutOfRange) ∷ (not (allowed call.Kill t.status), refusal.WrongStatus) ∷ []) ≡ None
+    → s' ≡ with_task s (killed_by o t) → Effect s s'
+kill_effect s s' id t None at none is =
+    let a = none_first (not (is_id id)) refusal.BadId _ none in
+    absurd (true≢false (none_first true refusal.OutOfRange (first_refusal ((not (allowed call.Kill t.status), refusal.WrongStatus) ∷ [])) a.1).0)
+kill_effect s s' id t (Some x) at none is = changes (change.Kill x) id t at (one_accepted id t call.Kill none) is
+
+pub effect_of : (s : BoardState) (q : Request) (r : Answer) (s' : BoardState) → Answers s q r s' → Effect s s'
+effect_of s (request.Put bytes) r s' a =
+    effect_by s s' (first_refusal (put_refusals s bytes)) ((r ≡ Ok (reply.Put (digest_of bytes) (length bytes))) × (s' ≡ with_content s bytes))
+    (λ none e. stores bytes none e.1) (decided (first_refusal (put_refusals s bytes)) _ s r s' a)
+effect_of s (request.Create config id) r s' a =
+    effect_by s s' (first_refusal (create_refusals s config id)) (Creates s config id r s') (λ none e. enters config id r none e)
+    (decided (first_refusal (create_refusals s config id)) (Creates s config id r s') s r s' a)
+effect_of s (request.Start id) r s' a =
+    on_task_effect s id start_refusals (λ t. reply.Start t.id (started t).status) (λ t. with_task s (started t)) (task_of id s.tasks) r s' a
+    (λ t at none is. changes change.Start id t at (change_allowed change.Start id t none) is)
+effect_of s (request.Pause id) r s' a =
+    on_task_effect s id pause_refusals (λ t. reply.Pause t.id (paused t).status) (λ t. with_task s (paused t)) (task_of id s.tasks) r s' a
+    (λ t at none is. changes change.Pause id t at (change_allowed change.Pause id t none) is)
+effect_of s (request.Resume id) r s' a =
+    on_task_effect s id resume_refusals (λ t. reply.Resume t.id (resumed t).status) (λ t. with_task s (resumed t)) (task_of id s.tasks) r s' a
+    (λ t at none is. changes change.Resume id t at (change_allowed change.Resume id t none) is)
+effect_of s (request.Kill id number) r s' a =
+    on_task_effect s id (kill_refusals number) (λ t. reply.Kill t.id (killed_by (signal_of number) t).status) (λ t. with_task s (killed_by (signal_of number) t)) (task_of id s.tasks) r s' a
+    (λ t at none is. kill_effect s s' id t (signal_of number) at none is)
+effect_of s (request.Delete id) r s' a =
+    on_task_effect s id delete_refusals (λ t. reply.Delete (state_of t)) (λ t. without_task s t.id) (task_of id s.tasks) r s' a
+    (λ t at none is. deletes id t at (one_accepted id t call.Delete none) is)
+effect_of s (request.State id) r s' a =
+    on_task_effect s id state_refusals (λ t. reply.State (state_of t)) (λ t. s) (task_of id s.tasks) r s' a (λ t at none is. nothing is)
+effect_of s (request.Wait id) r s' a =
+    on_task_effect s id wait_refusals (λ t. reply.Wait (state_of t)) (λ t. s) (task_of id s.tasks) r s' a (λ t at none is. nothing is)
+
+-- ---- soundness
+
+pub change_keeps_sound : (s : BoardState) (c : Change) (id : List ℕ) (t : Task) → IsBoard s → task_of id s.tasks ≡ Some t → allowed (change_call c) t.status ≡ true
+    → IsBoard (with_task s (changed c t))
+change_keeps_sound s c id t b at can =
+    changed_sound s id t (changed c t) b at (change_id c t) (change_incarnation c t) (change_sound s.creates c t (sound_of s id t b at) can)
+
+pub delete_keeps_sound : (s : BoardState) (id : List ℕ) (t : Task) → IsBoard s → task_of id s.tasks ≡ Some t → IsBoard (without_task s t.id)
+delete_keeps_sound s id t b at =
+    let f = found id s.tasks t at in
+    remove_sound s t.id f.0 t b (ap (λ (x : List ℕ). entry_of x s.tasks) (task_named id s.tasks t at) ∙ f.1)
+
+effect_sound : (s s' : BoardState) → IsBoard s → Effect s s' → IsBoard s'
+effect_sound s s' b (nothing same) = subst IsBoard (sym same) b
+effect_sound s s' b (stores bytes none is) = subst IsBoard (sym is) (put_leaves s bytes b none)
+effect_sound s s' b (enters config id r none made) = create_leaves s config id r s' b none made
+effect_sound s s' b (changes c id t at can is) = subst IsBoard (sym is) (change_keeps_sound s c id t b at can)
+effect_sound s s' b (deletes id t at can is) = subst IsBoard (sym is) (delete_keeps_sound s id t b at)
+
+pub answers_sound : (s : BoardState) (q : Request) (r : Answer) (s' : BoardState) → IsBoard s → Answers s q r s' → IsBoard s'
+answers_sound s q r s' b a = effect_sound s s' b (effect_of s q r s' a)

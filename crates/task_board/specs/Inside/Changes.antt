@@ -1,0 +1,46 @@
+-- The requests that change a task, in one.
+use Rattle.std.specs.Prelude.{ℕ, List}
+use Rattle.task_lifecycle.specs.declared.lifecycle.TaskCall.{TaskCall}
+use Rattle.task_lifecycle.specs.declared.lifecycle.TaskCall.TheVariants as call
+use Rattle.task_lifecycle.specs.declared.status.Status.{Status}
+use Rattle.task_lifecycle.specs.Names.{signal_number}
+use Rattle.task_board.specs.declared.change.Change.{Change}
+use Rattle.task_board.specs.declared.change.Change.TheVariants as change
+use Rattle.task_board.specs.declared.request.Request.{Request}
+use Rattle.task_board.specs.declared.request.Request.TheVariants as request
+use Rattle.task_board.specs.declared.request.Reply.{Reply}
+use Rattle.task_board.specs.declared.request.Reply.TheVariants as reply
+use Rattle.task_board.specs.BoardState.{Task}
+use Rattle.task_board.specs.Tasks.{started, paused, resumed, killed}
+use Rattle.task_board.specs.Refusals.{Refusals, start_refusals, pause_refusals, resume_refusals, kill_refusals}
+
+abbrev pub change_call : Change → TaskCall
+change_call change.Start = call.Start
+change_call change.Pause = call.Pause
+change_call change.Resume = call.Resume
+change_call (change.Kill signal) = call.Kill
+
+abbrev pub change_request : Change → (id : List ℕ) → Request
+change_request change.Start id = request.Start id
+change_request change.Pause id = request.Pause id
+change_request change.Resume id = request.Resume id
+change_request (change.Kill signal) id = request.Kill id (signal_number signal)
+
+abbrev pub change_reply : Change → (id : List ℕ) → Status → Reply
+change_reply change.Start id status = reply.Start id status
+change_reply change.Pause id status = reply.Pause id status
+change_reply change.Resume id status = reply.Resume id status
+change_reply (change.Kill signal) id status = reply.Kill id status
+
+abbrev pub change_refusals : Change → Task → Refusals
+change_refusals change.Start t = start_refusals t
+change_refusals change.Pause t = pause_refusals t
+change_refusals change.Resume t = resume_refusals t
+change_refusals (change.Kill signal) t = kill_refusals (signal_number signal) t
+
+-- the task after the change
+abbrev pub changed : Change → Task → Task
+changed change.Start t = started t
+changed change.Pause t = paused t
+changed change.Resume t = resumed t
+changed (change.Kill signal) t = killed signal t
