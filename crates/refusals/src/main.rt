@@ -54,14 +54,26 @@ const STATE_A: &str = r#"{"op":"state","id":"a"}"#;
 
 const WAIT_A: &str = r#"{"op":"wait","id":"a"}"#;
 
+const PAUSE_A: &str = r#"{"op":"pause","id":"a"}"#;
+
+const RESUME_A: &str = r#"{"op":"resume","id":"a"}"#;
+
+const START_B: &str = r#"{"op":"start","id":"b"}"#;
+
+const KILL_B: &str = r#"{"op":"kill","id":"b","signal":9}"#;
+
+const DELETE_B: &str = r#"{"op":"delete","id":"b"}"#;
+
 /// What is asked before the first slice.
-const FIRST: [&str; 6] = [
+const FIRST: [&str; 8] = [
     PUT_EXIT_SEVEN,
     PUT_EXIT_SEVEN,
     CREATE_A,
     CREATE_A,
     START_A,
     STATE_A,
+    PAUSE_A,
+    RESUME_A,
 ];
 
 /// What is asked after a slice.
@@ -79,6 +91,9 @@ const LAST: [&str; 9] = [
     CREATE_NO_CONFIG,
     CREATE_B,
 ];
+
+/// What is asked of the task that was created last.
+const END: [&str; 5] = [START_B, KILL_B, DELETE_B, DELETE_B, CREATE_B];
 
 /// The board, and how often memory was refused so far.
 #[derive(Drop)]
@@ -102,7 +117,13 @@ fn open(rt: &HostRuntime) -> Option<Session<'_>> {
 fn is_quiet(request: &Request) -> bool {
     matches!(
         request,
-        Request::Start { .. } | Request::State { .. } | Request::Wait { .. }
+        Request::Start { .. }
+            | Request::Pause { .. }
+            | Request::Resume { .. }
+            | Request::Kill { .. }
+            | Request::Delete { .. }
+            | Request::State { .. }
+            | Request::Wait { .. }
     )
 }
 
@@ -191,6 +212,8 @@ fn main(rt: HostRuntime) -> ExitCode {
     session.slice("a");
     session.ask(&AFTER);
     session.ask(&LAST);
+    session.tell("b");
+    session.ask(&END);
     session.tell("b");
     let refused = session.refused;
     let _told = eprintln!(rt; "refused for memory: {refused}");

@@ -29,6 +29,10 @@ nothing_before s (request.Wait id) other = absurd (other id refl)
 nothing_before s (request.Put bytes) other = refl
 nothing_before s (request.Create config id) other = refl
 nothing_before s (request.Start id) other = refl
+nothing_before s (request.Pause id) other = refl
+nothing_before s (request.Resume id) other = refl
+nothing_before s (request.Kill id signal) other = refl
+nothing_before s (request.Delete id) other = refl
 nothing_before s (request.State id) other = refl
 
 -- a request other than wait

@@ -119,6 +119,10 @@ same_before : EventsAreDetermined → (s : BoardState) (q : Request) (s1 s2 : Bo
 same_before law s (request.Put bytes) s1 s2 a b = a ∙ sym b
 same_before law s (request.Create config id) s1 s2 a b = a ∙ sym b
 same_before law s (request.Start id) s1 s2 a b = a ∙ sym b
+same_before law s (request.Pause id) s1 s2 a b = a ∙ sym b
+same_before law s (request.Resume id) s1 s2 a b = a ∙ sym b
+same_before law s (request.Kill id signal) s1 s2 a b = a ∙ sym b
+same_before law s (request.Delete id) s1 s2 a b = a ∙ sym b
 same_before law s (request.State id) s1 s2 a b = a ∙ sym b
 same_before law s (request.Wait id) s1 s2 a b = same_slices law id a.count b.count s s1 s2 a.slices b.slices a.idle b.idle
 

@@ -6,7 +6,7 @@ use Rattle.serde_json.specs.Data.{Data, number, string, object, Members, unsigne
 use Rattle.serde_json.specs.Find.{get_member}
 use Rattle.task_board.specs.declared.event.Event.{Event}
 use Rattle.task_board.specs.declared.event.Event.TheVariants.{Call, Take, Return}
-use Rattle.task_board.specs.declared.request.Request.TheVariants.{Put, Create, Start, State, Wait}
+use Rattle.task_board.specs.declared.request.Request.TheVariants.{Put, Create, Start, Pause, Resume, Kill, Delete, State, Wait}
 use Rattle.shim_service.specs.Request.{AsksEvent, IsEvent}
 
 abbrev put_read : Result (List ℕ) FromHexError → Option Event
@@ -28,10 +28,14 @@ of_op ms op =
     cond (bytes_eq op (codes "put")) (text_of (get_member (codes "hex") ms) (λ hex. put_read (decode_of hex)))
     (cond (bytes_eq op (codes "create")) (text_of (get_member (codes "config") ms) (λ config. text_of (get_member (codes "id") ms) (λ id. Some (Call (Create config id)))))
     (cond (bytes_eq op (codes "start")) (text_of (get_member (codes "id") ms) (λ id. Some (Call (Start id))))
+    (cond (bytes_eq op (codes "pause")) (text_of (get_member (codes "id") ms) (λ id. Some (Call (Pause id))))
+    (cond (bytes_eq op (codes "resume")) (text_of (get_member (codes "id") ms) (λ id. Some (Call (Resume id))))
+    (cond (bytes_eq op (codes "kill")) (text_of (get_member (codes "id") ms) (λ id. number_of (get_member (codes "signal") ms) (λ signal. Some (Call (Kill id signal)))))
+    (cond (bytes_eq op (codes "delete")) (text_of (get_member (codes "id") ms) (λ id. Some (Call (Delete id))))
     (cond (bytes_eq op (codes "state")) (text_of (get_member (codes "id") ms) (λ id. Some (Call (State id))))
     (cond (bytes_eq op (codes "wait")) (text_of (get_member (codes "id") ms) (λ id. Some (Call (Wait id))))
     (cond (bytes_eq op (codes "return")) (text_of (get_member (codes "id") ms) (λ id. Some (Return id)))
-    (text_of (get_member (codes "id") ms) (λ id. number_of (get_member (codes "budget") ms) (λ budget. Some (Take id budget)))))))))
+    (text_of (get_member (codes "id") ms) (λ id. number_of (get_member (codes "budget") ms) (λ budget. Some (Take id budget)))))))))))))
 
 -- the event of a value that is one
 abbrev of_data : Data → Option Event
@@ -42,6 +46,10 @@ recovered : (d : Data) (e : Event) → AsksEvent d e → of_data d ≡ Some e
 recovered d (Call (Put bytes)) (ms, whole, (hex, keys, decodes)) = rw (whole, keys, decodes) refl
 recovered d (Call (Create config id)) (ms, whole, keys) = rw (whole, keys) refl
 recovered d (Call (Start id)) (ms, whole, keys) = rw (whole, keys) refl
+recovered d (Call (Pause id)) (ms, whole, keys) = rw (whole, keys) refl
+recovered d (Call (Resume id)) (ms, whole, keys) = rw (whole, keys) refl
+recovered d (Call (Kill id signal)) (ms, whole, keys) = rw (whole, keys) refl
+recovered d (Call (Delete id)) (ms, whole, keys) = rw (whole, keys) refl
 recovered d (Call (State id)) (ms, whole, keys) = rw (whole, keys) refl
 recovered d (Call (Wait id)) (ms, whole, keys) = rw (whole, keys) refl
 recovered d (Take id budget) (ms, whole, (keys, least, most)) = rw (whole, keys) refl

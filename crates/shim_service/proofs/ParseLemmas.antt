@@ -6,24 +6,70 @@ use Rattle.serde_json.proofs.Views.{get_member-put}
 use Rattle.task_board.specs.declared.event.Event.{Event}
 use Rattle.task_board.specs.declared.event.Event.TheVariants.{Call, Take, Return}
 use Rattle.task_board.specs.declared.request.Request.{Request}
-use Rattle.task_board.specs.declared.request.Request.TheVariants.{Put, Create, Start, State, Wait}
+use Rattle.task_board.specs.declared.request.Request.TheVariants.{Put, Create, Start, Pause, Resume, Kill, Delete, State, Wait}
 use Rattle.shim_service.specs.declared.line_error.LineError.{LineError}
-use Rattle.shim_service.specs.Request.{HasKeys, event_op, HasEventKeys, AsksEvent}
-use Rattle.shim_service.specs.Inside.Parse.{Parses, without, IsAsked, IsEventAsked}
+use Rattle.shim_service.specs.Request.{only_id, HasKeys, event_op, HasEventKeys, AsksEvent}
+use Rattle.shim_service.specs.Inside.Parse.{Parses, without, IsAsked, IsEventAsked, HasOnlyId}
 
 -- no put with these keys, no request at all
 pub only_put : (op : List ℕ) (ms : Members) → op ≡ codes "put" → ((bytes : List ℕ) → HasKeys ms (Put bytes) → ⊥) → (r : Request) → IsAsked op ms r → ⊥
 only_put op ms is none (Put bytes) a = none bytes a.keys
 only_put op ms is none (Create config id) a = let same = a.same in cc
 only_put op ms is none (Start id) a = let same = a.same in cc
+only_put op ms is none (Pause id) a = let same = a.same in cc
+only_put op ms is none (Resume id) a = let same = a.same in cc
+only_put op ms is none (Kill id signal) a = let same = a.same in cc
+only_put op ms is none (Delete id) a = let same = a.same in cc
 only_put op ms is none (State id) a = let same = a.same in cc
 only_put op ms is none (Wait id) a = let same = a.same in cc
+
+-- no request with these keys beside `op`, and none that has the key `id` alone
+pub none_left : (op : List ℕ) (ms : Members) → op ≢ codes "put" → op ≢ codes "create" → op ≢ codes "kill" → ((r : Request) → HasOnlyId r → IsAsked op ms r → ⊥)
+    → (r : Request) → IsAsked op ms r → ⊥
+none_left op ms put create kill none (Put bytes) a = put a.same
+none_left op ms put create kill none (Create config id) a = create a.same
+none_left op ms put create kill none (Kill id signal) a = kill a.same
+none_left op ms put create kill none (Start id) a = none (Start id) tt a
+none_left op ms put create kill none (Pause id) a = none (Pause id) tt a
+none_left op ms put create kill none (Resume id) a = none (Resume id) tt a
+none_left op ms put create kill none (Delete id) a = none (Delete id) tt a
+none_left op ms put create kill none (State id) a = none (State id) tt a
+none_left op ms put create kill none (Wait id) a = none (Wait id) tt a
+
+-- a request of the key `id` alone has these members
+pub only_its_id : (op : List ℕ) (ms : Members) → ((id : List ℕ) → ms ≢ only_id id) → (r : Request) → HasOnlyId r → IsAsked op ms r → ⊥
+only_its_id op ms none (Start id) own a = none id a.keys
+only_its_id op ms none (Pause id) own a = none id a.keys
+only_its_id op ms none (Resume id) own a = none id a.keys
+only_its_id op ms none (Delete id) own a = none id a.keys
+only_its_id op ms none (State id) own a = none id a.keys
+only_its_id op ms none (Wait id) own a = none id a.keys
+only_its_id op ms none (Put bytes) own a = own
+only_its_id op ms none (Create config id) own a = own
+only_its_id op ms none (Kill id signal) own a = own
+
+-- no `op` of such a request
+pub no_such_op : (op : List ℕ) (ms : Members) → op ≢ codes "start" → op ≢ codes "pause" → op ≢ codes "resume" → op ≢ codes "delete" → op ≢ codes "state" → op ≢ codes "wait"
+    → (r : Request) → HasOnlyId r → IsAsked op ms r → ⊥
+no_such_op op ms a b c d e f (Start id) own is = a is.same
+no_such_op op ms a b c d e f (Pause id) own is = b is.same
+no_such_op op ms a b c d e f (Resume id) own is = c is.same
+no_such_op op ms a b c d e f (Delete id) own is = d is.same
+no_such_op op ms a b c d e f (State id) own is = e is.same
+no_such_op op ms a b c d e f (Wait id) own is = f is.same
+no_such_op op ms a b c d e f (Put bytes) own is = own
+no_such_op op ms a b c d e f (Create config id) own is = own
+no_such_op op ms a b c d e f (Kill id signal) own is = own
 
 -- the keys of an event do not have `op` among them
 rest_of : (e : Event) (d : Data) (ms : Members) → HasEventKeys ms e → without (codes "op") (put (codes "op") d ms) ≡ ms
 rest_of (Call (Put bytes)) d ms h = rw (h.1) refl
 rest_of (Call (Create config id)) d ms h = rw h refl
 rest_of (Call (Start id)) d ms h = rw h refl
+rest_of (Call (Pause id)) d ms h = rw h refl
+rest_of (Call (Resume id)) d ms h = rw h refl
+rest_of (Call (Kill id signal)) d ms h = rw h refl
+rest_of (Call (Delete id)) d ms h = rw h refl
 rest_of (Call (State id)) d ms h = rw h refl
 rest_of (Call (Wait id)) d ms h = rw h refl
 rest_of (Take id budget) d ms h = rw (h.0) refl

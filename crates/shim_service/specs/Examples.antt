@@ -3,8 +3,8 @@ use Rattle.std.specs.Prelude.{◌≡◌, [], ◌∷◌, Some, Ok, codes}
 use Rattle.task_board.specs.declared.event.Event.TheVariants.{Call, Take}
 use Rattle.task_board.specs.declared.request.Request.TheVariants as request
 use Rattle.task_board.specs.declared.request.Reply.TheVariants as reply
-use Rattle.task_board.specs.declared.status.ExitRecord.TheVariants.{Exit}
-use Rattle.task_board.specs.declared.status.Status.TheVariants.{Stopped}
+use Rattle.task_lifecycle.specs.declared.status.ExitRecord.TheVariants.{Exit}
+use Rattle.task_lifecycle.specs.declared.status.Status.TheVariants.{Stopped}
 use Rattle.shim_service.specs.Request.{IsEvent}
 use Rattle.shim_service.specs.Reply.{json_of, line_text}
 

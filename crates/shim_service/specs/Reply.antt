@@ -5,15 +5,15 @@ use Rattle.serde_json.specs.Written.{compact_text}
 use Rattle.wasm_ast.specs.Names.{refusal_name, refusal_number, trap_name}
 use Rattle.wasm_ast.specs.declared.refusal.Refusal.{Refusal}
 use Rattle.wasm_ast.specs.declared.refusal.Refusal.TheVariants.{BadText}
-use Rattle.task_board.specs.Names.{status_name, cause_name, signal_number, exit_status}
+use Rattle.task_lifecycle.specs.Names.{status_name, cause_name, signal_number, exit_status}
 use Rattle.task_board.specs.declared.event.EventReply.{EventReply}
 use Rattle.task_board.specs.declared.event.EventReply.TheVariants.{Called, Taken, Returned}
 use Rattle.task_board.specs.declared.request.Reply.{Reply}
 use Rattle.task_board.specs.declared.request.Reply.TheVariants as reply
 use Rattle.task_board.specs.declared.request.TaskState.{TaskState}
-use Rattle.task_board.specs.declared.status.ExitRecord.{ExitRecord}
-use Rattle.task_board.specs.declared.status.ExitRecord.TheVariants.{Trapped, Kill}
-use Rattle.task_board.specs.declared.status.Status.{Status}
+use Rattle.task_lifecycle.specs.declared.status.ExitRecord.{ExitRecord}
+use Rattle.task_lifecycle.specs.declared.status.ExitRecord.TheVariants.{Trapped, Kill}
+use Rattle.task_lifecycle.specs.declared.status.Status.{Status}
 use Rattle.shim_service.specs.Shape.{object_of}
 
 abbrev pub count : ℕ → Data
@@ -71,6 +71,10 @@ abbrev pub reply_data : Reply → Data
 reply_data (reply.Put digest size) = put_data digest size
 reply_data (reply.Create id status) = status_data id status
 reply_data (reply.Start id status) = status_data id status
+reply_data (reply.Pause id status) = status_data id status
+reply_data (reply.Resume id status) = status_data id status
+reply_data (reply.Kill id status) = status_data id status
+reply_data (reply.Delete state) = state_data state
 reply_data (reply.State state) = state_data state
 reply_data (reply.Wait state) = state_data state
 

@@ -3,7 +3,7 @@ use Rattle.std.specs.Prelude.{◌≡◌, ◌≤◌, ℕ, List, [], ◌∷◌, Ok
 use Rattle.hex.specs.Hex.{decode_of}
 use Rattle.serde_json.specs.Data.{Data, string, number, unsigned, object, Members, put}
 use Rattle.task_board.specs.declared.request.Request.{Request}
-use Rattle.task_board.specs.declared.request.Request.TheVariants.{Put, Create, Start, State, Wait}
+use Rattle.task_board.specs.declared.request.Request.TheVariants.{Put, Create, Start, Pause, Resume, Kill, Delete, State, Wait}
 use Rattle.task_board.specs.declared.event.Event.{Event}
 use Rattle.task_board.specs.declared.event.Event.TheVariants.{Call, Take, Return}
 use Rattle.shim_service.specs.Shape.{IsJson, members}
@@ -15,6 +15,10 @@ abbrev pub op_of : Request → List ℕ
 op_of (Put bytes) = codes "put"
 op_of (Create config id) = codes "create"
 op_of (Start id) = codes "start"
+op_of (Pause id) = codes "pause"
+op_of (Resume id) = codes "resume"
+op_of (Kill id signal) = codes "kill"
+op_of (Delete id) = codes "delete"
 op_of (State id) = codes "state"
 op_of (Wait id) = codes "wait"
 
@@ -27,6 +31,11 @@ abbrev pub HasKeys : Members → Request → Type 0
 HasKeys ms (Put bytes) = (hex : List ℕ) × (ms ≡ members ((codes "hex", string hex) ∷ [])) × (decode_of hex ≡ Ok bytes)
 HasKeys ms (Create config id) = ms ≡ members ((codes "config", string config) ∷ (codes "id", string id) ∷ [])
 HasKeys ms (Start id) = ms ≡ only_id id
+HasKeys ms (Pause id) = ms ≡ only_id id
+HasKeys ms (Resume id) = ms ≡ only_id id
+HasKeys ms (Kill id signal) =
+    ms ≡ members ((codes "id", string id) ∷ (codes "signal", number (unsigned signal)) ∷ [])
+HasKeys ms (Delete id) = ms ≡ only_id id
 HasKeys ms (State id) = ms ≡ only_id id
 HasKeys ms (Wait id) = ms ≡ only_id id
 

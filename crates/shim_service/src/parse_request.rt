@@ -5,12 +5,14 @@ ghost use Rattle.hex.specs.Hex.{decode_of};
 ghost use Rattle.serde_json.specs.View.{view, members_view};
 ghost use Rattle.task_board.specs.declared.request.Request.{Request};
 ghost use Rattle.task_board.specs.declared.request.Request.TheVariants as Asked;
-ghost use Rattle.shim_service.specs.Request.{HasKeys, AsksFor, IsRequest};
+ghost use Rattle.shim_service.specs.Request.{HasKeys, only_id, AsksFor, IsRequest};
 ghost use Rattle.shim_service.specs.Shape.{max_line_bytes};
-ghost use Rattle.shim_service.specs.Inside.Parse.{Parses, IsAsked};
+ghost use Rattle.shim_service.specs.Inside.Parse.{Parses, IsAsked, HasOnlyId};
 
 use crate::line_error::LineError;
-use crate::members::{Members, is_done, read_only_id, read_value, split_op, take_text};
+use crate::members::{
+    Members, is_done, read_only_id, read_value, split_op, take_number, take_text,
+};
 use hex::FromHexError;
 use serde_json::Value;
 use std::alloc::Global;
@@ -57,6 +59,47 @@ fn read_create(members: Members) -> Option<(Text, Text)>
     Some((config, id))
 }
 
+/// Reads the members beside `op` of a kill: the id and the number of the signal.
+fn read_kill(members: Members) -> Option<(Text, u64)>
+    ensures some { IfSome result (λ r.
+        HasKeys (members_view members.entries) (Asked.Kill r.0 r.1)) }
+    ensures none { IfNone result ((id : List ℕ) (signal : ℕ) →
+        HasKeys (members_view members.entries) (Asked.Kill id signal) → ⊥) }
+{
+    let mut left = members;
+    let Some(signal) = take_number(&mut left, "signal") else {
+        return None;
+    };
+    let id = read_only_id(left)?;
+    Some((id, signal))
+}
+
+/// The request with this `op` that has the key `id` and no other.
+fn request_with_id(op: &str, id: Text) -> Option<Request>
+    ensures some { IfSome result (λ r. IsAsked op.now (only_id id) r) }
+    ensures none { IfNone result ((r : Request) → HasOnlyId r → IsAsked op.now (only_id id) r → ⊥) }
+{
+    match op {
+        "start" => Some(Request::Start { id }),
+        "pause" => Some(Request::Pause { id }),
+        "resume" => Some(Request::Resume { id }),
+        "delete" => Some(Request::Delete { id }),
+        "state" => Some(Request::State { id }),
+        "wait" => Some(Request::Wait { id }),
+        _ => None,
+    }
+}
+
+/// Reads a request that has the key `id` and no other beside `op`.
+fn read_id_request(op: &str, members: Members) -> Option<Request>
+    ensures some { IfSome result (λ r. IsAsked op.now (members_view members.entries) r) }
+    ensures none { IfNone result
+        ((r : Request) → HasOnlyId r → IsAsked op.now (members_view members.entries) r → ⊥) }
+{
+    let id = read_only_id(members)?;
+    request_with_id(op, id)
+}
+
 /// Reads a request by its `op` and its other members.
 pub(crate) fn read_request(alloc: Global, op: &str, members: Members) -> Result<Request, LineError>
     ensures { Parses (IsAsked op.now (members_view members.entries)) result }
@@ -69,16 +112,11 @@ pub(crate) fn read_request(alloc: Global, op: &str, members: Members) -> Result<
             let (config, id) = read_create(members).ok_or(LineError::NoRequest)?;
             Request::Create { config, id }
         }
-        "start" => Request::Start {
-            id: read_only_id(members).ok_or(LineError::NoRequest)?,
-        },
-        "state" => Request::State {
-            id: read_only_id(members).ok_or(LineError::NoRequest)?,
-        },
-        "wait" => Request::Wait {
-            id: read_only_id(members).ok_or(LineError::NoRequest)?,
-        },
-        _ => return Err(LineError::NoRequest),
+        "kill" => {
+            let (id, signal) = read_kill(members).ok_or(LineError::NoRequest)?;
+            Request::Kill { id, signal }
+        }
+        _ => read_id_request(op, members).ok_or(LineError::NoRequest)?,
     };
     Ok(request)
 }

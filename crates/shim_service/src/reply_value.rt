@@ -3,7 +3,7 @@
 ghost use Rattle.std.specs.Prelude.{◌≡◌, IfOk, OnOk, codes};
 ghost use Rattle.serde_json.specs.Data.{string, put};
 ghost use Rattle.serde_json.specs.View.{view, members_view};
-ghost use Rattle.task_board.specs.Names.{cause_name, exit_status};
+ghost use Rattle.task_lifecycle.specs.Names.{cause_name, exit_status};
 ghost use Rattle.shim_service.specs.Reply.{count as count_data, refusal_data, put_data, status_data, state_data, reply_data, json_of, event_data};
 ghost use Rattle.shim_service.specs.Inside.States.{base_members, with_detail};
 
@@ -113,7 +113,12 @@ fn reply_value(alloc: Global, reply: &Reply) -> Result<Value, AllocError>
         Reply::Put { digest, size } => put_value(alloc, digest.as_str(), *size),
         Reply::Create { id, status } => status_value(alloc, id.as_str(), *status),
         Reply::Start { id, status } => status_value(alloc, id.as_str(), *status),
-        Reply::State(state) | Reply::Wait(state) => state_value(alloc, state),
+        Reply::Pause { id, status } => status_value(alloc, id.as_str(), *status),
+        Reply::Resume { id, status } => status_value(alloc, id.as_str(), *status),
+        Reply::Kill { id, status } => status_value(alloc, id.as_str(), *status),
+        Reply::Delete(state) | Reply::State(state) | Reply::Wait(state) => {
+            state_value(alloc, state)
+        }
     }
 }
 

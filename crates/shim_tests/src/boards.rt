@@ -9,7 +9,7 @@ use shim_service::{event_line_of, line_of};
 use std::alloc::{AllocError, Global};
 use std::process::Abort;
 use std::test::Fail;
-use task_board::{Board, Event, EventReply, Reply, Request, run_events};
+use task_board::{Board, Event, EventReply, Reply, Request, Ticket, run_events};
 use wasm_ast::{Refusal, Sequence, Text};
 
 fn put(alloc: Global) -> Result<Request, Fail> {
@@ -84,6 +84,50 @@ fn requests_are_prepared_and_applied(rt: HostRuntime) -> Result<(), Fail> {
     put_is_applied(&rt, alloc, &mut board)?;
     create_is_applied(&rt, alloc, &mut board)?;
     start_is_called(&rt, alloc, &mut board)
+}
+
+fn ended(alloc: Global, board: &mut Board) -> Result<(), Fail> {
+    let kill = Request::Kill {
+        id: id(alloc)?,
+        signal: 9,
+    };
+    board.call(kill)?;
+    let delete = Request::Delete { id: id(alloc)? };
+    board.call(delete)?;
+    Ok(())
+}
+
+fn started(alloc: Global, board: &mut Board) -> Result<Option<Ticket>, Fail> {
+    board.call(create(alloc)?)?;
+    board.call(start(alloc)?)?;
+    Ok(board.ticket("a"))
+}
+
+// Whether a slice is taken by the ticket.
+fn is_served(board: &mut Board, ticket: Option<Ticket>) -> bool {
+    let Some(ticket) = ticket else {
+        return false;
+    };
+    let Some(mut loan) = board.take(ticket, 1) else {
+        return false;
+    };
+    loan.run();
+    let _again = board.give_back(loan);
+    true
+}
+
+// The ticket of a task that was deleted is not served to a later task of the same id.
+#[test]
+fn tickets_of_deleted_tasks_are_not_served(rt: HostRuntime) -> Result<(), Fail> {
+    let alloc = rt.alloc();
+    let mut board = new_board(alloc)?;
+    board.call(put(alloc)?)?;
+    let earlier = started(alloc, &mut board)?;
+    ended(alloc, &mut board)?;
+    let later = started(alloc, &mut board)?;
+    assert!(rt; !is_served(&mut board, earlier));
+    assert!(rt; is_served(&mut board, later));
+    Ok(())
 }
 
 /// An event of a run, of the one task.

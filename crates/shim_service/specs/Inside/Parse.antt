@@ -6,6 +6,7 @@ use Rattle.serde_json.specs.Data.{Members, member, no_members}
 use Rattle.wasm_ast.specs.declared.refusal.Refusal.{Refusal}
 use Rattle.wasm_ast.specs.declared.refusal.Refusal.TheVariants.{BadRequest, NoMemory}
 use Rattle.task_board.specs.declared.request.Request.{Request}
+use Rattle.task_board.specs.declared.request.Request.TheVariants as request
 use Rattle.task_board.specs.declared.event.Event.{Event}
 use Rattle.task_board.specs.declared.event.Event.TheVariants.{Call}
 use Rattle.shim_service.specs.declared.line_error.LineError.{LineError}
@@ -16,6 +17,13 @@ use Rattle.shim_service.specs.Request.{event_op, HasEventKeys}
 pub record Parses {X : Type 0} (Is : X → Type 0) (r : Result X LineError) : Type 0 where
   pub ok : IfOk r Is
   pub none : r ≡ Err NoRequest → (x : X) → Is x → ⊥
+
+-- a request whose only key beside `op` is `id`
+abbrev pub HasOnlyId : Request → Type 0
+HasOnlyId (request.Put bytes) = ⊥
+HasOnlyId (request.Create config id) = ⊥
+HasOnlyId (request.Kill id signal) = ⊥
+HasOnlyId other = Unit {0}
 
 -- what a line is answered that could not be read
 abbrev pub refusal_of : LineError → Refusal
