@@ -1,0 +1,3 @@
+pub mod ContentLemmas
+pub mod LeaseLemmas
+pub mod StoreLemmas
