@@ -3,8 +3,8 @@
 
     bench/serve.py [PROGRAM]
 
-Two scripts: 64 tasks, each created, started, waited for and asked for its state, over one content; and
-200 puts of 262,144 bytes. Each runs seven times in turn with its comparison; the best time counts.
+Three scripts: 64 tasks, each created, started, waited for and asked for its state, over one content; 10,000
+tasks one after another, each created, started, waited for and deleted; and 200 puts of 262,144 bytes. Each runs seven times in turn with its comparison; the best time counts.
 """
 import json
 import os
@@ -27,6 +27,14 @@ def tasks():
     return lines
 
 
+def cycles():
+    lines = [FIRST[0]]
+    for _ in range(10000):
+        lines.append(FIRST[1])
+        lines += [{"op": op, "id": FIRST[1]["id"]} for op in ("start", "wait", "delete")]
+    return lines
+
+
 def puts():
     return [{"op": "put", "hex": (b"%06d" % i).hex() + "ab" * (262144 - 6)} for i in range(200)]
 
@@ -40,7 +48,7 @@ def best(command, data):
     return min(times)
 
 
-for title, lines in (("64 tasks, 257 lines", tasks()), ("200 puts of 262,144 bytes", puts())):
+for title, lines in (("64 tasks, 257 lines", tasks()), ("10,000 tasks, 40,001 lines", cycles()), ("200 puts of 262,144 bytes", puts())):
     data = "".join(json.dumps(line) + "\n" for line in lines).encode()
     replies = subprocess.run([PROGRAM, "serve"], input=data, stdout=subprocess.PIPE, check=True).stdout
     assert replies.count(b"\n") == len(lines) and b"false" not in replies, "a line was refused"

@@ -113,7 +113,8 @@ impl Contents {
     {
         self.map.retain(
             |digest: &String, bytes: &mut Arc<Bytes>| -> bool
-                ensures { (result ≡ is_held used.entry.now leases.entry.now.leases (string_bytes digest.now))
+                ensures { (result
+                    ≡ is_held used.entry.now leases.entry.now.leases (string_bytes digest.now))
                     × (bytes.new ≡ bytes.old) }
             { is_held(leases, used, digest.as_str()) },
         );

@@ -17,5 +17,6 @@ pub fn held_contents_stay()
 /// Collecting leaves no content that is not held.
 pub fn unheld_contents_go()
     ensures { (used : List (List ℕ)) (s : StoreState) (digest : List ℕ)
-        → is_held used s.leases digest ≡ false → content_in (collected used s).contents digest ≡ None }
+        → is_held used s.leases digest ≡ false
+        → content_in (collected used s).contents digest ≡ None }
 {}

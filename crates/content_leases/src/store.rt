@@ -140,7 +140,8 @@ impl Store {
 
     // Why a digest cannot be added to a lease with these members, if it cannot.
     fn refusal_of_member(&self, digest: &str, members: &Members) -> Option<Refusal>
-        ensures { result ≡ first_refusal ((is_none (content_in self.now.state.contents digest.now), Refusal.NoContent)
+        ensures { let stored = content_in self.now.state.contents digest.now in
+            result ≡ first_refusal ((is_none stored, Refusal.NoContent)
             ∷ (is_among digest.now members.now, Refusal.Exists)
             ∷ (nat_le max_members (length members.now), Refusal.TooMany) ∷ []) }
     {

@@ -61,9 +61,10 @@ pub fn calls_follow_the_table()
 /// by the signal that is pending, if one is.
 pub fn pending_signals_end_tasks()
     ensures own { (t t' : Task) (e : EndValue) → HasReturned t t'
-        → ended (execution_at t' t'.turns) ≡ Some e → (t'.status ≡ Status.Stopped) × (t'.end ≡ Some (exit_of e)) }
-    ensures signal { (t t' : Task) (signal : SignalValue) → HasReturned t t' → t.signal ≡ Some signal
-        → ended (execution_at t' t'.turns) ≡ None
+        → ended (execution_at t' t'.turns) ≡ Some e
+        → (t'.status ≡ Status.Stopped) × (t'.end ≡ Some (exit_of e)) }
+    ensures signal { (t t' : Task) (signal : SignalValue) → HasReturned t t'
+        → t.signal ≡ Some signal → ended (execution_at t' t'.turns) ≡ None
         → (t'.status ≡ Status.Stopped) × (t'.end ≡ Some (ExitRecord.Kill signal)) }
 {}
 

@@ -30,7 +30,8 @@ pub fn stopped_tasks_stay_stopped()
 
 /// A kill in flight leaves the status; a pause in flight leads to a status in which turns are still made.
 pub fn calls_in_flight_keep_the_slice()
-    ensures kill { (at : SituationValue) (s : StatusValue) → at.out ≡ true → after TaskCall.Kill at s ≡ s }
+    ensures kill { (at : SituationValue) (s : StatusValue) → at.out ≡ true
+        → after TaskCall.Kill at s ≡ s }
     ensures pause { (at : SituationValue) (s : StatusValue) → at.out ≡ true
         → takes_turns (after TaskCall.Pause at s) ≡ true }
 {}
