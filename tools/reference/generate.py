@@ -176,8 +176,10 @@ def request(data, digest):
         "put": {"hex": random.choice(texts)},
         "create": {"id": name, "config": config(digest)},
         "take": {"id": name, "budget": random.choice(BUDGETS)},
+        "kill": {"id": name, "signal": random.choice([9, 9, 15, 15, 0, 10, -1, 2**64, "9", 9.0])},
     }
-    op = random.choice(["put", *["create"] * 4, "start", "start", "state", "wait", "take", "take", "return"])
+    op = random.choice(["put", *["create"] * 5, "start", "start", "start", "state", "wait", "take", "take", "return",
+                        "pause", "resume", "kill", "delete"])
     return {"op": op, **kinds.get(op, {"id": name})}
 
 
