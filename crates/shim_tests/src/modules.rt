@@ -8,7 +8,7 @@ use std::alloc::{AllocError, Global};
 use std::process::Abort;
 use std::test::Fail;
 use step_machine::{Breaks, Machine, Output, Process, ProcessConfig, SliceEnd, Valid, validate};
-use wasm_ast::{Export, Func, FuncType, Import, Instr, Module, Refusal, Sequence, Text};
+use wasm_ast::{Export, Func, FuncType, Import, Instr, Module, Refusal, Sequence, Simple, Text};
 use wasm_binary::{decode, encode};
 
 /// The module of the fixtures with the number 7 in five bytes.
@@ -57,8 +57,9 @@ fn show_imports(shown: &mut String, imports: &[Import]) -> Result<(), Fail> {
 
 fn show_instr(shown: &mut String, instr: &Instr) -> Result<(), Fail> {
     match instr {
-        Instr::Simple(simple) => write!(shown, "{simple:?} ")?,
-        _ => write!(shown, "block ")?,
+        Instr::Simple(Simple::Const(value)) => write!(shown, "Const({value:?}) ")?,
+        Instr::Simple(Simple::Call(func)) => write!(shown, "Call({func}) ")?,
+        _ => write!(shown, "another ")?,
     }
     Ok(())
 }

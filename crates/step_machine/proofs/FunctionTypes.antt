@@ -1,16 +1,12 @@
--- Where the types of functions are found, and how checked instructions are typed.
-use Rattle.std.proofs.Common.{◌≡◌, ℕ, zero, suc, ◌-◌, ◌<◌, ◌≤◌, List, [], ◌∷◌, ◌++◌, map, reverse, length, get_or, Option, Some, None, subst, refl, sym, ap, ◌∙◌, arith}
+-- Where the types of functions are found.
+use Rattle.std.proofs.Common.{◌≡◌, ℕ, zero, suc, ◌-◌, ◌<◌, ◌≤◌, List, [], ◌∷◌, ◌++◌, map, length, get_or, Option, Some, None, subst, refl, sym, ap, ◌∙◌, arith}
 use Rattle.std.specs.Prelude.{slice_get, option_and_then}
-use Rattle.std.proofs.lemmas.List.{reverse-append}
 use Rattle.std.proofs.lemmas.Option.{slice_get_read, slice_get_past}
-use Rattle.wasm_ast.specs.declared.values.ValType.{ValType}
 use Rattle.wasm_ast.specs.declared.values.FuncType.{FuncType}
 use Rattle.wasm_ast.specs.declared.module.Import.{Import}
 use Rattle.wasm_ast.specs.declared.module.Func.{Func}
 use Rattle.wasm_ast.specs.declared.module.Module.{Module}
-use Rattle.wasm_ast.specs.declared.instr.Simple.TheVariants.{Call}
 use Rattle.wasm_ast.specs.Types.{func_types, type_at}
-use Rattle.step_machine.specs.Typing.{Context, SimpleTyped}
 
 front : (xs ys : List (Option FuncType)) (k : ℕ) → k < length xs → type_at (xs ++ ys) k ≡ type_at xs k
 front [] ys k h = absurd (omega arith)
@@ -49,12 +45,6 @@ own_type m k h =
     back imports (map (λ (f : Func). slice_get m.types f.type_index) m.funcs) k n
     ∙ (ap (λ j. type_at (map (λ (f : Func). slice_get m.types f.type_index) m.funcs) (k - j)) l
     ∙ mapped (λ (f : Func). slice_get m.types f.type_index) m.funcs (k - length m.imports))
-
--- a call that takes its parameters from the end of a stack and leaves its results there
-pub call_typed : (m : Module) (c : Context) → c.funcs ≡ func_types m → (f : ℕ) (t : FuncType) (old new rest : List ValType) → type_at (func_types m) f ≡ Some t → old ≡ rest ++ t.params
-    → new ≡ rest ++ t.results → SimpleTyped c (Call f) (reverse old) (reverse new)
-call_typed m c same f t old new rest is takes leaves =
-    (t, ap (λ ts. type_at ts f) same ∙ is, (reverse rest, ap reverse takes ∙ reverse-append rest t.params, ap reverse leaves ∙ reverse-append rest t.results))
 
 -- what is read at an index tells the type of the function there
 pub read_import : (m : Module) (imports : List Import) (k : ℕ) (i : Import) → imports ≡ m.imports → k < length imports → i ≡ get_or imports k i → type_at (func_types m) k ≡ slice_get m.types (get_or imports k i).type_index

@@ -1,6 +1,5 @@
 pub mod ListLemmas
 pub mod ResultLemmas
-pub mod TypingLemmas
 pub mod TurnLemmas
 pub mod LastTurn
 pub mod SettleTerminates
@@ -17,6 +16,3 @@ pub mod SliceLemmas
 pub mod SliceCuts
 pub mod WrittenPlaces
 pub mod ValueLimit
-pub mod WorkedValid
-pub mod FaultsInvalid
-pub mod ExportNames

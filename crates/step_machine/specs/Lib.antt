@@ -2,14 +2,16 @@ pub mod Limits
 pub mod HostCalls
 pub mod Program
 pub mod Configuration
+pub mod Effects
 pub mod Reduction
 pub mod Places
 pub mod Processes
 pub mod Turns
 pub mod Instantiation
 pub mod Slices
-pub mod Typing
 pub mod Runs
 pub mod MachineView
 pub mod Worked
+pub mod WorkedEffects
+pub mod WorkedStores
 pub mod Inside

@@ -1,5 +1,5 @@
 -- Worked programs, and the words in which laws on public functions speak.
-use Rattle.std.specs.Prelude.{ℕ, zero, suc, List, [], ◌∷◌, codes}
+use Rattle.std.specs.Prelude.{ℕ, zero, suc, List, [], ◌∷◌, codes, Option, Some, None}
 use Rattle.wasm_ast.specs.declared.values.ValType.{ValType}
 use Rattle.wasm_ast.specs.declared.values.ValType.TheVariants as type
 use Rattle.wasm_ast.specs.declared.values.Value.{Value}
@@ -14,10 +14,12 @@ use Rattle.wasm_ast.specs.declared.module.Export.{Export}
 use Rattle.wasm_ast.specs.declared.module.ExportKind.TheVariants as kind
 use Rattle.wasm_ast.specs.declared.module.Module.{Module}
 use Rattle.wasm_ast.specs.declared.place.Place.{Place}
+use Rattle.linear_memory.specs.Memory.{new_memory}
 use Rattle.wasm_ast.specs.Syntax.{Op, simple, block, loop, if', Ops, stop, next, ops_of}
 use Rattle.step_machine.specs.declared.process.ProcessConfig.{ProcessConfig}
 use Rattle.step_machine.specs.Configuration.{Store, Target, onward, Tree, seq, Items, done, more, Item, label, frame, items_of, State, running, Configuration}
-use Rattle.step_machine.specs.Reduction.{Env, Reduced, to}
+use Rattle.step_machine.specs.Effects.{Env}
+use Rattle.step_machine.specs.Reduction.{Reduced, to}
 
 -- ---- instructions
 
@@ -77,7 +79,13 @@ with_funcs body type funcs = record {
   types = from_i32 ∷ nothing_to_nothing ∷ type ∷ [];
   imports = exit_import ∷ [];
   funcs = func 1 [] body ∷ funcs;
+  tables = [];
+  memories = [];
+  globals = [];
   exports = entry_export ∷ [];
+  start = None;
+  elements = [];
+  segments = [];
 }
 
 -- with function 2 of this type and body
@@ -188,59 +196,10 @@ if_and_branch n =
 abbrev pub loop_result : Module
 loop_result = with_entry (loop (One type.I32) (ops_of (br 0 ∷ [])) ∷ drop' ∷ [])
 
--- ---- modules that are not valid
-
-abbrev pub two_results : FuncType
-two_results = record { params = []; results = type.I32 ∷ type.I32 ∷ [] }
-
--- an import of this type, beside an entry that does nothing
-abbrev pub with_import : (type_index : ℕ) → Module
-with_import type_index = record empty_entry { imports = record exit_import { type_index = type_index } ∷ [] }
-
-abbrev pub with_exports : List Export → Module
-with_exports exports = record empty_entry { exports = exports }
-
--- the same name for two exports, with another between them
-abbrev pub same_names : List Export
-same_names = entry_export ∷ record entry_export { name = [] } ∷ entry_export ∷ []
-
--- i64.const 2 i32.const 1 call 2, where function 2 takes an i32 and an i64
-abbrev pub swapped_arguments : Module
-swapped_arguments = with_callee (i64_const 2 ∷ i32_const 1 ∷ call 2 ∷ []) two_to_nothing []
-
--- bodies of the entry with one fault: the result of a block or a loop is left over, a block takes an
--- operand from below it, the condition of an if is an i64
-abbrev pub block_left_over : List Op
-block_left_over = block_of (One type.I32) (i32_const 1 ∷ []) ∷ []
-
-abbrev pub loop_left_over : List Op
-loop_left_over = loop_of (One type.I32) (i32_const 1 ∷ []) ∷ []
-
-abbrev pub below_a_block : List Op
-below_a_block = i32_const 1 ∷ block_of Empty (drop' ∷ []) ∷ drop' ∷ []
-
-abbrev pub if_on_i64 : List Op
-if_on_i64 = i64_const 1 ∷ if' Empty stop stop ∷ []
-
--- a block, a loop and an if from nothing to an i32, whose result is dropped
-abbrev pub dropped_block : (body : List Op) → Module
-dropped_block body = with_entry (block (One type.I32) (ops_of body) ∷ drop' ∷ [])
-
-abbrev pub dropped_loop : (body : List Op) → Module
-dropped_loop body = with_entry (loop (One type.I32) (ops_of body) ∷ drop' ∷ [])
-
-abbrev pub dropped_if : (then_arm else_arm : List Op) → Module
-dropped_if then_arm else_arm =
-    with_entry (i32_const 1 ∷ if' (One type.I32) (ops_of then_arm) (ops_of else_arm) ∷ drop' ∷ [])
-
--- function 2 gives an i32 and has this body
-abbrev pub with_result : (callee : List Op) → Module
-with_result callee = with_callee [] to_i32 callee
-
 -- ---- configurations
 
 abbrev pub empty_store : Store
-empty_store = record { globals = []; memory = []; table = []; out = []; err = [] }
+empty_store = record { globals = []; memory = new_memory 0 0; table = []; out = []; err = [] }
 
 -- the entry's frame with these operands, and what follows them
 abbrev pub in_entry : (operands : List Value) → Items → State
@@ -294,7 +253,13 @@ with_body body = record {
   types = from_i32 ∷ nothing_to_nothing ∷ to_i32 ∷ [];
   imports = exit_import ∷ [];
   funcs = record { type_index = 1; locals = []; body = body } ∷ [];
+  tables = [];
+  memories = [];
+  globals = [];
   exports = entry_export ∷ [];
+  start = None;
+  elements = [];
+  segments = [];
 }
 
 -- n times i32.const 0, and then n times drop

@@ -1,10 +1,11 @@
-//! Execution: which modules are valid, what a turn is, and a machine that makes turns.
+//! Execution: what a turn is, and a machine that makes turns.
 //!
 //! Sections are those of the WebAssembly Core Specification 1.0.
 #![tactic(auto)]
 
 mod breaks;
 mod ends;
+mod func_types;
 mod host_calls;
 mod instantiate;
 pub mod laws;
@@ -13,8 +14,9 @@ mod operands;
 mod process;
 mod progress;
 mod valid_module;
-mod validation;
 pub mod worked;
+pub mod worked_instantiation;
+pub mod worked_instructions;
 
 pub use breaks::Breaks;
 pub use ends::{End, SliceEnd};

@@ -1,11 +1,11 @@
 //! What a turn changes.
 
-ghost use Rattle.std.specs.Prelude.{◌≡◌, ◌+◌, ◌<◌, ◌^◌, None, length};
-ghost use Rattle.step_machine.specs.Inside.FlatMachine.{word_of, last, pushed, dropped, exited_with_top, flat_turn, returned, Ready};
+ghost use Rattle.std.specs.Prelude.{◌≡◌, ◌+◌, ◌<◌, ◌^◌, None, length, map};
+ghost use Rattle.step_machine.specs.Inside.FlatMachine.{simple_of, word_of, last, pushed, dropped, exited_with_top, flat_turn, returned, Ready};
 
 use crate::ends::End;
 use crate::operands::{MAX_VALUES, Operands};
-use wasm_ast::{Simple, Trap, Value};
+use wasm_ast::{Trap, Value};
 
 /// The number of the turn that makes no reduction and traps.
 const LAST_TURN: u64 = 1_000_000_000_000_000;
@@ -20,11 +20,19 @@ pub struct Progress {
     pub end: Option<End>,
 }
 
+/// An instruction that the machine runs.
+#[derive(Clone, Copy, PartialEq, Eq, Debug)]
+pub enum Cell {
+    Const(Value),
+    Drop,
+    Call(u32),
+}
+
 /// One turn of a machine with this code.
 #[inline(always)]
-pub fn advance(code: &[Simple], at: &mut Progress)
-    requires { Ready code.now at.old }
-    ensures { at.new ≡ flat_turn code.now at.old }
+pub fn advance(code: &[Cell], at: &mut Progress)
+    requires { Ready (map simple_of code.now) at.old }
+    ensures { at.new ≡ flat_turn (map simple_of code.now) at.old }
 {
     at.turns += 1;
     if at.turns == LAST_TURN {
@@ -32,10 +40,9 @@ pub fn advance(code: &[Simple], at: &mut Progress)
         return;
     }
     match code[at.next] {
-        Simple::Const(value) => push(at, word_of(value)),
-        Simple::Drop => discard(at),
-        Simple::Call(_) => exit(at),
-        Simple::Br(_) | Simple::Return => unreachable!(),
+        Cell::Const(value) => push(at, word_of(value)),
+        Cell::Drop => discard(at),
+        Cell::Call(_) => exit(at),
     }
     end_frame(code.len(), at);
 }

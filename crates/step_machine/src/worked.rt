@@ -1,5 +1,4 @@
-//! Worked programs, computed, and which modules are not valid. Each function has a
-//! contract and no body.
+//! Worked programs, computed. Each function has a contract and no body.
 
 ghost use Rattle.std.specs.Prelude.{◌≡◌, ℕ, ◌+◌, ◌<◌, ◌≤◌, List, [], ◌∷◌, length, true, false, Some, None};
 ghost use Rattle.wasm_ast.specs.declared.values.ValType.TheVariants as type;
@@ -14,12 +13,12 @@ ghost use Rattle.step_machine.specs.declared.ends.SliceEnd.TheVariants as slice;
 ghost use Rattle.step_machine.specs.Limits.{max_frames, max_values, last_turn, max_breakpoints, max_output};
 ghost use Rattle.step_machine.specs.Program.{unknown, Program, program};
 ghost use Rattle.step_machine.specs.Configuration.{onward, again, seq, Items, done, more, plain, label, frame, enter, branch, ret, items_of, running, exited, trapped, stuck, is_halted, frames, values};
-ghost use Rattle.step_machine.specs.Reduction.{Env, to, ends, enter_block, enter_loop, call_function, reduce};
+ghost use Rattle.step_machine.specs.Effects.{Env, enter_block, enter_loop, becomes};
+ghost use Rattle.step_machine.specs.Reduction.{to, ends, call_function, reduce};
 ghost use Rattle.step_machine.specs.Turns.{turn};
 ghost use Rattle.step_machine.specs.Instantiation.{after, ended};
 ghost use Rattle.step_machine.specs.Slices.{at_break, turns_made, slice_end};
-ghost use Rattle.step_machine.specs.Typing.{ValidModule};
-ghost use Rattle.step_machine.specs.Worked.{bare_process, func, to_i32, two_results, two_to_nothing, entry_export, with_funcs, with_import, with_exports, with_entry, with_result, i64_const, dropped_block, dropped_loop, dropped_if, if_and_branch, loop_result, finish, nothing_to_nothing, two_to_one, i32_const, drop', br, return', call, with_callee, exit_seven, branch_out, endless, two_ways, call_and_return, empty_entry, fall_through, branch_above, branch_through, loop_body, loop_above, if_above, call_above, call_with_two, place, in_entry, entered, entered_at, exits_next, deep, measured, pile, fresh, above_five, block_of, loop_of, by_return, by_return_in_a_block, by_branch, by_branch_in_a_block, same_names, swapped_arguments, calls_nothing, empty_store, block_left_over, loop_left_over, below_a_block, if_on_i64};
+ghost use Rattle.step_machine.specs.Worked.{bare_process, finish, two_to_one, i32_const, drop', br, call, exit_seven, branch_out, endless, two_ways, call_and_return, empty_entry, fall_through, branch_above, branch_through, loop_body, loop_above, if_above, call_above, call_with_two, place, entered, entered_at, exits_next, deep, measured, pile, fresh, above_five, loop_of, by_return, by_return_in_a_block, by_branch, by_branch_in_a_block, calls_nothing, empty_store};
 
 /// `i32.const 7 call 0`, where function 0 is `proc_exit`, exits with 7 at its second turn.
 pub fn exit_takes_a_turn()
@@ -134,13 +133,12 @@ pub fn arguments_become_locals()
 /// A block takes its parameters along; its label's arity is that of its results, and a loop's that of its
 /// parameters.
 pub fn blocks_take_parameters()
-    ensures of_a_block { (env : Env) (operands : List Value) (body : Ops) (rest : Items)
-        → enter_block env operands 3 4 (Some two_to_one) body rest
-        ≡ to env (seq operands (more (enter 2 1 3 4 onward body) rest)) }
-    ensures of_a_loop { (env : Env) (operands : List Value) (itself : Op) (body : Ops)
-        (rest : Items)
-        → enter_loop env operands 3 (Some two_to_one) itself body rest
-        ≡ to env (seq operands (more (enter 2 2 3 4 (again itself) body) rest)) }
+    ensures of_a_block { (operands : List Value) (body : Ops)
+        → enter_block operands 3 4 (Some two_to_one) body
+        ≡ becomes operands (enter 2 1 3 4 onward body) }
+    ensures of_a_loop { (operands : List Value) (itself : Op) (body : Ops)
+        → enter_loop operands 3 (Some two_to_one) itself body
+        ≡ becomes operands (enter 2 2 3 4 (again itself) body) }
     ensures on_entry { (p : Program) (env : Env) (u v w : Value) (body : Ops) (rest : Items)
         → reduce p env (seq (u ∷ v ∷ w ∷ []) (more (enter 2 1 3 4 onward body) rest))
         ≡ to env (seq (w ∷ [])
@@ -230,70 +228,4 @@ pub fn limits_are_these()
     ensures last_turn { last_turn ≡ 1000000000000000 }
     ensures breakpoints { max_breakpoints ≡ 32 }
     ensures output { max_output ≡ 65536 }
-{}
-
-/// The worked modules are valid: each rule of typing accepts what it should.
-pub fn worked_modules_are_valid()
-    ensures exit { ValidModule exit_seven }
-    ensures branch { ValidModule branch_out }
-    ensures endless { ValidModule endless }
-    ensures choice { (n : ℕ) → ValidModule (two_ways n) }
-    ensures call_and_return { ValidModule call_and_return }
-    ensures return_leaves_a_free_stack { ValidModule (with_result (i32_const 3 ∷ return' ∷ [])) }
-    ensures fall_through { ValidModule fall_through }
-    ensures branch_above { ValidModule branch_above }
-    ensures branch_through { ValidModule branch_through }
-    ensures loop_above { ValidModule loop_above }
-    ensures loop_result { ValidModule loop_result }
-    ensures if_above { (n : ℕ) → ValidModule (if_above n) }
-    ensures if_and_branch { (n : ℕ) → ValidModule (if_and_branch n) }
-    ensures function_end { ValidModule (call_above (i32_const 9 ∷ [])) }
-    ensures branch_from_a_function { ValidModule (call_above by_branch) }
-    ensures arguments { ValidModule call_with_two }
-{}
-
-/// A module with a fault is not valid: one for each of the parts of a module.
-pub fn faulty_modules_are_not_valid()
-    ensures two_results { ValidModule (with_callee [] two_results []) → ⊥ }
-    ensures no_type_of_import { ValidModule (with_import 3) → ⊥ }
-    ensures no_type_of_function { ValidModule (with_funcs [] to_i32 (func 3 [] [] ∷ [])) → ⊥ }
-    ensures no_export { ValidModule (with_exports (record entry_export { index = 3 } ∷ [])) → ⊥ }
-    ensures same_names { ValidModule (with_exports same_names) → ⊥ }
-{}
-
-/// A body with a fault is not valid: one for each of the rules of simple instructions.
-pub fn faulty_instructions_are_not_valid()
-    ensures drop_of_nothing { ValidModule (with_entry (drop' ∷ [])) → ⊥ }
-    ensures left_over { ValidModule (with_entry (i32_const 1 ∷ [])) → ⊥ }
-    ensures i64_left_over { ValidModule (with_entry (i64_const 1 ∷ [])) → ⊥ }
-    ensures no_argument { ValidModule (with_entry (call 0 ∷ [])) → ⊥ }
-    ensures argument_of_other_type { ValidModule (with_entry (i64_const 1 ∷ call 0 ∷ [])) → ⊥ }
-    ensures arguments_in_other_order { ValidModule swapped_arguments → ⊥ }
-    ensures no_function { ValidModule (with_entry (call 3 ∷ [])) → ⊥ }
-    ensures result_left_over { ValidModule (with_entry (call 2 ∷ [])) → ⊥ }
-    ensures no_result { ValidModule (with_result []) → ⊥ }
-    ensures result_of_other_type { ValidModule (with_result (i64_const 1 ∷ [])) → ⊥ }
-    ensures return_of_nothing { ValidModule (with_result (return' ∷ [])) → ⊥ }
-    ensures return_of_other_type { ValidModule (with_result (i64_const 1 ∷ return' ∷ [])) → ⊥ }
-    ensures no_label { ValidModule (with_entry (br 1 ∷ [])) → ⊥ }
-    ensures branch_with_nothing { ValidModule (with_result (br 0 ∷ [])) → ⊥ }
-    ensures branch_with_other_type { ValidModule (dropped_block (i64_const 1 ∷ br 0 ∷ [])) → ⊥ }
-{}
-
-/// A body with a fault is not valid: one for each of the rules of blocks, loops and ifs.
-pub fn faulty_blocks_are_not_valid()
-    ensures block_without_result { ValidModule (dropped_block []) → ⊥ }
-    ensures block_with_more { ValidModule (with_entry (block_of Empty (i32_const 1 ∷ []) ∷ []))
-        → ⊥ }
-    ensures block_result_left_over { ValidModule (with_entry block_left_over) → ⊥ }
-    ensures operand_below_a_block { ValidModule (with_entry below_a_block) → ⊥ }
-    ensures branch_out_of_a_block { ValidModule (dropped_block (br 0 ∷ [])) → ⊥ }
-    ensures loop_without_result { ValidModule (dropped_loop []) → ⊥ }
-    ensures loop_result_left_over { ValidModule (with_entry loop_left_over) → ⊥ }
-    ensures no_condition { ValidModule (with_entry (if' Empty stop stop ∷ [])) → ⊥ }
-    ensures condition_of_other_type { ValidModule (with_entry if_on_i64) → ⊥ }
-    ensures then_arm_without_result { ValidModule (dropped_if [] (i32_const 1 ∷ [])) → ⊥ }
-    ensures else_arm_without_result { ValidModule (dropped_if (i32_const 1 ∷ []) []) → ⊥ }
-    ensures then_branch_with_nothing { ValidModule (dropped_if (br 0 ∷ []) (i32_const 1 ∷ [])) → ⊥ }
-    ensures else_branch_with_nothing { ValidModule (dropped_if (i32_const 1 ∷ []) (br 0 ∷ [])) → ⊥ }
 {}

@@ -6,7 +6,7 @@ use Rattle.wasm_ast.specs.declared.refusal.Refusal.{Refusal}
 use Rattle.wasm_ast.specs.declared.refusal.Refusal.TheVariants as refusal
 use Rattle.wasm_binary.specs.Grammar.{Spells}
 use Rattle.step_machine.specs.declared.process.ProcessConfig.{ProcessConfig}
-use Rattle.step_machine.specs.Typing.{ValidModule}
+use Rattle.validator.specs.Typing.{ValidModule}
 use Rattle.step_machine.specs.Runs.{RunsModule}
 use Rattle.step_machine.specs.Instantiation.{instantiation_refusal}
 use Rattle.task_board.specs.declared.event.Event.{Event}
@@ -468,14 +468,15 @@ create_agrees s config id r s1 r' s2 one a b = create_agrees_by s config id (fir
 
 -- ---- what is never invalid
 
-never_invalid_by : (a b c : Bool) → cond a (Some refusal.NoEntry) (cond b (Some refusal.BadImport) (cond c (Some refusal.Limit) None)) ≡ Some refusal.Invalid → ⊥
-never_invalid_by true b c h = cc
-never_invalid_by false true c h = cc
-never_invalid_by false false true h = cc
-never_invalid_by false false false h = cc
+never_invalid_by : (a b c d : Bool) → cond a (Some refusal.NoEntry) (cond b (Some refusal.BadImport) (cond c (Some refusal.Limit) (cond d (Some refusal.SegmentOutOfBounds) None))) ≡ Some refusal.Invalid → ⊥
+never_invalid_by true b c d h = cc
+never_invalid_by false true c d h = cc
+never_invalid_by false false true d h = cc
+never_invalid_by false false false true h = cc
+never_invalid_by false false false false h = cc
 
 never_invalid : (m : Module) (p : ProcessConfig) → instantiation_refusal m p ≡ Some refusal.Invalid → ⊥
-never_invalid m p h = never_invalid_by _ _ _ h
+never_invalid m p h = never_invalid_by _ _ _ _ h
 
 not_invalid_by : (bytes : List ℕ) (p : ProcessConfig) (m : Module) (e : Refusal) → One → IsSpelled bytes m → ValidModule m → RunsModule m → e ≡ refusal.Invalid → CannotOpen bytes p e → ⊥
 not_invalid_by bytes p m _ one spelled valid runs is (no_module none) = none m spelled.spells

@@ -7,7 +7,7 @@ use Rattle.wasm_ast.specs.Limits.{max_module_bytes, Within}
 use Rattle.wasm_binary.specs.Grammar.{Spells}
 use Rattle.wasm_binary.specs.Limits.{Over}
 use Rattle.step_machine.specs.declared.process.ProcessConfig.{ProcessConfig}
-use Rattle.step_machine.specs.Typing.{ValidModule}
+use Rattle.validator.specs.Typing.{ValidModule}
 use Rattle.step_machine.specs.Runs.{RunsModule}
 use Rattle.step_machine.specs.Instantiation.{instantiation_refusal}
 use Rattle.task_lifecycle.specs.declared.lifecycle.TaskCall.TheVariants as call

@@ -6,7 +6,7 @@ ghost use Rattle.step_machine.specs.declared.process.ProcessConfig.{ProcessConfi
 ghost use Rattle.step_machine.specs.declared.ends.End.{End as EndValue};
 ghost use Rattle.step_machine.specs.Instantiation.{ended};
 ghost use Rattle.step_machine.specs.Runs.{RunsModule};
-ghost use Rattle.step_machine.specs.Typing.{ValidModule};
+ghost use Rattle.validator.specs.Typing.{ValidModule};
 ghost use Rattle.task_board.specs.declared.event.Event.{Event};
 ghost use Rattle.task_board.specs.declared.event.Event.TheVariants as event;
 ghost use Rattle.task_board.specs.declared.event.EventReply.{EventReply};

@@ -5,7 +5,7 @@ ghost use Rattle.wasm_ast.specs.declared.refusal.Refusal.{Refusal as Reason};
 ghost use Rattle.wasm_ast.specs.declared.refusal.Refusal.TheVariants as reason;
 ghost use Rattle.task_board.specs.Refusals.{IsSpelled, Openable, CannotOpen};
 ghost use Rattle.step_machine.specs.Processes.{config_of};
-ghost use Rattle.step_machine.specs.Typing.{ValidModule};
+ghost use Rattle.validator.specs.Typing.{ValidModule};
 ghost use Rattle.step_machine.specs.declared.process.ProcessConfig.{ProcessConfig};
 
 use std::alloc::Global;

@@ -1,11 +1,16 @@
 -- The test of the limits decides them.
-use Rattle.std.proofs.Common.{◌≡◌, List, [], ◌∷◌, All, true, arith, refl}
+use Rattle.std.proofs.Common.{◌≡◌, List, [], ◌∷◌, All, ℕ, Bool, true, arith, refl}
 use Rattle.std.proofs.lemmas.Bool.Decides.{nat_tests}
 use Rattle.std.proofs.lemmas.List.Elements.{All-cons, All-nil, All-head, All-tail}
 use Rattle.wasm_ast.specs.declared.values.FuncType.{FuncType}
 use Rattle.wasm_ast.specs.declared.module.Func.{Func}
 use Rattle.wasm_ast.specs.declared.module.Module.{Module}
-use Rattle.wasm_ast.specs.Limits.{FuncWithin, Within, is_func_within, are_within, is_within}
+use Rattle.wasm_ast.specs.declared.module.Limits.{Limits}
+use Rattle.wasm_ast.specs.declared.module.Global.{Global}
+use Rattle.wasm_ast.specs.declared.module.Element.{Element}
+use Rattle.wasm_ast.specs.declared.module.Segment.{Segment}
+use Rattle.wasm_ast.specs.Syntax.{Ops}
+use Rattle.wasm_ast.specs.Limits.{max_table_entries, max_memory_pages, FuncWithin, MinWithin, NestsWithin, Within, is_func_within, is_min_within, nests_within, are_all, is_within}
 
 func_within : (types : List FuncType) (f : Func) → is_func_within types f ≡ true → FuncWithin types f
 func_within types f h = record {
@@ -19,23 +24,47 @@ within_func types f w =
     let nesting = w.nesting in
     grind (arith, nat_tests)
 
-all_within : (types : List FuncType) (fs : List Func) → are_within types fs ≡ true → All (FuncWithin types) fs
-all_within types [] h = All-nil (FuncWithin types)
-all_within types (f ∷ fs) h =
-    All-cons (FuncWithin types) f fs (func_within types f (grind (arith, nat_tests))) (all_within types fs (grind (arith, nat_tests)))
+all_hold : {X : Type 0} (P : X → Type 0) (test : X → Bool) → ((x : X) → test x ≡ true → P x) → (xs : List X) → are_all test xs ≡ true → All P xs
+all_hold P test one [] h = All-nil P
+all_hold P test one (x ∷ xs) h = All-cons P x xs (one x (grind (arith, nat_tests))) (all_hold P test one xs (grind (arith, nat_tests)))
 
-within_all : (types : List FuncType) (fs : List Func) → All (FuncWithin types) fs → are_within types fs ≡ true
-within_all types [] h = refl
-within_all types (f ∷ fs) h =
-    let here = within_func types f (All-head (FuncWithin types) f fs h) in
-    let there = within_all types fs (All-tail (FuncWithin types) f fs h) in
+hold_all : {X : Type 0} (P : X → Type 0) (test : X → Bool) → ((x : X) → P x → test x ≡ true) → (xs : List X) → All P xs → are_all test xs ≡ true
+hold_all P test one [] h = refl
+hold_all P test one (x ∷ xs) h =
+    let here = one x (All-head P x xs h) in
+    let there = hold_all P test one xs (All-tail P x xs h) in
     grind (arith, nat_tests)
 
+min_within : (most : ℕ) (l : Limits) → is_min_within most l ≡ true → MinWithin most l
+min_within most l h = grind (arith, nat_tests)
+
+within_min : (most : ℕ) (l : Limits) → MinWithin most l → is_min_within most l ≡ true
+within_min most l h = grind (arith, nat_tests)
+
+nests : (os : Ops) → nests_within os ≡ true → NestsWithin os
+nests os h = grind (arith, nat_tests)
+
+nested : (os : Ops) → NestsWithin os → nests_within os ≡ true
+nested os h = grind (arith, nat_tests)
+
 pub module_within : (m : Module) → is_within m ≡ true → Within m
-module_within m h = record { functions = grind (arith, nat_tests); funcs = all_within m.types m.funcs (grind (arith, nat_tests)) }
+module_within m h = record {
+  functions = grind (arith, nat_tests);
+  funcs = all_hold (FuncWithin m.types) (is_func_within m.types) (func_within m.types) m.funcs (grind (arith, nat_tests));
+  tables = all_hold (MinWithin max_table_entries) (is_min_within max_table_entries) (min_within max_table_entries) m.tables (grind (arith, nat_tests));
+  memories = all_hold (MinWithin max_memory_pages) (is_min_within max_memory_pages) (min_within max_memory_pages) m.memories (grind (arith, nat_tests));
+  globals = all_hold (λ (g : Global). NestsWithin g.init) (λ (g : Global). nests_within g.init) (λ (g : Global). nests g.init) m.globals (grind (arith, nat_tests));
+  elements = all_hold (λ (e : Element). NestsWithin e.offset) (λ (e : Element). nests_within e.offset) (λ (e : Element). nests e.offset) m.elements (grind (arith, nat_tests));
+  segments = all_hold (λ (s : Segment). NestsWithin s.offset) (λ (s : Segment). nests_within s.offset) (λ (s : Segment). nests s.offset) m.segments (grind (arith, nat_tests));
+}
 
 pub within_module : (m : Module) → Within m → is_within m ≡ true
 within_module m w =
     let functions = w.functions in
-    let funcs = within_all m.types m.funcs w.funcs in
+    let funcs = hold_all (FuncWithin m.types) (is_func_within m.types) (within_func m.types) m.funcs w.funcs in
+    let tables = hold_all (MinWithin max_table_entries) (is_min_within max_table_entries) (within_min max_table_entries) m.tables w.tables in
+    let memories = hold_all (MinWithin max_memory_pages) (is_min_within max_memory_pages) (within_min max_memory_pages) m.memories w.memories in
+    let globals = hold_all (λ (g : Global). NestsWithin g.init) (λ (g : Global). nests_within g.init) (λ (g : Global). nested g.init) m.globals w.globals in
+    let elements = hold_all (λ (e : Element). NestsWithin e.offset) (λ (e : Element). nests_within e.offset) (λ (e : Element). nested e.offset) m.elements w.elements in
+    let segments = hold_all (λ (s : Segment). NestsWithin s.offset) (λ (s : Segment). nests_within s.offset) (λ (s : Segment). nested s.offset) m.segments w.segments in
     grind (arith, nat_tests)

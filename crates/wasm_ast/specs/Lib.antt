@@ -1,8 +1,8 @@
 pub mod Syntax
 pub mod Types
+pub mod Access
 pub mod Ranged
 pub mod Limits
-pub mod Reaches
 pub mod Names
 pub mod View
 pub mod Worked

@@ -2,6 +2,10 @@
 use Rattle.std.specs.Prelude.{ℕ, suc, ◌+◌, ◌≤◌, max, nat_le, List, [], ◌∷◌, length, All, Bool, true, ◌&&◌, Option, Some, None, slice_get}
 use Rattle.wasm_ast.specs.declared.values.FuncType.{FuncType}
 use Rattle.wasm_ast.specs.declared.module.Func.{Func}
+use Rattle.wasm_ast.specs.declared.module.Limits.{Limits}
+use Rattle.wasm_ast.specs.declared.module.Global.{Global}
+use Rattle.wasm_ast.specs.declared.module.Element.{Element}
+use Rattle.wasm_ast.specs.declared.module.Segment.{Segment}
 use Rattle.wasm_ast.specs.declared.module.Module.{Module}
 use Rattle.wasm_ast.specs.Syntax.{Op, simple, block, loop, if', Ops, stop, next}
 
@@ -20,6 +24,14 @@ max_locals = 1024
 -- blocks that are open at once
 abbrev pub max_nesting : ℕ
 max_nesting = 256
+
+-- entries that a table begins with
+abbrev pub max_table_entries : ℕ
+max_table_entries = 4096
+
+-- pages that a memory begins with
+abbrev pub max_memory_pages : ℕ
+max_memory_pages = 256
 
 -- how many blocks are open at once
 abbrev mutual
@@ -45,18 +57,41 @@ pub record FuncWithin (types : List FuncType) (f : Func) : Type 0 where
   pub locals : params_of types f.type_index + length f.locals ≤ max_locals
   pub nesting : ops_depth f.body ≤ max_nesting
 
+-- the first size of a table or a memory
+abbrev pub MinWithin : (most : ℕ) → Limits → Type 0
+MinWithin most l = l.min ≤ most
+
+-- an expression outside the functions
+abbrev pub NestsWithin : Ops → Type 0
+NestsWithin os = ops_depth os ≤ max_nesting
+
 pub record Within (m : Module) : Type 0 where
   pub functions : length m.imports + length m.funcs ≤ max_functions
   pub funcs : All (FuncWithin m.types) m.funcs
+  pub tables : All (MinWithin max_table_entries) m.tables
+  pub memories : All (MinWithin max_memory_pages) m.memories
+  pub globals : All (λ g. NestsWithin g.init) m.globals
+  pub elements : All (λ e. NestsWithin e.offset) m.elements
+  pub segments : All (λ s. NestsWithin s.offset) m.segments
 
 -- the same as a test
 abbrev pub is_func_within : List FuncType → Func → Bool
 is_func_within types f =
     nat_le (params_of types f.type_index + length f.locals) max_locals && nat_le (ops_depth f.body) max_nesting
 
-abbrev pub are_within : List FuncType → List Func → Bool
-are_within types [] = true
-are_within types (f ∷ fs) = is_func_within types f && are_within types fs
+abbrev pub are_all : {X : Type 0} → (X → Bool) → List X → Bool
+are_all test [] = true
+are_all test (x ∷ xs) = test x && are_all test xs
+
+abbrev pub is_min_within : (most : ℕ) → Limits → Bool
+is_min_within most l = nat_le l.min most
+
+abbrev pub nests_within : Ops → Bool
+nests_within os = nat_le (ops_depth os) max_nesting
 
 abbrev pub is_within : Module → Bool
-is_within m = nat_le (length m.imports + length m.funcs) max_functions && are_within m.types m.funcs
+is_within m =
+    nat_le (length m.imports + length m.funcs) max_functions && are_all (is_func_within m.types) m.funcs
+    && are_all (is_min_within max_table_entries) m.tables && are_all (is_min_within max_memory_pages) m.memories
+    && are_all (λ (g : Global). nests_within g.init) m.globals && are_all (λ (e : Element). nests_within e.offset) m.elements
+    && are_all (λ (s : Segment). nests_within s.offset) m.segments

@@ -1,9 +1,23 @@
--- The types that a module gives its blocks and its functions (2.3.3, 2.4.5, 2.5.1).
+-- The types of values (4.2.1), and those that a module gives its blocks and its functions (2.3.3, 2.4.5, 2.5.1).
 use Rattle.std.specs.Prelude.{ℕ, zero, suc, List, [], ◌∷◌, ◌++◌, map, Option, Some, None, slice_get}
+use Rattle.wasm_ast.specs.declared.values.ValType.{ValType}
+use Rattle.wasm_ast.specs.declared.values.ValType.TheVariants as type
+use Rattle.wasm_ast.specs.declared.values.Value.{Value}
+use Rattle.wasm_ast.specs.declared.values.Value.TheVariants.{I32, I64}
 use Rattle.wasm_ast.specs.declared.values.FuncType.{FuncType}
 use Rattle.wasm_ast.specs.declared.instr.BlockType.{BlockType}
 use Rattle.wasm_ast.specs.declared.instr.BlockType.TheVariants.{Empty, One}
 use Rattle.wasm_ast.specs.declared.module.Module.{Module}
+
+-- the type of a value (4.2.1)
+abbrev pub type_of : Value → ValType
+type_of (I32 n) = type.I32
+type_of (I64 n) = type.I64
+
+-- a value type's zero, which locals hold on entry (4.4.7)
+abbrev pub zero_of : ValType → Value
+zero_of type.I32 = I32 0
+zero_of type.I64 = I64 0
 
 -- a block's type as a function's (2.4.5)
 abbrev pub block_type : List FuncType → BlockType → Option FuncType

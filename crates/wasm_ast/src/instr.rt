@@ -4,8 +4,10 @@ ghost use Rattle.std.specs.Prelude.{◌≡◌, map, nat_le};
 ghost use Rattle.wasm_ast.specs.Syntax.{ops_of};
 ghost use Rattle.wasm_ast.specs.View.{op_of};
 ghost use Rattle.wasm_ast.specs.Limits.{depth, ops_depth};
-ghost use Rattle.wasm_ast.specs.Ranged.{RangedSimple, RangedOp, RangedOps};
+ghost use Rattle.wasm_ast.specs.Ranged.{RangedSimple, RangedMemArg, RangedOp, RangedOps};
 
+use crate::operators::{BinaryOp, ConvertOp, LoadOp, RelationOp, StoreOp, TestOp, UnaryOp};
+use crate::sequence::{Sequence, indices_ranged};
 use crate::values::{ValType, Value};
 use std::marker::Model;
 
@@ -16,19 +18,76 @@ pub enum BlockType {
     One(ValType),
 }
 
-/// An instruction without a body (2.4.1 to 2.4.5).
+/// What an instruction does with a local (2.4.3).
 #[derive(Clone, Copy, PartialEq, Eq, Debug)]
+pub enum LocalOp {
+    Get,
+    Set,
+    Tee,
+}
+
+/// What an instruction does with a global (2.4.3).
+#[derive(Clone, Copy, PartialEq, Eq, Debug)]
+pub enum GlobalOp {
+    Get,
+    Set,
+}
+
+/// Where a load or a store accesses memory (2.4.4): the exponent of its alignment, which changes no
+/// result, and the offset that is added to its address.
+#[derive(Clone, Copy, PartialEq, Eq, Debug)]
+pub struct MemArg {
+    pub align: u32,
+    pub offset: u32,
+}
+
+/// An instruction without a body (2.4.1 to 2.4.5).
+#[derive(Drop)]
 pub enum Simple {
-    /// `i32.const` and `i64.const`
-    Const(Value),
-    /// `drop`
-    Drop,
+    /// `unreachable`
+    Unreachable,
+    /// `nop`
+    Nop,
     /// `br` to the label with this index, the innermost one being 0
     Br(u32),
+    /// `br_if` to the label with this index
+    BrIf(u32),
+    /// `br_table` with the labels that its operand counts, and the label for all other operands
+    BrTable(Sequence<u32>, u32),
     /// `return`
     Return,
     /// `call` of the function with this index, imports counted first
     Call(u32),
+    /// `call_indirect` through the table, of a function of the type with this index
+    CallIndirect(u32),
+    /// `drop`
+    Drop,
+    /// `select`
+    Select,
+    /// `local.get`, `local.set` and `local.tee` of the local with this index, parameters counted first
+    Local(LocalOp, u32),
+    /// `global.get` and `global.set` of the global with this index
+    Global(GlobalOp, u32),
+    /// a load from memory
+    Load(LoadOp, MemArg),
+    /// a store to memory
+    Store(StoreOp, MemArg),
+    /// `memory.size`
+    MemorySize,
+    /// `memory.grow`
+    MemoryGrow,
+    /// `i32.const` and `i64.const`
+    Const(Value),
+    /// an operator on one operand of this type
+    Unary(ValType, UnaryOp),
+    /// an operator on two operands of this type
+    Binary(ValType, BinaryOp),
+    /// a test of one operand of this type
+    Test(ValType, TestOp),
+    /// a comparison of two operands of this type
+    Compare(ValType, RelationOp),
+    /// a conversion of an operand of one type to the other
+    Convert(ConvertOp),
 }
 
 impl Simple {
@@ -38,11 +97,31 @@ impl Simple {
     {
         match self {
             Simple::Const(value) => value.ranged(),
-            Simple::Br(index) | Simple::Call(index) => {
+            Simple::Br(index)
+            | Simple::BrIf(index)
+            | Simple::Call(index)
+            | Simple::CallIndirect(index)
+            | Simple::Local(_, index)
+            | Simple::Global(_, index) => {
                 let _in_range = *index;
             }
-            Simple::Drop | Simple::Return => {}
+            Simple::Load(_, at) | Simple::Store(_, at) => at.ranged(),
+            Simple::BrTable(labels, other) => {
+                let _in_range = *other;
+                indices_ranged(labels.as_slice());
+            }
+            _ => {}
         }
+    }
+}
+
+impl MemArg {
+    /// Shows that both numbers are in the range of their type.
+    pub fn ranged(&self)
+        ensures { RangedMemArg self.now }
+    {
+        let _align = self.align;
+        let _offset = self.offset;
     }
 }
 

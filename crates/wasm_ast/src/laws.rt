@@ -1,12 +1,15 @@
 //! What is proved of the definitions themselves.
 
-ghost use Rattle.std.specs.Prelude.{◌≡◌, ◌↔◌, ℕ, [], ◌∷◌, IsTrue, nat_lt, is_some, Some, None, true};
-ghost use Rattle.wasm_ast.specs.Limits.{Within, is_within, ops_depth, max_module_bytes, max_functions, max_locals, max_nesting};
+ghost use Rattle.std.specs.Prelude.{◌≡◌, ◌↔◌, ℕ, [], ◌∷◌, map, IsTrue, nat_lt, is_some, Some, None, true, false};
+ghost use Rattle.wasm_ast.specs.Limits.{Within, is_within, ops_depth, max_module_bytes, max_functions, max_locals, max_nesting, max_table_entries, max_memory_pages};
 ghost use Rattle.wasm_ast.specs.Syntax.{Ops, simple, ops_count, ops_at};
-ghost use Rattle.wasm_ast.specs.Types.{block_type, type_at};
+ghost use Rattle.wasm_ast.specs.Types.{type_of, zero_of, block_type, type_at};
+ghost use Rattle.wasm_ast.specs.Access.{load_type, load_bytes, is_sign_extended, store_type, store_bytes};
 ghost use Rattle.wasm_ast.specs.Worked.{inner_if, outer_block, worked};
 ghost use Rattle.wasm_ast.specs.declared.instr.BlockType.TheVariants.{Empty, One};
 ghost use Rattle.wasm_ast.specs.declared.instr.Simple.TheVariants as instr;
+ghost use Rattle.wasm_ast.specs.declared.operators.LoadOp.TheVariants as load;
+ghost use Rattle.wasm_ast.specs.declared.operators.StoreOp.TheVariants as store;
 ghost use Rattle.wasm_ast.specs.declared.values.ValType.TheVariants as type;
 ghost use Rattle.wasm_ast.specs.declared.values.Value.TheVariants as value;
 
@@ -39,6 +42,38 @@ pub fn places_are_counted()
     ensures { (os : Ops) (k : ℕ) → is_some (ops_at os k) ≡ nat_lt k (ops_count os) }
 {}
 
+/// What loads read, by bytes, type and extension.
+pub fn loads_read_their_bytes()
+    ensures i32 { (load_type load.I32 ≡ type.I32) × (load_bytes load.I32 ≡ 4) }
+    ensures i64 { (load_type load.I64 ≡ type.I64) × (load_bytes load.I64 ≡ 8) }
+    ensures i32_8 { (load_bytes load.I32From8S ≡ 1) × (load_bytes load.I32From8U ≡ 1) }
+    ensures i32_16 { (load_bytes load.I32From16S ≡ 2) × (load_bytes load.I32From16U ≡ 2) }
+    ensures i64_8 { (load_bytes load.I64From8S ≡ 1) × (load_bytes load.I64From8U ≡ 1) }
+    ensures i64_16 { (load_bytes load.I64From16S ≡ 2) × (load_bytes load.I64From16U ≡ 2) }
+    ensures i64_32 { (load_bytes load.I64From32S ≡ 4) × (load_bytes load.I64From32U ≡ 4) }
+    ensures to_i32 { map load_type (load.I32From8S ∷ load.I32From8U ∷ load.I32From16S ∷ load.I32From16U ∷ [])
+        ≡ type.I32 ∷ type.I32 ∷ type.I32 ∷ type.I32 ∷ [] }
+    ensures to_i64 { map load_type (load.I64From8S ∷ load.I64From8U ∷ load.I64From16S
+        ∷ load.I64From16U ∷ load.I64From32S ∷ load.I64From32U ∷ [])
+        ≡ type.I64 ∷ type.I64 ∷ type.I64 ∷ type.I64 ∷ type.I64 ∷ type.I64 ∷ [] }
+    ensures by_sign { map is_sign_extended (load.I32From8S ∷ load.I32From16S ∷ load.I64From8S
+        ∷ load.I64From16S ∷ load.I64From32S ∷ []) ≡ true ∷ true ∷ true ∷ true ∷ true ∷ [] }
+    ensures by_zeros { map is_sign_extended (load.I32 ∷ load.I64 ∷ load.I32From8U ∷ load.I32From16U
+        ∷ load.I64From8U ∷ load.I64From16U ∷ load.I64From32U ∷ [])
+        ≡ false ∷ false ∷ false ∷ false ∷ false ∷ false ∷ false ∷ [] }
+{}
+
+/// What stores write, by bytes and type.
+pub fn stores_write_their_bytes()
+    ensures of_i32 { map store_type (store.I32 ∷ store.I32To8 ∷ store.I32To16 ∷ [])
+        ≡ type.I32 ∷ type.I32 ∷ type.I32 ∷ [] }
+    ensures of_i64 { map store_type (store.I64 ∷ store.I64To8 ∷ store.I64To16 ∷ store.I64To32 ∷ [])
+        ≡ type.I64 ∷ type.I64 ∷ type.I64 ∷ type.I64 ∷ [] }
+    ensures i32_bytes { map store_bytes (store.I32 ∷ store.I32To8 ∷ store.I32To16 ∷ []) ≡ 4 ∷ 1 ∷ 2 ∷ [] }
+    ensures i64_bytes { map store_bytes (store.I64 ∷ store.I64To8 ∷ store.I64To16 ∷ store.I64To32 ∷ [])
+        ≡ 8 ∷ 1 ∷ 2 ∷ 4 ∷ [] }
+{}
+
 /// A worked sequence: what is at each of its places, and how many blocks are open at once.
 pub fn places_are_in_written_order()
     ensures first { ops_at worked 0 ≡ Some outer_block }
@@ -61,10 +96,20 @@ pub fn types_are_looked_up()
     ensures beyond { type_at [] 0 ≡ None }
 {}
 
+/// Types of values, and their zeros.
+pub fn values_have_types()
+    ensures i32 { type_of (value.I32 5) ≡ type.I32 }
+    ensures i64 { type_of (value.I64 5) ≡ type.I64 }
+    ensures zero_32 { zero_of type.I32 ≡ value.I32 0 }
+    ensures zero_64 { zero_of type.I64 ≡ value.I64 0 }
+{}
+
 /// The limits of the profile.
 pub fn limits_are_those_of_the_profile()
     ensures bytes { max_module_bytes ≡ 262144 }
     ensures functions { max_functions ≡ 4096 }
     ensures locals { max_locals ≡ 1024 }
     ensures nesting { max_nesting ≡ 256 }
+    ensures table { max_table_entries ≡ 4096 }
+    ensures memory { max_memory_pages ≡ 256 }
 {}

@@ -15,12 +15,13 @@ mod text;
 mod trap;
 mod values;
 
-pub use instr::{BlockType, Body, Instr, Simple};
+pub use instr::{BlockType, Body, GlobalOp, Instr, LocalOp, MemArg, Simple};
 pub use module::{
-    Export, ExportKind, Func, Import, MAX_FUNCTIONS, MAX_LOCALS, MAX_MODULE_BYTES, MAX_NESTING,
-    Module,
+    Element, Export, ExportKind, Func, Global, Import, Limits, MAX_FUNCTIONS, MAX_LOCALS,
+    MAX_MEMORY_PAGES, MAX_MODULE_BYTES, MAX_NESTING, MAX_TABLE_ENTRIES, Module, Mutability,
+    Segment,
 };
-pub use operators::{BinaryOp, ConvertOp, RelationOp, TestOp, UnaryOp};
+pub use operators::{BinaryOp, ConvertOp, LoadOp, RelationOp, StoreOp, TestOp, UnaryOp};
 pub use place::Place;
 pub use refusal::Refusal;
 pub use sequence::{Bytes, Sequence};

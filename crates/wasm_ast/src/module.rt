@@ -1,11 +1,11 @@
 //! Modules (2.5).
 
 ghost use Rattle.std.specs.Prelude.{◌≡◌, All};
-ghost use Rattle.wasm_ast.specs.Limits.{params_of, is_func_within, are_within, is_within};
-ghost use Rattle.wasm_ast.specs.Ranged.{Ranged, RangedImport, RangedFunc, RangedExport, AreTexts, HasImportTexts, HasExportText};
+ghost use Rattle.wasm_ast.specs.Limits.{max_nesting, params_of, is_func_within, is_min_within, nests_within, are_all, is_within};
+ghost use Rattle.wasm_ast.specs.Ranged.{Ranged, RangedImport, RangedFunc, RangedLimits, RangedGlobal, RangedElement, RangedSegment, RangedExport, RangedStart, AreTexts, HasImportTexts, HasExportText};
 
 use crate::instr::Body;
-use crate::sequence::Sequence;
+use crate::sequence::{Bytes, Sequence, indices_ranged};
 use crate::text::Text;
 use crate::values::{FuncType, ValType};
 
@@ -20,6 +20,12 @@ pub const MAX_LOCALS: usize = 1024;
 
 /// Blocks that may be open at once.
 pub const MAX_NESTING: usize = 256;
+
+/// Entries that a table may begin with.
+pub const MAX_TABLE_ENTRIES: u32 = 4096;
+
+/// Pages that a memory may begin with.
+pub const MAX_MEMORY_PAGES: u32 = 256;
 
 /// An import of a function (2.5.11); the profile has no other kind.
 #[derive(Drop)]
@@ -65,10 +71,94 @@ impl Func {
     }
 }
 
+/// How many entries a table or how many pages a memory has at first, and at most if there is a bound
+/// (2.3.4).
+#[derive(Clone, Copy, PartialEq, Eq, Debug)]
+pub struct Limits {
+    pub min: u32,
+    pub max: Option<u32>,
+}
+
+impl Limits {
+    /// Shows that both numbers are in the range of their type.
+    pub fn ranged(&self)
+        ensures { RangedLimits self.now }
+    {
+        let _min = self.min;
+        if let Some(max) = self.max {
+            let _max = max;
+        }
+    }
+}
+
+/// Whether a global may be written (2.3.6).
+#[derive(Clone, Copy, PartialEq, Eq, Debug)]
+pub enum Mutability {
+    Const,
+    Var,
+}
+
+/// A global (2.5.6): its type, and the expression that gives its first value.
+#[derive(Drop)]
+pub struct Global {
+    pub val_type: ValType,
+    pub mutability: Mutability,
+    pub init: Body,
+}
+
+impl Global {
+    /// Shows that each number in it is in the range of its type.
+    pub fn ranged(&self)
+        ensures { RangedGlobal self.now }
+    {
+        self.init.ranged();
+    }
+}
+
+/// An element segment (2.5.7): functions that are written to a table from an offset on.
+#[derive(Drop)]
+pub struct Element {
+    pub table: u32,
+    pub offset: Body,
+    pub funcs: Sequence<u32>,
+}
+
+impl Element {
+    /// Shows that each number in it is in the range of its type.
+    pub fn ranged(&self)
+        ensures { RangedElement self.now }
+    {
+        let _in_range = self.table;
+        self.offset.ranged();
+        indices_ranged(self.funcs.as_slice());
+    }
+}
+
+/// A data segment (2.5.8): bytes that are written to a memory from an offset on.
+#[derive(Drop)]
+pub struct Segment {
+    pub memory: u32,
+    pub offset: Body,
+    pub bytes: Bytes,
+}
+
+impl Segment {
+    /// Shows that each number in it is in the range of its type.
+    pub fn ranged(&self)
+        ensures { RangedSegment self.now }
+    {
+        let _in_range = self.memory;
+        self.offset.ranged();
+    }
+}
+
 /// What an export names (2.5.10).
 #[derive(Clone, Copy, PartialEq, Eq, Debug)]
 pub enum ExportKind {
     Func,
+    Table,
+    Memory,
+    Global,
 }
 
 /// An export (2.5.10).
@@ -95,24 +185,37 @@ impl Export {
     }
 }
 
-/// A module (2.5). An index of a function counts imports first.
+/// A module (2.5). An index of a function counts imports first. `start` is the function that runs before
+/// all others (2.5.9).
 #[derive(Drop)]
 pub struct Module {
     pub types: Sequence<FuncType>,
     pub imports: Sequence<Import>,
     pub funcs: Sequence<Func>,
+    pub tables: Sequence<Limits>,
+    pub memories: Sequence<Limits>,
+    pub globals: Sequence<Global>,
     pub exports: Sequence<Export>,
+    pub start: Option<u32>,
+    pub elements: Sequence<Element>,
+    pub segments: Sequence<Segment>,
 }
 
 impl Module {
     /// Whether the module is within the profile's limits: 4,096 functions with imports, 1,024 locals to
-    /// a function, parameters included, and 256 blocks that are open at once.
+    /// a function, parameters included, 256 blocks that are open at once, and tables and memories that
+    /// begin with at most 4,096 entries and 256 pages.
     pub fn is_within_limits(&self) -> bool
         ensures { result ≡ is_within self.now }
     {
         self.imports.len() <= MAX_FUNCTIONS
             && self.funcs.len() <= MAX_FUNCTIONS - self.imports.len()
-            && are_within(self.types.as_slice(), self.funcs.as_slice())
+            && are_funcs_within(self.types.as_slice(), self.funcs.as_slice())
+            && are_mins_within(MAX_TABLE_ENTRIES, self.tables.as_slice())
+            && are_mins_within(MAX_MEMORY_PAGES, self.memories.as_slice())
+            && are_globals_within(self.globals.as_slice())
+            && are_elements_within(self.elements.as_slice())
+            && are_segments_within(self.segments.as_slice())
     }
 
     /// Shows that each number in the module is in the range of its type.
@@ -121,7 +224,13 @@ impl Module {
     {
         imports_ranged(self.imports.as_slice());
         funcs_ranged(self.funcs.as_slice());
+        limits_ranged(self.tables.as_slice());
+        limits_ranged(self.memories.as_slice());
+        globals_ranged(self.globals.as_slice());
         exports_ranged(self.exports.as_slice());
+        start_ranged(self.start);
+        elements_ranged(self.elements.as_slice());
+        segments_ranged(self.segments.as_slice());
     }
 
     /// Shows that the names in the module are UTF-8.
@@ -152,11 +261,55 @@ fn is_func_within(types: &[FuncType], func: &Func) -> bool
         && func.body.fits_depth(MAX_NESTING)
 }
 
-fn are_within(types: &[FuncType], funcs: &[Func]) -> bool
-    ensures { result ≡ are_within types.now funcs.now }
+fn are_funcs_within(types: &[FuncType], funcs: &[Func]) -> bool
+    ensures { result ≡ are_all (is_func_within types.now) funcs.now }
 {
     for func in funcs {
         if !is_func_within(types, func) {
+            return false;
+        }
+    }
+    true
+}
+
+fn are_mins_within(most: u32, limits: &[Limits]) -> bool
+    ensures { result ≡ are_all (is_min_within most) limits.now }
+{
+    for limit in limits {
+        if limit.min > most {
+            return false;
+        }
+    }
+    true
+}
+
+fn are_globals_within(globals: &[Global]) -> bool
+    ensures { result ≡ are_all (λ g. nests_within g.init) globals.now }
+{
+    for global in globals {
+        if !global.init.fits_depth(MAX_NESTING) {
+            return false;
+        }
+    }
+    true
+}
+
+fn are_elements_within(elements: &[Element]) -> bool
+    ensures { result ≡ are_all (λ e. nests_within e.offset) elements.now }
+{
+    for element in elements {
+        if !element.offset.fits_depth(MAX_NESTING) {
+            return false;
+        }
+    }
+    true
+}
+
+fn are_segments_within(segments: &[Segment]) -> bool
+    ensures { result ≡ are_all (λ s. nests_within s.offset) segments.now }
+{
+    for segment in segments {
+        if !segment.offset.fits_depth(MAX_NESTING) {
             return false;
         }
     }
@@ -184,6 +337,46 @@ fn exports_ranged(exports: &[Export])
 {
     for export in exports {
         export.ranged();
+    }
+}
+
+fn limits_ranged(limits: &[Limits])
+    ensures { All RangedLimits limits.now }
+{
+    for limit in limits {
+        limit.ranged();
+    }
+}
+
+fn globals_ranged(globals: &[Global])
+    ensures { All RangedGlobal globals.now }
+{
+    for global in globals {
+        global.ranged();
+    }
+}
+
+fn start_ranged(start: Option<u32>)
+    ensures { RangedStart start }
+{
+    if let Some(func) = start {
+        let _in_range = func;
+    }
+}
+
+fn elements_ranged(elements: &[Element])
+    ensures { All RangedElement elements.now }
+{
+    for element in elements {
+        element.ranged();
+    }
+}
+
+fn segments_ranged(segments: &[Segment])
+    ensures { All RangedSegment segments.now }
+{
+    for segment in segments {
+        segment.ranged();
     }
 }
 

@@ -1,4 +1,4 @@
-//! Operators on integers (2.4.1). Their width is given beside them.
+//! Operators on integers (2.4.1), whose width is given beside them, and accesses to memory (2.4.4).
 
 /// An operator with one operand, and a result of its type.
 #[derive(Clone, Copy, PartialEq, Eq, Debug)]
@@ -58,4 +58,35 @@ pub enum ConvertOp {
     ExtendS,
     /// `i64.extend_i32_u`
     ExtendU,
+}
+
+/// A load from memory (2.4.4): the type of its result and, if it reads fewer bytes than that type has, how
+/// many bits, and whether they are extended by the sign or by zeros.
+#[derive(Clone, Copy, PartialEq, Eq, Debug)]
+pub enum LoadOp {
+    I32,
+    I64,
+    I32From8S,
+    I32From8U,
+    I32From16S,
+    I32From16U,
+    I64From8S,
+    I64From8U,
+    I64From16S,
+    I64From16U,
+    I64From32S,
+    I64From32U,
+}
+
+/// A store to memory (2.4.4): the type of its operand and, if it writes fewer bytes than that type has, how
+/// many bits.
+#[derive(Clone, Copy, PartialEq, Eq, Debug)]
+pub enum StoreOp {
+    I32,
+    I64,
+    I32To8,
+    I32To16,
+    I64To8,
+    I64To16,
+    I64To32,
 }

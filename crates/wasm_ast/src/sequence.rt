@@ -1,6 +1,7 @@
 //! Lists that contracts see as their items, whatever their capacity.
 
-ghost use Rattle.std.specs.Prelude.{◌≡◌, ◌↔◌, IsTrue, IfOk, length};
+ghost use Rattle.std.specs.Prelude.{◌≡◌, ◌↔◌, All, IsTrue, IfOk, length};
+ghost use Rattle.wasm_ast.specs.Ranged.{IsU32};
 
 use std::alloc::{AllocError, Global};
 use std::marker::Model;
@@ -68,5 +69,14 @@ impl Sequence<u8> {
         ensures { IsTrue result ↔ (self.now ≡ other.now) }
     {
         self.as_slice() == other.as_slice()
+    }
+}
+
+/// Shows that indices are in the range of their type.
+pub fn indices_ranged(indices: &[u32])
+    ensures { All IsU32 indices.now }
+{
+    for index in indices {
+        let _in_range = *index;
     }
 }

@@ -1,6 +1,6 @@
 -- The canonical encoding encodes its module.
-use Rattle.std.proofs.Common.{◌≡◌, ℕ, zero, suc, ◌+◌, ◌-◌, ◌*◌, ◌/◌, ◌%◌, ◌^◌, ◌<◌, ◌≤◌, Bool, true, false, cond, ltb, leb, leb, List, [], ◌∷◌, ◌++◌, length, replicate, refl, sym, ap, subst, ◌∙◌, append_assoc, arith, inl, inr}
-use Rattle.std.specs.Prelude.{IsUtf8, ◌⊎◌}
+use Rattle.std.proofs.Common.{◌≡◌, ℕ, zero, suc, ◌+◌, ◌-◌, ◌*◌, ◌/◌, ◌%◌, ◌^◌, ◌<◌, ◌≤◌, Bool, true, false, cond, ltb, leb, List, [], ◌∷◌, ◌++◌, length, replicate, Option, Some, None, refl, sym, ap, subst, ◌∙◌, append_assoc, arith, inl, inr}
+use Rattle.std.specs.Prelude.{IsUtf8, ◌⊎◌, All}
 use Rattle.std.specs.List.{flat_map, AllByRecursion}
 use Rattle.std.proofs.Math.Pow.{pow_mono}
 use Rattle.std.proofs.lemmas.Bool.{cases_lt, lt-ltb, le-ltb, ltb-true, ltb-false, leb-true}
@@ -8,21 +8,30 @@ use Rattle.std.proofs.lemmas.List.{append-nil, length-append, length-replicate}
 use Rattle.std.proofs.lemmas.List.Elements.{recursion_from_All}
 use Rattle.wasm_ast.specs.declared.values.ValType.{ValType}
 use Rattle.wasm_ast.specs.declared.values.FuncType.{FuncType}
+use Rattle.wasm_ast.specs.declared.values.Value.TheVariants.{I32, I64}
+use Rattle.wasm_ast.specs.declared.instr.BlockType.{BlockType}
+use Rattle.wasm_ast.specs.declared.instr.BlockType.TheVariants.{Empty, One}
+use Rattle.wasm_ast.specs.declared.instr.MemArg.{MemArg}
+use Rattle.wasm_ast.specs.declared.instr.Simple.{Simple}
+use Rattle.wasm_ast.specs.declared.instr.Simple.TheVariants.{Unreachable, Nop, Br, BrIf, BrTable, Return, Call, CallIndirect, Drop, Select, Local, Global, Load, Store, MemorySize, MemoryGrow, Const, Unary, Binary, Test, Compare, Convert}
+use Rattle.wasm_ast.specs.declared.module.Limits.{Limits}
+use Rattle.wasm_ast.specs.declared.module.Global as globals
+use Rattle.wasm_ast.specs.declared.module.Element.{Element}
+use Rattle.wasm_ast.specs.declared.module.Segment.{Segment}
 use Rattle.wasm_ast.specs.declared.module.Import.{Import}
 use Rattle.wasm_ast.specs.declared.module.Func.{Func}
+use Rattle.wasm_ast.specs.declared.module.ExportKind.TheVariants as kinds
 use Rattle.wasm_ast.specs.declared.module.Export.{Export}
 use Rattle.wasm_ast.specs.declared.module.Module.{Module}
-use Rattle.wasm_ast.specs.declared.values.Value.TheVariants.{I32, I64}
-use Rattle.wasm_ast.specs.declared.instr.Simple.{Simple}
-use Rattle.wasm_ast.specs.declared.instr.Simple.TheVariants.{Const, Drop, Br, Return, Call}
 use Rattle.wasm_ast.specs.Syntax.{Op, simple, block, loop, if', Ops, stop, next}
-use Rattle.wasm_ast.specs.Ranged.{RangedSimple, RangedOp, RangedOps, RangedImport, RangedFunc, RangedExport, Ranged, HasImportTexts, HasExportText, AreTexts}
+use Rattle.wasm_ast.specs.Ranged as ranged
+use Rattle.wasm_ast.specs.Ranged.{RangedSimple, RangedMemArg, RangedOp, RangedOps, RangedImport, RangedFunc, RangedMax, RangedLimits, RangedGlobal, RangedElement, RangedSegment, RangedExport, RangedStart, Ranged, HasImportTexts, HasExportText, AreTexts}
 use Rattle.wasm_ast.specs.Limits.{max_module_bytes, max_locals, FuncWithin}
 use Rattle.wasm_binary.specs.Numbers as numbers
 use Rattle.wasm_binary.specs.Numbers.{IsUnsigned, IsLastSigned, IsSigned}
-use Rattle.wasm_binary.specs.Opcodes.{end_byte, func_kind_byte, type_section, import_section, function_section, export_section, code_section, preamble}
-use Rattle.wasm_binary.specs.Grammar.{Form, AreItems, IsVector, IsSized, IsName, IsValType, IsFuncType, IsSimple, IsOp, AreOps, IsRun, locals_of, AreLocals, IsCode, IsEntry, kind_byte, IsImport, IsExport, IsSection, indices_of, UpToTypes, UpToImports, UpToFunctions, UpToExports, Spells}
-use Rattle.wasm_binary.specs.Canonical.{canon_unsigned, last_signed, is_last_signed, canon_signed, canon_number, canon_vector, canon_sized, canon_name, canon_val_type, canon_func_type, canon_simple, canon_op, canon_ops, runs_of, canon_run, canon_code, canon_entry, canon_import, canon_export, canon_section, canon, FitsLimits, HasSimpleForm, HasForm, HaveForms, HasEncoding}
+use Rattle.wasm_binary.specs.Opcodes.{mutability_byte, kind_byte, reserved_byte, else_byte, end_byte, type_section, import_section, function_section, table_section, memory_section, global_section, export_section, start_section, element_section, code_section, data_section, preamble}
+use Rattle.wasm_binary.specs.Grammar.{Form, AreItems, IsVector, IsSized, AreBytes, IsName, IsValType, IsFuncType, IsBlockType, AreSizes, IsLimits, IsMemArg, AreImmediates, IsOp, AreOps, IsExpression, IsRun, locals_of, IsCode, IsEntry, IsImport, IsTable, IsGlobal, IsExport, IsStart, IsElement, IsSegment, IsMemory, IsPart, IsSection, AreLocals, indices_of, UpToTypes, UpToImports, UpToFunctions, UpToTables, UpToMemories, UpToGlobals, UpToExports, UpToStart, UpToElements, UpToCodes, Spells}
+use Rattle.wasm_binary.specs.Canonical.{canon_unsigned, last_signed, is_last_signed, canon_signed, canon_number, canon_vector, canon_sized, canon_name, canon_val_type, canon_func_type, canon_block_type, canon_max, limits_byte, canon_limits, canon_mem_arg, canon_immediates, canon_op, canon_ops, runs_of, canon_run, canon_code, canon_entry, canon_expression, canon_import, canon_table, canon_global, canon_export, canon_element, canon_segment, canon_section, canon_start, canon_front, canon_stores, canon_middle, canon, FitsLimits}
 use Rattle.wasm_binary.proofs.Powers.{small}
 use Rattle.wasm_binary.proofs.WriteNumbers.{bits_left, not_last, high_bits}
 use Rattle.wasm_binary.proofs.LocalRuns.{locals_runs}
@@ -85,8 +94,11 @@ number_then n others rest lt = rw append_assoc (number_spells n (others ++ rest)
 sized_spells : {X : Type 0} (IsX : Form X) (part : List ℕ) (x : X) (rest : List ℕ) → length (canon_sized part) ≤ max_module_bytes → IsX part x [] → IsSized IsX (canon_sized part ++ rest) x rest
 sized_spells IsX part x rest few h = (part, part ++ rest, number_then (length part) part rest (omega (arith, length-append (canon_number (length part)) part)), refl, h)
 
+bytes_spells : (bytes rest : List ℕ) → length (canon_sized bytes) ≤ max_module_bytes → AreBytes (canon_sized bytes ++ rest) bytes rest
+bytes_spells bytes rest few = (bytes ++ rest, number_then (length bytes) bytes rest (omega (arith, length-append (canon_number (length bytes)) bytes)), refl)
+
 name_spells : (bytes rest : List ℕ) → length (canon_name bytes) ≤ max_module_bytes → IsUtf8 bytes → IsName (canon_name bytes ++ rest) bytes rest
-name_spells bytes rest few h = (bytes ++ rest, number_then (length bytes) bytes rest (omega (arith, length-append (canon_number (length bytes)) bytes)), refl, h)
+name_spells bytes rest few h = (bytes_spells bytes rest few, h)
 
 items_spells : {X : Type 0} (IsX : Form X) (encoding : X → List ℕ) (P : X → Type 0) → ((x : X) (rest : List ℕ) → P x → length (encoding x) ≤ max_module_bytes → IsX (encoding x ++ rest) x rest)
     → (xs : List X) (rest : List ℕ) → AllByRecursion P xs → length (flat_map encoding xs) ≤ max_module_bytes → AreItems IsX (flat_map encoding xs ++ rest) xs rest
@@ -134,25 +146,123 @@ all_func_types : (ts : List FuncType) → AllByRecursion (λ t. Unit {0}) ts
 all_func_types [] = tt
 all_func_types (t ∷ ts) = (tt, all_func_types ts)
 
+block_type_spells : (t : BlockType) (rest : List ℕ) → IsBlockType (canon_block_type t ++ rest) t rest
+block_type_spells Empty rest = refl
+block_type_spells (One t) rest = refl
+
+sizes_spells : (min : ℕ) (max : Option ℕ) (rest : List ℕ) → ranged.IsU32 min → RangedMax max → AreSizes (limits_byte max ∷ ((canon_number min ++ canon_max max) ++ rest)) min max rest
+sizes_spells min None rest h k = ((canon_number min ++ []) ++ rest, refl, number_then min [] rest h)
+sizes_spells min (Some max) rest h k = ((canon_number min ++ canon_number max) ++ rest, canon_number max ++ rest, refl, number_then min (canon_number max) rest h, number_spells max rest k)
+
+limits_spells : (l : Limits) (rest : List ℕ) → RangedLimits l → IsLimits (canon_limits l ++ rest) l rest
+limits_spells l rest h = sizes_spells l.min l.max rest h.0 h.1
+
 -- ---- instructions
 
-simple_spells : (s : Simple) (rest : List ℕ) → RangedSimple s → HasSimpleForm s → IsSimple (canon_simple s ++ rest) s rest
-simple_spells (Const (I32 n)) rest small h = (canon_signed 4 32 n ++ rest, refl, signed_spells 4 32 n rest small (omega arith) (omega arith))
-simple_spells (Const (I64 n)) rest small h = absurd h
-simple_spells Drop rest small h = refl
-simple_spells (Br label) rest small h = absurd h
-simple_spells Return rest small h = absurd h
-simple_spells (Call f) rest small h = (canon_number f ++ rest, refl, number_spells f rest small)
+index_spells : (n : ℕ) (rest : List ℕ) → n < 2 ^ 32 → length (canon_number n) ≤ max_module_bytes → numbers.IsU32 (canon_number n ++ rest) n rest
+index_spells n rest small few = number_spells n rest small
 
-op_spells : (o : Op) (rest : List ℕ) → RangedOp o → HasForm o → IsOp (canon_op o ++ rest) o rest
-op_spells (simple s) rest small h = simple_spells s rest small h
-op_spells (block type body) rest small h = absurd h
-op_spells (loop type body) rest small h = absurd h
-op_spells (if' type then_arm else_arm) rest small h = absurd h
+indices_spell : (ns : List ℕ) (rest : List ℕ) → All ranged.IsU32 ns → length (canon_vector canon_number ns) ≤ max_module_bytes → IsVector numbers.IsU32 (canon_vector canon_number ns ++ rest) ns rest
+indices_spell ns rest all few = vector_spells numbers.IsU32 canon_number (λ n. n < 2 ^ 32) index_spells (unsigned_some 9) ns rest (recursion_from_All ranged.IsU32 ns all) few
 
-ops_spells : (os : Ops) (rest : List ℕ) → RangedOps os → HaveForms os → AreOps (canon_ops os ++ rest) os rest
-ops_spells stop rest small h = refl
-ops_spells (next o os) rest small h = (canon_ops os ++ rest, rw append_assoc (op_spells o (canon_ops os ++ rest) small.0 h.0), ops_spells os rest small.1 h.1)
+mem_arg_spells : (at : MemArg) (rest : List ℕ) → RangedMemArg at → IsMemArg (canon_mem_arg at ++ rest) at rest
+mem_arg_spells at rest h = (canon_number at.offset ++ rest, number_then at.align (canon_number at.offset) rest h.0, number_spells at.offset rest h.1)
+
+immediates_spell : (s : Simple) (rest : List ℕ) → RangedSimple s → length (canon_immediates s) ≤ max_module_bytes → AreImmediates (canon_immediates s ++ rest) s rest
+immediates_spell (Br label) rest h few = number_spells label rest h
+immediates_spell (BrIf label) rest h few = number_spells label rest h
+immediates_spell (Call func) rest h few = number_spells func rest h
+immediates_spell (Local op index) rest h few = number_spells index rest h
+immediates_spell (Global op index) rest h few = number_spells index rest h
+immediates_spell (Load op at) rest h few = mem_arg_spells at rest h
+immediates_spell (Store op at) rest h few = mem_arg_spells at rest h
+immediates_spell (BrTable labels other) rest h few =
+    let k = length-append (canon_vector canon_number labels) (canon_number other) in
+    (canon_number other ++ rest, rw (append_assoc (canon_vector canon_number labels) (canon_number other) rest) (indices_spell labels (canon_number other ++ rest) h.0 (omega arith)), number_spells other rest h.1)
+immediates_spell (CallIndirect index) rest h few = number_then index (reserved_byte ∷ []) rest h
+immediates_spell (Const (I32 n)) rest h few = signed_spells 4 32 n rest h (omega arith) (omega arith)
+immediates_spell (Const (I64 n)) rest h few = signed_spells 9 64 n rest h (omega arith) (omega arith)
+immediates_spell Unreachable rest h few = refl
+immediates_spell Nop rest h few = refl
+immediates_spell Return rest h few = refl
+immediates_spell Drop rest h few = refl
+immediates_spell Select rest h few = refl
+immediates_spell MemorySize rest h few = refl
+immediates_spell MemoryGrow rest h few = refl
+immediates_spell (Unary t op) rest h few = refl
+immediates_spell (Binary t op) rest h few = refl
+immediates_spell (Test t op) rest h few = refl
+immediates_spell (Compare t op) rest h few = refl
+immediates_spell (Convert op) rest h few = refl
+
+-- the parts of an instruction that has bodies, in order
+three : (t b c rest : List ℕ) → (t ++ b ++ c) ++ rest ≡ t ++ (b ++ (c ++ rest))
+three t b c rest = simp append_assoc
+
+five : (t a e b c rest : List ℕ) → (t ++ a ++ e ++ b ++ c) ++ rest ≡ t ++ (a ++ (e ++ (b ++ (c ++ rest))))
+five t a e b c rest = simp append_assoc
+
+three_long : (t b c : List ℕ) (most : ℕ) → length (t ++ b ++ c) ≤ most → length b ≤ most
+three_long t b c most h = omega (arith, length-append (t ++ b) c, length-append t b)
+
+five_long : (t a e b c : List ℕ) (most : ℕ) → length (t ++ a ++ e ++ b ++ c) ≤ most → (length a ≤ most) × (length b ≤ most)
+five_long t a e b c most h =
+    let one = length-append (t ++ a ++ e ++ b) c in
+    let two = length-append (t ++ a ++ e) b in
+    let three = length-append (t ++ a) e in
+    let four = length-append t a in
+    (omega arith, omega arith)
+
+mutual
+  op_spells : (o : Op) (rest : List ℕ) → RangedOp o → length (canon_op o) ≤ max_module_bytes → IsOp (canon_op o ++ rest) o rest
+  op_spells (simple s) rest h few = (canon_immediates s ++ rest, refl, immediates_spell s rest h (omega arith))
+  op_spells (block type body) rest h few =
+      let mid = canon_ops body ++ (end_byte ∷ rest) in (
+        (canon_block_type type ++ canon_ops body ++ end_byte ∷ []) ++ rest,
+        mid,
+        refl,
+        subst (λ bytes. IsBlockType bytes type mid) (sym (three (canon_block_type type) (canon_ops body) (end_byte ∷ []) rest)) (block_type_spells type mid),
+        ops_spell body (end_byte ∷ rest) h (three_long (canon_block_type type) (canon_ops body) (end_byte ∷ []) max_module_bytes (omega arith)),
+      )
+  op_spells (loop type body) rest h few =
+      let mid = canon_ops body ++ (end_byte ∷ rest) in (
+        (canon_block_type type ++ canon_ops body ++ end_byte ∷ []) ++ rest,
+        mid,
+        refl,
+        subst (λ bytes. IsBlockType bytes type mid) (sym (three (canon_block_type type) (canon_ops body) (end_byte ∷ []) rest)) (block_type_spells type mid),
+        ops_spell body (end_byte ∷ rest) h (three_long (canon_block_type type) (canon_ops body) (end_byte ∷ []) max_module_bytes (omega arith)),
+      )
+  op_spells (if' type first stop) rest h few =
+      let mid = canon_ops first ++ (end_byte ∷ rest) in
+      let long = five_long (canon_block_type type) (canon_ops first) [] [] (end_byte ∷ []) max_module_bytes (omega arith) in (
+        (canon_block_type type ++ canon_ops first ++ [] ++ [] ++ end_byte ∷ []) ++ rest,
+        mid,
+        refl,
+        subst (λ bytes. IsBlockType bytes type mid) (sym (five (canon_block_type type) (canon_ops first) [] [] (end_byte ∷ []) rest)) (block_type_spells type mid),
+        inl (ops_spell first (end_byte ∷ rest) h.0 long.0, refl),
+      )
+  op_spells (if' type first (next o os)) rest h few =
+      let second = canon_ops (next o os) in
+      let from = second ++ (end_byte ∷ rest) in
+      let mid = canon_ops first ++ (else_byte ∷ from) in
+      let long = five_long (canon_block_type type) (canon_ops first) (else_byte ∷ []) second (end_byte ∷ []) max_module_bytes (omega arith) in (
+        (canon_block_type type ++ canon_ops first ++ (else_byte ∷ []) ++ second ++ end_byte ∷ []) ++ rest,
+        mid,
+        refl,
+        subst (λ bytes. IsBlockType bytes type mid) (sym (five (canon_block_type type) (canon_ops first) (else_byte ∷ []) second (end_byte ∷ []) rest)) (block_type_spells type mid),
+        inr (from, ops_spell first (else_byte ∷ from) h.0 long.0, ops_spell (next o os) (end_byte ∷ rest) h.1 long.1),
+      )
+
+  ops_spell : (os : Ops) (rest : List ℕ) → RangedOps os → length (canon_ops os) ≤ max_module_bytes → AreOps (canon_ops os ++ rest) os rest
+  ops_spell stop rest h few = refl
+  ops_spell (next o os) rest h few =
+      let k = length-append (canon_op o) (canon_ops os) in
+      (canon_ops os ++ rest, rw append_assoc (op_spells o (canon_ops os ++ rest) h.0 (omega arith)), ops_spell os rest h.1 (omega arith))
+
+expression_spells : (os : Ops) (rest : List ℕ) → RangedOps os → length (canon_expression os) ≤ max_module_bytes → IsExpression (canon_expression os ++ rest) os rest
+expression_spells os rest h few =
+    let k = length-append (canon_ops os) (end_byte ∷ []) in
+    rw (append_assoc (canon_ops os) (end_byte ∷ []) rest) (ops_spell os (end_byte ∷ rest) h (omega arith))
 
 -- ---- code
 
@@ -168,8 +278,8 @@ all_runs (r ∷ runs) few =
     let k : length (locals_of (r ∷ runs)) ≡ r.0 + length (locals_of runs) = omega (arith, length-append (replicate r.0 r.1) (locals_of runs), length-replicate r.0 r.1) in
     (omega arith, all_runs runs (omega arith))
 
-code_spells : (f : Func) → RangedFunc f → HaveForms f.body → length f.locals ≤ max_locals → length (canon_code f) ≤ max_module_bytes → IsCode (canon_code f) f []
-code_spells f small forms few short =
+code_spells : (f : Func) → RangedFunc f → length f.locals ≤ max_locals → length (canon_code f) ≤ max_module_bytes → IsCode (canon_code f) f []
+code_spells f small few short =
     let whole : length (canon_code f) ≡ length (canon_vector canon_run (runs_of f.locals)) + length (canon_ops f.body ++ end_byte ∷ []) =
     ap length (append_assoc (canon_vector canon_run (runs_of f.locals)) (canon_ops f.body) (end_byte ∷ [])) ∙ length-append (canon_vector canon_run (runs_of f.locals)) (canon_ops f.body ++ end_byte ∷ []) in (
       canon_ops f.body ++ end_byte ∷ [],
@@ -179,49 +289,46 @@ code_spells f small forms few short =
         sym (locals_runs f.locals),
         omega arith,
       ),
-      ops_spells f.body (end_byte ∷ []) small.1 forms,
+      ops_spell f.body (end_byte ∷ []) small.1 (omega (arith, length-append (canon_ops f.body) (end_byte ∷ []))),
     )
 
 -- what is known of a function
 abbrev Known : Func → Type 0
-Known f = RangedFunc f × HaveForms f.body × (length f.locals ≤ max_locals)
+Known f = RangedFunc f × (length f.locals ≤ max_locals)
 
 entry_spells : (f : Func) (rest : List ℕ) → Known f → length (canon_entry f) ≤ max_module_bytes → IsEntry (canon_entry f ++ rest) f rest
-entry_spells f rest known few = sized_spells IsCode (canon_code f) f rest few (code_spells f known.0 known.1 known.2 (omega (arith, length-append (canon_number (length (canon_code f))) (canon_code f))))
+entry_spells f rest known few = sized_spells IsCode (canon_code f) f rest few (code_spells f known.0 known.1 (omega (arith, length-append (canon_number (length (canon_code f))) (canon_code f))))
 
 entry_some : (f : Func) → 0 < length (canon_entry f)
 entry_some f = omega (arith, unsigned_some 9 (length (canon_code f)), length-append (canon_number (length (canon_code f))) (canon_code f))
 
-all_known : (types : List FuncType) (fs : List Func) → AllByRecursion RangedFunc fs → AllByRecursion (λ f. HaveForms f.body) fs → AllByRecursion (FuncWithin types) fs → AllByRecursion Known fs
-all_known types [] a b c = tt
-all_known types (f ∷ fs) a b c = ((a.0, b.0, let few = c.0.locals in omega arith), all_known types fs a.1 b.1 c.1)
-
-index_spells : (n : ℕ) (rest : List ℕ) → n < 2 ^ 32 → length (canon_number n) ≤ max_module_bytes → numbers.IsU32 (canon_number n ++ rest) n rest
-index_spells n rest small few = number_spells n rest small
+all_known : (types : List FuncType) (fs : List Func) → AllByRecursion RangedFunc fs → AllByRecursion (FuncWithin types) fs → AllByRecursion Known fs
+all_known types [] a c = tt
+all_known types (f ∷ fs) a c = ((a.0, let few = c.0.locals in omega arith), all_known types fs a.1 c.1)
 
 all_indices : (fs : List Func) → AllByRecursion RangedFunc fs → AllByRecursion (λ n. n < 2 ^ 32) (indices_of fs)
 all_indices [] a = tt
 all_indices (f ∷ fs) a = (a.0.0, all_indices fs a.1)
 
--- ---- imports and exports
+-- ---- the items of the other sections
 
 import_spells : (i : Import) (rest : List ℕ) → RangedImport i × HasImportTexts i → length (canon_import i) ≤ max_module_bytes → IsImport (canon_import i ++ rest) i rest
 import_spells i rest h few =
-    let one = length-append (canon_name i.module ++ canon_name i.name) (func_kind_byte ∷ canon_number i.type_index) in
+    let one = length-append (canon_name i.module ++ canon_name i.name) (kind_byte kinds.Func ∷ canon_number i.type_index) in
     let two = length-append (canon_name i.module) (canon_name i.name) in
-    let parts : canon_import i ++ rest ≡ canon_name i.module ++ (canon_name i.name ++ (func_kind_byte ∷ (canon_number i.type_index ++ rest))) =
-    append_assoc (canon_name i.module ++ canon_name i.name) (func_kind_byte ∷ canon_number i.type_index) rest ∙ append_assoc (canon_name i.module) (canon_name i.name) (func_kind_byte ∷ (canon_number i.type_index ++ rest)) in (
-      canon_name i.name ++ (func_kind_byte ∷ (canon_number i.type_index ++ rest)),
-      func_kind_byte ∷ (canon_number i.type_index ++ rest),
+    let parts : canon_import i ++ rest ≡ canon_name i.module ++ (canon_name i.name ++ (kind_byte kinds.Func ∷ (canon_number i.type_index ++ rest))) =
+    append_assoc (canon_name i.module ++ canon_name i.name) (kind_byte kinds.Func ∷ canon_number i.type_index) rest ∙ append_assoc (canon_name i.module) (canon_name i.name) (kind_byte kinds.Func ∷ (canon_number i.type_index ++ rest)) in (
+      canon_name i.name ++ (kind_byte kinds.Func ∷ (canon_number i.type_index ++ rest)),
+      kind_byte kinds.Func ∷ (canon_number i.type_index ++ rest),
       canon_number i.type_index ++ rest,
-      subst (λ bytes. IsName bytes i.module (canon_name i.name ++ (func_kind_byte ∷ (canon_number i.type_index ++ rest)))) (sym parts) (name_spells i.module (canon_name i.name ++ (func_kind_byte ∷ (canon_number i.type_index ++ rest))) (omega arith) h.1.0),
-      name_spells i.name (func_kind_byte ∷ (canon_number i.type_index ++ rest)) (omega arith) h.1.1,
+      subst (λ bytes. IsName bytes i.module (canon_name i.name ++ (kind_byte kinds.Func ∷ (canon_number i.type_index ++ rest)))) (sym parts) (name_spells i.module (canon_name i.name ++ (kind_byte kinds.Func ∷ (canon_number i.type_index ++ rest))) (omega arith) h.1.0),
+      name_spells i.name (kind_byte kinds.Func ∷ (canon_number i.type_index ++ rest)) (omega arith) h.1.1,
       refl,
       number_spells i.type_index rest h.0,
     )
 
 import_some : (i : Import) → 0 < length (canon_import i)
-import_some i = omega (arith, length-append (canon_name i.module ++ canon_name i.name) (func_kind_byte ∷ canon_number i.type_index))
+import_some i = omega (arith, length-append (canon_name i.module ++ canon_name i.name) (kind_byte kinds.Func ∷ canon_number i.type_index))
 
 export_spells : (e : Export) (rest : List ℕ) → RangedExport e × HasExportText e → length (canon_export e) ≤ max_module_bytes → IsExport (canon_export e ++ rest) e rest
 export_spells e rest h few =
@@ -235,6 +342,62 @@ export_spells e rest h few =
 
 export_some : (e : Export) → 0 < length (canon_export e)
 export_some e = omega (arith, length-append (canon_name e.name) (kind_byte e.kind ∷ canon_number e.index))
+
+table_spells : (l : Limits) (rest : List ℕ) → RangedLimits l → length (canon_table l) ≤ max_module_bytes → IsTable (canon_table l ++ rest) l rest
+table_spells l rest h few = (canon_limits l ++ rest, refl, limits_spells l rest h)
+
+table_some : (l : Limits) → 0 < length (canon_table l)
+table_some l = omega arith
+
+memory_spells : (l : Limits) (rest : List ℕ) → RangedLimits l → length (canon_limits l) ≤ max_module_bytes → IsMemory (canon_limits l ++ rest) l rest
+memory_spells l rest h few = limits_spells l rest h
+
+memory_some : (l : Limits) → 0 < length (canon_limits l)
+memory_some l = omega arith
+
+global_spells : (g : globals.Global) (rest : List ℕ) → RangedGlobal g → length (canon_global g) ≤ max_module_bytes → IsGlobal (canon_global g ++ rest) g rest
+global_spells g rest h few = (
+  mutability_byte g.mutability ∷ (canon_expression g.init ++ rest),
+  canon_expression g.init ++ rest,
+  refl,
+  refl,
+  expression_spells g.init rest h (omega arith),
+)
+
+global_some : (g : globals.Global) → 0 < length (canon_global g)
+global_some g = omega arith
+
+element_spells : (e : Element) (rest : List ℕ) → RangedElement e → length (canon_element e) ≤ max_module_bytes → IsElement (canon_element e ++ rest) e rest
+element_spells e rest h few =
+    let offset = canon_expression e.offset in
+    let funcs = canon_vector canon_number e.funcs in
+    let one = length-append (canon_number e.table) (offset ++ funcs) in
+    let two = length-append offset funcs in (
+      (offset ++ funcs) ++ rest,
+      funcs ++ rest,
+      number_then e.table (offset ++ funcs) rest h.0,
+      rw (append_assoc offset funcs rest) (expression_spells e.offset (funcs ++ rest) h.1 (omega arith)),
+      indices_spell e.funcs rest h.2 (omega arith),
+    )
+
+element_some : (e : Element) → 0 < length (canon_element e)
+element_some e = omega (arith, unsigned_some 9 e.table, length-append (canon_number e.table) (canon_expression e.offset ++ canon_vector canon_number e.funcs))
+
+segment_spells : (s : Segment) (rest : List ℕ) → RangedSegment s → length (canon_segment s) ≤ max_module_bytes → IsSegment (canon_segment s ++ rest) s rest
+segment_spells s rest h few =
+    let offset = canon_expression s.offset in
+    let contents = canon_sized s.bytes in
+    let one = length-append (canon_number s.memory) (offset ++ contents) in
+    let two = length-append offset contents in (
+      (offset ++ contents) ++ rest,
+      contents ++ rest,
+      number_then s.memory (offset ++ contents) rest h.0,
+      rw (append_assoc offset contents rest) (expression_spells s.offset (contents ++ rest) h.1 (omega arith)),
+      bytes_spells s.bytes rest (omega arith),
+    )
+
+segment_some : (s : Segment) → 0 < length (canon_segment s)
+segment_some s = omega (arith, unsigned_some 9 s.memory, length-append (canon_number s.memory) (canon_expression s.offset ++ canon_sized s.bytes))
 
 all_both : {X : Type 0} (P Q : X → Type 0) (xs : List X) → AllByRecursion P xs → AllByRecursion Q xs → AllByRecursion (λ x. P x × Q x) xs
 all_both P Q [] a b = tt
@@ -256,75 +419,164 @@ section_spells id IsX encoding P each some (x ∷ xs) rest all few =
       ([], refl),
     )
 
--- what follows the preamble
-abbrev Sections : (a b c d e : List ℕ) → List ℕ
-Sections a b c d e = a ++ (b ++ (c ++ (d ++ (e ++ []))))
+start_spells : (x : Option ℕ) (rest : List ℕ) → RangedStart x → length (canon_start x) ≤ max_module_bytes → IsPart start_section IsStart None (canon_start x ++ rest) x rest
+start_spells None rest h few = inr (refl, refl)
+start_spells (Some f) rest h few =
+    inl (
+      canon_sized (canon_number f) ++ rest,
+      rest,
+      refl,
+      sized_spells IsStart (canon_number f) (Some f) rest (omega arith) (subst (λ bytes. numbers.IsU32 bytes f []) (append-nil (canon_number f)) (number_spells f [] h)),
+      ([], refl),
+    )
 
-in_order : (a b c d e : List ℕ) → preamble ++ a ++ b ++ c ++ d ++ e ≡ preamble ++ Sections a b c d e
-in_order a b c d e = ap (λ (xs : List ℕ). preamble ++ xs)
-    (append_assoc (a ++ b ++ c) d e ∙ append_assoc (a ++ b) c (d ++ e) ∙ append_assoc a b (c ++ (d ++ e)) ∙ ap (λ (xs : List ℕ). a ++ (b ++ (c ++ (d ++ xs)))) (sym (append-nil e)))
+in_order : (t i f tb me g x st e c d : List ℕ) → (t ++ i ++ f) ++ (tb ++ me ++ g) ++ (x ++ st ++ e) ++ c ++ d ≡ t ++ (i ++ (f ++ (tb ++ (me ++ (g ++ (x ++ (st ++ (e ++ (c ++ (d ++ []))))))))))
+in_order t i f tb me g x st e c d = sym (append-nil ((t ++ i ++ f) ++ (tb ++ me ++ g) ++ (x ++ st ++ e) ++ c ++ d)) ∙ simp append_assoc
 
 -- each part of an encoding that is short enough is so too
 record Short (m : Module) : Type 0 where
   pub types : length (canon_section type_section canon_func_type m.types) ≤ max_module_bytes
   pub imports : length (canon_section import_section canon_import m.imports) ≤ max_module_bytes
   pub functions : length (canon_section function_section canon_number (indices_of m.funcs)) ≤ max_module_bytes
+  pub tables : length (canon_section table_section canon_table m.tables) ≤ max_module_bytes
+  pub memories : length (canon_section memory_section canon_limits m.memories) ≤ max_module_bytes
+  pub globals : length (canon_section global_section canon_global m.globals) ≤ max_module_bytes
   pub exports : length (canon_section export_section canon_export m.exports) ≤ max_module_bytes
+  pub start : length (canon_start m.start) ≤ max_module_bytes
+  pub elements : length (canon_section element_section canon_element m.elements) ≤ max_module_bytes
   pub codes : length (canon_section code_section canon_entry m.funcs) ≤ max_module_bytes
+  pub segments : length (canon_section data_section canon_segment m.segments) ≤ max_module_bytes
+
+three_short : (a b c : List ℕ) (most : ℕ) → length (a ++ b ++ c) ≤ most → (length a ≤ most) × (length b ≤ most) × (length c ≤ most)
+three_short a b c most h =
+    let one = length-append (a ++ b) c in
+    let two = length-append a b in
+    (omega arith, omega arith, omega arith)
+
+five_short : (a b c d e : List ℕ) (most : ℕ) → length (preamble ++ a ++ b ++ c ++ d ++ e) ≤ most → (length a ≤ most) × (length b ≤ most) × (length c ≤ most) × (length d ≤ most) × (length e ≤ most)
+five_short a b c d e most h =
+    let one = length-append (preamble ++ a ++ b ++ c ++ d) e in
+    let two = length-append (preamble ++ a ++ b ++ c) d in
+    let three = length-append (preamble ++ a ++ b) c in
+    let four = length-append (preamble ++ a) b in
+    let five = length-append preamble a in
+    (omega arith, omega arith, omega arith, omega arith, omega arith)
 
 short : (m : Module) → length (canon m) ≤ max_module_bytes → Short m
 short m few =
-    let s1 = canon_section type_section canon_func_type m.types in
-    let s2 = canon_section import_section canon_import m.imports in
-    let s3 = canon_section function_section canon_number (indices_of m.funcs) in
-    let s7 = canon_section export_section canon_export m.exports in
-    let s10 = canon_section code_section canon_entry m.funcs in
-    let l10 = length-append (preamble ++ s1 ++ s2 ++ s3 ++ s7) s10 in
-    let l7 = length-append (preamble ++ s1 ++ s2 ++ s3) s7 in
-    let l3 = length-append (preamble ++ s1 ++ s2) s3 in
-    let l2 = length-append (preamble ++ s1) s2 in
-    let l1 = length-append preamble s1 in
-    record { types = omega arith; imports = omega arith; functions = omega arith; exports = omega arith; codes = omega arith }
+    let t = canon_section type_section canon_func_type m.types in
+    let i = canon_section import_section canon_import m.imports in
+    let f = canon_section function_section canon_number (indices_of m.funcs) in
+    let tb = canon_section table_section canon_table m.tables in
+    let me = canon_section memory_section canon_limits m.memories in
+    let g = canon_section global_section canon_global m.globals in
+    let x = canon_section export_section canon_export m.exports in
+    let st = canon_start m.start in
+    let e = canon_section element_section canon_element m.elements in
+    let c = canon_section code_section canon_entry m.funcs in
+    let d = canon_section data_section canon_segment m.segments in
+    let parts = five_short (canon_front m) (canon_stores m) (canon_middle m) c d max_module_bytes few in
+    let front = three_short t i f max_module_bytes parts.0 in
+    let stores = three_short tb me g max_module_bytes parts.1 in
+    let middle = three_short x st e max_module_bytes parts.2 in
+    record {
+      types = front.0;
+      imports = front.1;
+      functions = front.2;
+      tables = stores.0;
+      memories = stores.1;
+      globals = stores.2;
+      exports = middle.0;
+      start = middle.1;
+      elements = middle.2;
+      codes = parts.3;
+      segments = parts.4;
+    }
 
-pub canon_spells : (m : Module) → Ranged m → AreTexts m → FitsLimits m → HasEncoding m → Spells (canon m) m
-canon_spells m ranged texts fits has =
+pub canon_spells : (m : Module) → Ranged m → AreTexts m → FitsLimits m → Spells (canon m) m
+canon_spells m ranged texts fits =
     let few : Short m = short m fits.1 in
-    let s1 = canon_section type_section canon_func_type m.types in
-    let s2 = canon_section import_section canon_import m.imports in
-    let s3 = canon_section function_section canon_number (indices_of m.funcs) in
-    let s7 = canon_section export_section canon_export m.exports in
-    let s10 = canon_section code_section canon_entry m.funcs in
+    let t = canon_section type_section canon_func_type m.types in
+    let i = canon_section import_section canon_import m.imports in
+    let f = canon_section function_section canon_number (indices_of m.funcs) in
+    let tb = canon_section table_section canon_table m.tables in
+    let me = canon_section memory_section canon_limits m.memories in
+    let g = canon_section global_section canon_global m.globals in
+    let x = canon_section export_section canon_export m.exports in
+    let st = canon_start m.start in
+    let e = canon_section element_section canon_element m.elements in
+    let c = canon_section code_section canon_entry m.funcs in
+    let d = canon_section data_section canon_segment m.segments in
+    let r10 = d ++ [] in
+    let r9 = c ++ r10 in
+    let r8 = e ++ r9 in
+    let r7 = st ++ r8 in
+    let r6 = x ++ r7 in
+    let r5 = g ++ r6 in
+    let r4 = me ++ r5 in
+    let r3 = tb ++ r4 in
+    let r2 = f ++ r3 in
+    let r1 = i ++ r2 in
     let funcs = recursion_from_All RangedFunc m.funcs ranged.funcs in
-    let to_types : UpToTypes (canon m) m (s2 ++ (s3 ++ (s7 ++ (s10 ++ [])))) = record {
-      sections = Sections s1 s2 s3 s7 s10;
-      from_types = Sections s1 s2 s3 s7 s10;
-      begins = in_order s1 s2 s3 s7 s10;
+    let to_types : UpToTypes (canon m) m r1 = record {
+      sections = t ++ r1;
+      from_types = t ++ r1;
+      begins = ap (λ (xs : List ℕ). preamble ++ xs) (in_order t i f tb me g x st e c d);
       customs = ([], refl);
-      types = section_spells type_section IsFuncType canon_func_type (λ t. Unit {0}) func_type_spells func_type_some m.types (s2 ++ (s3 ++ (s7 ++ (s10 ++ [])))) (all_func_types m.types) few.types;
+      types = section_spells type_section IsFuncType canon_func_type (λ t. Unit {0}) func_type_spells func_type_some m.types r1 (all_func_types m.types) few.types;
     } in
-    let to_imports : UpToImports (canon m) m (s3 ++ (s7 ++ (s10 ++ []))) = record {
-      from_imports = s2 ++ (s3 ++ (s7 ++ (s10 ++ [])));
+    let to_imports : UpToImports (canon m) m r2 = record {
+      from_imports = r1;
       before = to_types;
-      imports = section_spells import_section IsImport canon_import (λ i. RangedImport i × HasImportTexts i) import_spells import_some m.imports (s3 ++ (s7 ++ (s10 ++ [])))
+      imports = section_spells import_section IsImport canon_import (λ i. RangedImport i × HasImportTexts i) import_spells import_some m.imports r2
           (all_both RangedImport HasImportTexts m.imports (recursion_from_All RangedImport m.imports ranged.imports) (recursion_from_All HasImportTexts m.imports texts.imports)) few.imports;
     } in
-    let to_functions : UpToFunctions (canon m) m (s7 ++ (s10 ++ [])) = record {
-      from_functions = s3 ++ (s7 ++ (s10 ++ []));
+    let to_functions : UpToFunctions (canon m) m r3 = record {
+      from_functions = r2;
       before = to_imports;
-      functions = section_spells function_section numbers.IsU32 canon_number (λ n. n < 2 ^ 32) index_spells (unsigned_some 9) (indices_of m.funcs) (s7 ++ (s10 ++ [])) (all_indices m.funcs funcs) few.functions;
+      functions = section_spells function_section numbers.IsU32 canon_number (λ n. n < 2 ^ 32) index_spells (unsigned_some 9) (indices_of m.funcs) r3 (all_indices m.funcs funcs) few.functions;
     } in
-    let to_exports : UpToExports (canon m) m (s10 ++ []) = record {
-      from_exports = s7 ++ (s10 ++ []);
+    let to_tables : UpToTables (canon m) m r4 = record {
+      from_tables = r3;
       before = to_functions;
-      exports = section_spells export_section IsExport canon_export (λ e. RangedExport e × HasExportText e) export_spells export_some m.exports (s10 ++ [])
+      tables = section_spells table_section IsTable canon_table RangedLimits table_spells table_some m.tables r4 (recursion_from_All RangedLimits m.tables ranged.tables) few.tables;
+    } in
+    let to_memories : UpToMemories (canon m) m r5 = record {
+      from_memories = r4;
+      before = to_tables;
+      memories = section_spells memory_section IsMemory canon_limits RangedLimits memory_spells memory_some m.memories r5 (recursion_from_All RangedLimits m.memories ranged.memories) few.memories;
+    } in
+    let to_globals : UpToGlobals (canon m) m r6 = record {
+      from_globals = r5;
+      before = to_memories;
+      globals = section_spells global_section IsGlobal canon_global RangedGlobal global_spells global_some m.globals r6 (recursion_from_All RangedGlobal m.globals ranged.globals) few.globals;
+    } in
+    let to_exports : UpToExports (canon m) m r7 = record {
+      from_exports = r6;
+      before = to_globals;
+      exports = section_spells export_section IsExport canon_export (λ e. RangedExport e × HasExportText e) export_spells export_some m.exports r7
           (all_both RangedExport HasExportText m.exports (recursion_from_All RangedExport m.exports ranged.exports) (recursion_from_All HasExportText m.exports texts.exports)) few.exports;
     } in
-    record {
-      from_codes = s10 ++ [];
+    let to_start : UpToStart (canon m) m r8 = record {
+      from_start = r7;
       before = to_exports;
-      codes = section_spells code_section IsEntry canon_entry Known entry_spells entry_some m.funcs []
-          (all_known m.types m.funcs funcs (recursion_from_All (λ f. HaveForms f.body) m.funcs has.bodies) (recursion_from_All (FuncWithin m.types) m.funcs fits.0.funcs)) few.codes;
-      calls = has.calls;
+      start = start_spells m.start r8 ranged.start few.start;
+    } in
+    let to_elements : UpToElements (canon m) m r9 = record {
+      from_elements = r8;
+      before = to_start;
+      elements = section_spells element_section IsElement canon_element RangedElement element_spells element_some m.elements r9 (recursion_from_All RangedElement m.elements ranged.elements) few.elements;
+    } in
+    let to_codes : UpToCodes (canon m) m r10 = record {
+      from_codes = r9;
+      before = to_elements;
+      codes = section_spells code_section IsEntry canon_entry Known entry_spells entry_some m.funcs r10
+          (all_known m.types m.funcs funcs (recursion_from_All (FuncWithin m.types) m.funcs fits.0.funcs)) few.codes;
+    } in
+    record {
+      from_segments = r10;
+      before = to_codes;
+      segments = section_spells data_section IsSegment canon_segment RangedSegment segment_spells segment_some m.segments [] (recursion_from_All RangedSegment m.segments ranged.segments) few.segments;
     }
 
 -- ---- locals

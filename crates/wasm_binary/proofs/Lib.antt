@@ -4,8 +4,13 @@ pub mod FirstByte
 pub mod ItemLoop
 pub mod ReadLoops
 pub mod ReadSound
+pub mod InstrSound
+pub mod ItemSound
 pub mod ModuleSound
 pub mod ReadComplete
+pub mod InstrTable
+pub mod InstrComplete
+pub mod ItemComplete
 pub mod ModuleComplete
 pub mod LimitComplete
 pub mod DecodeClauses

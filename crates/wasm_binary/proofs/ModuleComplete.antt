@@ -1,89 +1,21 @@
--- The readers of code, sections and modules are complete, but for limits. A reader that is not limited tests
+-- The readers of sections and modules are complete, but for limits. A reader that is not limited tests
 -- none, so it answers whatever bytes encode.
-use Rattle.std.proofs.Common.{◌≡◌, ℕ, zero, suc, ◌+◌, ◌<◌, ◌≤◌, Bool, true, false, ltb, eqb, List, [], ◌∷◌, ◌++◌, length, drop, replicate, Result, Ok, Err, refl, sym, ap, subst, arith, inl, inr}
-use Rattle.std.specs.Prelude.{◌&&◌}
+use Rattle.std.proofs.Common.{◌≡◌, ℕ, zero, suc, ◌+◌, ◌<◌, ◌≤◌, Bool, true, false, List, [], ◌∷◌, ◌++◌, length, drop, None, refl, sym, ap, subst, arith, inl, inr}
 use Rattle.std.specs.List.{AllByRecursion}
-use Rattle.std.proofs.lemmas.Bool.{le-ltb, eq-eqb, eqb-true}
-use Rattle.std.proofs.lemmas.List.{length-append, length-replicate}
+use Rattle.std.proofs.lemmas.Bool.{eq-eqb}
 use Rattle.std.proofs.lemmas.List.Elements.{recursion_from_All}
-use Rattle.wasm_ast.specs.declared.values.ValType.{ValType}
-use Rattle.wasm_ast.specs.declared.values.FuncType.{FuncType}
-use Rattle.wasm_ast.specs.declared.module.Func.{Func}
+use Rattle.wasm_ast.specs.declared.module.Global.{Global}
+use Rattle.wasm_ast.specs.declared.module.Element.{Element}
+use Rattle.wasm_ast.specs.declared.module.Segment.{Segment}
 use Rattle.wasm_ast.specs.declared.module.Module.{Module}
-use Rattle.wasm_ast.specs.Limits.{max_module_bytes, max_functions, max_locals, params_of, FuncWithin, Within}
-use Rattle.wasm_ast.specs.Reaches.{Reaches}
-use Rattle.wasm_binary.specs.declared.fault.Fault.{Fault}
-use Rattle.wasm_binary.specs.declared.fault.Fault.TheVariants.{Bad, Over}
+use Rattle.wasm_ast.specs.Limits.{max_module_bytes, max_functions, max_table_entries, max_memory_pages, FuncWithin, MinWithin, NestsWithin, Within}
 use Rattle.wasm_binary.specs.Numbers.{IsU32}
-use Rattle.wasm_binary.specs.Opcodes.{custom_section, type_section, import_section, function_section, export_section, code_section, preamble}
-use Rattle.wasm_binary.specs.Grammar.{Form, AreItems, IsVector, IsSized, IsRun, locals_of, AreLocals, IsCode, IsEntry, IsFuncType, IsImport, IsExport, IsNamed, IsCustom, AreCustom, IsPart, IsSection, indices_of, UpToTypes, UpToImports, UpToFunctions, UpToExports, Spells}
-use Rattle.wasm_binary.specs.Inside.Reading.{Read, read_u32, begins_with, read_vector, read_runs, read_locals, read_code, read_entries, read_custom_name, skip_custom, skip_some_customs, skip_customs, read_section, read_functions, read_codes, read_func_type, read_import, read_export, strip_preamble, Head, read_head, read_sections, read_module}
-use Rattle.wasm_binary.proofs.ReadComplete.{Complete, Always, always, complete_ok, complete_then, complete_need, complete_first, complete_second, complete_within, begins_cons, u32_complete, type_complete, sized_complete, sized_takes, items_complete, vector_complete, name_complete, func_type_complete, expression_complete, import_complete, export_complete}
-
-complete_weaker : {X : Type 0} {W W' : Type 0} {x : X} {r : Result X Fault} → Complete W x r → (W' → W) → Complete W' x r
-complete_weaker {r = Ok y} h k = complete_ok h.complete
-complete_weaker {r = Err Bad} h k = absurd h.complete
-complete_weaker {r = Err Over} h k = record { complete = λ w. h.complete (k w) }
-
-false_by : (b : Bool) → (b ≡ true → ⊥) → b ≡ false
-false_by true h = absurd (h refl)
-false_by false h = refl
-
-differ : (a b : ℕ) → b < a → eqb a b ≡ false
-differ a b lt = false_by (eqb a b) (λ e. let k = eqb-true a b e in omega arith)
-
--- a test of a limit that is not passed
-unlimited : (limited : Bool) (most n : ℕ) → (limited ≡ true → n ≤ most) → (limited && ltb most n) ≡ false
-unlimited true most n h = le-ltb most n (h refl)
-unlimited false most n h = refl
-
--- ---- locals
-
-runs_complete : (limited : Bool) (before : ℕ) (runs : List (ℕ × ValType)) (bytes rest : List ℕ) → AreItems IsRun bytes runs rest
-    → Complete (limited ≡ true → before + length (locals_of runs) ≤ max_locals) (locals_of runs, rest) (read_runs limited before (length runs) bytes)
-unfolding read_runs
-runs_complete limited before [] bytes rest h = complete_ok (λ i. ([], sym h i))
-runs_complete limited before (run ∷ runs) bytes rest h =
-    let more : length (locals_of (run ∷ runs)) ≡ run.0 + length (locals_of runs) = omega (arith, length-append (replicate run.0 run.1) (locals_of runs), length-replicate run.0 run.1) in
-    complete_then _ (u32_complete bytes run.0 h.1.0 h.1.1)
-    (complete_within (λ w. unlimited limited max_locals (before + run.0) (λ l. let few = w l in omega arith))
-    (complete_then _ (type_complete run.1 h.1.0 h.0 h.1.2)
-    (complete_then _ (runs_complete limited (before + run.0) runs h.0 rest h.2) (complete_ok refl) (λ w l. let few = w l in omega arith)) always)) always
-
-locals_complete : (limited : Bool) (params : ℕ) (locals : List ValType) (bytes rest : List ℕ) → AreLocals bytes locals rest
-    → Complete (limited ≡ true → params + length locals ≤ max_locals) (locals, rest) (read_locals limited params bytes)
-unfolding read_locals
-locals_complete limited params locals bytes rest h =
-    complete_within (λ w. unlimited limited max_locals params (λ l. let few = w l in omega arith))
-    (complete_then _ (u32_complete bytes (length h.0) h.1.0 h.1.1)
-    (rw h.2 (runs_complete limited params h.0 h.1.0 rest h.1.2)) always)
-
--- ---- code
-
-pub code_complete : (limited : Bool) (imports params : ℕ) (f : Func) (bytes rest : List ℕ) → IsCode bytes f rest → Reaches imports f.body
-    → Complete (limited ≡ true → params + length f.locals ≤ max_locals) (f, rest) (read_code limited imports params f.type_index bytes)
-unfolding read_code
-code_complete limited imports params f bytes rest h k =
-    complete_then _ (locals_complete limited params f.locals bytes h.0 h.1) (complete_then _ (expression_complete imports f.body h.0 rest h.2 k) (complete_ok refl) always) (λ w. w)
-
-entries_complete : (limited : Bool) (types : List FuncType) (imports : ℕ) (fs : List Func) (bytes rest : List ℕ) → AreItems IsEntry bytes fs rest → AllByRecursion (λ f. Reaches imports f.body) fs
-    → Complete (limited ≡ true → AllByRecursion (FuncWithin types) fs) (fs, rest) (read_entries limited types imports (indices_of fs) bytes)
-unfolding read_entries
-entries_complete limited types imports [] bytes rest h r = complete_ok (λ i. ([], sym h i))
-entries_complete limited types imports (f ∷ fs) bytes rest h r =
-    complete_then _ (sized_complete IsCode (limited ≡ true → params_of types f.type_index + length f.locals ≤ max_locals) (read_code limited imports (params_of types f.type_index) f.type_index) f
-    (λ part k. code_complete limited imports (params_of types f.type_index) f part [] k r.0) bytes h.0 h.1)
-    (complete_then _ (entries_complete limited types imports fs h.0 rest h.2 r.1) (complete_ok refl) (λ w l. (w l).1)) (λ w l. (w l).0.locals)
-
-pub length_indices : (fs : List Func) → length (indices_of fs) ≡ length fs
-length_indices [] = refl
-length_indices (f ∷ fs) = ap suc (length_indices fs)
-
-codes_complete : (limited : Bool) (types : List FuncType) (imports : ℕ) (fs : List Func) (bytes rest : List ℕ) → IsVector IsEntry bytes fs rest → AllByRecursion (λ f. Reaches imports f.body) fs
-    → Complete (limited ≡ true → AllByRecursion (FuncWithin types) fs) (fs, rest) (read_codes limited types imports (indices_of fs) bytes)
-unfolding read_codes
-codes_complete limited types imports fs bytes rest h r =
-    complete_then _ (u32_complete bytes (length fs) h.0 h.1) (complete_need (eq-eqb (length fs) (length (indices_of fs)) (sym (length_indices fs))) (entries_complete limited types imports fs h.0 rest h.2 r)) always
+use Rattle.wasm_binary.specs.Opcodes.{custom_section, type_section, import_section, function_section, table_section, memory_section, global_section, export_section, start_section, element_section, code_section, data_section, preamble}
+use Rattle.wasm_binary.specs.Grammar.{Form, AreItems, IsVector, IsSized, IsEntry, IsFuncType, IsImport, IsTable, IsMemory, IsGlobal, IsExport, IsStart, IsElement, IsSegment, IsNamed, IsCustom, AreCustom, IsPart, IsSection, indices_of, UpToTypes, UpToImports, UpToFunctions, UpToGlobals, UpToElements, UpToCodes, Spells}
+use Rattle.wasm_binary.specs.Inside.Reading.{Read, read_u32, begins_with, read_vector, read_custom_name, skip_custom, skip_some_customs, skip_customs, read_part, read_section, read_functions, read_codes, read_func_type, read_import, read_size, read_global, read_export, read_start, read_element, read_segment, strip_preamble, Head, read_head, Stored, read_stores, Between, read_middle, read_funcs, read_last, read_sections, read_module}
+use Rattle.wasm_binary.proofs.ReadComplete.{Complete, Always, always, differ, unlimited, complete_ok, complete_then, complete_weaker, complete_need, complete_first, complete_second, complete_within, begins_cons, u32_complete, sized_complete, sized_takes, items_complete, vector_complete, vector_within, name_complete, func_type_complete}
+use Rattle.wasm_binary.proofs.InstrComplete.{index_complete}
+use Rattle.wasm_binary.proofs.ItemComplete.{length_indices, codes_complete, import_complete, table_complete, memory_complete, global_complete, export_complete, start_complete, element_complete, segment_complete}
 
 -- ---- sections
 
@@ -123,18 +55,18 @@ pub all_customs_complete : (bytes rest : List ℕ) → AreCustom bytes rest → 
 unfolding skip_customs
 all_customs_complete bytes rest h above = customs_complete h.0 (length bytes) bytes rest h.1 above (omega arith)
 
-pub section_complete : {X : Type 0} (id : ℕ) (IsXs : Form (List X)) (W : Type 0) (read : List ℕ → Read (List X)) (xs : List X) → ((part : List ℕ) → IsXs part xs [] → Complete W (xs, []) (read part))
-    → (bytes rest : List ℕ) → IsPart id IsXs [] bytes xs rest → Above id rest → Complete W (xs, rest) (read_section id read bytes)
-unfolding read_section
-section_complete id IsXs W read xs each bytes rest (inl h) above =
+pub part_complete : {X : Type 0} (id : ℕ) (IsXs : Form X) (W : Type 0) (read : List ℕ → Read X) (empty xs : X) → ((part : List ℕ) → IsXs part xs [] → Complete W (xs, []) (read part))
+    → (bytes rest : List ℕ) → IsPart id IsXs empty bytes xs rest → Above id rest → Complete W (xs, rest) (read_part id read empty bytes)
+unfolding read_part
+part_complete id IsXs W read empty xs each bytes rest (inl h) above =
     rw h.2 (complete_first _ (begins_cons id h.0)
     (complete_then _ (sized_complete IsXs W read xs each h.0 h.1 h.3) (complete_then _ (all_customs_complete h.1 rest h.4 (above_less id 0 rest above (omega arith))) (complete_ok refl) always) (λ w. w)))
-section_complete id IsXs W read xs each bytes rest (inr h) above =
+part_complete id IsXs W read empty xs each bytes rest (inr h) above =
     complete_second _ (above_not id id bytes (subst (Above id) h.1 above) (omega arith)) (complete_ok (λ i. (sym h.0 i, sym h.1 i)))
 
-pub section_above : {X : Type 0} (id j : ℕ) (IsXs : Form (List X)) (bytes : List ℕ) (xs : List X) (rest : List ℕ) → IsPart id IsXs [] bytes xs rest → Above id rest → j < id → Above j bytes
-section_above id j IsXs bytes xs rest (inl h) above lt = rw h.2 lt
-section_above id j IsXs bytes xs rest (inr h) above lt = subst (Above j) h.1 (above_less id j rest above (omega arith))
+pub part_above : {X : Type 0} (id j : ℕ) (IsXs : Form X) (empty : X) (bytes : List ℕ) (xs : X) (rest : List ℕ) → IsPart id IsXs empty bytes xs rest → Above id rest → j < id → Above j bytes
+part_above id j IsXs empty bytes xs rest (inl h) above lt = rw h.2 lt
+part_above id j IsXs empty bytes xs rest (inr h) above lt = subst (Above j) h.1 (above_less id j rest above (omega arith))
 
 pub functions_complete : {X : Type 0} (limited : Bool) (before : ℕ) (IsX : Form X) (read : List ℕ → Read X) → ((x : X) (part rest : List ℕ) → IsX part x rest → Complete Always (x, rest) (read part))
     → (xs : List X) (bytes rest : List ℕ) → IsVector IsX bytes xs rest → Complete (limited ≡ true → before + length xs ≤ max_functions) (xs, rest) (read_functions limited before read bytes)
@@ -149,25 +81,33 @@ pub preamble_complete : (bytes rest : List ℕ) → bytes ≡ preamble ++ rest �
 unfolding strip_preamble
 preamble_complete bytes rest h = rw h (complete_need refl (complete_ok refl))
 
+-- a section that is a vector
+pub vector_section : {X : Type 0} (limited : Bool) (id : ℕ) (IsX : Form X) (E : X → Type 0) (read : List ℕ → Read X) → ((x : X) (part rest : List ℕ) → IsX part x rest → Complete (limited ≡ true → E x) (x, rest) (read part))
+    → (xs : List X) (bytes rest : List ℕ) → IsSection id IsX bytes xs rest → Above id rest → Complete (limited ≡ true → AllByRecursion E xs) (xs, rest) (read_section id (read_vector read) bytes)
+vector_section limited id IsX E read each xs bytes rest h above =
+    part_complete id (IsVector IsX) (limited ≡ true → AllByRecursion E xs) (read_vector read) [] xs (λ part k. vector_within limited IsX E read each xs part [] k) bytes rest h above
+
+pub plain_section : {X : Type 0} (id : ℕ) (IsX : Form X) (read : List ℕ → Read X) → ((x : X) (part rest : List ℕ) → IsX part x rest → Complete Always (x, rest) (read part))
+    → (xs : List X) (bytes rest : List ℕ) → IsSection id IsX bytes xs rest → Above id rest → Complete Always (xs, rest) (read_section id (read_vector read) bytes)
+plain_section id IsX read each xs bytes rest h above =
+    part_complete id (IsVector IsX) Always (read_vector read) [] xs (λ part k. vector_complete IsX read each xs part [] k) bytes rest h above
+
+functions_section : {X : Type 0} (limited : Bool) (id before : ℕ) (IsX : Form X) (read : List ℕ → Read X) → ((x : X) (part rest : List ℕ) → IsX part x rest → Complete Always (x, rest) (read part))
+    → (xs : List X) (bytes rest : List ℕ) → IsSection id IsX bytes xs rest → Above id rest → Complete (limited ≡ true → before + length xs ≤ max_functions) (xs, rest) (read_section id (read_functions limited before read) bytes)
+functions_section limited id before IsX read each xs bytes rest h above =
+    part_complete id (IsVector IsX) (limited ≡ true → before + length xs ≤ max_functions) (read_functions limited before read) [] xs (λ part k. functions_complete limited before IsX read each xs part [] k) bytes rest h above
+
+pub above_of : {X : Type 0} (id j : ℕ) (IsX : Form X) (xs : List X) (bytes rest : List ℕ) → IsSection id IsX bytes xs rest → Above id rest → j < id → Above j bytes
+above_of id j IsX xs bytes rest h above lt = part_above id j (IsVector IsX) [] bytes xs rest h above lt
+
+-- the sections of m, each but for limits
 pub types_complete : (m : Module) (bytes rest : List ℕ) → IsSection type_section IsFuncType bytes m.types rest → Above 1 rest
     → Complete Always (m.types, rest) (read_section type_section (read_vector read_func_type) bytes)
-types_complete m bytes rest h above =
-    section_complete type_section (IsVector IsFuncType) Always (read_vector read_func_type) m.types (λ part k. vector_complete IsFuncType read_func_type func_type_complete m.types part [] k) bytes rest h above
+types_complete m bytes rest h above = plain_section type_section IsFuncType read_func_type func_type_complete m.types bytes rest h above
 
 pub imports_complete : (limited : Bool) (m : Module) (bytes rest : List ℕ) → IsSection import_section IsImport bytes m.imports rest → Above 2 rest
     → Complete (limited ≡ true → 0 + length m.imports ≤ max_functions) (m.imports, rest) (read_section import_section (read_functions limited 0 read_import) bytes)
-imports_complete limited m bytes rest h above =
-    section_complete import_section (IsVector IsImport) (limited ≡ true → 0 + length m.imports ≤ max_functions) (read_functions limited 0 read_import) m.imports (λ part k. functions_complete limited 0 IsImport read_import import_complete m.imports part [] k) bytes rest h above
-
-pub indices_complete : (limited : Bool) (before : ℕ) (indices bytes rest : List ℕ) → IsSection function_section IsU32 bytes indices rest → Above 3 rest
-    → Complete (limited ≡ true → before + length indices ≤ max_functions) (indices, rest) (read_section function_section (read_functions limited before read_u32) bytes)
-indices_complete limited before indices bytes rest h above =
-    section_complete function_section (IsVector IsU32) (limited ≡ true → before + length indices ≤ max_functions) (read_functions limited before read_u32) indices (λ part k. functions_complete limited before IsU32 read_u32 (λ n p r q. u32_complete p n r q) indices part [] k) bytes rest h above
-
-pub exports_complete : (m : Module) (bytes rest : List ℕ) → IsSection export_section IsExport bytes m.exports rest → Above 7 rest
-    → Complete Always (m.exports, rest) (read_section export_section (read_vector read_export) bytes)
-exports_complete m bytes rest h above =
-    section_complete export_section (IsVector IsExport) Always (read_vector read_export) m.exports (λ part k. vector_complete IsExport read_export export_complete m.exports part [] k) bytes rest h above
+imports_complete limited m bytes rest h above = functions_section limited import_section 0 IsImport read_import import_complete m.imports bytes rest h above
 
 -- types, imports and type indices of a module
 abbrev pub head_of_module : Module → Head
@@ -179,34 +119,130 @@ unfolding read_head
 head_complete limited bytes m rest f above =
     let i : UpToImports bytes m f.from_functions = f.before in
     let t : UpToTypes bytes m i.from_imports = i.before in
-    let above2 : Above 2 f.from_functions = section_above 3 2 (IsVector IsU32) f.from_functions (indices_of m.funcs) rest f.functions above (omega arith) in
-    let above1 : Above 1 i.from_imports = section_above 2 1 (IsVector IsImport) i.from_imports m.imports f.from_functions i.imports above2 (omega arith) in
-    let above0 : Above 0 t.from_types = section_above 1 0 (IsVector IsFuncType) t.from_types m.types i.from_imports t.types above1 (omega arith) in
+    let above2 : Above 2 f.from_functions = above_of 3 2 IsU32 (indices_of m.funcs) f.from_functions rest f.functions above (omega arith) in
+    let above1 : Above 1 i.from_imports = above_of 2 1 IsImport m.imports i.from_imports f.from_functions i.imports above2 (omega arith) in
+    let above0 : Above 0 t.from_types = above_of 1 0 IsFuncType m.types t.from_types i.from_imports t.types above1 (omega arith) in
     complete_then _ (all_customs_complete t.sections t.from_types t.customs above0)
     (complete_then _ (types_complete m t.from_types i.from_imports t.types above1)
     (complete_then _ (imports_complete limited m i.from_imports f.from_functions i.imports above2)
-    (complete_then _ (indices_complete limited (length m.imports) (indices_of m.funcs) f.from_functions rest f.functions above)
+    (complete_then _ (functions_section limited function_section (length m.imports) IsU32 read_u32 index_complete (indices_of m.funcs) f.from_functions rest f.functions above)
     (complete_ok refl)
     (λ w. w))
     (λ w l. let few = w l in omega arith))
     always) always
 
-sections_complete : (limited : Bool) (bytes : List ℕ) (m : Module) (s : Spells bytes m) → Complete (limited ≡ true → Within m) m (read_sections limited s.before.before.before.before.sections)
+-- within the limits, if they are tested
+abbrev pub Fits : Bool → Module → Type 0
+Fits limited m = limited ≡ true → Within m
+
+pub tables_complete : (limited : Bool) (m : Module) (bytes rest : List ℕ) → IsSection table_section IsTable bytes m.tables rest → Above 4 rest
+    → Complete (Fits limited m) (m.tables, rest) (read_section table_section (read_vector (read_size true limited)) bytes)
+tables_complete limited m bytes rest h above =
+    complete_weaker (vector_section limited table_section IsTable (MinWithin max_table_entries) (read_size true limited) (table_complete limited) m.tables bytes rest h above)
+    (λ w l. recursion_from_All (MinWithin max_table_entries) m.tables (w l).tables)
+
+pub memories_complete : (limited : Bool) (m : Module) (bytes rest : List ℕ) → IsSection memory_section IsMemory bytes m.memories rest → Above 5 rest
+    → Complete (Fits limited m) (m.memories, rest) (read_section memory_section (read_vector (read_size false limited)) bytes)
+memories_complete limited m bytes rest h above =
+    complete_weaker (vector_section limited memory_section IsMemory (MinWithin max_memory_pages) (read_size false limited) (memory_complete limited) m.memories bytes rest h above)
+    (λ w l. recursion_from_All (MinWithin max_memory_pages) m.memories (w l).memories)
+
+globals_complete : (limited : Bool) (m : Module) (bytes rest : List ℕ) → IsSection global_section IsGlobal bytes m.globals rest → Above 6 rest
+    → Complete (Fits limited m) (m.globals, rest) (read_section global_section (read_vector (read_global limited)) bytes)
+globals_complete limited m bytes rest h above =
+    complete_weaker (vector_section limited global_section IsGlobal (λ (g : Global). NestsWithin g.init) (read_global limited) (global_complete limited) m.globals bytes rest h above)
+    (λ w l. recursion_from_All (λ (g : Global). NestsWithin g.init) m.globals (w l).globals)
+
+elements_complete : (limited : Bool) (m : Module) (bytes rest : List ℕ) → IsSection element_section IsElement bytes m.elements rest → Above 9 rest
+    → Complete (Fits limited m) (m.elements, rest) (read_section element_section (read_vector (read_element limited)) bytes)
+elements_complete limited m bytes rest h above =
+    complete_weaker (vector_section limited element_section IsElement (λ (e : Element). NestsWithin e.offset) (read_element limited) (element_complete limited) m.elements bytes rest h above)
+    (λ w l. recursion_from_All (λ (e : Element). NestsWithin e.offset) m.elements (w l).elements)
+
+pub exports_complete : (m : Module) (bytes rest : List ℕ) → IsSection export_section IsExport bytes m.exports rest → Above 7 rest
+    → Complete Always (m.exports, rest) (read_section export_section (read_vector read_export) bytes)
+exports_complete m bytes rest h above = plain_section export_section IsExport read_export export_complete m.exports bytes rest h above
+
+pub start_section_complete : (m : Module) (bytes rest : List ℕ) → IsPart start_section IsStart None bytes m.start rest → Above 8 rest
+    → Complete Always (m.start, rest) (read_part start_section read_start None bytes)
+start_section_complete m bytes rest h above = part_complete start_section IsStart Always read_start None m.start (λ part k. start_complete m.start part [] k) bytes rest h above
+
+-- ---- groups of sections
+
+abbrev pub stores_of_module : Module → Stored
+stores_of_module m = record { tables = m.tables; memories = m.memories; globals = m.globals }
+
+abbrev pub middle_of_module : Module → Between
+middle_of_module m = record { exports = m.exports; start = m.start; elements = m.elements }
+
+pub stores_above : (bytes : List ℕ) (m : Module) (rest : List ℕ) (g : UpToGlobals bytes m rest) → Above 6 rest → Above 3 g.before.before.from_tables
+stores_above bytes m rest g above =
+    let above5 : Above 5 g.from_globals = above_of 6 5 IsGlobal m.globals g.from_globals rest g.globals above (omega arith) in
+    let above4 : Above 4 g.before.from_memories = above_of 5 4 IsMemory m.memories g.before.from_memories g.from_globals g.before.memories above5 (omega arith) in
+    above_of 4 3 IsTable m.tables g.before.before.from_tables g.before.from_memories g.before.before.tables above4 (omega arith)
+
+pub stores_complete : (limited : Bool) (bytes : List ℕ) (m : Module) (rest : List ℕ) (g : UpToGlobals bytes m rest) → Above 6 rest
+    → Complete (Fits limited m) (stores_of_module m, rest) (read_stores limited g.before.before.from_tables)
+unfolding read_stores
+stores_complete limited bytes m rest g above =
+    let above5 : Above 5 g.from_globals = above_of 6 5 IsGlobal m.globals g.from_globals rest g.globals above (omega arith) in
+    let above4 : Above 4 g.before.from_memories = above_of 5 4 IsMemory m.memories g.before.from_memories g.from_globals g.before.memories above5 (omega arith) in
+    complete_then _ (tables_complete limited m g.before.before.from_tables g.before.from_memories g.before.before.tables above4)
+    (complete_then _ (memories_complete limited m g.before.from_memories g.from_globals g.before.memories above5)
+    (complete_then _ (globals_complete limited m g.from_globals rest g.globals above) (complete_ok refl) (λ w. w)) (λ w. w)) (λ w. w)
+
+pub middle_above : (bytes : List ℕ) (m : Module) (rest : List ℕ) (e : UpToElements bytes m rest) → Above 9 rest → Above 6 e.before.before.from_exports
+middle_above bytes m rest e above =
+    let above8 : Above 8 e.from_elements = above_of 9 8 IsElement m.elements e.from_elements rest e.elements above (omega arith) in
+    let above7 : Above 7 e.before.from_start = part_above 8 7 IsStart None e.before.from_start m.start e.from_elements e.before.start above8 (omega arith) in
+    above_of 7 6 IsExport m.exports e.before.before.from_exports e.before.from_start e.before.before.exports above7 (omega arith)
+
+pub middle_complete : (limited : Bool) (bytes : List ℕ) (m : Module) (rest : List ℕ) (e : UpToElements bytes m rest) → Above 9 rest
+    → Complete (Fits limited m) (middle_of_module m, rest) (read_middle limited e.before.before.from_exports)
+unfolding read_middle
+middle_complete limited bytes m rest e above =
+    let above8 : Above 8 e.from_elements = above_of 9 8 IsElement m.elements e.from_elements rest e.elements above (omega arith) in
+    let above7 : Above 7 e.before.from_start = part_above 8 7 IsStart None e.before.from_start m.start e.from_elements e.before.start above8 (omega arith) in
+    complete_then _ (exports_complete m e.before.before.from_exports e.before.from_start e.before.before.exports above7)
+    (complete_then _ (start_section_complete m e.before.from_start e.from_elements e.before.start above8)
+    (complete_then _ (elements_complete limited m e.from_elements rest e.elements above) (complete_ok refl) (λ w. w)) always) always
+
+pub funcs_complete : (limited : Bool) (bytes : List ℕ) (m : Module) (rest : List ℕ) (c : UpToCodes bytes m rest) → Above 10 rest
+    → Complete (Fits limited m) (m.funcs, rest) (read_funcs limited m.types (indices_of m.funcs) c.from_codes)
+unfolding read_funcs
+funcs_complete limited bytes m rest c above =
+    complete_then _ (part_complete code_section (IsVector IsEntry) (limited ≡ true → AllByRecursion (FuncWithin m.types) m.funcs) (read_codes limited m.types (indices_of m.funcs)) [] m.funcs
+    (λ part k. codes_complete limited m.types m.funcs part [] k) c.from_codes rest c.codes above)
+    (complete_need (eq-eqb (length m.funcs) (length (indices_of m.funcs)) (sym (length_indices m.funcs))) (complete_ok refl))
+    (λ w l. recursion_from_All (FuncWithin m.types) m.funcs (w l).funcs)
+
+last_complete : (limited : Bool) (bytes : List ℕ) (m : Module) (s : Spells bytes m) → Complete (Fits limited m) m.segments (read_last limited s.from_segments)
+unfolding read_last
+last_complete limited bytes m s =
+    complete_then _ (vector_section limited data_section IsSegment (λ (d : Segment). NestsWithin d.offset) (read_segment limited) (segment_complete limited) m.segments s.from_segments [] s.segments tt)
+    (complete_need refl (complete_ok refl)) (λ w l. recursion_from_All (λ (d : Segment). NestsWithin d.offset) m.segments (w l).segments)
+
+sections_complete : (limited : Bool) (bytes : List ℕ) (m : Module) (s : Spells bytes m) → Complete (Fits limited m) m (read_sections limited s.before.before.before.before.before.before.before.before.before.before.sections)
 unfolding read_sections
 sections_complete limited bytes m s =
-    let e : UpToExports bytes m s.from_codes = s.before in
-    let above7 : Above 7 s.from_codes = section_above 10 7 (IsVector IsEntry) s.from_codes m.funcs [] s.codes tt (omega arith) in
-    let above3 : Above 3 e.from_exports = section_above 7 3 (IsVector IsExport) e.from_exports m.exports s.from_codes e.exports above7 (omega arith) in
-    complete_then _ (head_complete limited bytes m e.from_exports e.before above3)
-    (complete_then _ (exports_complete m e.from_exports s.from_codes e.exports above7)
-    (complete_then _ (section_complete code_section (IsVector IsEntry) (limited ≡ true → AllByRecursion (FuncWithin m.types) m.funcs) (read_codes limited m.types (length m.imports) (indices_of m.funcs)) m.funcs
-    (λ part k. codes_complete limited m.types (length m.imports) m.funcs part [] k (recursion_from_All (λ f. Reaches (length m.imports) f.body) m.funcs s.calls)) s.from_codes [] s.codes tt)
-    (complete_need refl (complete_need (eq-eqb (length m.funcs) (length (indices_of m.funcs)) (sym (length_indices m.funcs))) (complete_ok refl)))
-    (λ w l. recursion_from_All (FuncWithin m.types) m.funcs (w l).funcs)) always) (λ w l. let few = (w l).functions in omega (arith, length_indices m.funcs))
+    let c : UpToCodes bytes m s.from_segments = s.before in
+    let e : UpToElements bytes m c.from_codes = c.before in
+    let g : UpToGlobals bytes m e.before.before.from_exports = e.before.before.before in
+    let above10 : Above 10 s.from_segments = above_of 11 10 IsSegment m.segments s.from_segments [] s.segments tt (omega arith) in
+    let above9 : Above 9 c.from_codes = above_of 10 9 IsEntry m.funcs c.from_codes s.from_segments c.codes above10 (omega arith) in
+    let above6 : Above 6 e.before.before.from_exports = middle_above bytes m c.from_codes e above9 in
+    let above3 : Above 3 g.before.before.from_tables = stores_above bytes m e.before.before.from_exports g above6 in
+    complete_then _ (head_complete limited bytes m g.before.before.from_tables g.before.before.before above3)
+    (complete_then _ (stores_complete limited bytes m e.before.before.from_exports g above6)
+    (complete_then _ (middle_complete limited bytes m c.from_codes e above9)
+    (complete_then _ (funcs_complete limited bytes m s.from_segments c above10)
+    (complete_then _ (last_complete limited bytes m s) (complete_ok refl) (λ w. w)) (λ w. w)) (λ w. w)) (λ w. w))
+    (λ w l. let few = (w l).functions in omega (arith, length_indices m.funcs))
 
 pub read_complete : (limited : Bool) (bytes : List ℕ) (m : Module) → Spells bytes m → Complete (limited ≡ true → Within m × (length bytes ≤ max_module_bytes)) m (read_module limited bytes)
 unfolding read_module
 read_complete limited bytes m s =
+    let t = s.before.before.before.before.before.before.before.before.before.before in
     complete_within (λ w. unlimited limited max_module_bytes (length bytes) (λ l. (w l).1))
-    (complete_then _ (preamble_complete bytes s.before.before.before.before.sections s.before.before.before.before.begins)
+    (complete_then _ (preamble_complete bytes t.sections t.begins)
     (complete_weaker (sections_complete limited bytes m s) (λ w l. (w l).0)) always)

@@ -1,27 +1,23 @@
 -- A reader is complete: what bytes encode it answers, unless a limit is passed.
-use Rattle.std.proofs.Common.{◌≡◌, ℕ, zero, suc, ◌+◌, ◌-◌, ◌*◌, ◌^◌, ◌<◌, ◌≤◌, Bool, true, false, cond, List, [], ◌∷◌, ◌++◌, length, Result, Ok, Err, refl, sym, ap, subst, ◌∙◌, arith, inl, inr}
+use Rattle.std.proofs.Common.{◌≡◌, ℕ, ◌+◌, ◌-◌, ◌*◌, ◌^◌, ◌<◌, ◌≤◌, Bool, true, false, cond, ltb, eqb, List, [], ◌∷◌, ◌++◌, length, Result, Ok, Err, Option, Some, None, refl, sym, ap, subst, arith, inl, inr}
 use Rattle.std.specs.Prelude.{◌&&◌}
-use Rattle.std.proofs.lemmas.Bool.{lt-ltb, le-ltb, eq-eqb}
+use Rattle.std.specs.List.{AllByRecursion}
+use Rattle.std.proofs.lemmas.Bool.{lt-ltb, le-ltb, eq-eqb, eqb-true}
 use Rattle.std.proofs.lemmas.List.{take_at, drop_at, length-append}
 use Rattle.std.proofs.lemmas.Str.{is_utf8-from_IsUtf8}
 use Rattle.wasm_ast.specs.declared.values.ValType.{ValType}
-use Rattle.wasm_ast.specs.declared.values.ValType.TheVariants as val_types
-use Rattle.wasm_ast.specs.declared.values.Value.TheVariants.{I32, I64}
-use Rattle.wasm_ast.specs.declared.instr.Simple.{Simple}
-use Rattle.wasm_ast.specs.declared.instr.Simple.TheVariants.{Const, Drop, Br, Return, Call}
+use Rattle.wasm_ast.specs.declared.values.ValType.TheVariants as type
 use Rattle.wasm_ast.specs.declared.values.FuncType.{FuncType}
-use Rattle.wasm_ast.specs.declared.module.Import.{Import}
-use Rattle.wasm_ast.specs.declared.module.ExportKind.{ExportKind}
-use Rattle.wasm_ast.specs.declared.module.ExportKind.TheVariants as kinds
-use Rattle.wasm_ast.specs.declared.module.Export.{Export}
-use Rattle.wasm_ast.specs.Syntax.{Op, simple, block, loop, if', Ops, stop, next, ops_of}
-use Rattle.wasm_ast.specs.Reaches.{ReachesSimple, Reaches}
+use Rattle.wasm_ast.specs.declared.instr.BlockType.{BlockType}
+use Rattle.wasm_ast.specs.declared.instr.BlockType.TheVariants.{Empty, One}
+use Rattle.wasm_ast.specs.declared.module.Limits.{Limits}
+use Rattle.wasm_ast.specs.Limits.{MinWithin}
 use Rattle.wasm_binary.specs.declared.fault.Fault.{Fault}
 use Rattle.wasm_binary.specs.declared.fault.Fault.TheVariants.{Bad, Over}
 use Rattle.wasm_binary.specs.Numbers.{IsUnsigned, IsLastSigned, IsSigned, IsU32}
-use Rattle.wasm_binary.specs.Opcodes.{func_type_byte, end_byte, func_kind_byte}
-use Rattle.wasm_binary.specs.Grammar.{Form, AreItems, IsVector, IsSized, IsName, IsValType, IsFuncType, IsSimple, IsExpression, IsImport, kind_byte, IsExport}
-use Rattle.wasm_binary.specs.Inside.Reading.{◌>>=◌, Read, need, read_byte, begins_with, read_unsigned, read_last_unsigned, read_signed, read_last_signed, read_u32, read_bytes, skip_exact, read_sized, read_items, read_vector, read_name, val_type_of, read_val_type, read_func_type, read_call, read_operands, read_simple, read_ops, read_expression, read_import, read_export}
+use Rattle.wasm_binary.specs.Opcodes.{func_type_byte, empty_byte, min_byte, min_max_byte}
+use Rattle.wasm_binary.specs.Grammar.{Form, AreItems, IsVector, IsSized, AreBytes, IsName, IsValType, IsFuncType, IsBlockType, AreSizes, IsLimits}
+use Rattle.wasm_binary.specs.Inside.Reading.{◌>>=◌, Read, need, read_byte, begins_with, skip_byte, read_unsigned, read_last_unsigned, read_signed, read_last_signed, read_u32, read_bytes, skip_exact, read_sized, read_items, read_vector, read_byte_vector, read_name, val_type_of, read_val_type, read_func_type, read_block_type, read_min, read_limits}
 
 abbrev pub CompleteAnswer : {X : Type 0} → Type 0 → X → Result X Fault → Type 0
 CompleteAnswer W x (Ok y) = y ≡ x
@@ -57,6 +53,23 @@ pub complete_within : {X : Type 0} {W : Type 0} {x : X} {r : Result X Fault} {b 
 complete_within {b = true} e h = record { complete = λ w. let f = e w in absurd cc }
 complete_within {b = false} e h = h
 
+pub complete_weaker : {X : Type 0} {W W' : Type 0} {x : X} {r : Result X Fault} → Complete W x r → (W' → W) → Complete W' x r
+complete_weaker {r = Ok y} h k = complete_ok h.complete
+complete_weaker {r = Err Bad} h k = absurd h.complete
+complete_weaker {r = Err Over} h k = record { complete = λ w. h.complete (k w) }
+
+pub false_by : (b : Bool) → (b ≡ true → ⊥) → b ≡ false
+false_by true h = absurd (h refl)
+false_by false h = refl
+
+pub differ : (a b : ℕ) → b < a → eqb a b ≡ false
+differ a b lt = false_by (eqb a b) (λ e. let k = eqb-true a b e in omega arith)
+
+-- a test of a limit that is not passed
+pub unlimited : (limited : Bool) (most n : ℕ) → (limited ≡ true → n ≤ most) → (limited && ltb most n) ≡ false
+unlimited true most n h = le-ltb most n (h refl)
+unlimited false most n h = refl
+
 abbrev pub Always : Type 0
 Always = Unit {0}
 
@@ -72,6 +85,10 @@ pub begins_cons : (b : ℕ) (bs : List ℕ) → begins_with b (b ∷ bs) ≡ tru
 unfolding begins_with
 begins_cons b bs = eq-eqb b b refl
 
+pub skip_complete : (b : ℕ) (rest : List ℕ) → Complete Always rest (skip_byte b (b ∷ rest))
+unfolding skip_byte
+skip_complete b rest = complete_need (begins_cons b rest) (complete_ok refl)
+
 unsigned_complete : (bits : ℕ) (bytes : List ℕ) (n : ℕ) (rest : List ℕ) → IsUnsigned bits bytes n rest → Complete Always (n, rest) (read_unsigned bits bytes)
 unfolding read_unsigned read_last_unsigned
 unsigned_complete bits [] n rest h = absurd h
@@ -85,7 +102,7 @@ unfolding read_last_signed
 last_signed_complete bits b n lt (inl h) = complete_first _ (lt-ltb b 64 h.0) (complete_need (lt-ltb (2 * b) (2 ^ bits) h.1) (complete_ok (sym h.2)))
 last_signed_complete bits b n lt (inr h) = complete_second _ (le-ltb b 64 h.0) (complete_need (lt-ltb 255 (2 * b + 2 ^ bits) (omega (arith, h.1))) (complete_ok (omega (arith, h.0, h.1, h.2))))
 
-signed_complete : (bits : ℕ) (bytes : List ℕ) (n : ℕ) (rest : List ℕ) → IsSigned bits bytes n rest → Complete Always (n, rest) (read_signed bits bytes)
+pub signed_complete : (bits : ℕ) (bytes : List ℕ) (n : ℕ) (rest : List ℕ) → IsSigned bits bytes n rest → Complete Always (n, rest) (read_signed bits bytes)
 unfolding read_signed
 signed_complete bits [] n rest h = absurd h
 signed_complete bits (b ∷ bs) n rest (inl h) =
@@ -98,12 +115,12 @@ unfolding read_u32
 u32_complete bytes n rest h = unsigned_complete 32 bytes n rest h
 
 -- an encoding takes a byte at least
-unsigned_takes : (bits : ℕ) (bytes : List ℕ) (n : ℕ) (rest : List ℕ) → IsUnsigned bits bytes n rest → length rest < length bytes
+pub unsigned_takes : (bits : ℕ) (bytes : List ℕ) (n : ℕ) (rest : List ℕ) → IsUnsigned bits bytes n rest → length rest < length bytes
 unsigned_takes bits [] n rest h = absurd h
 unsigned_takes bits (b ∷ bs) n rest (inl h) = omega (arith, ap length h.2)
 unsigned_takes bits (b ∷ bs) n rest (inr h) = omega (arith, unsigned_takes (bits - 7) bs h.3 rest h.4)
 
-signed_takes : (bits : ℕ) (bytes : List ℕ) (n : ℕ) (rest : List ℕ) → IsSigned bits bytes n rest → length rest < length bytes
+pub signed_takes : (bits : ℕ) (bytes : List ℕ) (n : ℕ) (rest : List ℕ) → IsSigned bits bytes n rest → length rest < length bytes
 signed_takes bits [] n rest h = absurd h
 signed_takes bits (b ∷ bs) n rest (inl h) = omega (arith, ap length h.2)
 signed_takes bits (b ∷ bs) n rest (inr h) = omega (arith, signed_takes (bits - 7) bs h.3 rest h.4)
@@ -144,84 +161,68 @@ pub vector_complete : {X : Type 0} (IsX : Form X) (read : List ℕ → Read X) �
 unfolding read_vector
 vector_complete IsX read each xs bytes rest h = complete_then _ (u32_complete bytes (length xs) h.0 h.1) (items_complete IsX read each xs h.0 rest h.2) always
 
+-- items of which E holds where limits are not passed
+pub items_within : {X : Type 0} (limited : Bool) (IsX : Form X) (E : X → Type 0) (read : List ℕ → Read X) → ((x : X) (part rest : List ℕ) → IsX part x rest → Complete (limited ≡ true → E x) (x, rest) (read part))
+    → (xs : List X) (bytes rest : List ℕ) → AreItems IsX bytes xs rest → Complete (limited ≡ true → AllByRecursion E xs) (xs, rest) (read_items read (length xs) bytes)
+unfolding read_items
+items_within limited IsX E read each [] bytes rest h = complete_ok (λ i. ([], sym h i))
+items_within limited IsX E read each (x ∷ xs) bytes rest h =
+    complete_then _ (each x bytes h.0 h.1) (complete_then _ (items_within limited IsX E read each xs h.0 rest h.2) (complete_ok refl) (λ w l. (w l).1)) (λ w l. (w l).0)
+
+pub vector_within : {X : Type 0} (limited : Bool) (IsX : Form X) (E : X → Type 0) (read : List ℕ → Read X) → ((x : X) (part rest : List ℕ) → IsX part x rest → Complete (limited ≡ true → E x) (x, rest) (read part))
+    → (xs : List X) (bytes rest : List ℕ) → IsVector IsX bytes xs rest → Complete (limited ≡ true → AllByRecursion E xs) (xs, rest) (read_vector read bytes)
+unfolding read_vector
+vector_within limited IsX E read each xs bytes rest h = complete_then _ (u32_complete bytes (length xs) h.0 h.1) (items_within limited IsX E read each xs h.0 rest h.2) always
+
+pub byte_vector_complete : (xs bytes rest : List ℕ) → AreBytes bytes xs rest → Complete Always (xs, rest) (read_byte_vector bytes)
+unfolding read_byte_vector
+byte_vector_complete xs bytes rest h = complete_then _ (u32_complete bytes (length xs) h.0 h.1) (rw h.2 (part_complete xs rest)) always
+
 pub name_complete : (name bytes rest : List ℕ) → IsName bytes name rest → Complete Always (name, rest) (read_name bytes)
 unfolding read_name
-name_complete name bytes rest h =
-    complete_then _ (u32_complete bytes (length name) h.0 h.1)
-    (rw h.2 (complete_then _ (part_complete name rest) (complete_need (is_utf8-from_IsUtf8 name h.3) (complete_ok refl)) always)) always
+name_complete name bytes rest h = complete_then _ (byte_vector_complete name bytes rest h.0) (complete_need (is_utf8-from_IsUtf8 name h.1) (complete_ok refl)) always
 
 -- ---- types
 
 pub type_complete : (t : ValType) (bytes rest : List ℕ) → IsValType bytes t rest → Complete Always (t, rest) (read_val_type bytes)
 unfolding read_val_type read_byte val_type_of
-type_complete val_types.I32 bytes rest h = rw h (complete_ok refl)
-type_complete val_types.I64 bytes rest h = rw h (complete_ok refl)
+type_complete type.I32 bytes rest h = rw h (complete_ok refl)
+type_complete type.I64 bytes rest h = rw h (complete_ok refl)
 
 pub func_type_complete : (t : FuncType) (bytes rest : List ℕ) → IsFuncType bytes t rest → Complete Always (t, rest) (read_func_type bytes)
 unfolding read_func_type
 func_type_complete t bytes rest h = rw h.2 (complete_need (begins_cons func_type_byte h.0)
     (complete_then _ (vector_complete IsValType read_val_type type_complete t.params h.0 h.1 h.3) (complete_then _ (vector_complete IsValType read_val_type type_complete t.results h.1 rest h.4) (complete_ok refl) always) always))
 
--- ---- instructions
-
-simple_complete : (imports : ℕ) (s : Simple) (bytes rest : List ℕ) → IsSimple bytes s rest → ReachesSimple imports s → Complete Always (s, rest) (read_simple imports bytes)
-unfolding read_simple read_byte read_operands read_call
-simple_complete imports (Const (I32 n)) bytes rest h k = rw h.1 (complete_then _ (signed_complete 32 h.0 n rest h.2) (complete_ok refl) always)
-simple_complete imports (Const (I64 n)) bytes rest h k = absurd h
-simple_complete imports Drop bytes rest h k = rw h (complete_ok refl)
-simple_complete imports (Br label) bytes rest h k = absurd h
-simple_complete imports Return bytes rest h k = absurd h
-simple_complete imports (Call f) bytes rest h k = rw h.1 (complete_then _ (u32_complete h.0 f rest h.2) (complete_need (lt-ltb f imports k) (complete_ok refl)) always)
-
--- an instruction does not begin as an end does, and takes a byte at least
-simple_begins : (s : Simple) (bytes rest : List ℕ) → IsSimple bytes s rest → (begins_with end_byte bytes ≡ false) × (length rest < length bytes)
+type_not_empty : (t : ValType) (bytes rest : List ℕ) → IsValType bytes t rest → begins_with empty_byte bytes ≡ false
 unfolding begins_with
-simple_begins (Const (I32 n)) bytes rest h = (rw h.1 refl, omega (arith, ap length h.1, signed_takes 32 h.0 n rest h.2))
-simple_begins (Const (I64 n)) bytes rest h = absurd h
-simple_begins Drop bytes rest h = (rw h refl, omega (arith, ap length h))
-simple_begins (Br label) bytes rest h = absurd h
-simple_begins Return bytes rest h = absurd h
-simple_begins (Call f) bytes rest h = (rw h.1 refl, omega (arith, ap length h.1, unsigned_takes 32 h.0 f rest h.2))
+type_not_empty type.I32 bytes rest h = rw h refl
+type_not_empty type.I64 bytes rest h = rw h refl
 
-abbrev list_of : Ops → List Op
-list_of stop = []
-list_of (next o os) = o ∷ list_of os
+pub block_type_complete : (t : BlockType) (bytes rest : List ℕ) → IsBlockType bytes t rest → Complete Always (t, rest) (read_block_type bytes)
+unfolding read_block_type
+block_type_complete Empty bytes rest h = rw h (complete_first _ (begins_cons empty_byte rest) (complete_ok refl))
+block_type_complete (One t) bytes rest h = complete_second _ (type_not_empty t bytes rest h) (complete_then _ (type_complete t bytes rest h) (complete_ok refl) always)
 
-ops-list : (os : Ops) → ops_of (list_of os) ≡ os
-ops-list stop = refl
-ops-list (next o os) = ap (next o) (ops-list os)
+pub block_type_takes : (t : BlockType) (bytes rest : List ℕ) → IsBlockType bytes t rest → length rest < length bytes
+block_type_takes Empty bytes rest h = omega (arith, ap length h)
+block_type_takes (One t) bytes rest h = omega (arith, ap length h)
 
-ops_complete : (imports most : ℕ) (os : Ops) (bytes rest : List ℕ) → IsExpression bytes os rest → Reaches imports os → length bytes ≤ most → Complete Always (list_of os, rest) (read_ops imports most bytes)
-unfolding read_ops
-ops_complete imports zero stop bytes rest h k few = let e : suc (length rest) ≡ length bytes = ap length h in absurd (omega arith)
-ops_complete imports (suc n) stop bytes rest h k few = rw (← h) (complete_first _ (begins_cons end_byte rest) (complete_ok refl))
-ops_complete imports zero (next (simple s) os) bytes rest h k few = let b = simple_begins s bytes h.0 h.1 in absurd (omega (arith, b.1))
-ops_complete imports (suc n) (next (simple s) os) bytes rest h k few =
-    let b = simple_begins s bytes h.0 h.1 in
-    complete_second _ b.0 (complete_then _ (simple_complete imports s bytes h.0 h.1 k.0) (complete_then _ (ops_complete imports n os h.0 rest h.2 k.1 (omega (arith, b.1))) (complete_ok refl) always) always)
-ops_complete imports most (next (block type body) os) bytes rest h k few = absurd h.1
-ops_complete imports most (next (loop type body) os) bytes rest h k few = absurd h.1
-ops_complete imports most (next (if' type then_arm else_arm) os) bytes rest h k few = absurd h.1
+min_complete : (limited : Bool) (most n : ℕ) (bytes rest : List ℕ) → IsU32 bytes n rest → Complete (limited ≡ true → n ≤ most) (n, rest) (read_min limited most bytes)
+unfolding read_min
+min_complete limited most n bytes rest h = complete_then _ (u32_complete bytes n rest h) (complete_within (λ w. unlimited limited most n w) (complete_ok refl)) always
 
-pub expression_complete : (imports : ℕ) (os : Ops) (bytes rest : List ℕ) → IsExpression bytes os rest → Reaches imports os → Complete Always (os, rest) (read_expression imports bytes)
-unfolding read_expression
-expression_complete imports os bytes rest h k =
-    complete_then _ (ops_complete imports (length bytes) os bytes rest h k (omega arith)) (complete_ok (λ i. (ops-list os i, rest))) always
+differ_byte : (rest : List ℕ) → begins_with min_byte (min_max_byte ∷ rest) ≡ false
+unfolding begins_with
+differ_byte rest = refl
 
--- ---- imports and exports
+sizes_complete : (limited : Bool) (most min : ℕ) (max : Option ℕ) (bytes rest : List ℕ) → AreSizes bytes min max rest → Complete {X = Limits × List ℕ} (limited ≡ true → min ≤ most) (record { min = min; max = max }, rest) (read_limits limited most bytes)
+unfolding read_limits
+sizes_complete limited most min None bytes rest h =
+    rw h.1 (complete_first _ (begins_cons min_byte h.0) (complete_then _ (min_complete limited most min h.0 rest h.2) (complete_ok refl) (λ w. w)))
+sizes_complete limited most min (Some max) bytes rest h =
+    rw h.2 (complete_second _ (differ_byte h.0) (complete_then _ (skip_complete min_max_byte h.0) (complete_then _ (min_complete limited most min h.0 h.1 h.3)
+    (complete_then _ (u32_complete h.1 max rest h.4) (complete_ok refl) always) (λ w. w)) always))
 
-pub import_complete : (x : Import) (bytes rest : List ℕ) → IsImport bytes x rest → Complete Always (x, rest) (read_import bytes)
-unfolding read_import
-import_complete x bytes rest h =
-    complete_then _ (name_complete x.module bytes h.0 h.3) (complete_then _ (name_complete x.name h.0 h.1 h.4)
-    (rw h.5 (complete_need (begins_cons func_kind_byte h.2) (complete_then _ (u32_complete h.2 x.type_index rest h.6) (complete_ok refl) always))) always) always
-
-kind_is : (k : ExportKind) → kinds.Func ≡ k
-kind_is kinds.Func = refl
-
-pub export_complete : (x : Export) (bytes rest : List ℕ) → IsExport bytes x rest → Complete Always (x, rest) (read_export bytes)
-unfolding read_export
-export_complete x bytes rest h =
-    let byte : h.0 ≡ func_kind_byte ∷ h.1 = h.3 ∙ ap (λ (k : ExportKind). kind_byte k ∷ h.1) (sym (kind_is x.kind)) in
-    complete_then _ (name_complete x.name bytes h.0 h.2)
-    (rw byte (complete_need (begins_cons func_kind_byte h.1) (complete_then _ (u32_complete h.1 x.index rest h.4) (complete_ok (λ i. (record { name = x.name; kind = kind_is x.kind i; index = x.index }, rest))) always))) always
+pub limits_complete : (limited : Bool) (most : ℕ) (l : Limits) (bytes rest : List ℕ) → IsLimits bytes l rest → Complete (limited ≡ true → MinWithin most l) (l, rest) (read_limits limited most bytes)
+limits_complete limited most l bytes rest h = sizes_complete limited most l.min l.max bytes rest h

@@ -1,24 +1,21 @@
 -- A reader is sound: what it answers is encoded so by the bytes, and if it answers a limit, that limit is passed.
-use Rattle.std.proofs.Common.{◌≡◌, ℕ, zero, suc, ◌+◌, ◌-◌, ◌*◌, ◌^◌, ◌<◌, ◌≤◌, Bool, true, false, cond, ltb, eqb, List, [], ◌∷◌, ◌++◌, length, take, drop, Result, Ok, Err, refl, sym, ap, subst, arith, inl, inr}
+use Rattle.std.proofs.Common.{◌≡◌, ℕ, zero, suc, ◌+◌, ◌-◌, ◌*◌, ◌^◌, ◌<◌, ◌≤◌, Bool, true, false, cond, ltb, eqb, List, [], ◌∷◌, ◌++◌, length, take, drop, Result, Ok, Err, Some, None, refl, sym, ap, subst, arith, inl, inr}
 use Rattle.std.specs.Prelude.{◌&&◌}
 use Rattle.std.specs.Str.{is_utf8}
+use Rattle.std.specs.List.{AllByRecursion}
 use Rattle.std.proofs.lemmas.Bool.{ltb-true, ltb-false, eqb-true}
 use Rattle.std.proofs.lemmas.List.{take-append-drop, length-take-le, nil_from_length}
 use Rattle.std.proofs.lemmas.Str.{IsUtf8-from_is_utf8}
-use Rattle.wasm_ast.specs.declared.values.ValType.TheVariants as val_types
-use Rattle.wasm_ast.specs.declared.values.Value.TheVariants.{I32}
-use Rattle.wasm_ast.specs.declared.instr.Simple.{Simple}
-use Rattle.wasm_ast.specs.declared.instr.Simple.TheVariants.{Const, Drop, Call}
-use Rattle.wasm_ast.specs.declared.module.ExportKind.TheVariants as kinds
-use Rattle.wasm_ast.specs.Syntax.{simple, Ops, ops_of}
-use Rattle.wasm_ast.specs.Reaches.{ReachesSimple, Reaches}
+use Rattle.wasm_ast.specs.declared.values.ValType.TheVariants as type
+use Rattle.wasm_ast.specs.declared.instr.BlockType.TheVariants.{Empty, One}
+use Rattle.wasm_ast.specs.Limits.{MinWithin}
 use Rattle.wasm_binary.specs.declared.fault.Fault.{Fault}
 use Rattle.wasm_binary.specs.declared.fault.Fault.TheVariants.{Bad, Over}
 use Rattle.wasm_binary.specs.Numbers.{IsLastUnsigned, IsUnsigned, IsLastSigned, IsSigned, IsU32}
-use Rattle.wasm_binary.specs.Opcodes.{func_type_byte, end_byte, call_byte, drop_byte, i32_const_byte, func_kind_byte}
-use Rattle.wasm_binary.specs.Grammar.{Form, AreItems, IsVector, IsSized, IsName, type_byte, IsValType, IsFuncType, IsSimple, IsExpression, IsImport, IsExport}
-use Rattle.wasm_binary.specs.Limits.{WithinSize}
-use Rattle.wasm_binary.specs.Inside.Reading.{◌>>=◌, Read, need, read_byte, begins_with, read_unsigned, read_last_unsigned, read_signed, read_last_signed, read_u32, read_bytes, skip_exact, read_sized, read_items, read_vector, read_name, val_type_of, read_val_type, read_func_type, read_call, read_operands, read_simple, read_ops, read_expression, read_import, read_export}
+use Rattle.wasm_binary.specs.Opcodes.{type_byte, func_type_byte, empty_byte, min_byte, min_max_byte}
+use Rattle.wasm_binary.specs.Grammar.{Form, AreItems, IsVector, IsSized, AreBytes, IsName, IsValType, IsFuncType, IsBlockType, IsLimits}
+use Rattle.wasm_binary.specs.Limits.{WithinSize, InVector, NumberOver, LimitsOver}
+use Rattle.wasm_binary.specs.Inside.Reading.{◌>>=◌, Read, need, read_byte, begins_with, skip_byte, read_unsigned, read_last_unsigned, read_signed, read_last_signed, read_u32, read_bytes, skip_exact, read_sized, read_items, read_vector, read_byte_vector, read_name, val_type_of, read_val_type, read_func_type, read_block_type, read_min, read_limits}
 
 abbrev pub SoundAnswer : {X : Type 0} → (X → Type 0) → Type 0 → Result X Fault → Type 0
 SoundAnswer P Q (Ok x) = P x
@@ -53,6 +50,9 @@ pub sound_if : {X : Type 0} {P : X → Type 0} {Q : Type 0} {r t : Result X Faul
 sound_if true h k = h refl
 sound_if false h k = k refl
 
+pub sound_over : {X : Type 0} {P : X → Type 0} {Q : Type 0} → Q → Sound {X = X} P Q (Err Over)
+sound_over q = record { sound = q }
+
 pub sound_bad : {X : Type 0} {P : X → Type 0} {Q : Type 0} → Sound {X = X} P Q (Err Bad)
 sound_bad = record { sound = tt }
 
@@ -69,7 +69,11 @@ unfolding begins_with
 begins_is b [] e = absurd cc
 begins_is b (c ∷ cs) e = ap (λ (x : ℕ). x ∷ cs) (eqb-true c b e)
 
-byte_sound : (bytes : List ℕ) → Sound (λ x. bytes ≡ x.0 ∷ x.1) ⊥ (read_byte bytes)
+pub skip_sound : (b : ℕ) (bytes : List ℕ) → Sound (λ rest. bytes ≡ b ∷ rest) ⊥ (skip_byte b bytes)
+unfolding skip_byte
+skip_sound b bytes = sound_need (begins_with b bytes) (λ e. sound_ok (drop 1 bytes) (begins_is b bytes e))
+
+pub byte_sound : (bytes : List ℕ) → Sound (λ x. bytes ≡ x.0 ∷ x.1) ⊥ (read_byte bytes)
 unfolding read_byte
 byte_sound [] = sound_bad
 byte_sound (b ∷ bs) = sound_ok (b, bs) refl
@@ -95,7 +99,7 @@ last_signed_sound bits b h = sound_if (ltb b 64)
     let lt : 255 < 2 * b + 2 ^ bits = ltb-true 255 (2 * b + 2 ^ bits) e in
     sound_ok (2 ^ bits - (128 - b)) (inr (ge', omega arith, omega arith))))
 
-signed_sound : (bits : ℕ) (bytes : List ℕ) → Sound (λ x. IsSigned bits bytes x.0 x.1) ⊥ (read_signed bits bytes)
+pub signed_sound : (bits : ℕ) (bytes : List ℕ) → Sound (λ x. IsSigned bits bytes x.0 x.1) ⊥ (read_signed bits bytes)
 unfolding read_signed
 signed_sound bits [] = sound_bad
 signed_sound bits (b ∷ bs) = sound_if (ltb b 128)
@@ -128,31 +132,46 @@ sized_sound IsX Q read each bytes = sound_then (u32_sound bytes) (λ n hn. sound
     sound_ok (x.0, rest) (take n.0 n.1, n.1, rw hr.2 hn, hr.1, subst (λ left. IsX (take n.0 n.1) x.0 left) hr.0 hx))
     never) (λ q. (n.0, n.1, hn, q))) never
 
-pub items_sound : {X : Type 0} (IsX : Form X) (read : List ℕ → Read X) → ((part : List ℕ) → Sound (λ x. IsX part x.0 x.1) ⊥ (read part))
-    → (n : ℕ) (bytes : List ℕ) → Sound (λ x. AreItems IsX bytes x.0 x.1 × (length x.0 ≡ n)) ⊥ (read_items read n bytes)
+-- some items are whole, and the next one is over so
+abbrev pub ItemsOver : {X : Type 0} → Form X → (List ℕ → Type 0) → (count : ℕ) → List ℕ → Type 0
+ItemsOver {X} IsX Q count bytes = (xs : List X) × (mid : List ℕ) × AreItems IsX bytes xs mid × (length xs < count) × Q mid
+
+-- items of which E is known
+pub items_sound : {X : Type 0} (IsX : Form X) (E : X → Type 0) (Q : List ℕ → Type 0) (read : List ℕ → Read X) → ((part : List ℕ) → Sound (λ x. IsX part x.0 x.1 × E x.0) (Q part) (read part))
+    → (n : ℕ) (bytes : List ℕ) → Sound (λ x. AreItems IsX bytes x.0 x.1 × (length x.0 ≡ n) × AllByRecursion E x.0) (ItemsOver IsX Q n bytes) (read_items read n bytes)
 unfolding read_items
-items_sound IsX read each zero bytes = sound_ok ([], bytes) (refl, refl)
-items_sound IsX read each (suc n) bytes = sound_then (each bytes) (λ x hx. sound_then (items_sound IsX read each n x.1) (λ xs hxs.
-    sound_ok (x.0 ∷ xs.0, xs.1) ((x.1, hx, hxs.0), ap suc hxs.1)) never) never
+items_sound IsX E Q read each zero bytes = sound_ok ([], bytes) (refl, refl, tt)
+items_sound IsX E Q read each (suc n) bytes = sound_then (each bytes) (λ x hx. sound_then (items_sound IsX E Q read each n x.1) (λ xs hxs.
+    sound_ok (x.0 ∷ xs.0, xs.1) ((x.1, hx.0, hxs.0), ap suc hxs.1, (hx.1, hxs.2)))
+    (λ q. (x.0 ∷ q.0, q.1, (x.1, hx.0, q.2), omega (arith, q.3), q.4)))
+    (λ q. ([], bytes, refl, omega arith, q))
+
+pub vector_known : {X : Type 0} (IsX : Form X) (E : X → Type 0) (Q : List ℕ → Type 0) (read : List ℕ → Read X) → ((part : List ℕ) → Sound (λ x. IsX part x.0 x.1 × E x.0) (Q part) (read part))
+    → (bytes : List ℕ) → Sound (λ x. IsVector IsX bytes x.0 x.1 × AllByRecursion E x.0) (InVector IsX (λ _ _. Q) bytes) (read_vector read bytes)
+unfolding read_vector
+vector_known IsX E Q read each bytes = sound_then (u32_sound bytes) (λ n hn. sound_more (items_sound IsX E Q read each n.0 n.1)
+    (λ xs hxs. ((n.1, rw hxs.1 hn, hxs.0), hxs.2)) (λ q. (n.0, n.1, q.0, q.1, hn, q.2, q.3, q.4))) never
 
 pub vector_sound : {X : Type 0} (IsX : Form X) (read : List ℕ → Read X) → ((part : List ℕ) → Sound (λ x. IsX part x.0 x.1) ⊥ (read part))
     → (bytes : List ℕ) → Sound (λ x. IsVector IsX bytes x.0 x.1) ⊥ (read_vector read bytes)
-unfolding read_vector
-vector_sound IsX read each bytes = sound_then (u32_sound bytes) (λ n hn. sound_more (items_sound IsX read each n.0 n.1) (λ xs hxs.
-    (n.1, rw hxs.1 hn, hxs.0)) never) never
+vector_sound IsX read each bytes =
+    sound_more (vector_known IsX (λ _. Unit {0}) (λ _. ⊥) read (λ part. sound_more (each part) (λ x h. (h, tt)) never) bytes) (λ x h. h.0) (λ q. absurd q.7)
+
+pub byte_vector_sound : (bytes : List ℕ) → Sound (λ x. AreBytes bytes x.0 x.1) ⊥ (read_byte_vector bytes)
+unfolding read_byte_vector
+byte_vector_sound bytes = sound_then (u32_sound bytes) (λ n hn. sound_more (part_sound n.0 n.1) (λ p hp. (n.1, rw hp.1 hn, hp.0)) never) never
 
 pub name_sound : (bytes : List ℕ) → Sound (λ x. IsName bytes x.0 x.1) ⊥ (read_name bytes)
 unfolding read_name
-name_sound bytes = sound_then (u32_sound bytes) (λ n hn. sound_then (part_sound n.0 n.1) (λ p hp. sound_need (is_utf8 p.0) (λ e.
-    sound_ok p (n.1, rw hp.1 hn, hp.0, IsUtf8-from_is_utf8 p.0 e))) never) never
+name_sound bytes = sound_then (byte_vector_sound bytes) (λ p hp. sound_need (is_utf8 p.0) (λ e. sound_ok p (hp, IsUtf8-from_is_utf8 p.0 e))) never
 
 -- ---- types
 
 type_of_sound : (b : ℕ) (bs : List ℕ) → Sound (λ x. IsValType (b ∷ bs) x.0 x.1) ⊥ (val_type_of b bs)
 unfolding val_type_of
-type_of_sound b bs = sound_if (eqb b (type_byte val_types.I32))
-    (λ e. sound_ok (val_types.I32, bs) (ap (λ (x : ℕ). x ∷ bs) (eqb-true b (type_byte val_types.I32) e)))
-    (λ _. sound_need (eqb b (type_byte val_types.I64)) (λ e. sound_ok (val_types.I64, bs) (ap (λ (x : ℕ). x ∷ bs) (eqb-true b (type_byte val_types.I64) e))))
+type_of_sound b bs = sound_if (eqb b (type_byte type.I32))
+    (λ e. sound_ok (type.I32, bs) (ap (λ (x : ℕ). x ∷ bs) (eqb-true b (type_byte type.I32) e)))
+    (λ _. sound_need (eqb b (type_byte type.I64)) (λ e. sound_ok (type.I64, bs) (ap (λ (x : ℕ). x ∷ bs) (eqb-true b (type_byte type.I64) e))))
 
 pub type_sound : (bytes : List ℕ) → Sound (λ x. IsValType bytes x.0 x.1) ⊥ (read_val_type bytes)
 unfolding read_val_type
@@ -164,55 +183,23 @@ func_type_sound bytes = sound_need (begins_with func_type_byte bytes) (λ e. sou
     sound_then (vector_sound IsValType read_val_type type_sound ps.1) (λ rs hrs.
     sound_ok (record { params = ps.0; results = rs.0 }, rs.1) (drop 1 bytes, ps.1, begins_is func_type_byte bytes e, hps, hrs)) never) never)
 
--- ---- instructions
+pub block_type_sound : (bytes : List ℕ) → Sound (λ x. IsBlockType bytes x.0 x.1) ⊥ (read_block_type bytes)
+unfolding read_block_type
+block_type_sound bytes = sound_if (begins_with empty_byte bytes)
+    (λ e. sound_ok (Empty, drop 1 bytes) (begins_is empty_byte bytes e))
+    (λ _. sound_then (type_sound bytes) (λ t ht. sound_ok (One t.0, t.1) ht) never)
 
--- an instruction and its calls
-abbrev SimpleRead : (imports : ℕ) → Form Simple
-SimpleRead imports bytes s rest = IsSimple bytes s rest × ReachesSimple imports s
+min_sound : (most : ℕ) (bytes : List ℕ) → Sound (λ x. IsU32 bytes x.0 x.1 × (x.0 ≤ most)) (NumberOver most 0 bytes) (read_min true most bytes)
+unfolding read_min
+min_sound most bytes = sound_then (u32_sound bytes) (λ n hn. sound_if (ltb most n.0)
+    (λ over. sound_over (n.0, n.1, hn, omega (arith, ltb-true most n.0 over)))
+    (λ under. sound_ok n (hn, ltb-false most n.0 under))) never
 
-call_sound : (imports : ℕ) (bs : List ℕ) → Sound (λ x. SimpleRead imports (call_byte ∷ bs) x.0 x.1) ⊥ (read_call imports bs)
-unfolding read_call
-call_sound imports bs = sound_then (u32_sound bs) (λ f hf. sound_need (ltb f.0 imports) (λ lt.
-    sound_ok (Call f.0, f.1) ((bs, refl, hf), ltb-true f.0 imports lt))) never
-
-operands_sound : (imports b : ℕ) (bs : List ℕ) → Sound (λ x. SimpleRead imports (b ∷ bs) x.0 x.1) ⊥ (read_operands imports b bs)
-unfolding read_operands
-operands_sound imports b bs = sound_if (eqb b i32_const_byte)
-    (λ e. sound_then (signed_sound 32 bs) (λ n hn. sound_ok (Const (I32 n.0), n.1) ((bs, ap (λ (x : ℕ). x ∷ bs) (eqb-true b i32_const_byte e), hn), tt)) never)
-    (λ _. sound_if (eqb b drop_byte)
-    (λ e. sound_ok (Drop, bs) (ap (λ (x : ℕ). x ∷ bs) (eqb-true b drop_byte e), tt))
-    (λ _. sound_need (eqb b call_byte) (λ e. rw (eqb-true b call_byte e) (call_sound imports bs))))
-
-simple_sound : (imports : ℕ) (bytes : List ℕ) → Sound (λ x. SimpleRead imports bytes x.0 x.1) ⊥ (read_simple imports bytes)
-unfolding read_simple
-simple_sound imports bytes = sound_then (byte_sound bytes) (λ b hb. rw hb (operands_sound imports b.0 b.1)) never
-
--- a sequence and its calls
-abbrev pub ExpressionRead : (imports : ℕ) → Form Ops
-ExpressionRead imports bytes os rest = IsExpression bytes os rest × Reaches imports os
-
-ops_sound : (imports most : ℕ) (bytes : List ℕ) → Sound (λ x. ExpressionRead imports bytes (ops_of x.0) x.1) ⊥ (read_ops imports most bytes)
-unfolding read_ops
-ops_sound imports zero bytes = sound_bad
-ops_sound imports (suc n) bytes = sound_if (begins_with end_byte bytes)
-    (λ e. sound_ok ([], drop 1 bytes) (sym (begins_is end_byte bytes e), tt))
-    (λ _. sound_then (simple_sound imports bytes) (λ s hs. sound_then (ops_sound imports n s.1) (λ os hos.
-    sound_ok (simple s.0 ∷ os.0, os.1) ((s.1, hs.0, hos.0), (hs.1, hos.1))) never) never)
-
-pub expression_sound : (imports : ℕ) (bytes : List ℕ) → Sound (λ x. ExpressionRead imports bytes x.0 x.1) ⊥ (read_expression imports bytes)
-unfolding read_expression
-expression_sound imports bytes = sound_then (ops_sound imports (length bytes) bytes) (λ os hos. sound_ok (ops_of os.0, os.1) hos) never
-
--- ---- imports and exports
-
-pub import_sound : (bytes : List ℕ) → Sound (λ x. IsImport bytes x.0 x.1) ⊥ (read_import bytes)
-unfolding read_import
-import_sound bytes = sound_then (name_sound bytes) (λ m hm. sound_then (name_sound m.1) (λ n hn. sound_need (begins_with func_kind_byte n.1) (λ e.
-    sound_then (u32_sound (drop 1 n.1)) (λ t ht. sound_ok (record { «module» = m.0; name = n.0; type_index = t.0 }, t.1)
-    (m.1, n.1, drop 1 n.1, hm, hn, begins_is func_kind_byte n.1 e, ht)) never)) never) never
-
-pub export_sound : (bytes : List ℕ) → Sound (λ x. IsExport bytes x.0 x.1) ⊥ (read_export bytes)
-unfolding read_export
-export_sound bytes = sound_then (name_sound bytes) (λ n hn. sound_need (begins_with func_kind_byte n.1) (λ e.
-    sound_then (u32_sound (drop 1 n.1)) (λ i hi. sound_ok (record { name = n.0; kind = kinds.Func; index = i.0 }, i.1)
-    (n.1, drop 1 n.1, hn, begins_is func_kind_byte n.1 e, hi)) never)) never
+pub limits_sound : (most : ℕ) (bytes : List ℕ) → Sound (λ x. IsLimits bytes x.0 x.1 × MinWithin most x.0) (LimitsOver most bytes) (read_limits true most bytes)
+unfolding read_limits
+limits_sound most bytes = sound_if (begins_with min_byte bytes)
+    (λ e. sound_then (min_sound most (drop 1 bytes)) (λ n hn. sound_ok (record { min = n.0; max = None }, n.1) ((drop 1 bytes, begins_is min_byte bytes e, hn.0), hn.1))
+    (λ q. (min_byte, drop 1 bytes, begins_is min_byte bytes e, inl refl, q)))
+    (λ _. sound_then (skip_sound min_max_byte bytes) (λ from hf. sound_then (min_sound most from) (λ n hn. sound_then (u32_sound n.1) (λ m hm.
+    sound_ok (record { min = n.0; max = Some m.0 }, m.1) ((from, n.1, hf, hn.0, hm), hn.1)) never)
+    (λ q. (min_max_byte, from, hf, inr refl, q))) never)

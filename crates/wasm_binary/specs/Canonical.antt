@@ -1,6 +1,6 @@
 -- The canonical encoding of a module: shortest numbers, locals in longest runs of one type, no custom
 -- section, no empty section, and no empty else arm.
-use Rattle.std.specs.Prelude.{◌≢◌, ℕ, zero, suc, ◌+◌, ◌-◌, ◌*◌, ◌/◌, ◌%◌, ◌^◌, ◌<◌, ◌≤◌, List, [], ◌∷◌, ◌++◌, length, fold, All, Bool, true, false, nat_lt, nat_le, if◌then◌else◌}
+use Rattle.std.specs.Prelude.{◌≢◌, ℕ, zero, suc, ◌+◌, ◌-◌, ◌*◌, ◌/◌, ◌%◌, ◌^◌, ◌<◌, ◌≤◌, List, [], ◌∷◌, ◌++◌, length, fold, Bool, true, false, Option, Some, None, nat_lt, nat_le, if◌then◌else◌}
 use Rattle.std.specs.List.{flat_map}
 use Rattle.wasm_ast.specs.declared.values.ValType.{ValType}
 use Rattle.wasm_ast.specs.declared.values.ValType.TheVariants as val_types
@@ -8,17 +8,22 @@ use Rattle.wasm_ast.specs.declared.values.FuncType.{FuncType}
 use Rattle.wasm_ast.specs.declared.values.Value.TheVariants.{I32, I64}
 use Rattle.wasm_ast.specs.declared.instr.BlockType.{BlockType}
 use Rattle.wasm_ast.specs.declared.instr.BlockType.TheVariants.{Empty, One}
+use Rattle.wasm_ast.specs.declared.instr.MemArg.{MemArg}
 use Rattle.wasm_ast.specs.declared.instr.Simple.{Simple}
-use Rattle.wasm_ast.specs.declared.instr.Simple.TheVariants.{Const, Drop, Br, Return, Call}
+use Rattle.wasm_ast.specs.declared.instr.Simple.TheVariants.{Br, BrIf, BrTable, Call, CallIndirect, Local, Global, Load, Store, MemorySize, MemoryGrow, Const}
+use Rattle.wasm_ast.specs.declared.module.Limits.{Limits}
+use Rattle.wasm_ast.specs.declared.module.Global as declared_global
+use Rattle.wasm_ast.specs.declared.module.Element.{Element}
+use Rattle.wasm_ast.specs.declared.module.Segment.{Segment}
 use Rattle.wasm_ast.specs.declared.module.Import.{Import}
 use Rattle.wasm_ast.specs.declared.module.Func.{Func}
+use Rattle.wasm_ast.specs.declared.module.ExportKind.TheVariants as kinds
 use Rattle.wasm_ast.specs.declared.module.Export.{Export}
 use Rattle.wasm_ast.specs.declared.module.Module.{Module}
 use Rattle.wasm_ast.specs.Syntax.{Op, simple, block, loop, if', Ops, stop, next}
 use Rattle.wasm_ast.specs.Limits.{max_module_bytes, Within}
-use Rattle.wasm_ast.specs.Reaches.{CallsImports}
-use Rattle.wasm_binary.specs.Opcodes.{func_type_byte, empty_byte, block_byte, loop_byte, if_byte, else_byte, end_byte, br_byte, return_byte, call_byte, drop_byte, i32_const_byte, i64_const_byte, func_kind_byte, type_section, import_section, function_section, export_section, code_section, preamble}
-use Rattle.wasm_binary.specs.Grammar.{type_byte, kind_byte, indices_of}
+use Rattle.wasm_binary.specs.Opcodes.{type_byte, func_type_byte, empty_byte, min_byte, min_max_byte, table_type_byte, mutability_byte, block_byte, loop_byte, if_byte, else_byte, end_byte, opcode, reserved_byte, kind_byte, type_section, import_section, function_section, table_section, memory_section, global_section, export_section, start_section, element_section, code_section, data_section, preamble}
+use Rattle.wasm_binary.specs.Grammar.{indices_of}
 
 -- ---- numbers
 
@@ -67,15 +72,42 @@ abbrev pub canon_block_type : BlockType → List ℕ
 canon_block_type Empty = empty_byte ∷ []
 canon_block_type (One t) = canon_val_type t
 
+-- the largest size, if there is one
+abbrev pub canon_max : Option ℕ → List ℕ
+canon_max None = []
+canon_max (Some max) = canon_number max
+
+abbrev pub limits_byte : Option ℕ → ℕ
+limits_byte None = min_byte
+limits_byte (Some max) = min_max_byte
+
+abbrev pub canon_limits : Limits → List ℕ
+canon_limits l = limits_byte l.max ∷ (canon_number l.min ++ canon_max l.max)
+
 -- ---- instructions
 
+abbrev pub canon_mem_arg : MemArg → List ℕ
+canon_mem_arg at = canon_number at.align ++ canon_number at.offset
+
+-- what follows the opcode
+abbrev pub canon_immediates : Simple → List ℕ
+canon_immediates (Br label) = canon_number label
+canon_immediates (BrIf label) = canon_number label
+canon_immediates (BrTable labels other) = canon_vector canon_number labels ++ canon_number other
+canon_immediates (Call func) = canon_number func
+canon_immediates (CallIndirect index) = canon_number index ++ reserved_byte ∷ []
+canon_immediates (Local op index) = canon_number index
+canon_immediates (Global op index) = canon_number index
+canon_immediates (Load op at) = canon_mem_arg at
+canon_immediates (Store op at) = canon_mem_arg at
+canon_immediates MemorySize = reserved_byte ∷ []
+canon_immediates MemoryGrow = reserved_byte ∷ []
+canon_immediates (Const (I32 n)) = canon_signed 4 32 n
+canon_immediates (Const (I64 n)) = canon_signed 9 64 n
+canon_immediates _ = []
+
 abbrev pub canon_simple : Simple → List ℕ
-canon_simple (Const (I32 n)) = i32_const_byte ∷ canon_signed 4 32 n
-canon_simple (Const (I64 n)) = i64_const_byte ∷ canon_signed 9 64 n
-canon_simple Drop = drop_byte ∷ []
-canon_simple (Br label) = br_byte ∷ canon_number label
-canon_simple Return = return_byte ∷ []
-canon_simple (Call f) = call_byte ∷ canon_number f
+canon_simple s = opcode s ∷ canon_immediates s
 
 -- what separates the arms of an if: nothing where the else arm is empty
 abbrev pub canon_else : Ops → List ℕ
@@ -126,13 +158,28 @@ canon_code f = canon_vector canon_run (runs_of f.locals) ++ canon_ops f.body ++ 
 abbrev pub canon_entry : Func → List ℕ
 canon_entry f = canon_sized (canon_code f)
 
--- ---- imports and exports
+-- ---- the items of the other sections
+
+abbrev pub canon_expression : Ops → List ℕ
+canon_expression os = canon_ops os ++ end_byte ∷ []
 
 abbrev pub canon_import : Import → List ℕ
-canon_import i = canon_name i.module ++ canon_name i.name ++ func_kind_byte ∷ canon_number i.type_index
+canon_import i = canon_name i.module ++ canon_name i.name ++ kind_byte kinds.Func ∷ canon_number i.type_index
+
+abbrev pub canon_table : Limits → List ℕ
+canon_table l = table_type_byte ∷ canon_limits l
+
+abbrev pub canon_global : declared_global.Global → List ℕ
+canon_global g = type_byte g.val_type ∷ mutability_byte g.mutability ∷ canon_expression g.init
 
 abbrev pub canon_export : Export → List ℕ
 canon_export e = canon_name e.name ++ kind_byte e.kind ∷ canon_number e.index
+
+abbrev pub canon_element : Element → List ℕ
+canon_element e = canon_number e.table ++ (canon_expression e.offset ++ canon_vector canon_number e.funcs)
+
+abbrev pub canon_segment : Segment → List ℕ
+canon_segment s = canon_number s.memory ++ (canon_expression s.offset ++ canon_sized s.bytes)
 
 -- ---- sections and modules
 
@@ -141,37 +188,34 @@ abbrev pub canon_section : {X : Type 0} → ℕ → (X → List ℕ) → List X 
 canon_section id encoding [] = []
 canon_section id encoding (x ∷ xs) = id ∷ canon_sized (canon_vector encoding (x ∷ xs))
 
+abbrev pub canon_start : Option ℕ → List ℕ
+canon_start None = []
+canon_start (Some func) = start_section ∷ canon_sized (canon_number func)
+
+-- types, imports and the types of functions
+abbrev pub canon_front : Module → List ℕ
+canon_front m =
+    canon_section type_section canon_func_type m.types ++ canon_section import_section canon_import m.imports
+    ++ canon_section function_section canon_number (indices_of m.funcs)
+
+-- tables, memories and globals
+abbrev pub canon_stores : Module → List ℕ
+canon_stores m =
+    canon_section table_section canon_table m.tables ++ canon_section memory_section canon_limits m.memories
+    ++ canon_section global_section canon_global m.globals
+
+-- exports, start function and element segments
+abbrev pub canon_middle : Module → List ℕ
+canon_middle m =
+    canon_section export_section canon_export m.exports ++ canon_start m.start
+    ++ canon_section element_section canon_element m.elements
+
+-- in rising order of ids
 abbrev pub canon : Module → List ℕ
 canon m =
-    preamble ++ canon_section type_section canon_func_type m.types ++ canon_section import_section canon_import m.imports
-    ++ canon_section function_section canon_number (indices_of m.funcs) ++ canon_section export_section canon_export m.exports
-    ++ canon_section code_section canon_entry m.funcs
+    preamble ++ canon_front m ++ canon_stores m ++ canon_middle m ++ canon_section code_section canon_entry m.funcs
+    ++ canon_section data_section canon_segment m.segments
 
 -- a module that is within the limits, and its canonical encoding too
 abbrev pub FitsLimits : Module → Type 0
 FitsLimits m = Within m × (length (canon m) ≤ max_module_bytes)
-
--- ---- what the grammar has an encoding of so far
-
-abbrev pub HasSimpleForm : Simple → Type 0
-HasSimpleForm (Const (I32 n)) = Unit {0}
-HasSimpleForm (Const (I64 n)) = ⊥
-HasSimpleForm Drop = Unit {0}
-HasSimpleForm (Br label) = ⊥
-HasSimpleForm Return = ⊥
-HasSimpleForm (Call f) = Unit {0}
-
-abbrev mutual
-  pub HasForm : Op → Type 0
-  HasForm (simple s) = HasSimpleForm s
-  HasForm (block type body) = ⊥
-  HasForm (loop type body) = ⊥
-  HasForm (if' type then_arm else_arm) = ⊥
-
-  pub HaveForms : Ops → Type 0
-  HaveForms stop = Unit {0}
-  HaveForms (next o os) = HasForm o × HaveForms os
-
-pub record HasEncoding (m : Module) : Type 0 where
-  pub bodies : All (λ f. HaveForms f.body) m.funcs
-  pub calls : CallsImports m

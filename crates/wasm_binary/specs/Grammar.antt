@@ -1,23 +1,27 @@
 -- The binary format (5.3 to 5.5), by cases. IsX bytes x rest: the bytes begin with an encoding of x,
 -- and the rest follows it.
-use Rattle.std.specs.Prelude.{◌≡◌, ℕ, ◌^◌, ◌<◌, List, [], ◌∷◌, ◌++◌, length, map, replicate, IsUtf8, ◌⊎◌}
+use Rattle.std.specs.Prelude.{◌≡◌, ℕ, ◌^◌, ◌<◌, List, [], ◌∷◌, ◌++◌, length, map, replicate, Option, Some, None, IsUtf8, ◌⊎◌}
 use Rattle.std.specs.List.{flat_map}
 use Rattle.wasm_ast.specs.declared.values.ValType.{ValType}
-use Rattle.wasm_ast.specs.declared.values.ValType.TheVariants as val_types
 use Rattle.wasm_ast.specs.declared.values.FuncType.{FuncType}
 use Rattle.wasm_ast.specs.declared.values.Value.TheVariants.{I32, I64}
+use Rattle.wasm_ast.specs.declared.instr.BlockType.{BlockType}
+use Rattle.wasm_ast.specs.declared.instr.BlockType.TheVariants.{Empty, One}
+use Rattle.wasm_ast.specs.declared.instr.MemArg.{MemArg}
 use Rattle.wasm_ast.specs.declared.instr.Simple.{Simple}
-use Rattle.wasm_ast.specs.declared.instr.Simple.TheVariants.{Const, Drop, Br, Return, Call}
+use Rattle.wasm_ast.specs.declared.instr.Simple.TheVariants.{Br, BrIf, BrTable, Call, CallIndirect, Local, Global, Load, Store, MemorySize, MemoryGrow, Const}
+use Rattle.wasm_ast.specs.declared.module.Limits.{Limits}
+use Rattle.wasm_ast.specs.declared.module.Global as declared_global
+use Rattle.wasm_ast.specs.declared.module.Element.{Element}
+use Rattle.wasm_ast.specs.declared.module.Segment.{Segment}
 use Rattle.wasm_ast.specs.declared.module.Import.{Import}
 use Rattle.wasm_ast.specs.declared.module.Func.{Func}
-use Rattle.wasm_ast.specs.declared.module.ExportKind.{ExportKind}
 use Rattle.wasm_ast.specs.declared.module.ExportKind.TheVariants as kinds
 use Rattle.wasm_ast.specs.declared.module.Export.{Export}
 use Rattle.wasm_ast.specs.declared.module.Module.{Module}
 use Rattle.wasm_ast.specs.Syntax.{Op, simple, block, loop, if', Ops, stop, next}
-use Rattle.wasm_ast.specs.Reaches.{CallsImports}
 use Rattle.wasm_binary.specs.Numbers.{IsU32, IsSigned}
-use Rattle.wasm_binary.specs.Opcodes.{i32_byte, i64_byte, func_type_byte, end_byte, call_byte, drop_byte, i32_const_byte, func_kind_byte, custom_section, type_section, import_section, function_section, export_section, code_section, preamble}
+use Rattle.wasm_binary.specs.Opcodes.{type_byte, func_type_byte, empty_byte, min_byte, min_max_byte, table_type_byte, mutability_byte, block_byte, loop_byte, if_byte, else_byte, end_byte, opcode, reserved_byte, kind_byte, custom_section, type_section, import_section, function_section, table_section, memory_section, global_section, export_section, start_section, element_section, code_section, data_section, preamble}
 
 -- what encodes an X
 abbrev pub Form : Type 0 → Type 1
@@ -37,16 +41,15 @@ abbrev pub IsSized : {X : Type 0} → Form X → Form X
 IsSized IsX bytes x rest =
     (part : List ℕ) × (mid : List ℕ) × IsU32 bytes (length part) mid × (mid ≡ part ++ rest) × IsX part x []
 
+-- a vector of bytes
+abbrev pub AreBytes : Form (List ℕ)
+AreBytes bytes xs rest = (mid : List ℕ) × IsU32 bytes (length xs) mid × (mid ≡ xs ++ rest)
+
 -- a name: a vector of bytes that are UTF-8 (5.2.4)
 abbrev pub IsName : Form (List ℕ)
-IsName bytes name rest =
-    (mid : List ℕ) × IsU32 bytes (length name) mid × (mid ≡ name ++ rest) × IsUtf8 name
+IsName bytes name rest = AreBytes bytes name rest × IsUtf8 name
 
 -- ---- types (5.3)
-
-abbrev pub type_byte : ValType → ℕ
-type_byte val_types.I32 = i32_byte
-type_byte val_types.I64 = i64_byte
 
 abbrev pub IsValType : Form ValType
 IsValType bytes t rest = bytes ≡ type_byte t ∷ rest
@@ -56,22 +59,64 @@ IsFuncType bytes t rest =
     (from : List ℕ) × (mid : List ℕ) × (bytes ≡ func_type_byte ∷ from) × IsVector IsValType from t.params mid
     × IsVector IsValType mid t.results rest
 
--- ---- instructions (5.4); what is ⊥ this profile cannot encode yet
+-- the type of a block (5.4.1)
+abbrev pub IsBlockType : Form BlockType
+IsBlockType bytes Empty rest = bytes ≡ empty_byte ∷ rest
+IsBlockType bytes (One t) rest = IsValType bytes t rest
 
+-- a first size, and a largest one if there is one (5.3.4)
+abbrev pub AreSizes : (bytes : List ℕ) → (min : ℕ) → (max : Option ℕ) → (rest : List ℕ) → Type 0
+AreSizes bytes min None rest = (from : List ℕ) × (bytes ≡ min_byte ∷ from) × IsU32 from min rest
+AreSizes bytes min (Some max) rest =
+    (from : List ℕ) × (mid : List ℕ) × (bytes ≡ min_max_byte ∷ from) × IsU32 from min mid × IsU32 mid max rest
+
+abbrev pub IsLimits : Form Limits
+IsLimits bytes l rest = AreSizes bytes l.min l.max rest
+
+-- ---- instructions (5.4)
+
+-- the exponent of the alignment, and the offset (5.4.4)
+abbrev pub IsMemArg : Form MemArg
+IsMemArg bytes at rest = (mid : List ℕ) × IsU32 bytes at.align mid × IsU32 mid at.offset rest
+
+-- what follows the opcode of an instruction without a body
+abbrev pub AreImmediates : Form Simple
+AreImmediates bytes (Br label) rest = IsU32 bytes label rest
+AreImmediates bytes (BrIf label) rest = IsU32 bytes label rest
+AreImmediates bytes (BrTable labels other) rest =
+    (mid : List ℕ) × IsVector IsU32 bytes labels mid × IsU32 mid other rest
+AreImmediates bytes (Call func) rest = IsU32 bytes func rest
+AreImmediates bytes (CallIndirect index) rest = IsU32 bytes index (reserved_byte ∷ rest)
+AreImmediates bytes (Local op index) rest = IsU32 bytes index rest
+AreImmediates bytes (Global op index) rest = IsU32 bytes index rest
+AreImmediates bytes (Load op at) rest = IsMemArg bytes at rest
+AreImmediates bytes (Store op at) rest = IsMemArg bytes at rest
+AreImmediates bytes MemorySize rest = bytes ≡ reserved_byte ∷ rest
+AreImmediates bytes MemoryGrow rest = bytes ≡ reserved_byte ∷ rest
+AreImmediates bytes (Const (I32 n)) rest = IsSigned 32 bytes n rest
+AreImmediates bytes (Const (I64 n)) rest = IsSigned 64 bytes n rest
+-- nothing follows the others
+AreImmediates bytes _ rest = rest ≡ bytes
+
+-- an instruction without a body
 abbrev pub IsSimple : Form Simple
-IsSimple bytes (Const (I32 n)) rest = (from : List ℕ) × (bytes ≡ i32_const_byte ∷ from) × IsSigned 32 from n rest
-IsSimple bytes (Const (I64 n)) rest = ⊥
-IsSimple bytes Drop rest = bytes ≡ drop_byte ∷ rest
-IsSimple bytes (Br label) rest = ⊥
-IsSimple bytes Return rest = ⊥
-IsSimple bytes (Call f) rest = (from : List ℕ) × (bytes ≡ call_byte ∷ from) × IsU32 from f rest
+IsSimple bytes s rest = (from : List ℕ) × (bytes ≡ opcode s ∷ from) × AreImmediates from s rest
 
+-- An instruction. An if with an empty else arm may be without an else.
 abbrev mutual
   pub IsOp : Form Op
   IsOp bytes (simple s) rest = IsSimple bytes s rest
-  IsOp bytes (block type body) rest = ⊥
-  IsOp bytes (loop type body) rest = ⊥
-  IsOp bytes (if' type then_arm else_arm) rest = ⊥
+  IsOp bytes (block type body) rest =
+      (from : List ℕ) × (mid : List ℕ) × (bytes ≡ block_byte ∷ from) × IsBlockType from type mid
+      × AreOps mid body (end_byte ∷ rest)
+  IsOp bytes (loop type body) rest =
+      (from : List ℕ) × (mid : List ℕ) × (bytes ≡ loop_byte ∷ from) × IsBlockType from type mid
+      × AreOps mid body (end_byte ∷ rest)
+  IsOp bytes (if' type then_arm else_arm) rest =
+      (from : List ℕ) × (mid : List ℕ) × (bytes ≡ if_byte ∷ from) × IsBlockType from type mid
+      × ((AreOps mid then_arm (end_byte ∷ rest) × (else_arm ≡ stop))
+      ⊎ ((from_else : List ℕ) × AreOps mid then_arm (else_byte ∷ from_else)
+      × AreOps from_else else_arm (end_byte ∷ rest)))
 
   pub AreOps : Form Ops
   AreOps bytes stop rest = rest ≡ bytes
@@ -102,20 +147,50 @@ IsCode bytes f rest = (mid : List ℕ) × AreLocals bytes f.locals mid × IsExpr
 abbrev pub IsEntry : Form Func
 IsEntry = IsSized IsCode
 
--- ---- imports and exports (5.5.5, 5.5.10); the profile has those of functions so far
+-- ---- the items of the other sections
 
+-- an import of a function (5.5.5); the profile has no other kind
 abbrev pub IsImport : Form Import
 IsImport bytes i rest =
     (from_name : List ℕ) × (from_kind : List ℕ) × (from_type : List ℕ) × IsName bytes i.module from_name
-    × IsName from_name i.name from_kind × (from_kind ≡ func_kind_byte ∷ from_type) × IsU32 from_type i.type_index rest
+    × IsName from_name i.name from_kind × (from_kind ≡ kind_byte kinds.Func ∷ from_type) × IsU32 from_type i.type_index rest
 
-abbrev pub kind_byte : ExportKind → ℕ
-kind_byte kinds.Func = func_kind_byte
+-- a table (5.5.7)
+abbrev pub IsTable : Form Limits
+IsTable bytes l rest = (from : List ℕ) × (bytes ≡ table_type_byte ∷ from) × IsLimits from l rest
 
+-- a memory (5.5.8)
+abbrev pub IsMemory : Form Limits
+IsMemory = IsLimits
+
+-- a global (5.5.9)
+abbrev pub IsGlobal : Form declared_global.Global
+IsGlobal bytes g rest =
+    (from : List ℕ) × (mid : List ℕ) × IsValType bytes g.val_type from × (from ≡ mutability_byte g.mutability ∷ mid)
+    × IsExpression mid g.init rest
+
+-- an export (5.5.10)
 abbrev pub IsExport : Form Export
 IsExport bytes e rest =
     (from_kind : List ℕ) × (from_index : List ℕ) × IsName bytes e.name from_kind
     × (from_kind ≡ kind_byte e.kind ∷ from_index) × IsU32 from_index e.index rest
+
+-- the start function (5.5.11)
+abbrev pub IsStart : Form (Option ℕ)
+IsStart bytes None rest = ⊥
+IsStart bytes (Some func) rest = IsU32 bytes func rest
+
+-- an element segment (5.5.12)
+abbrev pub IsElement : Form Element
+IsElement bytes e rest =
+    (from : List ℕ) × (mid : List ℕ) × IsU32 bytes e.table from × IsExpression from e.offset mid
+    × IsVector IsU32 mid e.funcs rest
+
+-- a data segment (5.5.14)
+abbrev pub IsSegment : Form Segment
+IsSegment bytes s rest =
+    (from : List ℕ) × (mid : List ℕ) × IsU32 bytes s.memory from × IsExpression from s.offset mid
+    × AreBytes mid s.bytes rest
 
 -- ---- sections (5.5.2, 5.5.3)
 
@@ -165,14 +240,43 @@ pub record UpToFunctions (bytes : List ℕ) (m : Module) (rest : List ℕ) : Typ
   pub before : UpToImports bytes m from_functions
   pub functions : IsSection function_section IsU32 from_functions (indices_of m.funcs) rest
 
+pub record UpToTables (bytes : List ℕ) (m : Module) (rest : List ℕ) : Type 0 where
+  pub from_tables : List ℕ
+  pub before : UpToFunctions bytes m from_tables
+  pub tables : IsSection table_section IsTable from_tables m.tables rest
+
+pub record UpToMemories (bytes : List ℕ) (m : Module) (rest : List ℕ) : Type 0 where
+  pub from_memories : List ℕ
+  pub before : UpToTables bytes m from_memories
+  pub memories : IsSection memory_section IsMemory from_memories m.memories rest
+
+pub record UpToGlobals (bytes : List ℕ) (m : Module) (rest : List ℕ) : Type 0 where
+  pub from_globals : List ℕ
+  pub before : UpToMemories bytes m from_globals
+  pub globals : IsSection global_section IsGlobal from_globals m.globals rest
+
 pub record UpToExports (bytes : List ℕ) (m : Module) (rest : List ℕ) : Type 0 where
   pub from_exports : List ℕ
-  pub before : UpToFunctions bytes m from_exports
+  pub before : UpToGlobals bytes m from_exports
   pub exports : IsSection export_section IsExport from_exports m.exports rest
 
--- The bytes are a module's. The profile has calls of imported functions alone so far.
-pub record Spells (bytes : List ℕ) (m : Module) : Type 0 where
+pub record UpToStart (bytes : List ℕ) (m : Module) (rest : List ℕ) : Type 0 where
+  pub from_start : List ℕ
+  pub before : UpToExports bytes m from_start
+  pub start : IsPart start_section IsStart None from_start m.start rest
+
+pub record UpToElements (bytes : List ℕ) (m : Module) (rest : List ℕ) : Type 0 where
+  pub from_elements : List ℕ
+  pub before : UpToStart bytes m from_elements
+  pub elements : IsSection element_section IsElement from_elements m.elements rest
+
+pub record UpToCodes (bytes : List ℕ) (m : Module) (rest : List ℕ) : Type 0 where
   pub from_codes : List ℕ
-  pub before : UpToExports bytes m from_codes
-  pub codes : IsSection code_section IsEntry from_codes m.funcs []
-  pub calls : CallsImports m
+  pub before : UpToElements bytes m from_codes
+  pub codes : IsSection code_section IsEntry from_codes m.funcs rest
+
+-- the bytes are a module's
+pub record Spells (bytes : List ℕ) (m : Module) : Type 0 where
+  pub from_segments : List ℕ
+  pub before : UpToCodes bytes m from_segments
+  pub segments : IsSection data_section IsSegment from_segments m.segments []

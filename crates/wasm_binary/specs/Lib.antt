@@ -3,4 +3,5 @@ pub mod Opcodes
 pub mod Grammar
 pub mod Limits
 pub mod Canonical
+pub mod Worked
 pub mod Inside

@@ -1,13 +1,39 @@
 -- The bytes of the binary format (5.3 to 5.5), each by name.
 use Rattle.std.specs.Prelude.{ℕ, List, [], ◌∷◌}
+use Rattle.wasm_ast.specs.declared.values.ValType.{ValType}
+use Rattle.wasm_ast.specs.declared.values.ValType.TheVariants as type
+use Rattle.wasm_ast.specs.declared.values.Value.TheVariants as value
+use Rattle.wasm_ast.specs.declared.instr.Simple.{Simple}
+use Rattle.wasm_ast.specs.declared.instr.Simple.TheVariants.{Unreachable, Nop, Br, BrIf, BrTable, Return, Call, CallIndirect, Drop, Select, Local, Global, Load, Store, MemorySize, MemoryGrow, Const, Unary, Binary, Test, Compare, Convert}
+use Rattle.wasm_ast.specs.declared.instr.LocalOp.{LocalOp}
+use Rattle.wasm_ast.specs.declared.instr.LocalOp.TheVariants as local
+use Rattle.wasm_ast.specs.declared.instr.GlobalOp.{GlobalOp}
+use Rattle.wasm_ast.specs.declared.instr.GlobalOp.TheVariants as global
+use Rattle.wasm_ast.specs.declared.operators.LoadOp.{LoadOp}
+use Rattle.wasm_ast.specs.declared.operators.LoadOp.TheVariants as load
+use Rattle.wasm_ast.specs.declared.operators.StoreOp.{StoreOp}
+use Rattle.wasm_ast.specs.declared.operators.StoreOp.TheVariants as store
+use Rattle.wasm_ast.specs.declared.operators.UnaryOp.{UnaryOp}
+use Rattle.wasm_ast.specs.declared.operators.UnaryOp.TheVariants as unary
+use Rattle.wasm_ast.specs.declared.operators.BinaryOp.{BinaryOp}
+use Rattle.wasm_ast.specs.declared.operators.BinaryOp.TheVariants as binary
+use Rattle.wasm_ast.specs.declared.operators.TestOp.{TestOp}
+use Rattle.wasm_ast.specs.declared.operators.TestOp.TheVariants as test
+use Rattle.wasm_ast.specs.declared.operators.RelationOp.{RelationOp}
+use Rattle.wasm_ast.specs.declared.operators.RelationOp.TheVariants as relation
+use Rattle.wasm_ast.specs.declared.operators.ConvertOp.{ConvertOp}
+use Rattle.wasm_ast.specs.declared.operators.ConvertOp.TheVariants as convert
+use Rattle.wasm_ast.specs.declared.module.Mutability.{Mutability}
+use Rattle.wasm_ast.specs.declared.module.Mutability.TheVariants as mutability
+use Rattle.wasm_ast.specs.declared.module.ExportKind.{ExportKind}
+use Rattle.wasm_ast.specs.declared.module.ExportKind.TheVariants as kinds
 
 -- ---- types (5.3)
 
-abbrev pub i32_byte : ℕ
-i32_byte = 0x7F
-
-abbrev pub i64_byte : ℕ
-i64_byte = 0x7E
+-- the type of a value (5.3.1)
+abbrev pub type_byte : ValType → ℕ
+type_byte type.I32 = 0x7F
+type_byte type.I64 = 0x7E
 
 abbrev pub func_type_byte : ℕ
 func_type_byte = 0x60
@@ -16,7 +42,23 @@ func_type_byte = 0x60
 abbrev pub empty_byte : ℕ
 empty_byte = 0x40
 
--- ---- instructions (5.4)
+-- limits without a largest size, and with one (5.3.4)
+abbrev pub min_byte : ℕ
+min_byte = 0x00
+
+abbrev pub min_max_byte : ℕ
+min_max_byte = 0x01
+
+-- the type of the elements of a table (5.3.6)
+abbrev pub table_type_byte : ℕ
+table_type_byte = 0x70
+
+-- whether a global may be written (5.3.7)
+abbrev pub mutability_byte : Mutability → ℕ
+mutability_byte mutability.Const = 0x00
+mutability_byte mutability.Var = 0x01
+
+-- ---- instructions that have bodies (5.4.1)
 
 abbrev pub block_byte : ℕ
 block_byte = 0x02
@@ -33,28 +75,158 @@ else_byte = 0x05
 abbrev pub end_byte : ℕ
 end_byte = 0x0B
 
-abbrev pub br_byte : ℕ
-br_byte = 0x0C
+-- ---- instructions without bodies (5.4.1 to 5.4.5)
 
-abbrev pub return_byte : ℕ
-return_byte = 0x0F
+-- what is done with a local (5.4.3)
+abbrev pub local_byte : LocalOp → ℕ
+local_byte local.Get = 0x20
+local_byte local.Set = 0x21
+local_byte local.Tee = 0x22
 
-abbrev pub call_byte : ℕ
-call_byte = 0x10
+-- what is done with a global (5.4.3)
+abbrev pub global_byte : GlobalOp → ℕ
+global_byte global.Get = 0x23
+global_byte global.Set = 0x24
 
-abbrev pub drop_byte : ℕ
-drop_byte = 0x1A
+-- loads (5.4.4)
+abbrev pub load_byte : LoadOp → ℕ
+load_byte load.I32 = 0x28
+load_byte load.I64 = 0x29
+load_byte load.I32From8S = 0x2C
+load_byte load.I32From8U = 0x2D
+load_byte load.I32From16S = 0x2E
+load_byte load.I32From16U = 0x2F
+load_byte load.I64From8S = 0x30
+load_byte load.I64From8U = 0x31
+load_byte load.I64From16S = 0x32
+load_byte load.I64From16U = 0x33
+load_byte load.I64From32S = 0x34
+load_byte load.I64From32U = 0x35
 
-abbrev pub i32_const_byte : ℕ
-i32_const_byte = 0x41
+-- stores (5.4.4)
+abbrev pub store_byte : StoreOp → ℕ
+store_byte store.I32 = 0x36
+store_byte store.I64 = 0x37
+store_byte store.I32To8 = 0x3A
+store_byte store.I32To16 = 0x3B
+store_byte store.I64To8 = 0x3C
+store_byte store.I64To16 = 0x3D
+store_byte store.I64To32 = 0x3E
 
-abbrev pub i64_const_byte : ℕ
-i64_const_byte = 0x42
+-- tests (5.4.5)
+abbrev pub test_byte : ValType → TestOp → ℕ
+test_byte type.I32 test.Eqz = 0x45
+test_byte type.I64 test.Eqz = 0x50
+
+-- comparisons (5.4.5)
+abbrev pub compare_byte : ValType → RelationOp → ℕ
+compare_byte type.I32 relation.Eq = 0x46
+compare_byte type.I32 relation.Ne = 0x47
+compare_byte type.I32 relation.LtS = 0x48
+compare_byte type.I32 relation.LtU = 0x49
+compare_byte type.I32 relation.GtS = 0x4A
+compare_byte type.I32 relation.GtU = 0x4B
+compare_byte type.I32 relation.LeS = 0x4C
+compare_byte type.I32 relation.LeU = 0x4D
+compare_byte type.I32 relation.GeS = 0x4E
+compare_byte type.I32 relation.GeU = 0x4F
+compare_byte type.I64 relation.Eq = 0x51
+compare_byte type.I64 relation.Ne = 0x52
+compare_byte type.I64 relation.LtS = 0x53
+compare_byte type.I64 relation.LtU = 0x54
+compare_byte type.I64 relation.GtS = 0x55
+compare_byte type.I64 relation.GtU = 0x56
+compare_byte type.I64 relation.LeS = 0x57
+compare_byte type.I64 relation.LeU = 0x58
+compare_byte type.I64 relation.GeS = 0x59
+compare_byte type.I64 relation.GeU = 0x5A
+
+-- operators with one operand (5.4.5)
+abbrev pub unary_byte : ValType → UnaryOp → ℕ
+unary_byte type.I32 unary.Clz = 0x67
+unary_byte type.I32 unary.Ctz = 0x68
+unary_byte type.I32 unary.Popcnt = 0x69
+unary_byte type.I64 unary.Clz = 0x79
+unary_byte type.I64 unary.Ctz = 0x7A
+unary_byte type.I64 unary.Popcnt = 0x7B
+
+-- operators with two operands (5.4.5)
+abbrev pub binary_byte : ValType → BinaryOp → ℕ
+binary_byte type.I32 binary.Add = 0x6A
+binary_byte type.I32 binary.Sub = 0x6B
+binary_byte type.I32 binary.Mul = 0x6C
+binary_byte type.I32 binary.DivS = 0x6D
+binary_byte type.I32 binary.DivU = 0x6E
+binary_byte type.I32 binary.RemS = 0x6F
+binary_byte type.I32 binary.RemU = 0x70
+binary_byte type.I32 binary.And = 0x71
+binary_byte type.I32 binary.Or = 0x72
+binary_byte type.I32 binary.Xor = 0x73
+binary_byte type.I32 binary.Shl = 0x74
+binary_byte type.I32 binary.ShrS = 0x75
+binary_byte type.I32 binary.ShrU = 0x76
+binary_byte type.I32 binary.Rotl = 0x77
+binary_byte type.I32 binary.Rotr = 0x78
+binary_byte type.I64 binary.Add = 0x7C
+binary_byte type.I64 binary.Sub = 0x7D
+binary_byte type.I64 binary.Mul = 0x7E
+binary_byte type.I64 binary.DivS = 0x7F
+binary_byte type.I64 binary.DivU = 0x80
+binary_byte type.I64 binary.RemS = 0x81
+binary_byte type.I64 binary.RemU = 0x82
+binary_byte type.I64 binary.And = 0x83
+binary_byte type.I64 binary.Or = 0x84
+binary_byte type.I64 binary.Xor = 0x85
+binary_byte type.I64 binary.Shl = 0x86
+binary_byte type.I64 binary.ShrS = 0x87
+binary_byte type.I64 binary.ShrU = 0x88
+binary_byte type.I64 binary.Rotl = 0x89
+binary_byte type.I64 binary.Rotr = 0x8A
+
+-- conversions (5.4.5)
+abbrev pub convert_byte : ConvertOp → ℕ
+convert_byte convert.Wrap = 0xA7
+convert_byte convert.ExtendS = 0xAC
+convert_byte convert.ExtendU = 0xAD
+
+-- the opcode of an instruction without a body
+abbrev pub opcode : Simple → ℕ
+opcode Unreachable = 0x00
+opcode Nop = 0x01
+opcode (Br label) = 0x0C
+opcode (BrIf label) = 0x0D
+opcode (BrTable labels other) = 0x0E
+opcode Return = 0x0F
+opcode (Call func) = 0x10
+opcode (CallIndirect index) = 0x11
+opcode Drop = 0x1A
+opcode Select = 0x1B
+opcode (Local op index) = local_byte op
+opcode (Global op index) = global_byte op
+opcode (Load op at) = load_byte op
+opcode (Store op at) = store_byte op
+opcode MemorySize = 0x3F
+opcode MemoryGrow = 0x40
+opcode (Const (value.I32 n)) = 0x41
+opcode (Const (value.I64 n)) = 0x42
+opcode (Test t op) = test_byte t op
+opcode (Compare t op) = compare_byte t op
+opcode (Unary t op) = unary_byte t op
+opcode (Binary t op) = binary_byte t op
+opcode (Convert op) = convert_byte op
+
+-- what follows the type of `call_indirect`, and the opcodes of `memory.size` and `memory.grow`
+abbrev pub reserved_byte : ℕ
+reserved_byte = 0x00
 
 -- ---- what is imported or exported (5.5.5, 5.5.10)
 
-abbrev pub func_kind_byte : ℕ
-func_kind_byte = 0x00
+-- functions, tables, memories and globals
+abbrev pub kind_byte : ExportKind → ℕ
+kind_byte kinds.Func = 0x00
+kind_byte kinds.Table = 0x01
+kind_byte kinds.Memory = 0x02
+kind_byte kinds.Global = 0x03
 
 -- ---- ids of sections (5.5.2)
 
@@ -70,11 +242,29 @@ import_section = 2
 abbrev pub function_section : ℕ
 function_section = 3
 
+abbrev pub table_section : ℕ
+table_section = 4
+
+abbrev pub memory_section : ℕ
+memory_section = 5
+
+abbrev pub global_section : ℕ
+global_section = 6
+
 abbrev pub export_section : ℕ
 export_section = 7
 
+abbrev pub start_section : ℕ
+start_section = 8
+
+abbrev pub element_section : ℕ
+element_section = 9
+
 abbrev pub code_section : ℕ
 code_section = 10
+
+abbrev pub data_section : ℕ
+data_section = 11
 
 -- ---- modules (5.5.15)
 

@@ -65,16 +65,15 @@ fn read_locals(
 #[tactic(auto, unfolding(crate::specs::Inside::Reading::read_code))]
 fn read_code(
     alloc: Global,
-    import_count: usize,
     params: usize,
     type_index: u32,
     bytes: &[u8],
 ) -> Result<(Func, &[u8]), ReadError>
     ensures { Gives (λ x. (x.0, x.1.now)) result
-        (read_code true import_count params type_index bytes.now) }
+        (read_code true params type_index bytes.now) }
 {
     let (locals, rest) = read_locals(alloc, params, bytes)?;
-    let (body, rest) = read_expression(alloc, import_count, rest)?;
+    let (body, rest) = read_expression(alloc, rest)?;
     let locals = Sequence::new(locals);
     Ok((
         Func {
@@ -99,17 +98,16 @@ fn params_of(types: &[FuncType], type_index: u32) -> usize
 fn read_entry<'a>(
     alloc: Global,
     types: &[FuncType],
-    import_count: usize,
     type_index: u32,
     bytes: &'a [u8],
 ) -> Result<(Func, &'a [u8]), ReadError>
     ensures { Gives (λ x. (x.0, x.1.now)) result
-        (read_sized (read_code true import_count (params_of types.now type_index) type_index)
+        (read_sized (read_code true (params_of types.now type_index) type_index)
         bytes.now) }
 {
     let (size, rest) = read_u32(bytes)?;
     let params = params_of(types, type_index);
-    let (func, left) = read_code(alloc, import_count, params, type_index, at_most(size, rest))?;
+    let (func, left) = read_code(alloc, params, type_index, at_most(size, rest))?;
     let rest = skip_exact(size, left, rest)?;
     Ok((func, rest))
 }
@@ -117,17 +115,16 @@ fn read_entry<'a>(
 fn read_entries<'a>(
     alloc: Global,
     types: &[FuncType],
-    import_count: usize,
     indices: &[u32],
     bytes: &'a [u8],
 ) -> Result<(Vec<Func>, &'a [u8]), ReadError>
     ensures { Gives (λ x. (x.0.items, x.1.now)) result
-        (read_entries true types.now import_count indices.now bytes.now) }
+        (read_entries true types.now indices.now bytes.now) }
 {
     let mut items = Vec::new(alloc);
     let mut rest = bytes;
     for type_index in indices {
-        let (item, next) = read_entry(alloc, types, import_count, *type_index, rest)?;
+        let (item, next) = read_entry(alloc, types, *type_index, rest)?;
         items.push(item)?;
         rest = next;
     }
@@ -139,16 +136,15 @@ fn read_entries<'a>(
 pub fn read_codes<'a>(
     alloc: Global,
     types: &[FuncType],
-    import_count: usize,
     indices: &[u32],
     bytes: &'a [u8],
 ) -> Result<(Vec<Func>, &'a [u8]), ReadError>
     ensures { Gives (λ x. (x.0.items, x.1.now)) result
-        (read_codes true types.now import_count indices.now bytes.now) }
+        (read_codes true types.now indices.now bytes.now) }
 {
     let (count, rest) = read_u32(bytes)?;
     if count as usize != indices.len() {
         return Err(ReadError::Fault(Fault::Bad));
     }
-    read_entries(alloc, types, import_count, indices, rest)
+    read_entries(alloc, types, indices, rest)
 }

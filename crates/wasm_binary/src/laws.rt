@@ -6,14 +6,19 @@ ghost use Rattle.wasm_ast.specs.declared.values.ValType.{ValType};
 ghost use Rattle.wasm_ast.specs.declared.values.Value.TheVariants as Value;
 ghost use Rattle.wasm_ast.specs.declared.values.ValType.TheVariants as val_types;
 ghost use Rattle.wasm_ast.specs.declared.instr.BlockType.TheVariants.{Empty, One};
-ghost use Rattle.wasm_ast.specs.declared.instr.Simple.TheVariants.{Const, Drop, Br, Return};
+ghost use Rattle.wasm_ast.specs.declared.instr.Simple.TheVariants.{Const, Drop, Br, BrTable, Return, CallIndirect, Load, Store, MemoryGrow, Binary};
+ghost use Rattle.wasm_ast.specs.declared.operators.LoadOp.TheVariants as load;
+ghost use Rattle.wasm_ast.specs.declared.operators.StoreOp.TheVariants as store;
+ghost use Rattle.wasm_ast.specs.declared.operators.BinaryOp.TheVariants as binary;
 ghost use Rattle.wasm_ast.specs.Syntax.{simple, block, loop, if', stop, next};
 ghost use Rattle.wasm_ast.specs.Ranged.{Ranged, AreTexts};
 ghost use Rattle.wasm_ast.specs.Limits.{Within, max_module_bytes};
 ghost use Rattle.wasm_binary.specs.Numbers.{IsU32, IsSigned};
-ghost use Rattle.wasm_binary.specs.Grammar.{AreLocals, Spells, locals_of};
+ghost use Rattle.wasm_binary.specs.Opcodes.{preamble};
+ghost use Rattle.wasm_binary.specs.Grammar.{IsOp, AreLocals, Spells, locals_of};
+ghost use Rattle.wasm_binary.specs.Worked.{one_of_each};
 ghost use Rattle.wasm_binary.specs.Limits.{TooDeep, Over};
-ghost use Rattle.wasm_binary.specs.Canonical.{canon, FitsLimits, HasEncoding, canon_number, canon_signed, canon_val_type, canon_op, runs_of, AreLongest};
+ghost use Rattle.wasm_binary.specs.Canonical.{canon, FitsLimits, canon_number, canon_signed, canon_val_type, canon_op, runs_of, AreLongest};
 
 /// Bytes encode at most one module.
 pub fn spells_one()
@@ -26,11 +31,14 @@ pub fn over_spells_none_within()
         → (m : Module) → Spells bytes m → Within m → length bytes ≤ max_module_bytes → ⊥ }
 {}
 
-/// A block too many is met at its opcode, after whole instructions and before its type.
+/// A block too many is met at its opcode, after whole instructions and before its type; and inside a
+/// block or an else arm.
 pub fn depth_is_met_at_the_opcode()
     ensures block { (rest : List ℕ) → TooDeep 0 (0x1A ∷ 0x02 ∷ rest) }
     ensures iteration { (rest : List ℕ) → TooDeep 0 (0x1A ∷ 0x03 ∷ rest) }
     ensures choice { (rest : List ℕ) → TooDeep 0 (0x1A ∷ 0x04 ∷ rest) }
+    ensures inside { (rest : List ℕ) → TooDeep 1 (0x03 ∷ 0x40 ∷ 0x02 ∷ rest) }
+    ensures in_else { (rest : List ℕ) → TooDeep 1 (0x04 ∷ 0x40 ∷ 0x05 ∷ 0x02 ∷ rest) }
 {}
 
 /// The numbers of a module that bytes encode are in range, the numbers of locals included (5.5.13).
@@ -46,16 +54,10 @@ pub fn locals_have_encodings()
         → AreLocals (0x01 ∷ canon_number n ++ canon_val_type t) (replicate n t) [] }
 {}
 
-/// What bytes encode has an encoding, in the sense of the premise of `encode` and
-/// `canonical_spells`.
-pub fn spells_has_encoding()
-    ensures { (bytes : List ℕ) (m : Module) → Spells bytes m → HasEncoding m }
-{}
-
 /// The canonical encoding of a module that fits encodes it. So what `encode` gives, `decode` reads
 /// as that module.
 pub fn canonical_spells()
-    ensures { (m : Module) → Ranged m → AreTexts m → FitsLimits m → HasEncoding m
+    ensures { (m : Module) → Ranged m → AreTexts m → FitsLimits m
         → Spells (canon m) m }
 {}
 
@@ -87,9 +89,14 @@ pub fn canonical_runs_are_longest()
     ensures only { (runs : List (ℕ × ValType)) → AreLongest runs → runs_of (locals_of runs) ≡ runs }
 {}
 
-/// Instructions that the decoder does not read yet, as the Standard writes them (5.4): -1 as an
-/// i64, `br 300` in a block, `return` in a loop with a result, and an `if` with one arm and with
-/// two.
+/// An `if` with an empty else arm is encoded with an else and without (5.4.1).
+pub fn empty_else_arms_have_two_encodings()
+    ensures written { IsOp (0x04 ∷ 0x40 ∷ 0x05 ∷ 0x0B ∷ []) (if' Empty stop stop) [] }
+    ensures left_out { IsOp (0x04 ∷ 0x40 ∷ 0x0B ∷ []) (if' Empty stop stop) [] }
+{}
+
+/// Canonical instructions as the Standard writes them (5.4): -1 as an i64, `br 300` in a block,
+/// `return` in a loop with a result, and an `if` with one arm and with two.
 #[tactic(auto, unfolding(crate::specs::Canonical::canon_unsigned, crate::specs::Canonical::canon_signed))]
 pub fn canonical_instructions()
     ensures long { canon_op (simple (Const (Value.I64 18446744073709551615))) ≡ 0x42 ∷ 0x7F ∷ [] }
@@ -101,4 +108,35 @@ pub fn canonical_instructions()
         ≡ 0x04 ∷ 0x40 ∷ 0x1A ∷ 0x0B ∷ [] }
     ensures two_arms { canon_op (if' Empty stop (next (simple Drop) stop))
         ≡ 0x04 ∷ 0x40 ∷ 0x05 ∷ 0x1A ∷ 0x0B ∷ [] }
+{}
+
+/// What follows an opcode (5.4): the labels of `br_table` and then the one for all other operands,
+/// an alignment and then an offset, and a byte 00.
+#[tactic(auto, unfolding(crate::specs::Canonical::canon_unsigned))]
+pub fn canonical_immediates()
+    ensures labels { canon_op (simple (BrTable (1 ∷ 0 ∷ []) 2))
+        ≡ 0x0E ∷ 0x02 ∷ 0x01 ∷ 0x00 ∷ 0x02 ∷ [] }
+    ensures load { canon_op (simple (Load load.I64From16S (record { align = 1; offset = 5 })))
+        ≡ 0x32 ∷ 0x01 ∷ 0x05 ∷ [] }
+    ensures store { canon_op (simple (Store store.I32 (record { align = 2; offset = 4 })))
+        ≡ 0x36 ∷ 0x02 ∷ 0x04 ∷ [] }
+    ensures indirect { canon_op (simple (CallIndirect 3)) ≡ 0x11 ∷ 0x03 ∷ 0x00 ∷ [] }
+    ensures grow { canon_op (simple MemoryGrow) ≡ 0x40 ∷ 0x00 ∷ [] }
+    ensures none { canon_op (simple (Binary val_types.I64 binary.ShrU)) ≡ 0x88 ∷ [] }
+{}
+
+/// Canonical sections in rising order of ids (5.5): all but that of imports, each with one item.
+#[tactic(auto, unfolding(crate::specs::Canonical::canon_unsigned, crate::specs::Canonical::canon_signed))]
+pub fn canonical_sections()
+    ensures { canon one_of_each ≡ preamble
+        ++ (0x01 ∷ 0x04 ∷ 0x01 ∷ 0x60 ∷ 0x00 ∷ 0x00 ∷ [])
+        ++ (0x03 ∷ 0x02 ∷ 0x01 ∷ 0x00 ∷ [])
+        ++ (0x04 ∷ 0x05 ∷ 0x01 ∷ 0x70 ∷ 0x01 ∷ 0x01 ∷ 0x02 ∷ [])
+        ++ (0x05 ∷ 0x03 ∷ 0x01 ∷ 0x00 ∷ 0x01 ∷ [])
+        ++ (0x06 ∷ 0x06 ∷ 0x01 ∷ 0x7E ∷ 0x01 ∷ 0x42 ∷ 0x07 ∷ 0x0B ∷ [])
+        ++ (0x07 ∷ 0x05 ∷ 0x01 ∷ 0x01 ∷ 0x6D ∷ 0x02 ∷ 0x00 ∷ [])
+        ++ (0x08 ∷ 0x01 ∷ 0x00 ∷ [])
+        ++ (0x09 ∷ 0x07 ∷ 0x01 ∷ 0x00 ∷ 0x41 ∷ 0x00 ∷ 0x0B ∷ 0x01 ∷ 0x00 ∷ [])
+        ++ (0x0A ∷ 0x04 ∷ 0x01 ∷ 0x02 ∷ 0x00 ∷ 0x0B ∷ [])
+        ++ (0x0B ∷ 0x07 ∷ 0x01 ∷ 0x00 ∷ 0x41 ∷ 0x08 ∷ 0x0B ∷ 0x01 ∷ 0xFF ∷ []) }
 {}

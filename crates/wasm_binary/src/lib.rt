@@ -8,31 +8,33 @@ ghost use Rattle.wasm_ast.specs.Limits.{Within, max_module_bytes};
 ghost use Rattle.wasm_binary.specs.Opcodes.{preamble};
 ghost use Rattle.wasm_binary.specs.Grammar.{Spells};
 ghost use Rattle.wasm_binary.specs.Limits.{Over};
-ghost use Rattle.wasm_binary.specs.Canonical.{canon, FitsLimits, HasEncoding};
+ghost use Rattle.wasm_binary.specs.Canonical.{canon, FitsLimits};
 
 use std::alloc::Global;
 use wasm_ast::{MAX_MODULE_BYTES, Module, Refusal};
 
 mod code;
 mod fault;
-mod imports_exports;
 mod instructions;
+mod items;
 pub mod laws;
 mod numbers;
 mod opcodes;
+mod read_opcodes;
 mod sections;
 mod types;
 mod vectors;
 mod write_code;
 mod write_items;
+mod write_opcodes;
 mod write_sections;
 
 use fault::{Fault, ReadError};
 
 /// The module that the bytes encode (5.5.15), in memory of its own.
 ///
-/// `Limit` if there are more than 262,144 bytes, or if their front reaches a number or a sum over a
-/// limit; then they encode no module within the limits. Else `BadModule` if they encode none. So
+/// `Limit` if there are more than 262,144 bytes, or if their front reaches a number, a sum or a
+/// depth over a limit; then they encode no module within the limits. Else `BadModule` if they encode none. So
 /// the first fault from the front is answered. `NoMemory` may take the place of any answer if
 /// memory runs out, but for bytes that are too many or have no preamble.
 pub fn decode(alloc: Global, bytes: &[u8]) -> Result<Module, Refusal>
@@ -70,8 +72,7 @@ pub fn decode(alloc: Global, bytes: &[u8]) -> Result<Module, Refusal>
 /// runs out, but for a module that is over a limit.
 pub fn encode(alloc: Global, module: &Module) -> Result<Vec<u8>, Refusal>
     ensures canonical { IfOk result (λ v. v.items ≡ canon «module».now) }
-    // This profile has no encoding of some instructions yet.
-    ensures spells { HasEncoding «module».now → IfOk result (λ v. Spells v.items «module».now) }
+    ensures spells { IfOk result (λ v. Spells v.items «module».now) }
     ensures fits { IfOk result (λ _. FitsLimits «module».now) }
     ensures limit { result ≡ Err Refusal.Limit → FitsLimits «module».now → ⊥ }
     ensures over { (Within «module».now → ⊥) → result ≡ Err Refusal.Limit }

@@ -1,7 +1,7 @@
 //! Readers of bytes, of numbers (5.2.2) and of parts of the input.
 
 ghost use Rattle.std.specs.Prelude.{◌≡◌, ℕ, ◌<◌, ◌≤◌, ◌^◌, Bool, true, false, length, take, drop, MatchOption, IfOk};
-ghost use Rattle.wasm_binary.specs.Inside.Reading.{Gives, read_byte, begins_with, read_unsigned, read_last_unsigned, read_last_signed, read_signed, read_u32, skip_exact};
+ghost use Rattle.wasm_binary.specs.Inside.Reading.{Gives, read_byte, begins_with, skip_byte, read_byte_vector, read_unsigned, read_last_unsigned, read_last_signed, read_signed, read_u32, skip_exact};
 
 use crate::fault::{Fault, ReadError};
 
@@ -26,6 +26,17 @@ pub fn strip_byte(byte: u8, bytes: &[u8]) -> Option<&[u8]>
     match bytes {
         [first, rest @ ..] if *first == byte => Some(rest),
         _ => None,
+    }
+}
+
+/// The rest after this byte, which has to be the first.
+#[tactic(auto, unfolding(crate::specs::Inside::Reading::skip_byte))]
+pub fn skip_byte(byte: u8, bytes: &[u8]) -> Result<&[u8], ReadError>
+    ensures { Gives (λ x. x.now) result (skip_byte byte bytes.now) }
+{
+    match strip_byte(byte, bytes) {
+        Some(rest) => Ok(rest),
+        None => Err(ReadError::Fault(Fault::Bad)),
     }
 }
 
@@ -68,7 +79,7 @@ fn read_last_unsigned(bits: u32, byte: u8) -> Result<u64, ReadError>
 // A signed number of this many bits as its two's complement in them, and the rest.
 #[tactic(auto, unfolding(crate::specs::Inside::Reading::read_signed, crate::specs::Inside::Reading::read_byte))]
 fn read_signed(bits: u32, bytes: &[u8]) -> Result<(u64, &[u8]), ReadError>
-    requires { (0 < bits) × (bits ≤ 32) }
+    requires { (0 < bits) × (bits ≤ 64) }
     ensures value { Gives (λ x. (x.0, x.1.now)) result (read_signed bits bytes.now) }
     ensures small { IfOk result (λ x. x.0 < 2 ^ bits) }
 {
@@ -86,30 +97,35 @@ fn read_signed(bits: u32, bytes: &[u8]) -> Result<(u64, &[u8]), ReadError>
 
 #[tactic(auto, unfolding(crate::specs::Inside::Reading::read_last_signed))]
 fn read_last_signed(bits: u32, byte: u8) -> Result<u64, ReadError>
-    requires { (0 < bits) × (bits ≤ 32) × (byte < 128) }
+    requires { (0 < bits) × (bits ≤ 64) × (byte < 128) }
     ensures value { Gives (λ x. x) result (read_last_signed bits byte) }
     ensures small { IfOk result (λ x. x < 2 ^ bits) }
 {
-    let all = 1u64 << bits;
-    let byte = u64::from(byte);
+    let all = 1u128 << bits;
+    let byte = u128::from(byte);
     if byte < 64 {
         if 2 * byte < all {
-            Ok(byte)
+            Ok(byte as u64)
         } else {
             Err(ReadError::Fault(Fault::Bad))
         }
     } else if 255 < 2 * byte + all {
-        Ok(all - (128 - byte))
+        Ok((all - (128 - byte)) as u64)
     } else {
         Err(ReadError::Fault(Fault::Bad))
     }
 }
 
-/// An unsigned number of 32 bits, and the rest.
-#[tactic(auto, unfolding(crate::specs::Inside::Reading::read_u32))]
+/// An unsigned number of 32 bits, and the rest. Most take one byte.
+#[tactic(auto, unfolding(crate::specs::Inside::Reading::read_u32, crate::specs::Inside::Reading::read_unsigned, crate::specs::Inside::Reading::read_last_unsigned))]
 pub fn read_u32(bytes: &[u8]) -> Result<(u32, &[u8]), ReadError>
     ensures { Gives (λ x. (x.0, x.1.now)) result (read_u32 bytes.now) }
 {
+    if let [first, rest @ ..] = bytes {
+        if *first < 128 {
+            return Ok((u32::from(*first), rest));
+        }
+    }
     let (n, rest) = read_unsigned(32, bytes)?;
     Ok((n as u32, rest))
 }
@@ -120,6 +136,13 @@ pub fn read_s32(bytes: &[u8]) -> Result<(u32, &[u8]), ReadError>
 {
     let (n, rest) = read_signed(32, bytes)?;
     Ok((n as u32, rest))
+}
+
+/// A signed number of 64 bits as its two's complement, and the rest.
+pub fn read_s64(bytes: &[u8]) -> Result<(u64, &[u8]), ReadError>
+    ensures { Gives (λ x. (x.0, x.1.now)) result (read_signed 64 bytes.now) }
+{
+    read_signed(64, bytes)
 }
 
 /// This number of bytes from the front, or all if there are fewer.
@@ -144,4 +167,17 @@ pub fn skip_exact<'a>(size: u32, left: &[u8], bytes: &'a [u8]) -> Result<&'a [u8
         return Err(ReadError::Fault(Fault::Bad));
     }
     Ok(bytes.split_at(size).1)
+}
+
+/// The items of a vector of bytes, and the rest.
+#[tactic(auto, unfolding(crate::specs::Inside::Reading::read_byte_vector, crate::specs::Inside::Reading::read_bytes))]
+pub fn read_byte_vector(bytes: &[u8]) -> Result<(&[u8], &[u8]), ReadError>
+    ensures { Gives (λ x. (x.0.now, x.1.now)) result (read_byte_vector bytes.now) }
+{
+    let (size, rest) = read_u32(bytes)?;
+    let size = size as usize;
+    if rest.len() < size {
+        return Err(ReadError::Fault(Fault::Bad));
+    }
+    Ok(rest.split_at(size))
 }

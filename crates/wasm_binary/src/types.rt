@@ -1,26 +1,21 @@
 //! Readers of names (5.2.4) and types (5.3).
 
-ghost use Rattle.std.specs.Prelude.{◌≡◌, length, take};
-ghost use Rattle.wasm_binary.specs.Inside.Reading.{Gives, read_vector, read_name, val_type_of, read_val_type, read_func_type};
+ghost use Rattle.std.specs.Prelude.{◌≡◌, ◌≤◌, ◌<◌, ◌^◌, true, length, take};
+ghost use Rattle.wasm_binary.specs.Inside.Reading.{Gives, read_vector, read_name, val_type_of, read_val_type, read_func_type, read_block_type, read_min, read_limits};
 
 use crate::fault::{Fault, ReadError};
-use crate::numbers::{read_byte, read_u32, strip_byte};
-use crate::opcodes::{FUNC_TYPE, I32, I64};
+use crate::numbers::{read_byte, read_byte_vector, read_u32, skip_byte, strip_byte};
+use crate::opcodes::{EMPTY, FUNC_TYPE, I32, I64, MIN, MIN_MAX};
 use crate::vectors::{Decode, read_vector};
 use std::alloc::Global;
-use wasm_ast::{FuncType, Sequence, ValType};
+use wasm_ast::{BlockType, FuncType, Limits, Sequence, ValType};
 
 /// A name, and the rest.
-#[tactic(auto, unfolding(crate::specs::Inside::Reading::read_name, crate::specs::Inside::Reading::read_bytes), using(crate::proofs::Utf8::is_text, crate::proofs::Utf8::no_text))]
+#[tactic(auto, unfolding(crate::specs::Inside::Reading::read_name), using(crate::proofs::Utf8::is_text, crate::proofs::Utf8::no_text))]
 pub fn read_name(bytes: &[u8]) -> Result<(&str, &[u8]), ReadError>
     ensures { Gives (λ x. (x.0.now, x.1.now)) result (read_name bytes.now) }
 {
-    let (size, rest) = read_u32(bytes)?;
-    let size = size as usize;
-    if rest.len() < size {
-        return Err(ReadError::Fault(Fault::Bad));
-    }
-    let (front, rest) = rest.split_at(size);
+    let (front, rest) = read_byte_vector(bytes)?;
     match str::from_utf8(front) {
         Ok(name) => Ok((name, rest)),
         Err(_) => Err(ReadError::Fault(Fault::Bad)),
@@ -62,4 +57,49 @@ impl Decode for FuncType {
         let results = Sequence::new(results);
         Ok((FuncType { params, results }, rest))
     }
+}
+
+/// The type of a block (5.4.1), and the rest.
+#[tactic(auto, unfolding(crate::specs::Inside::Reading::read_block_type))]
+pub fn read_block_type(bytes: &[u8]) -> Result<(BlockType, &[u8]), ReadError>
+    ensures { Gives (λ x. (x.0, x.1.now)) result (read_block_type bytes.now) }
+{
+    if let Some(rest) = strip_byte(EMPTY, bytes) {
+        return Ok((BlockType::Empty, rest));
+    }
+    let (result, rest) = read_val_type(bytes)?;
+    Ok((BlockType::One(result), rest))
+}
+
+// A size that may not be over the limit, and the rest.
+#[tactic(auto, unfolding(crate::specs::Inside::Reading::read_min))]
+fn read_min(most: u32, bytes: &[u8]) -> Result<(u32, &[u8]), ReadError>
+    ensures { Gives (λ x. (x.0, x.1.now)) result (read_min true most bytes.now) }
+{
+    let (min, rest) = read_u32(bytes)?;
+    if min > most {
+        return Err(ReadError::Fault(Fault::Over));
+    }
+    Ok((min, rest))
+}
+
+/// Limits (5.3.4) whose first size may not be over this one, and the rest.
+#[tactic(auto, unfolding(crate::specs::Inside::Reading::read_limits))]
+pub fn read_limits(most: u32, bytes: &[u8]) -> Result<(Limits, &[u8]), ReadError>
+    ensures { Gives (λ x. (x.0, x.1.now)) result (read_limits true most bytes.now) }
+{
+    if let Some(rest) = strip_byte(MIN, bytes) {
+        let (min, rest) = read_min(most, rest)?;
+        return Ok((Limits { min, max: None }, rest));
+    }
+    let rest = skip_byte(MIN_MAX, bytes)?;
+    let (min, rest) = read_min(most, rest)?;
+    let (max, rest) = read_u32(rest)?;
+    Ok((
+        Limits {
+            min,
+            max: Some(max),
+        },
+        rest,
+    ))
 }

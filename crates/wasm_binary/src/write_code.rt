@@ -4,27 +4,19 @@ ghost use Rattle.std.specs.Prelude.{◌≡◌, ℕ, ◌+◌, ◌<◌, ◌^◌, �
 ghost use Rattle.wasm_ast.specs.View.{op_of};
 ghost use Rattle.wasm_ast.specs.Syntax.{ops_of};
 ghost use Rattle.wasm_binary.specs.Grammar.{locals_of};
-ghost use Rattle.wasm_binary.specs.Canonical.{same_type, add_local, runs_of, canon_run, canon_number, canon_block_type, canon_simple, canon_else, canon_op, canon_ops, canon_code, canon_entry};
+ghost use Rattle.wasm_binary.specs.Canonical.{same_type, add_local, runs_of, canon_run, canon_number, canon_block_type, canon_mem_arg, canon_immediates, canon_simple, canon_else, canon_op, canon_ops, canon_expression, canon_code, canon_entry};
 
-use crate::opcodes::{
-    BLOCK, BR, CALL, DROP, ELSE, EMPTY, END, I32_CONST, I64_CONST, IF, LOOP, RETURN,
-};
+use crate::opcodes::{BLOCK, ELSE, EMPTY, END, IF, LOOP, RESERVED};
 use crate::write_items::{Encode, put_number, put_signed, put_sized, put_val_type, put_vector};
+use crate::write_opcodes::opcode;
 use std::alloc::{AllocError, Global};
-use wasm_ast::{BlockType, Body, Func, Instr, Simple, ValType, Value};
+use wasm_ast::{BlockType, Body, Func, Instr, MemArg, Simple, ValType, Value};
 
 fn put_opcode(out: &mut Vec<u8>, opcode: u8) -> Result<(), AllocError>
     ensures { OnOk result (out.new.items ≡ out.old.items ++ opcode ∷ []) }
 {
     out.push(opcode)?;
     Ok(())
-}
-
-fn put_indexed(out: &mut Vec<u8>, opcode: u8, index: u32) -> Result<(), AllocError>
-    ensures { OnOk result (out.new.items ≡ out.old.items ++ opcode ∷ canon_number index) }
-{
-    out.push(opcode)?;
-    put_number(out, u64::from(index))
 }
 
 fn put_block_type(out: &mut Vec<u8>, block_type: BlockType) -> Result<(), AllocError>
@@ -40,30 +32,67 @@ fn put_block_type(out: &mut Vec<u8>, block_type: BlockType) -> Result<(), AllocE
 }
 
 fn put_const(out: &mut Vec<u8>, value: Value) -> Result<(), AllocError>
-    ensures { OnOk result (out.new.items ≡ out.old.items ++ canon_simple (Simple.Const value)) }
+    ensures { OnOk result (out.new.items ≡ out.old.items ++ canon_immediates (Simple.Const value)) }
 {
     match value {
-        Value::I32(n) => {
-            out.push(I32_CONST)?;
-            put_signed(out, 4, 32, u64::from(n))
-        }
-        Value::I64(n) => {
-            out.push(I64_CONST)?;
-            put_signed(out, 9, 64, n)
-        }
+        Value::I32(n) => put_signed(out, 4, 32, u64::from(n)),
+        Value::I64(n) => put_signed(out, 9, 64, n),
     }
 }
 
-fn put_simple(out: &mut Vec<u8>, simple: Simple) -> Result<(), AllocError>
-    ensures { OnOk result (out.new.items ≡ out.old.items ++ canon_simple simple) }
+fn put_mem_arg(out: &mut Vec<u8>, at: MemArg) -> Result<(), AllocError>
+    ensures { OnOk result (out.new.items ≡ out.old.items ++ canon_mem_arg at) }
+{
+    put_number(out, u64::from(at.align))?;
+    put_number(out, u64::from(at.offset))
+}
+
+// The labels of a `br_table`, and the label for all other operands.
+fn put_labels(
+    alloc: Global,
+    out: &mut Vec<u8>,
+    labels: &[u32],
+    other: u32,
+) -> Result<(), AllocError>
+    ensures { OnOk result (out.new.items
+        ≡ out.old.items ++ canon_immediates (Simple.BrTable labels.now other)) }
+{
+    put_vector(alloc, out, labels)?;
+    put_number(out, u64::from(other))
+}
+
+fn put_call_indirect(out: &mut Vec<u8>, type_index: u32) -> Result<(), AllocError>
+    ensures { OnOk result (out.new.items
+        ≡ out.old.items ++ canon_immediates (Simple.CallIndirect type_index)) }
+{
+    put_number(out, u64::from(type_index))?;
+    put_opcode(out, RESERVED)
+}
+
+// What follows the opcode.
+fn put_immediates(alloc: Global, out: &mut Vec<u8>, simple: &Simple) -> Result<(), AllocError>
+    ensures { OnOk result (out.new.items ≡ out.old.items ++ canon_immediates simple.now) }
 {
     match simple {
-        Simple::Const(value) => put_const(out, value),
-        Simple::Drop => put_opcode(out, DROP),
-        Simple::Br(label) => put_indexed(out, BR, label),
-        Simple::Return => put_opcode(out, RETURN),
-        Simple::Call(function) => put_indexed(out, CALL, function),
+        Simple::Br(index)
+        | Simple::BrIf(index)
+        | Simple::Call(index)
+        | Simple::Local(_, index)
+        | Simple::Global(_, index) => put_number(out, u64::from(*index)),
+        Simple::BrTable(labels, other) => put_labels(alloc, out, labels.as_slice(), *other),
+        Simple::CallIndirect(type_index) => put_call_indirect(out, *type_index),
+        Simple::Load(_, at) | Simple::Store(_, at) => put_mem_arg(out, *at),
+        Simple::MemorySize | Simple::MemoryGrow => put_opcode(out, RESERVED),
+        Simple::Const(value) => put_const(out, *value),
+        _ => Ok(()),
     }
+}
+
+fn put_simple(alloc: Global, out: &mut Vec<u8>, simple: &Simple) -> Result<(), AllocError>
+    ensures { OnOk result (out.new.items ≡ out.old.items ++ canon_simple simple.now) }
+{
+    out.push(opcode(simple))?;
+    put_immediates(alloc, out, simple)
 }
 
 // The opcode and the type of an instruction that has a body.
@@ -85,39 +114,47 @@ fn put_else(out: &mut Vec<u8>, else_arm: &Body) -> Result<(), AllocError>
 }
 
 #[cycle(put)]
-fn put_instr(out: &mut Vec<u8>, instr: &Instr) -> Result<(), AllocError>
+fn put_instr(alloc: Global, out: &mut Vec<u8>, instr: &Instr) -> Result<(), AllocError>
     ensures { OnOk result (out.new.items ≡ out.old.items ++ canon_op (op_of instr.now)) }
 {
     match instr {
-        Instr::Simple(simple) => put_simple(out, *simple),
+        Instr::Simple(simple) => put_simple(alloc, out, simple),
         Instr::Block(block_type, body) => {
             put_opening(out, BLOCK, *block_type)?;
-            put_body(out, body)?;
+            put_body(alloc, out, body)?;
             put_opcode(out, END)
         }
         Instr::Loop(block_type, body) => {
             put_opening(out, LOOP, *block_type)?;
-            put_body(out, body)?;
+            put_body(alloc, out, body)?;
             put_opcode(out, END)
         }
         Instr::If(block_type, then_arm, else_arm) => {
             put_opening(out, IF, *block_type)?;
-            put_body(out, then_arm)?;
+            put_body(alloc, out, then_arm)?;
             put_else(out, else_arm)?;
-            put_body(out, else_arm)?;
+            put_body(alloc, out, else_arm)?;
             put_opcode(out, END)
         }
     }
 }
 
 #[cycle(put)]
-fn put_body(out: &mut Vec<u8>, body: &Body) -> Result<(), AllocError>
+fn put_body(alloc: Global, out: &mut Vec<u8>, body: &Body) -> Result<(), AllocError>
     ensures { OnOk result (out.new.items ≡ out.old.items ++ canon_ops body.now) }
 {
     for instr in body.as_slice() {
-        put_instr(out, instr)?;
+        put_instr(alloc, out, instr)?;
     }
     Ok(())
+}
+
+/// Puts an expression at the end (5.4.6).
+pub fn put_expression(alloc: Global, out: &mut Vec<u8>, body: &Body) -> Result<(), AllocError>
+    ensures { OnOk result (out.new.items ≡ out.old.items ++ canon_expression body.now) }
+{
+    put_body(alloc, out, body)?;
+    put_opcode(out, END)
 }
 
 fn is_same(left: ValType, right: ValType) -> bool
@@ -175,7 +212,7 @@ fn code_of(alloc: Global, func: &Func) -> Result<Vec<u8>, AllocError>
     let mut out = Vec::new(alloc);
     let runs = runs_of(alloc, func.locals.as_slice())?;
     put_vector(alloc, &mut out, &runs)?;
-    put_body(&mut out, &func.body)?;
+    put_body(alloc, &mut out, &func.body)?;
     put_opcode(&mut out, END)?;
     Ok(out)
 }

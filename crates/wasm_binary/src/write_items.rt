@@ -1,13 +1,15 @@
-//! The canonical encoding of numbers, names, types, imports and exports.
+//! The canonical encoding of numbers, names, types, imports and exports (5.2, 5.3, 5.5).
 
 ghost use Rattle.std.specs.Prelude.{◌≡◌, ℕ, ◌+◌, ◌*◌, ◌^◌, ◌<◌, ◌≤◌, ◌++◌, ◌∷◌, [], List, length, OnOk};
 ghost use Rattle.std.specs.List.{flat_map};
-ghost use Rattle.wasm_binary.specs.Grammar.{type_byte};
-ghost use Rattle.wasm_binary.specs.Canonical.{canon_unsigned, canon_signed, last_signed, is_last_signed, canon_number, canon_vector, canon_sized, canon_name, canon_val_type, canon_func_type, canon_import, canon_export};
+ghost use Rattle.wasm_binary.specs.Opcodes.{type_byte, kind_byte};
+ghost use Rattle.wasm_binary.specs.Canonical.{canon_unsigned, canon_signed, last_signed, is_last_signed, canon_number, canon_vector, canon_sized, canon_name, canon_val_type, canon_func_type, canon_limits, canon_import, canon_export};
 
-use crate::opcodes::{FUNC_KIND, FUNC_TYPE, I32, I64};
+use crate::opcodes::{
+    FUNC_KIND, FUNC_TYPE, GLOBAL_KIND, I32, I64, MEMORY_KIND, MIN, MIN_MAX, TABLE_KIND,
+};
 use std::alloc::{AllocError, Global};
-use wasm_ast::{Export, ExportKind, FuncType, Import, Text, ValType};
+use wasm_ast::{Export, ExportKind, FuncType, Import, Limits, Text, ValType};
 
 /// What has a canonical encoding.
 pub trait Encode {
@@ -103,16 +105,40 @@ pub fn put_vector<T: Encode>(
     Ok(())
 }
 
+fn type_byte(t: ValType) -> u8
+    ensures { result ≡ type_byte t }
+{
+    match t {
+        ValType::I32 => I32,
+        ValType::I64 => I64,
+    }
+}
+
 /// Puts the type of a value at the end.
 pub fn put_val_type(out: &mut Vec<u8>, t: ValType) -> Result<(), AllocError>
     ensures { OnOk result (out.new.items ≡ out.old.items ++ canon_val_type t) }
 {
-    let byte = match t {
-        ValType::I32 => I32,
-        ValType::I64 => I64,
-    };
-    out.push(byte)?;
+    out.push(type_byte(t))?;
     Ok(())
+}
+
+/// Limits, and so a memory.
+impl Encode for Limits {
+    ghost encoding = { canon_limits };
+
+    fn put(&self, _alloc: Global, out: &mut Vec<u8>) -> Result<(), AllocError> {
+        match self.max {
+            None => {
+                out.push(MIN)?;
+                put_number(out, u64::from(self.min))
+            }
+            Some(max) => {
+                out.push(MIN_MAX)?;
+                put_number(out, u64::from(self.min))?;
+                put_number(out, u64::from(max))
+            }
+        }
+    }
 }
 
 fn put_name(out: &mut Vec<u8>, text: &Text) -> Result<(), AllocError>
@@ -159,15 +185,23 @@ impl Encode for Import {
     }
 }
 
+fn kind_byte(kind: ExportKind) -> u8
+    ensures { result ≡ kind_byte kind }
+{
+    match kind {
+        ExportKind::Func => FUNC_KIND,
+        ExportKind::Table => TABLE_KIND,
+        ExportKind::Memory => MEMORY_KIND,
+        ExportKind::Global => GLOBAL_KIND,
+    }
+}
+
 impl Encode for Export {
     ghost encoding = { canon_export };
 
     fn put(&self, _alloc: Global, out: &mut Vec<u8>) -> Result<(), AllocError> {
         put_name(out, &self.name)?;
-        let kind = match self.kind {
-            ExportKind::Func => FUNC_KIND,
-        };
-        out.push(kind)?;
+        out.push(kind_byte(self.kind))?;
         put_number(out, u64::from(self.index))
     }
 }

@@ -1,0 +1,12 @@
+pub mod StackMatching
+pub mod SimpleExact
+pub mod SequenceExact
+pub mod OperandLemmas
+pub mod FunctionTypes
+pub mod AccessLemmas
+pub mod CountLemmas
+pub mod ConstantLemmas
+pub mod ModuleExact
+pub mod ExportNames
+pub mod Decided
+pub mod TypingLemmas

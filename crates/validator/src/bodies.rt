@@ -1,0 +1,204 @@
+//! The check of sequences of instructions and of instructions that have bodies (3.3.5, 3.3.6).
+
+ghost use Rattle.std.specs.Prelude.{◌≡◌, ◌≤◌, ◌∷◌, ◌&&◌, IsTrue, IfOk, OnOk, Err, Some, None, false, true, drop, length};
+ghost use Rattle.wasm_ast.specs.View.{op_of};
+ghost use Rattle.validator.specs.Inside.Algorithm.{after_i32, encloses, ends, start, check_op, check_ops};
+ghost use Rattle.validator.specs.Inside.Blocks.{Blocks, Leads, inside, begun, IsOuter};
+ghost use Rattle.validator.specs.Inside.FunctionContext.{context_of, func_type_of};
+
+use crate::block_types::{BlockTypes, block_types};
+use crate::check_error::CheckError;
+use crate::function::Function;
+use crate::labels::Labels;
+use crate::operands::{Operands, Outer};
+use crate::simple::check_simple;
+use std::alloc::AllocError;
+use wasm_ast::{Body, Instr, ValType};
+
+// Begins a block with this label, and with operands of its parameters.
+fn open<'a>(
+    labels: &mut Labels<'a>,
+    label: &'a [ValType],
+    params: &[ValType],
+    operands: &mut Operands,
+) -> Result<Outer, AllocError>
+    ensures outer { IfOk result (λ outer. IsOuter outer operands.old) }
+    ensures labels { OnOk result (labels.new ≡ label.now ∷ labels.old) }
+    ensures operands { OnOk result (operands.new ≡ begun params.now operands.old) }
+{
+    labels.push(label)?;
+    let outer = operands.enter();
+    operands.push_all(params)?;
+    Ok(outer)
+}
+
+// Ends a block. False if its operands are not its results and no more.
+fn close(
+    labels: &mut Labels<'_>,
+    outer: Outer,
+    results: &[ValType],
+    operands: &mut Operands,
+) -> bool
+    requires { outer.base ≤ length operands.old.outside }
+    ensures ends { result ≡ ends results.now (Some operands.old.stack) }
+    ensures labels { labels.new ≡ drop 1 labels.old }
+    ensures operands { IsTrue result → (o : Blocks) → IsOuter outer o
+        → operands.old.outside ≡ (inside o).outside → operands.new ≡ o }
+{
+    labels.pop();
+    if !operands.end(results) {
+        return false;
+    }
+    operands.leave(outer);
+    true
+}
+
+/// One instruction, in a function and inside these labels. Recursion is as deep as its blocks are
+/// nested, which is as deep as that of dropping the instruction.
+#[cycle(check)]
+fn check_instr<'a>(
+    function: &Function<'a>,
+    labels: &mut Labels<'a>,
+    instr: &Instr,
+    operands: &mut Operands,
+) -> Result<(), CheckError>
+    ensures ok { OnOk result
+        (Leads (check_op (context_of function.now labels.old) (op_of instr.now))
+        operands.old operands.new) }
+    ensures labels { OnOk result (labels.new ≡ labels.old) }
+    ensures invalid { result ≡ Err CheckError.Invalid
+        → check_op (context_of function.now labels.old) (op_of instr.now) operands.old.stack
+        ≡ None }
+{
+    match instr {
+        Instr::Simple(simple) => check_simple(function, labels, simple, operands),
+        Instr::Block(kind, body) => {
+            let Some(types) = block_types(function.of, *kind) else {
+                return Err(CheckError::Invalid);
+            };
+            check_block(function, labels, types, types.results, body, operands)
+        }
+        Instr::Loop(kind, body) => {
+            let Some(types) = block_types(function.of, *kind) else {
+                return Err(CheckError::Invalid);
+            };
+            check_block(function, labels, types, types.params, body, operands)
+        }
+        Instr::If(kind, then_arm, else_arm) => {
+            let Some(types) = block_types(function.of, *kind) else {
+                return Err(CheckError::Invalid);
+            };
+            check_if(function, labels, types, then_arm, else_arm, operands)
+        }
+    }
+}
+
+// A block of these types, to whose label a branch takes those.
+#[cycle(check)]
+fn check_block<'a>(
+    function: &Function<'a>,
+    labels: &mut Labels<'a>,
+    types: BlockTypes<'a>,
+    label: &'a [ValType],
+    body: &Body,
+    operands: &mut Operands,
+) -> Result<(), CheckError>
+    ensures ok { OnOk result (let t = func_type_of types.entry in
+        let context = context_of function.now (label.now ∷ labels.old) in
+        Leads (encloses t (ends t.results (check_ops context body.now (start t.params))))
+        operands.old operands.new) }
+    ensures labels { OnOk result (labels.new ≡ labels.old) }
+    ensures invalid { result ≡ Err CheckError.Invalid → let t = func_type_of types.entry in
+        let context = context_of function.now (label.now ∷ labels.old) in
+        encloses t (ends t.results (check_ops context body.now (start t.params)))
+        operands.old.stack ≡ None }
+{
+    if !operands.pop_all(types.params) {
+        return Err(CheckError::Invalid);
+    }
+    check_body(function, labels, types, label, body, operands)?;
+    operands.push_all(types.results)?;
+    Ok(())
+}
+
+// An `if` of these types with both its arms.
+#[cycle(check)]
+fn check_if<'a>(
+    function: &Function<'a>,
+    labels: &mut Labels<'a>,
+    types: BlockTypes<'a>,
+    then_arm: &Body,
+    else_arm: &Body,
+    operands: &mut Operands,
+) -> Result<(), CheckError>
+    ensures ok { OnOk result (let t = func_type_of types.entry in
+        let context = context_of function.now (t.results ∷ labels.old) in
+        Leads (after_i32 (encloses t
+        (ends t.results (check_ops context then_arm.now (start t.params))
+        && ends t.results (check_ops context else_arm.now (start t.params)))))
+        operands.old operands.new) }
+    ensures labels { OnOk result (labels.new ≡ labels.old) }
+    ensures invalid { result ≡ Err CheckError.Invalid → let t = func_type_of types.entry in
+        let context = context_of function.now (t.results ∷ labels.old) in
+        after_i32 (encloses t
+        (ends t.results (check_ops context then_arm.now (start t.params))
+        && ends t.results (check_ops context else_arm.now (start t.params))))
+        operands.old.stack ≡ None }
+{
+    if !operands.pop(ValType::I32) || !operands.pop_all(types.params) {
+        return Err(CheckError::Invalid);
+    }
+    check_body(function, labels, types, types.results, then_arm, operands)?;
+    check_body(function, labels, types, types.results, else_arm, operands)?;
+    operands.push_all(types.results)?;
+    Ok(())
+}
+
+/// A body inside this label, from the parameters alone to exactly the results.
+#[cycle(check)]
+pub fn check_body<'a>(
+    function: &Function<'a>,
+    labels: &mut Labels<'a>,
+    types: BlockTypes<'a>,
+    label: &'a [ValType],
+    body: &Body,
+    operands: &mut Operands,
+) -> Result<(), CheckError>
+    ensures ok { OnOk result (let t = func_type_of types.entry in
+        let context = context_of function.now (label.now ∷ labels.old) in
+        ends t.results (check_ops context body.now (start t.params)) ≡ true) }
+    ensures labels { OnOk result (labels.new ≡ labels.old) }
+    ensures operands { OnOk result (operands.new ≡ operands.old) }
+    ensures invalid { result ≡ Err CheckError.Invalid → let t = func_type_of types.entry in
+        let context = context_of function.now (label.now ∷ labels.old) in
+        ends t.results (check_ops context body.now (start t.params)) ≡ false }
+{
+    let outer = open(labels, label, types.params, operands)?;
+    check_instrs(function, labels, body, operands)?;
+    if close(labels, outer, types.results, operands) {
+        Ok(())
+    } else {
+        Err(CheckError::Invalid)
+    }
+}
+
+// A sequence of instructions.
+#[cycle(check)]
+fn check_instrs<'a>(
+    function: &Function<'a>,
+    labels: &mut Labels<'a>,
+    body: &Body,
+    operands: &mut Operands,
+) -> Result<(), CheckError>
+    ensures ok { OnOk result
+        (Leads (check_ops (context_of function.now labels.old) body.now)
+        operands.old operands.new) }
+    ensures labels { OnOk result (labels.new ≡ labels.old) }
+    ensures invalid { result ≡ Err CheckError.Invalid
+        → check_ops (context_of function.now labels.old) body.now operands.old.stack ≡ None }
+{
+    for instr in body.as_slice() {
+        check_instr(function, labels, instr, operands)?;
+    }
+    Ok(())
+}

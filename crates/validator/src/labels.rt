@@ -1,0 +1,62 @@
+//! The labels of the blocks that are open.
+
+ghost use Rattle.std.specs.Prelude.{◌≡◌, ◌∷◌, [], OnOk, option_copied, slice_get, drop};
+
+use std::alloc::{AllocError, Global};
+use std::marker::Model;
+use wasm_ast::ValType;
+
+/// For each block that is open the types that a branch to its label takes. Contracts see the
+/// innermost first.
+#[derive(Drop)]
+pub struct Labels<'a> {
+    types: Vec<&'a [ValType]>,
+}
+
+impl<'a> Model for Labels<'a> {
+    ghost use Rattle.std.specs.Prelude.{List, map, reverse};
+    ghost use Rattle.wasm_ast.specs.declared.values.ValType.{ValType};
+
+    ghost Value = { List (List ValType) };
+
+    ghost view = { λ l. reverse (map (λ types. types.now) l.types.items) };
+}
+
+impl<'a> Labels<'a> {
+    /// No labels. No memory is taken.
+    pub fn new(alloc: Global) -> Labels<'a>
+        ensures { result ≡ [] }
+    {
+        Labels {
+            types: Vec::new(alloc),
+        }
+    }
+
+    /// Adds the label of a block inside all others.
+    pub fn push(&mut self, types: &'a [ValType]) -> Result<(), AllocError>
+        ensures { OnOk result (self.new ≡ types.now ∷ self.old) }
+    {
+        self.types.push(types)?;
+        Ok(())
+    }
+
+    /// Removes the innermost label.
+    pub fn pop(&mut self)
+        ensures { self.new ≡ drop 1 self.old }
+    {
+        let _innermost = self.types.pop();
+    }
+
+    /// The types that a branch to this label takes, the innermost one being 0.
+    pub fn get(&self, label: u32) -> Option<&'a [ValType]>
+        ensures { option_copied result ≡ slice_get self.now label }
+    {
+        let count = self.types.len();
+        let index = label as usize;
+        if index < count {
+            Some(self.types[count - 1 - index])
+        } else {
+            None
+        }
+    }
+}

@@ -1,0 +1,18 @@
+//! Which modules are valid (3). Sections are those of the WebAssembly Core Specification 1.0.
+#![tactic(auto)]
+
+mod access;
+mod block_types;
+mod bodies;
+mod check_error;
+mod function;
+mod labels;
+pub mod laws;
+mod module_parts;
+mod operands;
+mod simple;
+mod steps;
+mod valid_module;
+mod validation;
+
+pub use valid_module::{Valid, validate};

@@ -1,0 +1,310 @@
+//! The check of instructions without bodies (3.3.1 to 3.3.5).
+
+ghost use Rattle.std.specs.Prelude.{◌≡◌, ◌∷◌, [], OnOk, Err, Some, None};
+ghost use Rattle.wasm_ast.specs.Limits.{are_all};
+ghost use Rattle.wasm_ast.specs.Types.{func_types};
+ghost use Rattle.wasm_ast.specs.Access.{load_type, load_bytes, store_type, store_bytes};
+ghost use Rattle.validator.specs.Inside.Algorithm.{are_same, is_label, replaced, branch, branch_if, branch_table, call, call_indirect, check_local, local_op, check_global, global_op, with_memory, access, check_simple};
+ghost use Rattle.validator.specs.Inside.Blocks.{Leads};
+ghost use Rattle.validator.specs.Inside.FunctionContext.{context_of, locals_of};
+
+use crate::access::{
+    is_aligned, load_bytes, load_type, source_of, store_bytes, store_type, target_of, type_of,
+};
+use crate::check_error::CheckError;
+use crate::function::{self, Function};
+use crate::labels::Labels;
+use crate::operands::{Operands, is_same};
+use crate::steps::{combine, convert, discard, give, leave, replace, select, take, take_two};
+use wasm_ast::{
+    FuncType, Global, GlobalOp, LoadOp, LocalOp, Module, Mutability, Simple, StoreOp, ValType,
+};
+
+/// One instruction without a body, in a function and inside these labels.
+pub fn check_simple(
+    function: &Function<'_>,
+    labels: &Labels<'_>,
+    simple: &Simple,
+    operands: &mut Operands,
+) -> Result<(), CheckError>
+    ensures ok { OnOk result
+        (Leads (check_simple (context_of function.now labels.now) simple.now)
+        operands.old operands.new) }
+    ensures invalid { result ≡ Err CheckError.Invalid
+        → check_simple (context_of function.now labels.now) simple.now operands.old.stack ≡ None }
+{
+    match simple {
+        Simple::Unreachable => {
+            operands.stop();
+            Ok(())
+        }
+        Simple::Nop => Ok(()),
+        Simple::Br(label) => check_branch(labels, *label, operands),
+        Simple::BrIf(label) => check_branch_if(labels, *label, operands),
+        Simple::BrTable(list, other) => check_branch_table(
+            labels,
+            list.as_slice(),
+            *other,
+            operands,
+        ),
+        Simple::Return => leave(operands, function.func_type.results.as_slice()),
+        Simple::Call(func) => check_call(function.of, *func, operands),
+        Simple::CallIndirect(index) => check_call_indirect(function, *index, operands),
+        Simple::Drop => discard(operands),
+        Simple::Select => select(operands),
+        Simple::Local(op, index) => check_local(function, *op, *index, operands),
+        Simple::Global(op, index) => check_global(function, *op, *index, operands),
+        Simple::Load(op, at) => check_load(function, *op, at.align, operands),
+        Simple::Store(op, at) => check_store(function, *op, at.align, operands),
+        Simple::MemorySize => check_memory_size(function, operands),
+        Simple::MemoryGrow => check_memory_grow(function, operands),
+        Simple::Const(value) => give(operands, type_of(*value)),
+        Simple::Unary(val_type, _) => convert(operands, *val_type, *val_type),
+        Simple::Binary(val_type, _) => combine(operands, *val_type, *val_type),
+        Simple::Test(val_type, _) => convert(operands, *val_type, ValType::I32),
+        Simple::Compare(val_type, _) => combine(operands, *val_type, ValType::I32),
+        Simple::Convert(op) => convert(operands, source_of(*op), target_of(*op)),
+    }
+}
+
+fn check_branch(labels: &Labels<'_>, label: u32, operands: &mut Operands) -> Result<(), CheckError>
+    ensures ok { OnOk result (Leads (branch labels.now label) operands.old operands.new) }
+    ensures invalid { result ≡ Err CheckError.Invalid
+        → branch labels.now label operands.old.stack ≡ None }
+{
+    let Some(types) = labels.get(label) else {
+        return Err(CheckError::Invalid);
+    };
+    leave(operands, types)
+}
+
+fn check_branch_if(
+    labels: &Labels<'_>,
+    label: u32,
+    operands: &mut Operands,
+) -> Result<(), CheckError>
+    ensures ok { OnOk result (Leads (branch_if labels.now label) operands.old operands.new) }
+    ensures invalid { result ≡ Err CheckError.Invalid
+        → branch_if labels.now label operands.old.stack ≡ None }
+{
+    let Some(types) = labels.get(label) else {
+        return Err(CheckError::Invalid);
+    };
+    if !operands.pop(ValType::I32) {
+        return Err(CheckError::Invalid);
+    }
+    replace(operands, types, types)
+}
+
+fn check_branch_table(
+    labels: &Labels<'_>,
+    list: &[u32],
+    other: u32,
+    operands: &mut Operands,
+) -> Result<(), CheckError>
+    ensures ok { OnOk result
+        (Leads (branch_table labels.now list.now other) operands.old operands.new) }
+    ensures invalid { result ≡ Err CheckError.Invalid
+        → branch_table labels.now list.now other operands.old.stack ≡ None }
+{
+    let Some(types) = labels.get(other) else {
+        return Err(CheckError::Invalid);
+    };
+    if !are_labels(labels, types, list) || !operands.pop(ValType::I32) {
+        return Err(CheckError::Invalid);
+    }
+    leave(operands, types)
+}
+
+// Whether each of these labels takes these types.
+fn are_labels(labels: &Labels<'_>, types: &[ValType], list: &[u32]) -> bool
+    ensures { result ≡ are_all (is_label labels.now types.now) list.now }
+{
+    for label in list {
+        if !is_label(labels, types, *label) {
+            return false;
+        }
+    }
+    true
+}
+
+fn is_label(labels: &Labels<'_>, types: &[ValType], label: u32) -> bool
+    ensures { result ≡ is_label labels.now types.now label }
+{
+    match labels.get(label) {
+        Some(others) => are_same(types, others),
+        None => false,
+    }
+}
+
+// Whether two lists of types are the same.
+fn are_same(types: &[ValType], others: &[ValType]) -> bool
+    ensures { result ≡ are_same types.now others.now }
+{
+    if types.len() != others.len() {
+        return false;
+    }
+    for (i, val_type) in types.iter().enumerate() {
+        if !is_same(*val_type, others[i]) {
+            return false;
+        }
+    }
+    true
+}
+
+fn check_call(of: &Module, func: u32, operands: &mut Operands) -> Result<(), CheckError>
+    ensures ok { OnOk result (Leads (call (func_types of.now) func) operands.old operands.new) }
+    ensures invalid { result ≡ Err CheckError.Invalid
+        → call (func_types of.now) func operands.old.stack ≡ None }
+{
+    let Some(func_type) = function::type_of(of, func) else {
+        return Err(CheckError::Invalid);
+    };
+    apply(func_type, operands)
+}
+
+// Operands of a function's parameters become operands of its results.
+fn apply(func_type: &FuncType, operands: &mut Operands) -> Result<(), CheckError>
+    ensures ok { OnOk result
+        (Leads (replaced func_type.now.params func_type.now.results) operands.old operands.new) }
+    ensures invalid { result ≡ Err CheckError.Invalid
+        → replaced func_type.now.params func_type.now.results operands.old.stack ≡ None }
+{
+    replace(
+        operands,
+        func_type.params.as_slice(),
+        func_type.results.as_slice(),
+    )
+}
+
+fn check_call_indirect(
+    function: &Function<'_>,
+    index: u32,
+    operands: &mut Operands,
+) -> Result<(), CheckError>
+    ensures ok { OnOk result (let of = function.now.of.now in
+        Leads (call_indirect of.types of.tables index) operands.old operands.new) }
+    ensures invalid { result ≡ Err CheckError.Invalid → let of = function.now.of.now in
+        call_indirect of.types of.tables index operands.old.stack ≡ None }
+{
+    if function.of.tables.len() == 0 {
+        return Err(CheckError::Invalid);
+    }
+    let Some(func_type) = function::type_with(function.of, index) else {
+        return Err(CheckError::Invalid);
+    };
+    if !operands.pop(ValType::I32) {
+        return Err(CheckError::Invalid);
+    }
+    apply(func_type, operands)
+}
+
+fn check_local(
+    function: &Function<'_>,
+    op: LocalOp,
+    index: u32,
+    operands: &mut Operands,
+) -> Result<(), CheckError>
+    ensures ok { OnOk result
+        (Leads (local_op (locals_of function.now) op index) operands.old operands.new) }
+    ensures invalid { result ≡ Err CheckError.Invalid
+        → local_op (locals_of function.now) op index operands.old.stack ≡ None }
+{
+    let Some(val_type) = function.local_type(index) else {
+        return Err(CheckError::Invalid);
+    };
+    match op {
+        LocalOp::Get => give(operands, val_type),
+        LocalOp::Set => take(operands, val_type),
+        LocalOp::Tee => convert(operands, val_type, val_type),
+    }
+}
+
+fn check_global(
+    function: &Function<'_>,
+    op: GlobalOp,
+    index: u32,
+    operands: &mut Operands,
+) -> Result<(), CheckError>
+    ensures ok { OnOk result
+        (Leads (global_op function.now.of.now.globals op index) operands.old operands.new) }
+    ensures invalid { result ≡ Err CheckError.Invalid
+        → global_op function.now.of.now.globals op index operands.old.stack ≡ None }
+{
+    let Some(global) = function.global(index) else {
+        return Err(CheckError::Invalid);
+    };
+    access_global(global, op, operands)
+}
+
+fn access_global(global: &Global, op: GlobalOp, operands: &mut Operands) -> Result<(), CheckError>
+    ensures ok { OnOk result (Leads (check_global op global.now) operands.old operands.new) }
+    ensures invalid { result ≡ Err CheckError.Invalid
+        → check_global op global.now operands.old.stack ≡ None }
+{
+    match (op, global.mutability) {
+        (GlobalOp::Get, _) => give(operands, global.val_type),
+        (GlobalOp::Set, Mutability::Var) => take(operands, global.val_type),
+        (GlobalOp::Set, Mutability::Const) => Err(CheckError::Invalid),
+    }
+}
+
+fn check_load(
+    function: &Function<'_>,
+    op: LoadOp,
+    align: u32,
+    operands: &mut Operands,
+) -> Result<(), CheckError>
+    ensures ok { OnOk result (Leads (access function.now.of.now.memories align (load_bytes op)
+        (ValType.I32 ∷ []) (load_type op ∷ [])) operands.old operands.new) }
+    ensures invalid { result ≡ Err CheckError.Invalid → access function.now.of.now.memories align
+        (load_bytes op) (ValType.I32 ∷ []) (load_type op ∷ []) operands.old.stack ≡ None }
+{
+    if function.of.memories.len() == 0 || !is_aligned(align, load_bytes(op)) {
+        return Err(CheckError::Invalid);
+    }
+    convert(operands, ValType::I32, load_type(op))
+}
+
+fn check_store(
+    function: &Function<'_>,
+    op: StoreOp,
+    align: u32,
+    operands: &mut Operands,
+) -> Result<(), CheckError>
+    ensures ok { OnOk result (Leads (access function.now.of.now.memories align (store_bytes op)
+        (ValType.I32 ∷ store_type op ∷ []) []) operands.old operands.new) }
+    ensures invalid { result ≡ Err CheckError.Invalid → access function.now.of.now.memories align
+        (store_bytes op) (ValType.I32 ∷ store_type op ∷ []) [] operands.old.stack ≡ None }
+{
+    if function.of.memories.len() == 0 || !is_aligned(align, store_bytes(op)) {
+        return Err(CheckError::Invalid);
+    }
+    take_two(operands, ValType::I32, store_type(op))
+}
+
+fn check_memory_size(function: &Function<'_>, operands: &mut Operands) -> Result<(), CheckError>
+    ensures ok { OnOk result (Leads (with_memory function.now.of.now.memories [] (ValType.I32 ∷ []))
+        operands.old operands.new) }
+    ensures invalid { result ≡ Err CheckError.Invalid
+        → with_memory function.now.of.now.memories [] (ValType.I32 ∷ []) operands.old.stack ≡ None }
+{
+    if function.of.memories.len() == 0 {
+        return Err(CheckError::Invalid);
+    }
+    give(operands, ValType::I32)
+}
+
+fn check_memory_grow(function: &Function<'_>, operands: &mut Operands) -> Result<(), CheckError>
+    ensures ok { OnOk result (Leads
+        (with_memory function.now.of.now.memories (ValType.I32 ∷ []) (ValType.I32 ∷ []))
+        operands.old operands.new) }
+    ensures invalid { result ≡ Err CheckError.Invalid
+        → with_memory function.now.of.now.memories (ValType.I32 ∷ []) (ValType.I32 ∷ [])
+        operands.old.stack ≡ None }
+{
+    if function.of.memories.len() == 0 {
+        return Err(CheckError::Invalid);
+    }
+    convert(operands, ValType::I32, ValType::I32)
+}

@@ -1,0 +1,76 @@
+//! Modules that are valid (3).
+
+ghost use Rattle.std.specs.Prelude.{◌≡◌, ◌⊎◌, IfOk, OnOk, OnErr, Err};
+ghost use Rattle.std.specs.Arc.{arc_value};
+ghost use Rattle.wasm_ast.specs.declared.refusal.Refusal.TheVariants as refusal;
+ghost use Rattle.validator.specs.Typing.{ValidModule};
+
+use crate::validation::check_module;
+use std::alloc::{AllocError, Global};
+use std::marker::Model;
+use std::sync::Arc;
+use wasm_ast::{Module, Refusal};
+
+/// A module that is valid, shared by all that hold it. Contracts see the module.
+#[derive(Drop)]
+pub struct Valid {
+    module: Arc<Module>,
+}
+
+impl Model for Valid {
+    ghost use Rattle.wasm_ast.specs.declared.module.Module.{Module};
+
+    ghost Value = { Module };
+
+    ghost use Rattle.std.specs.Coded.{codes};
+    ghost use Rattle.wasm_ast.specs.Inside.Code.{ops_code};
+
+    ghost coded = { Prim.hlevel (codes, ops_code) };
+
+    ghost use Rattle.validator.specs.Typing.{ValidModule};
+    ghost use Rattle.std.specs.Arc.{arc_value};
+
+    ghost view = { λ v. arc_value v.module };
+
+    ghost invariant = { λ v. ValidModule (arc_value v.module) };
+}
+
+impl Valid {
+    /// The module.
+    pub fn module(&self) -> &Module
+        ensures value { result.now ≡ self.now }
+        ensures valid { ValidModule self.now }
+    {
+        &self.module
+    }
+
+    /// The same module, shared. No memory is taken: an error only if more owners share it than can
+    /// be counted.
+    pub fn share(&self) -> Result<Valid, AllocError>
+        ensures { IfOk result (λ v. v ≡ self.now) }
+    {
+        let module = Arc::try_clone(&self.module)?;
+        Ok(Valid { module })
+    }
+}
+
+/// Takes a module that is valid. `Invalid` exactly if it is not; `NoMemory` if memory for the check
+/// or for sharing the module cannot be allocated. Blocks may be nested to any depth: recursion is
+/// as deep as they are, which is as deep as that of dropping the module.
+pub fn validate(alloc: Global, unchecked: Module) -> Result<Valid, Refusal>
+    ensures ok { IfOk result (λ v. v ≡ unchecked) }
+    ensures valid { OnOk result (ValidModule unchecked) }
+    ensures invalid { result ≡ Err refusal.Invalid → ValidModule unchecked → ⊥ }
+    ensures err { OnErr result ((result ≡ Err refusal.Invalid) ⊎ (result ≡ Err refusal.NoMemory)) }
+{
+    check_module(alloc, &unchecked)?;
+    let module = shared(alloc, unchecked)?;
+    Ok(Valid { module })
+}
+
+fn shared(alloc: Global, checked: Module) -> Result<Arc<Module>, AllocError>
+    ensures { IfOk result (λ m. arc_value m ≡ checked) }
+{
+    let shared = Arc::new(alloc, checked)?;
+    Ok(shared)
+}

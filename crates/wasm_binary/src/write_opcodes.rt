@@ -1,0 +1,214 @@
+//! Which opcode an instruction without a body has (5.4).
+
+ghost use Rattle.std.specs.Prelude.{◌≡◌};
+ghost use Rattle.wasm_ast.specs.declared.values.ValType.TheVariants as type;
+ghost use Rattle.wasm_binary.specs.Opcodes.{local_byte, global_byte, load_byte, store_byte, test_byte, compare_byte, unary_byte, binary_byte, convert_byte, opcode};
+
+use crate::opcodes;
+use wasm_ast::{
+    BinaryOp, ConvertOp, GlobalOp, LoadOp, LocalOp, RelationOp, Simple, StoreOp, TestOp, UnaryOp,
+    ValType, Value,
+};
+
+fn local_byte(op: LocalOp) -> u8
+    ensures { result ≡ local_byte op }
+{
+    match op {
+        LocalOp::Get => opcodes::LOCAL_GET,
+        LocalOp::Set => opcodes::LOCAL_SET,
+        LocalOp::Tee => opcodes::LOCAL_TEE,
+    }
+}
+
+fn global_byte(op: GlobalOp) -> u8
+    ensures { result ≡ global_byte op }
+{
+    match op {
+        GlobalOp::Get => opcodes::GLOBAL_GET,
+        GlobalOp::Set => opcodes::GLOBAL_SET,
+    }
+}
+
+fn load_byte(op: LoadOp) -> u8
+    ensures { result ≡ load_byte op }
+{
+    match op {
+        LoadOp::I32 => opcodes::I32_LOAD,
+        LoadOp::I64 => opcodes::I64_LOAD,
+        LoadOp::I32From8S => opcodes::I32_LOAD8_S,
+        LoadOp::I32From8U => opcodes::I32_LOAD8_U,
+        LoadOp::I32From16S => opcodes::I32_LOAD16_S,
+        LoadOp::I32From16U => opcodes::I32_LOAD16_U,
+        LoadOp::I64From8S => opcodes::I64_LOAD8_S,
+        LoadOp::I64From8U => opcodes::I64_LOAD8_U,
+        LoadOp::I64From16S => opcodes::I64_LOAD16_S,
+        LoadOp::I64From16U => opcodes::I64_LOAD16_U,
+        LoadOp::I64From32S => opcodes::I64_LOAD32_S,
+        LoadOp::I64From32U => opcodes::I64_LOAD32_U,
+    }
+}
+
+fn store_byte(op: StoreOp) -> u8
+    ensures { result ≡ store_byte op }
+{
+    match op {
+        StoreOp::I32 => opcodes::I32_STORE,
+        StoreOp::I64 => opcodes::I64_STORE,
+        StoreOp::I32To8 => opcodes::I32_STORE8,
+        StoreOp::I32To16 => opcodes::I32_STORE16,
+        StoreOp::I64To8 => opcodes::I64_STORE8,
+        StoreOp::I64To16 => opcodes::I64_STORE16,
+        StoreOp::I64To32 => opcodes::I64_STORE32,
+    }
+}
+
+fn test_byte(val_type: ValType, op: TestOp) -> u8
+    ensures { result ≡ test_byte val_type op }
+{
+    match (val_type, op) {
+        (ValType::I32, TestOp::Eqz) => opcodes::I32_EQZ,
+        (ValType::I64, TestOp::Eqz) => opcodes::I64_EQZ,
+    }
+}
+
+fn i32_compare_byte(op: RelationOp) -> u8
+    ensures { result ≡ compare_byte type.I32 op }
+{
+    match op {
+        RelationOp::Eq => opcodes::I32_EQ,
+        RelationOp::Ne => opcodes::I32_NE,
+        RelationOp::LtS => opcodes::I32_LT_S,
+        RelationOp::LtU => opcodes::I32_LT_U,
+        RelationOp::GtS => opcodes::I32_GT_S,
+        RelationOp::GtU => opcodes::I32_GT_U,
+        RelationOp::LeS => opcodes::I32_LE_S,
+        RelationOp::LeU => opcodes::I32_LE_U,
+        RelationOp::GeS => opcodes::I32_GE_S,
+        RelationOp::GeU => opcodes::I32_GE_U,
+    }
+}
+
+fn i64_compare_byte(op: RelationOp) -> u8
+    ensures { result ≡ compare_byte type.I64 op }
+{
+    match op {
+        RelationOp::Eq => opcodes::I64_EQ,
+        RelationOp::Ne => opcodes::I64_NE,
+        RelationOp::LtS => opcodes::I64_LT_S,
+        RelationOp::LtU => opcodes::I64_LT_U,
+        RelationOp::GtS => opcodes::I64_GT_S,
+        RelationOp::GtU => opcodes::I64_GT_U,
+        RelationOp::LeS => opcodes::I64_LE_S,
+        RelationOp::LeU => opcodes::I64_LE_U,
+        RelationOp::GeS => opcodes::I64_GE_S,
+        RelationOp::GeU => opcodes::I64_GE_U,
+    }
+}
+
+fn i32_unary_byte(op: UnaryOp) -> u8
+    ensures { result ≡ unary_byte type.I32 op }
+{
+    match op {
+        UnaryOp::Clz => opcodes::I32_CLZ,
+        UnaryOp::Ctz => opcodes::I32_CTZ,
+        UnaryOp::Popcnt => opcodes::I32_POPCNT,
+    }
+}
+
+fn i64_unary_byte(op: UnaryOp) -> u8
+    ensures { result ≡ unary_byte type.I64 op }
+{
+    match op {
+        UnaryOp::Clz => opcodes::I64_CLZ,
+        UnaryOp::Ctz => opcodes::I64_CTZ,
+        UnaryOp::Popcnt => opcodes::I64_POPCNT,
+    }
+}
+
+fn i32_binary_byte(op: BinaryOp) -> u8
+    ensures { result ≡ binary_byte type.I32 op }
+{
+    match op {
+        BinaryOp::Add => opcodes::I32_ADD,
+        BinaryOp::Sub => opcodes::I32_SUB,
+        BinaryOp::Mul => opcodes::I32_MUL,
+        BinaryOp::DivS => opcodes::I32_DIV_S,
+        BinaryOp::DivU => opcodes::I32_DIV_U,
+        BinaryOp::RemS => opcodes::I32_REM_S,
+        BinaryOp::RemU => opcodes::I32_REM_U,
+        BinaryOp::And => opcodes::I32_AND,
+        BinaryOp::Or => opcodes::I32_OR,
+        BinaryOp::Xor => opcodes::I32_XOR,
+        BinaryOp::Shl => opcodes::I32_SHL,
+        BinaryOp::ShrS => opcodes::I32_SHR_S,
+        BinaryOp::ShrU => opcodes::I32_SHR_U,
+        BinaryOp::Rotl => opcodes::I32_ROTL,
+        BinaryOp::Rotr => opcodes::I32_ROTR,
+    }
+}
+
+fn i64_binary_byte(op: BinaryOp) -> u8
+    ensures { result ≡ binary_byte type.I64 op }
+{
+    match op {
+        BinaryOp::Add => opcodes::I64_ADD,
+        BinaryOp::Sub => opcodes::I64_SUB,
+        BinaryOp::Mul => opcodes::I64_MUL,
+        BinaryOp::DivS => opcodes::I64_DIV_S,
+        BinaryOp::DivU => opcodes::I64_DIV_U,
+        BinaryOp::RemS => opcodes::I64_REM_S,
+        BinaryOp::RemU => opcodes::I64_REM_U,
+        BinaryOp::And => opcodes::I64_AND,
+        BinaryOp::Or => opcodes::I64_OR,
+        BinaryOp::Xor => opcodes::I64_XOR,
+        BinaryOp::Shl => opcodes::I64_SHL,
+        BinaryOp::ShrS => opcodes::I64_SHR_S,
+        BinaryOp::ShrU => opcodes::I64_SHR_U,
+        BinaryOp::Rotl => opcodes::I64_ROTL,
+        BinaryOp::Rotr => opcodes::I64_ROTR,
+    }
+}
+
+fn convert_byte(op: ConvertOp) -> u8
+    ensures { result ≡ convert_byte op }
+{
+    match op {
+        ConvertOp::Wrap => opcodes::I32_WRAP_I64,
+        ConvertOp::ExtendS => opcodes::I64_EXTEND_I32_S,
+        ConvertOp::ExtendU => opcodes::I64_EXTEND_I32_U,
+    }
+}
+
+/// The opcode of an instruction.
+pub fn opcode(simple: &Simple) -> u8
+    ensures { result ≡ opcode simple.now }
+{
+    match simple {
+        Simple::Unreachable => opcodes::UNREACHABLE,
+        Simple::Nop => opcodes::NOP,
+        Simple::Br(_) => opcodes::BR,
+        Simple::BrIf(_) => opcodes::BR_IF,
+        Simple::BrTable(_, _) => opcodes::BR_TABLE,
+        Simple::Return => opcodes::RETURN,
+        Simple::Call(_) => opcodes::CALL,
+        Simple::CallIndirect(_) => opcodes::CALL_INDIRECT,
+        Simple::Drop => opcodes::DROP,
+        Simple::Select => opcodes::SELECT,
+        Simple::Local(op, _) => local_byte(*op),
+        Simple::Global(op, _) => global_byte(*op),
+        Simple::Load(op, _) => load_byte(*op),
+        Simple::Store(op, _) => store_byte(*op),
+        Simple::MemorySize => opcodes::MEMORY_SIZE,
+        Simple::MemoryGrow => opcodes::MEMORY_GROW,
+        Simple::Const(Value::I32(_)) => opcodes::I32_CONST,
+        Simple::Const(Value::I64(_)) => opcodes::I64_CONST,
+        Simple::Test(val_type, op) => test_byte(*val_type, *op),
+        Simple::Compare(ValType::I32, op) => i32_compare_byte(*op),
+        Simple::Compare(ValType::I64, op) => i64_compare_byte(*op),
+        Simple::Unary(ValType::I32, op) => i32_unary_byte(*op),
+        Simple::Unary(ValType::I64, op) => i64_unary_byte(*op),
+        Simple::Binary(ValType::I32, op) => i32_binary_byte(*op),
+        Simple::Binary(ValType::I64, op) => i64_binary_byte(*op),
+        Simple::Convert(op) => convert_byte(*op),
+    }
+}
