@@ -10,6 +10,12 @@ pub mod HostCallLemmas
 pub mod TypeEquality
 pub mod StackLemmas
 pub mod InstructionTurns
+pub mod LevelReductions
+pub mod LevelSettling
+pub mod FlatFrames
+pub mod FlatLooks
+pub mod LevelTurns
+pub mod FlatDoes
 pub mod Simulation
 pub mod InitialState
 pub mod SliceLemmas
