@@ -7,8 +7,8 @@ from reference import wasm
 
 MOST_LINE, MOST_CONTENTS, MOST_TASKS, MOST_DEPTH = 1_048_576, 256, 64, 127
 NAMES = {1: "BadRequest", 2: "BadId", 3: "Exists", 4: "NotFound", 5: "NoContent", 7: "BadModule", 8: "Invalid",
-         9: "Limit", 10: "BadConfig", 11: "WrongStatus", 12: "Busy", 13: "OutOfRange",
-         14: "TooMany", 21: "NoEntry", 22: "BadImport"}
+         9: "Limit", 10: "BadConfig", 11: "WrongStatus", 12: "Busy", 13: "OutOfRange", 14: "TooMany", 21: "NoEntry",
+         22: "BadImport", 23: "SegmentOutOfBounds"}
 ID = re.compile(r"[A-Za-z0-9][A-Za-z0-9._-]{0,63}\Z")
 DIGEST = re.compile(r"sha256:[0-9a-f]{64}\Z")
 HEX = re.compile(r"([0-9A-Fa-f]{2})*\Z")
@@ -93,8 +93,8 @@ def request_of(line, in_replay):
         return None
     if len(line) > MOST_LINE or not isinstance(value, dict) or not isinstance(value.get("op"), str):
         return None
-    keys = {"put": ["hex"], "create": ["config", "id"], "kill": ["id", "signal"],
-            **{op: ["id"] for op in ("start", "pause", "resume", "delete", "state", "wait")}}
+    keys = {"put": ["hex"], "create": ["config", "id"], "start": ["id"], "pause": ["id"],
+            "resume": ["id"], "kill": ["id", "signal"], "delete": ["id"], "state": ["id"], "wait": ["id"]}
     if in_replay:
         keys |= {"return": ["id"], "take": ["budget", "id"]}
     wanted = keys.get(value["op"])
@@ -102,11 +102,11 @@ def request_of(line, in_replay):
         return None
     if not all(isinstance(value[key], str) for key in wanted if key not in ("budget", "signal")):
         return None
+    if "signal" in wanted and not (type(value["signal"]) is int and value["signal"] >= 0):
+        return None
     if "hex" in wanted and not HEX.match(value["hex"]):
         return None
     if "budget" in wanted and not (type(value["budget"]) is int and 1 <= value["budget"] <= 1_000_000):
-        return None
-    if "signal" in wanted and not (type(value["signal"]) is int and 0 <= value["signal"] < 2**64):
         return None
     return value
 
@@ -156,18 +156,14 @@ class Task:
         self.turns = min(end["n"], self.turns + budget)
         if self.turns == end["n"]:
             self.status, self.end = "stopped", end
-
-    def kill(self, signal):
-        self.status, self.end = "stopped", {"cause": "kill", "exit": 128 + signal, "signal": signal}
-
-    def land(self):
-        """The slice that is out returns."""
-        self.run(self.out)
-        if self.status != "stopped" and self.signal is not None:
-            self.kill(self.signal)
-        if self.status == "pausing":
+        elif self.signal is not None:
+            self.stop_by(self.signal)
+        elif self.status == "pausing":
             self.status = "paused"
-        self.out = self.signal = None
+
+    def stop_by(self, signal):
+        self.status = "stopped"
+        self.end = {"cause": "kill", "exit": 128 + signal, "n": self.turns, "signal": signal}
 
     def state(self, name):
         return {"id": name, "n": self.turns, "ok": True, "status": self.status, **(self.end or {})}
@@ -231,37 +227,38 @@ class Board:
         task.start()
         return {"id": id, "ok": True, "status": task.status}
 
-    def in_status(self, id, *wanted):
-        task = self.task(id)
-        if task.status not in wanted:
-            raise Refused(11)
-        return task
-
     def pause_(self, id):
-        task = self.in_status(id, "running")
+        task = self.task(id)
+        if task.status != "running":
+            raise Refused(11)
         task.status = "paused" if task.out is None else "pausing"
         return {"id": id, "ok": True, "status": task.status}
 
     def resume_(self, id):
-        task = self.in_status(id, "paused")
+        task = self.task(id)
+        if task.status != "paused":
+            raise Refused(11)
         task.status = "running"
         return {"id": id, "ok": True, "status": task.status}
 
     def kill_(self, id, signal):
-        self.task(id)
+        task = self.task(id)
         if signal not in (9, 15):
             raise Refused(13)
-        task = self.in_status(id, "created", "running", "pausing", "paused")
+        if task.status == "stopped":
+            raise Refused(11)
         if task.out is None:
-            task.kill(signal)
+            task.stop_by(signal)
         elif task.signal is None:
             task.signal = signal
         return {"id": id, "ok": True, "status": task.status}
 
     def delete_(self, id):
-        state = self.in_status(id, "stopped").state(id)
+        task = self.task(id)
+        if task.status != "stopped":
+            raise Refused(11)
         del self.tasks[id]
-        return state
+        return task.state(id)
 
     def state_(self, id):
         return self.task(id).state(id)
@@ -285,5 +282,6 @@ class Board:
         task = self.tasks.get(id)
         is_out = task is not None and task.out is not None
         if is_out:
-            task.land()
+            task.run(task.out)
+            task.out = None
         return {"ok": True, "returned": is_out}

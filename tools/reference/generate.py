@@ -2,14 +2,14 @@
 import json
 import random
 
-from reference.wasm import I32, I64
+from reference.wasm import FIXED, I32, I64, LOADS, STORES
 
 VALUE_TYPES = (I32, I64)
 EDGES = (0, 1, 7, -1, 63, 64, -64, -65, 2**31 - 1, -2**31)
 
 
-def leb(number, is_signed=False):
-    """A spelling of a number: the shortest one, or at times one with up to five bytes."""
+def leb(number, is_signed=False, most=5):
+    """A spelling of a number: the shortest one, or at times one with up to as many bytes as it may have."""
     groups = [number & 0x7F]
     number >>= 7
     while number != (-1 if is_signed and groups[-1] & 0x40 else 0):
@@ -17,7 +17,7 @@ def leb(number, is_signed=False):
         number >>= 7
     fill = 0x7F if is_signed and groups[-1] & 0x40 else 0
     if random.random() < 0.15:
-        groups += [fill] * random.randint(0, max(0, 5 - len(groups)))
+        groups += [fill] * random.randint(0, max(0, most - len(groups)))
     return bytes(group | 0x80 for group in groups[:-1]) + bytes(groups[-1:])
 
 
@@ -47,57 +47,234 @@ def imports(types):
     return found
 
 
-def body(types, type_index, imported):
-    depth, code = 0, []
-    for _ in range(random.randint(0, 8)):
-        kind, may_take = random.random(), depth > 0 or random.random() < 0.1
+def constant(kind):
+    bits = 32 if kind == I32 else 64
+    number = random.choice([*EDGES, random.randint(-2**(bits - 1), 2**(bits - 1) - 1)])
+    opcode, most = (b"\x41", 5) if kind == I32 else (b"\x42", 10)
+    return opcode + leb(number, is_signed=True, most=most)
+
+
+class Shape:
+    """What the instructions of a module may name: its types, the types of its functions, its globals, and whether it
+    has a memory and a table."""
+
+    def __init__(self, types, functions, imported):
+        self.types, self.functions, self.imported = types, functions, imported
+        self.globals = [(random.choice(VALUE_TYPES), random.randrange(2)) for _ in range(random.choice([0, 0, 1, 3]))]
+        self.has_memory, self.has_table = random.random() < 0.6, random.random() < 0.3
+        self.is_plain = random.random() < 0.4
+
+
+class Body:
+    """Random instructions, mostly well typed."""
+
+    def __init__(self, shape, locals_, results):
+        self.shape, self.locals, self.results = shape, locals_, results
+        self.left = random.choice([0, 3, 8, 20])
+
+    def sequence(self, results, labels):
+        stack, code = [], b""
+        while self.left > 0 and random.random() < 0.9:
+            self.left -= 1
+            added, is_free = self.instruction(stack, labels)
+            code += added
+            if is_free and random.random() < 0.9:
+                return code
+        while stack and random.random() < 0.98 and tuple(stack) != tuple(results):
+            stack.pop()
+            code += b"\x1a"
+        for kind in results[len(stack):]:
+            code += constant(kind)
+        return code
+
+    def instruction(self, stack, labels):
+        """One instruction, and whether the operands are free after it."""
+        choices = [self.constant, self.constant, self.drop, self.call]
+        if not self.shape.is_plain:
+            choices += [self.fixed] * 4 + [self.variable] * 3 + [self.memory] * 2
+            choices += [self.block, self.block, self.branch, self.select, self.other]
+        return random.choice(choices)(stack, labels)
+
+    def takes(self, stack, kinds):
+        """Takes operands of these types, or pushes constants for those that are not there."""
+        code, there = b"", len(stack)
+        while there and tuple(stack[len(stack) - there:]) != tuple(kinds[:there]):
+            there -= 1
+        there = min(there, len(kinds))
+        del stack[len(stack) - there:]
+        if random.random() < 0.99:
+            code += b"".join(constant(kind) for kind in kinds[there:])
+        return code
+
+    def constant(self, stack, _labels):
+        stack.append(random.choice(VALUE_TYPES))
+        return constant(stack[-1]), False
+
+    def drop(self, stack, _labels):
+        if not stack and random.random() < 0.95:
+            return b"", False
+        del stack[-1:]
+        return b"\x1a", False
+
+    def select(self, stack, _labels):
+        kind = random.choice(VALUE_TYPES)
+        code = self.takes(stack, (kind, kind, I32))
+        stack.append(kind)
+        return code + b"\x1b", False
+
+    def fixed(self, stack, _labels):
+        opcode = random.choice(list(FIXED))
+        takes, gives = FIXED[opcode]
+        code = self.takes(stack, takes)
+        stack += gives
+        return code + bytes([opcode]), False
+
+    def variable(self, stack, _labels):
+        opcode = random.randrange(0x20, 0x25)
+        known = self.locals if opcode < 0x23 else [kind for kind, _ in self.shape.globals]
+        if not known:
+            return b"", False
+        index = random.randrange(len(known))
+        if opcode == 0x24 and self.shape.globals[index][1] == 0 and random.random() < 0.9:
+            opcode = 0x23
+        code = b"" if opcode in (0x20, 0x23) else self.takes(stack, (known[index],))
+        if opcode in (0x20, 0x22, 0x23):
+            stack.append(known[index])
+        return code + bytes([opcode]) + leb(index if random.random() < 0.99 else len(known)), False
+
+    def memory(self, stack, _labels):
+        if not self.shape.has_memory and random.random() < 0.98:
+            return b"", False
+        kind = random.random()
+        if kind < 0.2:
+            grows = random.random() < 0.5
+            code = self.takes(stack, (I32,)) if grows else b""
+            stack.append(I32)
+            return code + (b"\x40" if grows else b"\x3f") + b"\0", False
+        opcode = random.choice(list(LOADS if kind < 0.6 else STORES))
+        value, count = (LOADS | STORES)[opcode]
+        code = self.takes(stack, (I32,) if opcode in LOADS else (I32, value))
+        if opcode in LOADS:
+            stack.append(value)
+        align = random.randrange(count.bit_length() + (random.random() < 0.02))
+        return code + bytes([opcode]) + leb(align) + leb(random.choice([0, 1, 65_535, 2**32 - 1])), False
+
+    def call(self, stack, _labels):
+        shape = self.shape
+        if shape.has_table and not shape.is_plain and random.random() < 0.3:
+            index = random.randrange(len(shape.types))
+            params, results = shape.types[index]
+            code = self.takes(stack, (*params, I32)) + b"\x11" + leb(index) + b"\0"
+        else:
+            most = shape.imported if shape.is_plain else len(shape.functions)
+            if not most:
+                return b"", False
+            index = random.randrange(most + (random.random() < 0.02))
+            params, results = shape.types[shape.functions[index]] if index < len(shape.functions) else ((), ())
+            code = self.takes(stack, params) + b"\x10" + leb(index)
+        stack += results
+        return code, False
+
+    def block(self, stack, labels):
+        opcode = random.choice([2, 3, 4])
+        results = random.choice([(), (), (I32,), (I64,)])
+        code = self.takes(stack, (I32,)) if opcode == 4 else b""
+        code += bytes([opcode]) + (bytes(results) or b"\x40")
+        inside = [() if opcode == 3 else results, *labels]
+        code += self.sequence(results, inside)
+        if opcode == 4 and (results or random.random() < 0.4):
+            code += b"\x05" + self.sequence(results, inside)
+        stack += results
+        return code + b"\x0b", False
+
+    def branch(self, stack, labels):
+        label = random.randrange(len(labels) + (random.random() < 0.02))
+        types = labels[label] if label < len(labels) else ()
+        kind = random.random()
+        if kind < 0.4:
+            code = self.takes(stack, (*types, I32)) + b"\x0d" + leb(label)
+            stack += types
+            return code, False
+        if kind < 0.7:
+            return self.takes(stack, types) + b"\x0c" + leb(label), True
+        alike = [index for index, other in enumerate(labels) if other == types] or [label]
+        others = [random.choice(alike) for _ in range(random.randint(0, 3))]
+        return self.takes(stack, (*types, I32)) + b"\x0e" + vector([leb(other) for other in others]) + leb(label), True
+
+    def other(self, stack, _labels):
+        kind = random.random()
         if kind < 0.5:
-            number = random.choice([*EDGES, random.randint(-2**31, 2**31 - 1)])
-            code.append(b"\x41" + leb(number, is_signed=True))
-            depth += 1
-        elif kind < 0.75 and may_take:
-            code.append(b"\x1a")
-            depth -= 1
-        elif imported and may_take:
-            code.append(b"\x10" + leb(random.randrange(imported + (random.random() < 0.05))))
-            depth -= 1
-    if type_index < len(types) and random.random() < 0.8:
-        code += [b"\x1a"] * max(0, depth - len(types[type_index][1]))
-    return b"".join(code) + b"\x0b"
+            return b"\x01", False
+        if kind < 0.7:
+            return b"\0", True
+        return self.takes(stack, self.results) + b"\x0f", True
 
 
-def func(types, imported):
-    type_index = types.index(((), ()))
-    if random.random() < 0.4:
-        type_index = random.randrange(len(types) + (random.random() < 0.05))
-    counts = (0, 1, 2, 5, 1023, 1024) if random.random() < 0.3 else range(5)
-    runs = [leb(random.choice(counts)) + bytes([random.choice(VALUE_TYPES)]) for _ in range(random.randint(0, 2))]
-    return type_index, vector(runs) + body(types, type_index, imported)
+def func(shape, type_index):
+    params, results = shape.types[type_index] if type_index < len(shape.types) else ((), ())
+    counts = (0, 1, 2, 5, 1023, 1024) if random.random() < 0.1 else range(5)
+    runs = [(random.choice(counts), random.choice(VALUE_TYPES)) for _ in range(random.randint(0, 2))]
+    locals_ = [*params, *(kind for count, kind in runs for _ in range(count))]
+    code = Body(shape, locals_, results).sequence(results, [results])
+    return vector([leb(count) + bytes([kind]) for count, kind in runs]) + code + b"\x0b"
+
+
+def limits(most):
+    least = random.choice([0, 1, 1, 2, most, most + 1] if random.random() < 0.3 else [0, 1, 2])
+    if random.random() < 0.6:
+        return b"\0" + leb(least)
+    return b"\1" + leb(least) + leb(random.choice([least, least + 1, 65_536, 65_537, max(0, least - 1)]))
+
+
+def offset():
+    return b"\x41" + leb(random.choice([0, 0, 1, 65_535]), is_signed=True) + b"\x0b"
+
+
+def segments(shape, functions):
+    elements = [leb(0) + offset() + vector([leb(random.randrange(functions + (random.random() < 0.02)))
+                                            for _ in range(random.randint(0, 2))])
+                for _ in range(random.choice([0, 1, 2]) if shape.has_table else 0) if functions]
+    data = [leb(0) + offset() + sized(random.randbytes(random.randint(0, 3)))
+            for _ in range(random.choice([0, 1, 2]) if shape.has_memory else 0)]
+    return elements, data
 
 
 def custom():
-    if random.random() >= 0.1:
+    if random.random() >= 0.05:
         return b""
-    name = random.choice([b"name", b"", b"a", b"a", b"\xff"])
+    name = random.choice([b"name", b"", *[b"a"] * 7, b"\xff"])
     return b"\0" + sized(sized(name) + random.randbytes(random.randint(0, 5)))
 
 
 def sections():
     types = func_types()
     imported = imports(types)
-    funcs = [func(types, len(imported)) for _ in range(random.choice([1, 1, 2, 3, 0]))]
+    indices = [random.randrange(len(types) + (random.random() < 0.02)) if random.random() < 0.4
+               else types.index(((), ())) for _ in range(random.choice([1, 1, 2, 3, 0]))]
+    functions = [index for _, _, index in imported] + [min(index, len(types) - 1) for index in indices]
+    shape = Shape(types, functions, len(imported))
     exports = []
     if random.random() < 0.9:
-        exports.append((b"_start", len(imported) + random.randrange(max(1, len(funcs)))))
+        exports.append((b"_start", 0, len(imported) + random.randrange(max(1, len(indices)))))
     if random.random() < 0.15:
-        exports.append((random.choice([b"_start", b"x", b"\xff"]), random.randrange(len(imported) + len(funcs) + 1)))
-    return [
+        kind = random.choice([0, 0, 1, 2, 3])
+        exports.append((random.choice([b"_start", b"x", b"\xff"]), kind, random.randrange(len(functions) + 1)))
+    elements, data = segments(shape, len(functions))
+    start = leb(random.randrange(len(functions) + 1)) if random.random() < 0.1 else None
+    found = [
         (1, vector([b"\x60" + b"".join(vector([bytes([kind]) for kind in kinds]) for kinds in two) for two in types])),
         (2, vector([sized(module) + sized(name) + b"\0" + leb(index) for module, name, index in imported])),
-        (3, vector([leb(index) for index, _ in funcs])),
-        (7, vector([sized(name) + b"\0" + leb(index) for name, index in exports])),
-        (10, vector([sized(code) for _, code in funcs])),
+        (3, vector([leb(index) for index in indices])),
+        (4, vector([b"\x70" + limits(4096)] * shape.has_table)),
+        (5, vector([limits(16)] * shape.has_memory)),
+        (6, vector([bytes([kind, mutable]) + constant(kind) + b"\x0b" for kind, mutable in shape.globals])),
+        (7, vector([sized(name) + bytes([kind]) + leb(index) for name, kind, index in exports])),
+        (8, start),
+        (9, vector(elements)),
+        (10, vector([sized(func(shape, index)) for index in indices])),
+        (11, vector(data)),
     ]
+    return [(number, part) for number, part in found if part is not None]
 
 
 def bent(data):
@@ -176,10 +353,10 @@ def request(data, digest):
         "put": {"hex": random.choice(texts)},
         "create": {"id": name, "config": config(digest)},
         "take": {"id": name, "budget": random.choice(BUDGETS)},
-        "kill": {"id": name, "signal": random.choice([9, 9, 15, 15, 0, 10, -1, 2**64, "9", 9.0])},
+        "kill": {"id": name, "signal": random.choice([9, 9, 15, 15, 10, 0, -1, 2**64, 9.0, "9", None])},
     }
-    op = random.choice(["put", *["create"] * 5, "start", "start", "start", "state", "wait", "take", "take", "return",
-                        "pause", "resume", "kill", "delete"])
+    op = random.choice(["put", *["create"] * 4, "start", "start", "state", "wait", "take", "take", "return", "pause",
+                        "resume", "kill", "delete"])
     return {"op": op, **kinds.get(op, {"id": name})}
 
 

@@ -1,9 +1,29 @@
 """Modules: what bytes spell, whether that is valid, whether a task can be opened on it, and how it runs."""
-from dataclasses import dataclass
+from dataclasses import dataclass, field
 
 I32, I64 = 0x7F, 0x7E
 MOST_BYTES, MOST_FUNCTIONS, MOST_LOCALS, MOST_VALUES = 262_144, 4096, 1024, 65_536
+MOST_NESTING, MOST_ENTRIES, MOST_PAGES, PAGE_CAP, PAGE = 256, 4096, 256, 16, 65_536
 SYSTEM_CALL = (b"wasi_snapshot_preview1", b"proc_exit")
+
+# Instructions whose types never change: the opcode, and what they take and give.
+FIXED = {0x45: (I32,), 0x50: (I64,), 0xA7: (I64,), 0xAC: (I32,), 0xAD: (I32,)}
+FIXED = {code: (takes, (I32,)) for code, takes in FIXED.items()}
+FIXED |= {code: (takes, (I64,)) for code, (takes, _) in FIXED.items() if code in (0xAC, 0xAD)}
+FIXED |= {code: ((I32, I32), (I32,)) for code in range(0x46, 0x50)}
+FIXED |= {code: ((I64, I64), (I32,)) for code in range(0x51, 0x5B)}
+FIXED |= {code: ((I32,), (I32,)) for code in range(0x67, 0x6A)}
+FIXED |= {code: ((I32, I32), (I32,)) for code in range(0x6A, 0x79)}
+FIXED |= {code: ((I64,), (I64,)) for code in range(0x79, 0x7C)}
+FIXED |= {code: ((I64, I64), (I64,)) for code in range(0x7C, 0x8B)}
+
+# Loads and stores: the type of the value, and how many bytes are accessed.
+LOADS = {0x28: (I32, 4), 0x29: (I64, 8), 0x2C: (I32, 1), 0x2D: (I32, 1), 0x2E: (I32, 2), 0x2F: (I32, 2),
+         0x30: (I64, 1), 0x31: (I64, 1), 0x32: (I64, 2), 0x33: (I64, 2), 0x34: (I64, 4), 0x35: (I64, 4)}
+STORES = {0x36: (I32, 4), 0x37: (I64, 8), 0x3A: (I32, 1), 0x3B: (I32, 2), 0x3C: (I64, 1), 0x3D: (I64, 2),
+          0x3E: (I64, 4)}
+INDEXED = (0x0C, 0x0D, 0x10, *range(0x20, 0x25))
+BARE = (0x00, 0x01, 0x0F, 0x1A, 0x1B)
 
 
 class NotSpelled(Exception):
@@ -17,16 +37,23 @@ class NotSpelled(Exception):
 @dataclass
 class Func:
     type_index: int
-    locals: int
+    locals: list
     body: list
 
 
 @dataclass
 class Module:
-    types: list
-    imports: list
-    funcs: list
-    exports: list
+    types: list = field(default_factory=list)
+    imports: list = field(default_factory=list)
+    indices: list = field(default_factory=list)
+    tables: list = field(default_factory=list)
+    memories: list = field(default_factory=list)
+    globals: list = field(default_factory=list)
+    exports: list = field(default_factory=list)
+    start: object = None
+    elements: list = field(default_factory=list)
+    funcs: list = field(default_factory=list)
+    segments: list = field(default_factory=list)
 
 
 class Reader:
@@ -47,23 +74,23 @@ class Reader:
     def byte(self):
         return self.take(1)[0]
 
-    def leb(self, is_signed):
-        """A number of 32 bits (5.2.2); a signed one as its two's complement."""
+    def leb(self, is_signed, bits=32):
+        """A number of so many bits (5.2.2); a signed one as its two's complement."""
         groups = []
         while True:
             byte = self.byte()
             groups.append(byte & 0x7F)
             if byte < 0x80:
                 break
-            if len(groups) == 5:
+            if len(groups) == -(-bits // 7):
                 raise NotSpelled
         value = sum(group << (7 * k) for k, group in enumerate(groups))
         if is_signed and groups[-1] & 0x40:
             value -= 1 << (7 * len(groups))
-        least, most = (-2**31, 2**31) if is_signed else (0, 2**32)
+        least, most = (-2**(bits - 1), 2**(bits - 1)) if is_signed else (0, 2**bits)
         if not least <= value < most:
             raise NotSpelled
-        return value % 2**32
+        return value % 2**bits
 
     def u32(self):
         return self.leb(False)
@@ -97,20 +124,21 @@ class Decoder:
     def __init__(self, data):
         self.data = data
         self.over = len(data) > MOST_BYTES
-        self.types, self.imports, self.indices, self.exports, self.funcs = [], [], [], [], []
+        self.found = Module()
 
     def module(self):
         try:
             self.sections(Reader(self.data))
         except NotSpelled:
             raise NotSpelled(self.over) from None
-        return Module(self.types, self.imports, self.funcs, self.exports)
+        return self.found
 
     def sections(self, reader):
         if reader.take(8) != b"\0asm\1\0\0\0":
             raise NotSpelled
-        reads = {1: self.type_section, 2: self.import_section, 3: self.function_section,
-                 7: self.export_section, 10: self.code_section}
+        reads = [None, self.type_section, self.import_section, self.function_section, self.table_section,
+                 self.memory_section, self.global_section, self.export_section, self.start_section,
+                 self.element_section, self.code_section, self.data_section]
         last = 0
         while not reader.is_at_end():
             number = reader.byte()
@@ -118,14 +146,14 @@ class Decoder:
             if number == 0:
                 part.name()
                 part.at = len(part.data)
-            elif number in reads and number > last:
+            elif last < number < len(reads):
                 last = number
                 reads[number](part)
             else:
                 raise NotSpelled
             if not is_whole or not part.is_at_end():
                 raise NotSpelled
-        if len(self.funcs) != len(self.indices):
+        if len(self.found.funcs) != len(self.found.indices):
             raise NotSpelled
 
     def value_type(self, part):
@@ -136,7 +164,7 @@ class Decoder:
             part.one_of(0x60)
             return tuple(tuple(part.vector(lambda: self.value_type(part))) for _ in range(2))
 
-        self.types = part.vector(func_type)
+        self.found.types = part.vector(func_type)
 
     def count_functions(self, part, before):
         at = part.at
@@ -150,111 +178,352 @@ class Decoder:
             return names, part.u32()
 
         self.count_functions(part, 0)
-        self.imports = part.vector(entry)
+        self.found.imports = part.vector(entry)
 
     def function_section(self, part):
-        self.count_functions(part, len(self.imports))
-        self.indices = part.vector(part.u32)
+        self.count_functions(part, len(self.found.imports))
+        self.found.indices = part.vector(part.u32)
+
+    def limits(self, part, most):
+        has_max = part.one_of(0, 1)
+        least = part.u32()
+        self.over |= least > most
+        return least, part.u32() if has_max else None
+
+    def table_section(self, part):
+        def table():
+            part.one_of(0x70)
+            return self.limits(part, MOST_ENTRIES)
+
+        self.found.tables = part.vector(table)
+
+    def memory_section(self, part):
+        self.found.memories = part.vector(lambda: self.limits(part, MOST_PAGES))
+
+    def global_section(self, part):
+        def entry():
+            return self.value_type(part), part.one_of(0, 1), self.expression(part)
+
+        self.found.globals = part.vector(entry)
 
     def export_section(self, part):
         def entry():
-            name = part.name()
-            part.one_of(0)
-            return name, part.u32()
+            return part.name(), part.one_of(0, 1, 2, 3), part.u32()
 
-        self.exports = part.vector(entry)
+        self.found.exports = part.vector(entry)
+
+    def start_section(self, part):
+        self.found.start = part.u32()
+
+    def element_section(self, part):
+        def entry():
+            return part.u32(), self.expression(part), part.vector(part.u32)
+
+        self.found.elements = part.vector(entry)
+
+    def data_section(self, part):
+        def entry():
+            memory, offset = part.u32(), self.expression(part)
+            return memory, offset, part.take(part.u32())
+
+        self.found.segments = part.vector(entry)
 
     def code_section(self, part):
-        if part.u32() != len(self.indices):
+        if part.u32() != len(self.found.indices):
             raise NotSpelled
-        for index in self.indices:
+        for index in self.found.indices:
             body, is_whole = part.part()
-            self.funcs.append(self.code(body, index))
+            self.found.funcs.append(self.code(body, index))
             if not is_whole or not body.is_at_end():
                 raise NotSpelled
 
     def code(self, body, index):
-        params = len(self.types[index][0]) if index < len(self.types) else 0
+        types = self.found.types
+        params = len(types[index][0]) if index < len(types) else 0
         self.over |= params > MOST_LOCALS
-        locals_ = 0
+        locals_ = []
         for _ in range(body.u32()):
-            locals_ += body.u32()
-            self.over |= params + locals_ > MOST_LOCALS
-            self.value_type(body)
-        instructions = []
-        while (opcode := body.one_of(0x0B, 0x10, 0x1A, 0x41)) != 0x0B:
-            if opcode == 0x41:
-                instructions.append(("const", body.leb(True)))
-            elif opcode == 0x1A:
-                instructions.append(("drop", None))
-            else:
-                instructions.append(("call", body.u32()))
-                if instructions[-1][1] >= len(self.imports):
+            count = body.u32()
+            if params + len(locals_) + count > MOST_LOCALS:
+                self.over = True
+                raise NotSpelled
+            locals_ += [self.value_type(body)] * count
+        return Func(index, locals_, self.expression(body))
+
+    def expression(self, part):
+        """Instructions up to the end that belongs to them, each a tuple of its opcode and what follows it."""
+        return self.sequence(part, 0)[0]
+
+    def sequence(self, part, depth):
+        found = []
+        while (opcode := part.byte()) not in (0x05, 0x0B):
+            if opcode in (0x02, 0x03, 0x04):
+                if depth == MOST_NESTING:
+                    self.over = True
                     raise NotSpelled
-        return Func(index, locals_, instructions)
+                found.append(self.block(part, opcode, depth + 1))
+            else:
+                found.append((opcode, *self.immediates(part, opcode)))
+        if opcode == 0x05 and depth == 0:
+            raise NotSpelled
+        return found, opcode
+
+    def block(self, part, opcode, depth):
+        kind = part.one_of(0x40, I32, I64)
+        first, closed_by = self.sequence(part, depth)
+        second = []
+        if closed_by == 0x05:
+            if opcode != 0x04:
+                raise NotSpelled
+            second, closed_by = self.sequence(part, depth)
+            if closed_by == 0x05:
+                raise NotSpelled
+        return opcode, () if kind == 0x40 else (kind,), first, second
+
+    def immediates(self, part, opcode):
+        if opcode in FIXED or opcode in BARE:
+            return ()
+        if opcode in INDEXED:
+            return (part.u32(),)
+        if opcode in LOADS or opcode in STORES:
+            return part.u32(), part.u32()
+        if opcode == 0x0E:
+            return part.vector(part.u32), part.u32()
+        if opcode == 0x11:
+            index = part.u32()
+            part.one_of(0)
+            return (index,)
+        if opcode in (0x3F, 0x40):
+            part.one_of(0)
+            return ()
+        if opcode in (0x41, 0x42):
+            return (part.leb(True, 32 if opcode == 0x41 else 64),)
+        raise NotSpelled
 
 
-def is_within(module):
-    def locals_of(func):
-        known = func.type_index < len(module.types)
-        return func.locals + (len(module.types[func.type_index][0]) if known else 0)
-
-    functions = len(module.imports) + len(module.funcs)
-    return functions <= MOST_FUNCTIONS and all(locals_of(func) <= MOST_LOCALS for func in module.funcs)
+class NotValid(Exception):
+    """The module is not valid."""
 
 
-def is_typed(module, func):
-    if func.type_index >= len(module.types):
-        return False
-    stack = []
-    for name, number in func.body:
-        if name == "const":
-            stack.append(I32)
-        elif name == "drop":
-            if not stack:
-                return False
-            stack.pop()
+def demand(holds):
+    if not holds:
+        raise NotValid
+
+
+def func_type(module, index):
+    demand(index < len(module.imports) + len(module.funcs))
+    indices = [index for _, index in module.imports] + [func.type_index for func in module.funcs]
+    demand(indices[index] < len(module.types))
+    return module.types[indices[index]]
+
+
+class Block:
+    """The operands of a block, and what a branch to it takes; below an unreachable point there may be any."""
+
+    def __init__(self, label, results):
+        self.label, self.results, self.stack, self.is_unreachable = label, results, [], False
+
+    def take(self, wanted):
+        if not self.stack and self.is_unreachable:
+            return None
+        demand(self.stack)
+        top = self.stack.pop()
+        demand(None in (top, wanted) or top == wanted)
+        return top
+
+    def take_all(self, types):
+        for kind in reversed(types):
+            self.take(kind)
+
+    def give_all(self, types):
+        self.stack += types
+
+    def leave(self):
+        self.stack, self.is_unreachable = [], True
+
+    def close(self):
+        self.take_all(self.results)
+        demand(not self.stack)
+
+
+class Body:
+    """The validation of one function's body (appendix A.3)."""
+
+    def __init__(self, module, func):
+        demand(func.type_index < len(module.types))
+        params, results = module.types[func.type_index]
+        self.module, self.locals, self.results = module, [*params, *func.locals], results
+        self.blocks = []
+        self.sequence(func.body, results, results)
+
+    def sequence(self, instructions, label, results):
+        self.blocks.append(Block(label, results))
+        for instruction in instructions:
+            self.instruction(self.blocks[-1], *instruction)
+        self.blocks.pop().close()
+
+    def label(self, index):
+        demand(index < len(self.blocks))
+        return self.blocks[-1 - index].label
+
+    def instruction(self, block, opcode, *rest):
+        if opcode in FIXED:
+            takes, gives = FIXED[opcode]
+            block.take_all(takes)
+            block.give_all(gives)
+        elif opcode in (0x02, 0x03, 0x04):
+            self.nested(block, opcode, *rest)
+        elif opcode in LOADS or opcode in STORES:
+            self.access(block, opcode, *rest)
+        elif opcode in (0x20, 0x21, 0x22, 0x23, 0x24):
+            self.variable(block, opcode, *rest)
+        elif opcode in (0x1A, 0x1B, 0x3F, 0x40, 0x41, 0x42):
+            self.operand(block, opcode)
         else:
-            params, results = module.types[module.imports[number][1]]
-            below = len(stack) - len(params)
-            if below < 0 or tuple(stack[below:]) != params:
-                return False
-            stack[below:] = results
-    return tuple(stack) == module.types[func.type_index][1]
+            self.control(block, opcode, *rest)
+
+    def nested(self, block, opcode, results, first, second):
+        if opcode == 0x04:
+            block.take(I32)
+            self.sequence(second, results, results)
+        self.sequence(first, () if opcode == 0x03 else results, results)
+        block.give_all(results)
+
+    def access(self, block, opcode, align, _offset):
+        kind, count = (LOADS | STORES)[opcode]
+        demand(self.module.memories and 2**align <= count)
+        block.take_all((I32,) if opcode in LOADS else (I32, kind))
+        block.give_all((kind,) if opcode in LOADS else ())
+
+    def variable(self, block, opcode, index):
+        found = self.locals if opcode < 0x23 else self.module.globals
+        demand(index < len(found))
+        kind = found[index] if opcode < 0x23 else found[index][0]
+        demand(opcode != 0x24 or found[index][1] == 1)
+        if opcode not in (0x20, 0x23):
+            block.take(kind)
+        if opcode in (0x20, 0x22, 0x23):
+            block.give_all([kind])
+
+    def operand(self, block, opcode):
+        if opcode == 0x1A:
+            block.take(None)
+        elif opcode == 0x1B:
+            block.take(I32)
+            second = block.take(None)
+            first = block.take(second)
+            block.give_all([first if second is None else second])
+        elif opcode in (0x41, 0x42):
+            block.give_all([I32 if opcode == 0x41 else I64])
+        else:
+            demand(self.module.memories)
+            if opcode == 0x40:
+                block.take(I32)
+            block.give_all([I32])
+
+    def control(self, block, opcode, *rest):
+        if opcode == 0x0D:
+            block.take(I32)
+            types = self.label(rest[0])
+            block.take_all(types)
+            block.give_all(types)
+        elif opcode in (0x10, 0x11):
+            self.call(block, opcode, *rest)
+        elif opcode != 0x01:
+            if opcode == 0x0C:
+                block.take_all(self.label(rest[0]))
+            elif opcode == 0x0E:
+                block.take(I32)
+                types = self.label(rest[1])
+                demand(all(self.label(index) == types for index in rest[0]))
+                block.take_all(types)
+            elif opcode == 0x0F:
+                block.take_all(self.results)
+            block.leave()
+
+    def call(self, block, opcode, index):
+        if opcode == 0x10:
+            params, results = func_type(self.module, index)
+        else:
+            demand(self.module.tables and index < len(self.module.types))
+            block.take(I32)
+            params, results = self.module.types[index]
+        block.take_all(params)
+        block.give_all(results)
+
+
+def is_constant(expression, kind):
+    return len(expression) == 1 and expression[0][0] == (0x41 if kind == I32 else 0x42)
+
+
+def check(module):
+    functions = len(module.imports) + len(module.funcs)
+    counts = functions, len(module.tables), len(module.memories), len(module.globals)
+    names = [name for name, _, _ in module.exports]
+    demand(all(len(results) <= 1 for _, results in module.types))
+    demand(all(index < len(module.types) for _, index in module.imports))
+    demand(len(module.tables) <= 1 and len(module.memories) <= 1)
+    demand(all(most is None or least <= most for least, most in module.tables + module.memories))
+    demand(all(max(least, most or 0) <= 65_536 for least, most in module.memories))
+    demand(all(is_constant(value, kind) for kind, _, value in module.globals))
+    demand(all(index < counts[kind] for _, kind, index in module.exports))
+    demand(len(set(names)) == len(names))
+    demand(module.start is None or func_type(module, module.start) == ((), ()))
+    for table, offset, indices in module.elements:
+        demand(table < len(module.tables) and is_constant(offset, I32) and all(i < functions for i in indices))
+    demand(all(memory < len(module.memories) and is_constant(offset, I32) for memory, offset, _ in module.segments))
+    for func in module.funcs:
+        Body(module, func)
 
 
 def is_valid(module):
-    functions = len(module.imports) + len(module.funcs)
-    names = [name for name, _ in module.exports]
-    return (all(len(results) <= 1 for _, results in module.types)
-            and all(index < len(module.types) for _, index in module.imports)
-            and all(is_typed(module, func) for func in module.funcs)
-            and all(index < functions for _, index in module.exports)
-            and len(set(names)) == len(names))
+    try:
+        check(module)
+    except NotValid:
+        return False
+    return True
+
+
+def is_runnable(module):
+    """What the machine runs so far."""
+    def runs(opcode, *rest):
+        return opcode in (0x1A, 0x41, 0x42) or opcode == 0x10 and rest[0] < len(module.imports)
+
+    return module.start is None and all(runs(*instruction) for func in module.funcs for instruction in func.body)
+
+
+def is_inside(module):
+    entries = module.tables[0][0] if module.tables else 0
+    size = module.memories[0][0] * PAGE if module.memories else 0
+    return (all(offset[0][1] + len(indices) <= entries for _, offset, indices in module.elements)
+            and all(offset[0][1] + len(data) <= size for _, offset, data in module.segments))
 
 
 def entry_of(module):
     """The function that a task runs, where there is one."""
-    indices = [index for _, index in module.imports] + [func.type_index for func in module.funcs]
-    found = [index for name, index in module.exports if name == b"_start" and module.types[indices[index]] == ((), ())]
+    found = [index for name, kind, index in module.exports
+             if name == b"_start" and kind == 0 and func_type(module, index) == ((), ())]
     return found[0] if found else None
 
 
 def refusals_of(data):
     """The numbers with which a create may be refused over these bytes; none where it is accepted."""
     try:
-        module = Decoder(data).module()
+        decoder = Decoder(data)
+        module = decoder.module()
     except NotSpelled as fault:
         return {9} if fault.over else {7}
-    if len(data) > MOST_BYTES or not is_within(module):
+    if decoder.over:
         return {9}
-    if not is_valid(module):
+    if not is_valid(module) or not is_runnable(module):
         return {8}
     if entry_of(module) is None:
         return {21}
     if any(names != SYSTEM_CALL or module.types[index] != ((I32,), ()) for names, index in module.imports):
         return {22}
-    return set()
+    if module.memories and module.memories[0][0] > PAGE_CAP:
+        return {9}
+    return set() if is_inside(module) else {23}
 
 
 def ends(data):
@@ -262,13 +531,13 @@ def ends(data):
     module = Decoder(data).module()
     func = module.funcs[entry_of(module) - len(module.imports)]
     stack = []
-    for turn, (name, number) in enumerate(func.body, 1):
-        if name == "const":
-            stack.append(number)
-        elif name == "drop":
+    for turn, (opcode, *rest) in enumerate(func.body, 1):
+        if opcode in (0x41, 0x42):
+            stack.append(rest[0])
+        elif opcode == 0x1A:
             stack.pop()
         else:
             return {"cause": "exit", "exit": stack[-1], "n": turn}
-        if func.locals + len(stack) > MOST_VALUES:
+        if len(func.locals) + len(stack) > MOST_VALUES:
             return {"cause": "trap", "exit": 134, "n": turn, "trap": "exhausted"}
     return {"cause": "return", "exit": 0, "n": len(func.body)}
