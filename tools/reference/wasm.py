@@ -75,7 +75,7 @@ class Reader:
         return self.take(1)[0]
 
     def leb(self, is_signed, bits=32):
-        """A number of so many bits (5.2.2); a signed one as its two's complement."""
+        """A number of this many bits (5.2.2); a signed one as its two's complement."""
         groups = []
         while True:
             byte = self.byte()
@@ -113,7 +113,7 @@ class Reader:
         return byte
 
     def part(self):
-        """What stands behind a size, and whether all of it is there."""
+        """What follows a size, and whether all of it is there."""
         size = self.u32()
         there = self.data[self.at:self.at + size]
         self.at += len(there)
