@@ -37,7 +37,9 @@ impl Model for Operands {
 
 impl Operands {
     /// No operands. No memory is taken.
-    pub fn new(alloc: Global) -> Operands {
+    pub fn new(alloc: Global) -> Operands
+        ensures { result ≡ record { outside = []; stack = record { unreachable = false; types = [] } } }
+    {
         Operands {
             types: Vec::new(alloc),
             base: 0,
