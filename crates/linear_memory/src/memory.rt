@@ -1,6 +1,6 @@
 //! A memory.
 
-ghost use Rattle.std.specs.Prelude.{◌≡◌, ◌≤◌, ◌*◌, IfSome, length, option_map};
+ghost use Rattle.std.specs.Prelude.{◌≡◌, ◌≤◌, ◌<◌, ◌*◌, ◌^◌, All, IfSome, length, option_map};
 ghost use Rattle.linear_memory.specs.Memory.{new_memory, page_bytes, max_pages, is_inside, read_at, written_at, byte_count, loaded, stored, grown, grow_result};
 
 use crate::width::Width;
@@ -53,6 +53,13 @@ impl LinearMemory {
         })
     }
 
+    /// Shows that each byte is in the range of its type.
+    pub fn ranged(&self)
+        ensures { All (λ b. b < 256) self.now.bytes }
+    {
+        bytes_ranged(self.bytes.as_slice());
+    }
+
     /// The size in pages.
     #[inline(always)]
     pub fn size(&self) -> u32
@@ -83,7 +90,8 @@ impl LinearMemory {
     /// outside (4.4.4).
     #[inline(always)]
     pub fn load(&self, address: u64, width: Width) -> Option<u64>
-        ensures { result ≡ loaded self.now address width }
+        ensures number { result ≡ loaded self.now address width }
+        ensures range { IfSome result (λ n. n < 2 ^ (8 * byte_count width)) }
     {
         let bytes = self.bytes.as_slice();
         if address.saturating_add(width.bytes() as u64) > bytes.len() as u64 {
@@ -139,4 +147,11 @@ impl LinearMemory {
         self.bytes[start..start + bytes.len()].copy_from_slice(bytes);
         true
     }
+}
+
+/// Shows that each byte is in the range of its type.
+fn bytes_ranged(bytes: &[u8])
+    ensures { All (λ b. b < 256) bytes.now }
+{
+    let _in_range = bytes;
 }
