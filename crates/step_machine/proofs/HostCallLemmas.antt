@@ -9,7 +9,8 @@ use Rattle.wasm_ast.specs.declared.module.Func.{Func}
 use Rattle.wasm_ast.specs.declared.module.Module.{Module}
 use Rattle.wasm_ast.specs.Types.{func_types, type_at}
 use Rattle.step_machine.specs.declared.host_calls.HostCall.TheVariants.{ProcExit}
-use Rattle.step_machine.specs.HostCalls.{host_name, host_type, host_calls, host_module, is_same_type, are_same_types, is_of_type, call_named, known, all_known}
+use Rattle.flat_code.specs.TypeClasses.{is_same_type, are_same_types, is_of_type}
+use Rattle.step_machine.specs.HostCalls.{host_name, host_type, host_calls, host_module, call_named, known, all_known}
 use Rattle.step_machine.specs.Program.{Function, host, import_of, imported, func_of, functions}
 
 pub both : (a b : Bool) → (a && b) ≡ true → (a ≡ true) × (b ≡ true)

@@ -3,7 +3,7 @@ use Rattle.std.proofs.Common.{◌≡◌, List, [], ◌∷◌, Bool, true, false,
 use Rattle.wasm_ast.specs.declared.values.ValType.{ValType}
 use Rattle.wasm_ast.specs.declared.values.ValType.TheVariants.{I32, I64}
 use Rattle.wasm_ast.specs.contracts.values.ValTypePartialEq.TheImpl.{eq-value as equal}
-use Rattle.step_machine.specs.HostCalls.{is_same_type, are_same_types}
+use Rattle.flat_code.specs.TypeClasses.{is_same_type, are_same_types}
 use Rattle.step_machine.proofs.HostCallLemmas.{same_types}
 
 pub type_eq : (a b : ValType) → Decides (equal.it a b) (a ≡ b)
@@ -16,7 +16,7 @@ itself : (t : ValType) → is_same_type t t ≡ true
 itself I32 = refl
 itself I64 = refl
 
-all_themselves : (ts : List ValType) → are_same_types ts ts ≡ true
+pub all_themselves : (ts : List ValType) → are_same_types ts ts ≡ true
 all_themselves [] = refl
 all_themselves (t ∷ ts) = rw (itself t) (all_themselves ts)
 

@@ -13,9 +13,9 @@ use Rattle.step_machine.specs.Configuration.{Store, seq, done, running, trapped,
 use Rattle.step_machine.specs.Turns.{settled, turn, numbered, from}
 use Rattle.step_machine.specs.Instantiation.{first_store, initial, after, ended}
 use Rattle.step_machine.specs.Worked.{i32_const, drop', nothing_to_nothing, repeated, pile}
-use Rattle.step_machine.specs.Inside.Represents.{framed, configuration}
 use Rattle.step_machine.proofs.TurnLemmas.{from-add}
 use Rattle.step_machine.proofs.InstructionTurns as instruction
+use Rattle.step_machine.proofs.InstructionTurns.{framed, configuration}
 
 -- r zeros above these values
 abbrev heap : ℕ → List Value → List Value

@@ -4,6 +4,7 @@ use Rattle.wasm_ast.specs.declared.values.ValType.{ValType}
 use Rattle.wasm_ast.specs.declared.values.ValType.TheVariants.{I32, I64}
 use Rattle.wasm_ast.specs.declared.values.FuncType.{FuncType}
 use Rattle.wasm_ast.specs.declared.module.Import.{Import}
+use Rattle.flat_code.specs.TypeClasses.{is_of_type}
 use Rattle.step_machine.specs.declared.host_calls.HostCall.{HostCall}
 use Rattle.step_machine.specs.declared.host_calls.HostCall.TheVariants.{ProcExit}
 
@@ -22,21 +23,6 @@ host_calls = ProcExit ∷ []
 
 abbrev pub host_module : List ℕ
 host_module = codes "wasi_snapshot_preview1"
-
-abbrev pub is_same_type : ValType → ValType → Bool
-is_same_type I32 I32 = true
-is_same_type I64 I64 = true
-is_same_type _ _ = false
-
-abbrev pub are_same_types : List ValType → List ValType → Bool
-are_same_types [] [] = true
-are_same_types (t ∷ ts) (u ∷ us) = is_same_type t u && are_same_types ts us
-are_same_types _ _ = false
-
--- an import matches a function of the same type (4.5.2)
-abbrev pub is_of_type : FuncType → Option FuncType → Bool
-is_of_type t None = false
-is_of_type t (Some u) = are_same_types t.params u.params && are_same_types t.results u.results
 
 -- the first of these calls that an import of this name and type is
 abbrev pub call_named : List ℕ → Option FuncType → List HostCall → Option HostCall

@@ -1,7 +1,8 @@
 -- What only private clauses and the machine's invariant name.
-pub mod FlatMachine
 pub mod Levels
-pub mod FlatCode
 pub mod FlatState
+pub mod CallersView
+pub mod FlatView
 pub mod Stands
-pub mod Represents
+pub mod Simulates
+pub mod Going

@@ -22,7 +22,8 @@ use Rattle.wasm_ast.specs.Limits.{is_within}
 use Rattle.step_machine.specs.declared.process.ProcessConfig.{ProcessConfig}
 use Rattle.step_machine.specs.declared.ends.End.{End}
 use Rattle.step_machine.specs.declared.ends.End.TheVariants as ends
-use Rattle.step_machine.specs.HostCalls.{is_of_type, all_known}
+use Rattle.flat_code.specs.TypeClasses.{is_of_type}
+use Rattle.step_machine.specs.HostCalls.{all_known}
 use Rattle.step_machine.specs.Program.{program}
 use Rattle.step_machine.specs.Configuration.{Store, Items, seq, done, more, invoke, State, running, exited, trapped, stuck, Configuration}
 use Rattle.step_machine.specs.Configuration as tree

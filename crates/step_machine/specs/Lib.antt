@@ -9,7 +9,6 @@ pub mod Processes
 pub mod Turns
 pub mod Instantiation
 pub mod Slices
-pub mod Runs
 pub mod MachineView
 pub mod Worked
 pub mod WorkedEffects

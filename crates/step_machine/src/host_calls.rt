@@ -1,7 +1,8 @@
 //! System calls (WASI snapshot_preview1), and which imports are one.
 
 ghost use Rattle.std.specs.Prelude.{◌≡◌, slice_get, option_copied};
-ghost use Rattle.step_machine.specs.HostCalls.{host_calls, are_same_types, is_of_type, call_named, known, all_known};
+ghost use Rattle.flat_code.specs.TypeClasses.{are_same_types, is_of_type};
+ghost use Rattle.step_machine.specs.HostCalls.{host_calls, call_named, known, all_known};
 
 use wasm_ast::{FuncType, Import, ValType};
 
@@ -25,7 +26,7 @@ pub fn are_known(types: &[FuncType], imports: &[Import]) -> bool
 }
 
 /// The system call that an import is, by its module, its name and its type.
-fn known(types: &[FuncType], import: &Import) -> Option<HostCall>
+pub fn known(types: &[FuncType], import: &Import) -> Option<HostCall>
     ensures { result ≡ known types.now import.now }
 {
     if import.module.as_str() == "wasi_snapshot_preview1" {

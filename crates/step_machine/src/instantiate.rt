@@ -11,6 +11,7 @@ ghost use Rattle.step_machine.specs.Instantiation.{is_bare, is_entry, entry_in, 
 
 use crate::func_types::type_of;
 use crate::host_calls::{are_known, is_of_type};
+use crate::page_cap::PageCap;
 use wasm_ast::{
     Body, Element, Export, ExportKind, Instr, Limits, Module, Refusal, Segment, Simple, Value,
 };
@@ -22,10 +23,13 @@ const PAGE_BYTES: u64 = 65_536;
 /// pages. Else the first refusal that holds: `NoEntry`, `BadImport` if an import is no system call or has
 /// another type, `Limit` if the module passes a limit of the profile or begins with more pages than the
 /// cap, and `SegmentOutOfBounds` if a segment is not inside its table or memory as it begins.
-pub fn find_entry(of: &Module, cap: u32) -> Result<u32, Refusal>
+pub fn find_entry(of: &Module, cap: PageCap) -> Result<u32, Refusal>
     ensures entry { IfOk result (λ f. entry of.now ≡ Some f) }
     ensures known { OnOk result (all_known of.now.types of.now.imports ≡ true) }
     ensures within { OnOk result (is_within of.now ≡ true) }
+    ensures pages { OnOk result (are_pages_within of.now.memories cap ≡ true) }
+    ensures inside { OnOk result (are_elements_inside (length (empty_table of.now.tables)) of.now.elements
+        && are_segments_inside (zero_memory of.now.memories cap) of.now.segments ≡ true) }
     ensures opens { OnOk result ((p : ProcessConfig) → p.cap ≡ cap
         → instantiation_refusal of.now p ≡ None) }
     ensures refused { (e : Refusal) → result ≡ Err e → (p : ProcessConfig) → p.cap ≡ cap
@@ -37,7 +41,7 @@ pub fn find_entry(of: &Module, cap: u32) -> Result<u32, Refusal>
     if !are_known(of.types.as_slice(), of.imports.as_slice()) {
         return Err(Refusal::BadImport);
     }
-    if !of.is_within_limits() || !are_pages_within(of.memories.as_slice(), cap) {
+    if !of.is_within_limits() || !are_pages_within(of.memories.as_slice(), cap.pages()) {
         return Err(Refusal::Limit);
     }
     if !are_inside(of) {
@@ -164,7 +168,7 @@ fn is_range_inside(start: u64, count: u64, size: u64) -> bool
 }
 
 /// Where a segment with this constant expression begins.
-fn offset_of(offset: &Body) -> u64
+pub fn offset_of(offset: &Body) -> u64
     ensures { result ≡ offset_of offset.now }
 {
     match constant(offset) {
@@ -174,7 +178,7 @@ fn offset_of(offset: &Body) -> u64
 }
 
 /// The value of a constant expression (4.5.4).
-fn constant(body: &Body) -> Option<Value>
+pub fn constant(body: &Body) -> Option<Value>
     ensures { result ≡ constant body.now }
 {
     let instrs = body.as_slice();

@@ -3,6 +3,7 @@
 ghost use Rattle.std.specs.Prelude.{◌≡◌, IfOk, [], true, false};
 ghost use Rattle.step_machine.specs.Processes.{config_of};
 
+use crate::page_cap::PageCap;
 use std::alloc::{AllocError, Global};
 use std::marker::Model;
 use wasm_ast::{Sequence, Text};
@@ -51,7 +52,7 @@ pub struct Process {
     pub module: Text,
     pub args: Sequence<Text>,
     pub env: Sequence<Text>,
-    pub cap: u32,
+    pub cap: PageCap,
     pub out: Output,
     pub err: Output,
 }
@@ -65,7 +66,7 @@ impl Process {
             module: self.module.copy(alloc)?,
             args: Sequence::new(copy_texts(alloc, self.args.as_slice())?),
             env: Sequence::new(copy_texts(alloc, self.env.as_slice())?),
-            cap: self.cap,
+            cap: self.cap.pages(),
         })
     }
 }
