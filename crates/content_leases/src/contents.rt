@@ -12,15 +12,15 @@ use std::marker::Model;
 use std::sync::Arc;
 use wasm_ast::{Bytes, Text};
 
-// Whether a digest is one of these.
-fn is_used(used: &[Text], digest: &str) -> bool
+/// Whether a digest is one of these.
+pub fn is_used(used: &[Text], digest: &str) -> bool
     ensures { result ≡ is_among digest.now used.now }
 {
     used.iter().any(|text| text.as_str() == digest)
 }
 
-/// Whether a lease, or one of these digests, holds a digest.
-pub fn is_held(leases: &Leases, used: &[Text], digest: &str) -> bool
+// Whether a lease, or one of these digests, holds a digest.
+fn is_held(leases: &Leases, used: &[Text], digest: &str) -> bool
     ensures { result ≡ is_held used.now leases.now.leases digest.now }
 {
     leases.has(digest) || is_used(used, digest)

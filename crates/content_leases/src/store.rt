@@ -8,9 +8,10 @@ ghost use Rattle.content_leases.specs.Identifiers.{digest_of};
 ghost use Rattle.content_leases.specs.Limits.{max_members};
 ghost use Rattle.content_leases.specs.Refusals.{first_refusal, put_refusals, remove_refusals, lease_create_refusals, lease_add_refusals, lease_delete_refusals};
 ghost use Rattle.content_leases.specs.Requests.{IsAnswered};
-ghost use Rattle.content_leases.specs.StoreState.{empty, content_in, lease_in, is_among, is_held, with_content, without_content, with_lease, with_member, without_lease, unheld, collected};
+ghost use Rattle.content_leases.specs.StoreValue.{UsesRoom};
+ghost use Rattle.content_leases.specs.StoreState.{empty, content_in, lease_in, is_among, with_content, without_content, with_lease, with_member, without_lease, unheld, collected};
 
-use crate::contents::{Contents, is_held};
+use crate::contents::{Contents, is_used};
 use crate::identifier::{digest_of, is_digest, is_id};
 use crate::leases::Leases;
 use crate::members::{MAX_MEMBERS, Members};
@@ -66,13 +67,6 @@ impl Store {
         self.contents.get(digest)
     }
 
-    /// Whether some lease, or one of the digests that are used, names a digest.
-    pub fn is_held(&self, digest: &str, used: &[Text]) -> bool
-        ensures { result ≡ is_held used.now self.now.state.leases digest.now }
-    {
-        is_held(&self.leases, used, digest)
-    }
-
     /// Why bytes cannot be stored, if they cannot.
     pub fn refusal_of_put(&self, digest: &Text, bytes: &Bytes) -> Option<Refusal>
         requires { digest.now ≡ digest_of bytes.now }
@@ -95,15 +89,17 @@ impl Store {
         }
     }
 
-    /// Why the content under a digest cannot be removed while these digests are used, if it cannot.
-    pub fn refusal_of_remove(&self, digest: &str, used: &[Text]) -> Option<Refusal>
-        ensures { result ≡ first_refusal (remove_refusals used.now self.now.state digest.now) }
+    /// Why the content under a digest cannot be removed, if it cannot. `is_used` tells whether the digest is
+    /// one of those that are used.
+    pub fn refusal_of_remove(&self, digest: &str, is_used: bool) -> Option<Refusal>
+        ensures { (used : List (List ℕ)) → is_used ≡ is_among digest.now used
+            → result ≡ first_refusal (remove_refusals used self.now.state digest.now) }
     {
         if !is_digest(digest) {
             Some(Refusal::BadId)
         } else if self.content(digest).is_none() {
             Some(Refusal::NoContent)
-        } else if self.is_held(digest, used) {
+        } else if self.leases.has(digest) || is_used {
             Some(Refusal::InUse)
         } else {
             None
@@ -190,14 +186,16 @@ impl Store {
         requires room { 0 < self.old.content_room }
         requires named { string_bytes digest ≡ digest_of (arc_value bytes) }
         requires new { content_in self.old.state.contents (string_bytes digest) ≡ None }
-        ensures { self.new.state ≡ with_content self.old.state (arc_value bytes) }
+        ensures leaves { self.new.state ≡ with_content self.old.state (arc_value bytes) }
+        ensures room { UsesRoom 1 0 self.old self.new }
     {
         self.contents.push_reserved(digest, bytes);
     }
 
     /// Removes the content under a digest. No memory is taken.
     pub fn remove_reserved(&mut self, digest: &str)
-        ensures { self.new.state ≡ without_content self.old.state digest.now }
+        ensures leaves { self.new.state ≡ without_content self.old.state digest.now }
+        ensures room { UsesRoom 0 0 self.old self.new }
     {
         self.contents.remove(digest);
     }
@@ -207,7 +205,8 @@ impl Store {
         requires room { 0 < self.old.lease_room }
         requires new { lease_in self.old.state.leases (string_bytes name) ≡ None }
         requires none { members ≡ [] }
-        ensures { self.new.state ≡ with_lease self.old.state (string_bytes name) }
+        ensures leaves { self.new.state ≡ with_lease self.old.state (string_bytes name) }
+        ensures room { UsesRoom 0 1 self.old self.new }
     {
         self.leases.push_reserved(name, members);
     }
@@ -217,14 +216,16 @@ impl Store {
     pub fn add_member_reserved(&mut self, digest: String, name: &str)
         requires { (ms : List (List ℕ)) × (lease_in self.old.state.leases name.now ≡ Some ms)
             × (is_among (string_bytes digest) ms ≡ false) × (length ms < max_members) }
-        ensures { self.new.state ≡ with_member self.old.state (string_bytes digest) name.now }
+        ensures leaves { self.new.state ≡ with_member self.old.state (string_bytes digest) name.now }
+        ensures room { UsesRoom 0 0 self.old self.new }
     {
         self.leases.add_reserved(name, digest);
     }
 
     /// Deletes the lease with a name. No memory is taken.
     pub fn delete_lease_reserved(&mut self, name: &str)
-        ensures { self.new.state ≡ without_lease self.old.state name.now }
+        ensures leaves { self.new.state ≡ without_lease self.old.state name.now }
+        ensures room { UsesRoom 0 0 self.old self.new }
     {
         self.leases.remove(name);
     }
@@ -239,7 +240,8 @@ impl Store {
 
     /// Removes those contents. No memory is taken.
     pub fn collect_reserved(&mut self, used: &[Text])
-        ensures { self.new.state ≡ collected used.now self.old.state }
+        ensures leaves { self.new.state ≡ collected used.now self.old.state }
+        ensures room { UsesRoom 0 0 self.old self.new }
     {
         self.contents.retain_held(&self.leases, used);
     }
@@ -278,7 +280,7 @@ impl Store {
             (λ done. self.new.state ≡ without_content self.old.state digest.now)
             result self.old.state self.new.state }
     {
-        match self.refusal_of_remove(digest, used) {
+        match self.refusal_of_remove(digest, is_used(used, digest)) {
             Some(refusal) => Err(refusal),
             None => {
                 self.remove_reserved(digest);

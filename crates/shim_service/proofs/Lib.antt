@@ -9,3 +9,4 @@ pub mod ServeLemmas
 pub mod SliceLemmas
 pub mod CallLemmas
 pub mod DeterminedLemmas
+pub mod FloatLemmas

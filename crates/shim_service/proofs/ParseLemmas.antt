@@ -1,19 +1,25 @@
 -- Events by their `op` and their other members, and by their whole value.
-use Rattle.std.proofs.Common.{◌≡◌, ◌≢◌, ℕ, List, Some, Result, Ok, Err, IfOk, codes, refl, sym, ap, subst, ◌∙◌}
-use Rattle.serde_json.specs.Data.{Data, string, object, Members, put}
+use Rattle.std.proofs.lemmas.Slice.Eq.{bytes_eq-Decides}
+use Rattle.std.proofs.Common.{◌≡◌, ◌≢◌, ℕ, List, false, true≢false, bytes_eq, Some, Result, Ok, Err, IfOk, codes, refl, sym, ap, subst, ◌∙◌}
+use Rattle.serde_json.specs.Data.{Data, string, object, Members, no_members, put}
 use Rattle.serde_json.specs.Find.{get_member}
 use Rattle.serde_json.proofs.Views.{get_member-put}
 use Rattle.task_board.specs.declared.event.Event.{Event}
 use Rattle.task_board.specs.declared.event.Event.TheVariants.{Call, Take, Return}
 use Rattle.task_board.specs.declared.request.Request.{Request}
-use Rattle.task_board.specs.declared.request.Request.TheVariants.{Put, Create, Start, Pause, Resume, Kill, Delete, State, Wait}
+use Rattle.task_board.specs.declared.request.Request.TheVariants.{Put, Remove, LeaseCreate, LeaseAdd, LeaseDelete, Gc, Create, Start, Pause, Resume, Kill, Delete, State, Wait}
 use Rattle.shim_service.specs.declared.line_error.LineError.{LineError}
 use Rattle.shim_service.specs.Request.{only_id, HasKeys, event_op, HasEventKeys, AsksEvent}
-use Rattle.shim_service.specs.Inside.Parse.{Parses, without, IsAsked, IsEventAsked, HasOnlyId}
+use Rattle.shim_service.specs.Inside.Parse.{Parses, without, IsAsked, IsEventAsked, HasOnlyId, IsSimple}
 
 -- no put with these keys, no request at all
 pub only_put : (op : List ℕ) (ms : Members) → op ≡ codes "put" → ((bytes : List ℕ) → HasKeys ms (Put bytes) → ⊥) → (r : Request) → IsAsked op ms r → ⊥
 only_put op ms is none (Put bytes) a = none bytes a.keys
+only_put op ms is none (Remove digest) a = let same = a.same in cc
+only_put op ms is none (LeaseCreate id) a = let same = a.same in cc
+only_put op ms is none (LeaseAdd digest id) a = let same = a.same in cc
+only_put op ms is none (LeaseDelete id) a = let same = a.same in cc
+only_put op ms is none Gc a = let same = a.same in cc
 only_put op ms is none (Create config id) a = let same = a.same in cc
 only_put op ms is none (Start id) a = let same = a.same in cc
 only_put op ms is none (Pause id) a = let same = a.same in cc
@@ -23,12 +29,17 @@ only_put op ms is none (Delete id) a = let same = a.same in cc
 only_put op ms is none (State id) a = let same = a.same in cc
 only_put op ms is none (Wait id) a = let same = a.same in cc
 
--- no request with these keys beside `op`, and none that has the key `id` alone
-pub none_left : (op : List ℕ) (ms : Members) → op ≢ codes "put" → op ≢ codes "create" → op ≢ codes "kill" → ((r : Request) → HasOnlyId r → IsAsked op ms r → ⊥)
+-- no request with these keys beside `op`, and none that is simple
+pub none_left : (op : List ℕ) (ms : Members) → op ≢ codes "put" → op ≢ codes "create" → op ≢ codes "kill" → ((r : Request) → IsSimple r → IsAsked op ms r → ⊥)
     → (r : Request) → IsAsked op ms r → ⊥
 none_left op ms put create kill none (Put bytes) a = put a.same
 none_left op ms put create kill none (Create config id) a = create a.same
 none_left op ms put create kill none (Kill id signal) a = kill a.same
+none_left op ms put create kill none (Remove digest) a = none (Remove digest) tt a
+none_left op ms put create kill none (LeaseCreate id) a = none (LeaseCreate id) tt a
+none_left op ms put create kill none (LeaseAdd digest id) a = none (LeaseAdd digest id) tt a
+none_left op ms put create kill none (LeaseDelete id) a = none (LeaseDelete id) tt a
+none_left op ms put create kill none Gc a = none Gc tt a
 none_left op ms put create kill none (Start id) a = none (Start id) tt a
 none_left op ms put create kill none (Pause id) a = none (Pause id) tt a
 none_left op ms put create kill none (Resume id) a = none (Resume id) tt a
@@ -36,8 +47,81 @@ none_left op ms put create kill none (Delete id) a = none (Delete id) tt a
 none_left op ms put create kill none (State id) a = none (State id) tt a
 none_left op ms put create kill none (Wait id) a = none (Wait id) tt a
 
+-- a word is not another
+differ : (x y op : List ℕ) → bytes_eq x y ≡ false → op ≡ x → op ≡ y → ⊥
+differ x y op other is at = true≢false (sym ((bytes_eq-Decides x y).1 (sym is ∙ at)) ∙ other)
+
+-- no removal with these keys, no simple request at all
+pub only_remove : (op : List ℕ) (ms : Members) → op ≡ codes "remove" → ((digest : List ℕ) → HasKeys ms (Remove digest) → ⊥) → (r : Request) → IsSimple r → IsAsked op ms r → ⊥
+only_remove op ms is none (Remove digest) own a = none digest a.keys
+only_remove op ms is none (Put bytes) own a = own
+only_remove op ms is none (Create config id) own a = own
+only_remove op ms is none (Kill id signal) own a = own
+only_remove op ms is none (LeaseCreate id) own a = differ (codes "remove") (codes "lease_create") op refl is a.same
+only_remove op ms is none (LeaseAdd digest id) own a = differ (codes "remove") (codes "lease_add") op refl is a.same
+only_remove op ms is none (LeaseDelete id) own a = differ (codes "remove") (codes "lease_delete") op refl is a.same
+only_remove op ms is none Gc own a = differ (codes "remove") (codes "gc") op refl is a.same
+only_remove op ms is none (Start id) own a = differ (codes "remove") (codes "start") op refl is a.same
+only_remove op ms is none (Pause id) own a = differ (codes "remove") (codes "pause") op refl is a.same
+only_remove op ms is none (Resume id) own a = differ (codes "remove") (codes "resume") op refl is a.same
+only_remove op ms is none (Delete id) own a = differ (codes "remove") (codes "delete") op refl is a.same
+only_remove op ms is none (State id) own a = differ (codes "remove") (codes "state") op refl is a.same
+only_remove op ms is none (Wait id) own a = differ (codes "remove") (codes "wait") op refl is a.same
+
+pub only_lease_add : (op : List ℕ) (ms : Members) → op ≡ codes "lease_add" → ((digest id : List ℕ) → HasKeys ms (LeaseAdd digest id) → ⊥) → (r : Request) → IsSimple r → IsAsked op ms r → ⊥
+only_lease_add op ms is none (LeaseAdd digest id) own a = none digest id a.keys
+only_lease_add op ms is none (Put bytes) own a = own
+only_lease_add op ms is none (Create config id) own a = own
+only_lease_add op ms is none (Kill id signal) own a = own
+only_lease_add op ms is none (Remove digest) own a = differ (codes "lease_add") (codes "remove") op refl is a.same
+only_lease_add op ms is none (LeaseCreate id) own a = differ (codes "lease_add") (codes "lease_create") op refl is a.same
+only_lease_add op ms is none (LeaseDelete id) own a = differ (codes "lease_add") (codes "lease_delete") op refl is a.same
+only_lease_add op ms is none Gc own a = differ (codes "lease_add") (codes "gc") op refl is a.same
+only_lease_add op ms is none (Start id) own a = differ (codes "lease_add") (codes "start") op refl is a.same
+only_lease_add op ms is none (Pause id) own a = differ (codes "lease_add") (codes "pause") op refl is a.same
+only_lease_add op ms is none (Resume id) own a = differ (codes "lease_add") (codes "resume") op refl is a.same
+only_lease_add op ms is none (Delete id) own a = differ (codes "lease_add") (codes "delete") op refl is a.same
+only_lease_add op ms is none (State id) own a = differ (codes "lease_add") (codes "state") op refl is a.same
+only_lease_add op ms is none (Wait id) own a = differ (codes "lease_add") (codes "wait") op refl is a.same
+
+pub only_gc : (op : List ℕ) (ms : Members) → op ≡ codes "gc" → (ms ≡ no_members → ⊥) → (r : Request) → IsSimple r → IsAsked op ms r → ⊥
+only_gc op ms is none Gc own a = none a.keys
+only_gc op ms is none (Put bytes) own a = own
+only_gc op ms is none (Create config id) own a = own
+only_gc op ms is none (Kill id signal) own a = own
+only_gc op ms is none (Remove digest) own a = differ (codes "gc") (codes "remove") op refl is a.same
+only_gc op ms is none (LeaseCreate id) own a = differ (codes "gc") (codes "lease_create") op refl is a.same
+only_gc op ms is none (LeaseAdd digest id) own a = differ (codes "gc") (codes "lease_add") op refl is a.same
+only_gc op ms is none (LeaseDelete id) own a = differ (codes "gc") (codes "lease_delete") op refl is a.same
+only_gc op ms is none (Start id) own a = differ (codes "gc") (codes "start") op refl is a.same
+only_gc op ms is none (Pause id) own a = differ (codes "gc") (codes "pause") op refl is a.same
+only_gc op ms is none (Resume id) own a = differ (codes "gc") (codes "resume") op refl is a.same
+only_gc op ms is none (Delete id) own a = differ (codes "gc") (codes "delete") op refl is a.same
+only_gc op ms is none (State id) own a = differ (codes "gc") (codes "state") op refl is a.same
+only_gc op ms is none (Wait id) own a = differ (codes "gc") (codes "wait") op refl is a.same
+
+-- no simple request with these keys, and none that has the key `id` alone
+pub none_simple : (op : List ℕ) (ms : Members) → op ≢ codes "remove" → op ≢ codes "lease_add" → op ≢ codes "gc" → ((r : Request) → HasOnlyId r → IsAsked op ms r → ⊥)
+    → (r : Request) → IsSimple r → IsAsked op ms r → ⊥
+none_simple op ms remove add gc none (Put bytes) own a = own
+none_simple op ms remove add gc none (Create config id) own a = own
+none_simple op ms remove add gc none (Kill id signal) own a = own
+none_simple op ms remove add gc none (Remove digest) own a = remove a.same
+none_simple op ms remove add gc none (LeaseAdd digest id) own a = add a.same
+none_simple op ms remove add gc none Gc own a = gc a.same
+none_simple op ms remove add gc none (LeaseCreate id) own a = none (LeaseCreate id) tt a
+none_simple op ms remove add gc none (LeaseDelete id) own a = none (LeaseDelete id) tt a
+none_simple op ms remove add gc none (Start id) own a = none (Start id) tt a
+none_simple op ms remove add gc none (Pause id) own a = none (Pause id) tt a
+none_simple op ms remove add gc none (Resume id) own a = none (Resume id) tt a
+none_simple op ms remove add gc none (Delete id) own a = none (Delete id) tt a
+none_simple op ms remove add gc none (State id) own a = none (State id) tt a
+none_simple op ms remove add gc none (Wait id) own a = none (Wait id) tt a
+
 -- a request of the key `id` alone has these members
 pub only_its_id : (op : List ℕ) (ms : Members) → ((id : List ℕ) → ms ≢ only_id id) → (r : Request) → HasOnlyId r → IsAsked op ms r → ⊥
+only_its_id op ms none (LeaseCreate id) own a = none id a.keys
+only_its_id op ms none (LeaseDelete id) own a = none id a.keys
 only_its_id op ms none (Start id) own a = none id a.keys
 only_its_id op ms none (Pause id) own a = none id a.keys
 only_its_id op ms none (Resume id) own a = none id a.keys
@@ -45,25 +129,38 @@ only_its_id op ms none (Delete id) own a = none id a.keys
 only_its_id op ms none (State id) own a = none id a.keys
 only_its_id op ms none (Wait id) own a = none id a.keys
 only_its_id op ms none (Put bytes) own a = own
+only_its_id op ms none (Remove digest) own a = own
+only_its_id op ms none (LeaseAdd digest id) own a = own
+only_its_id op ms none Gc own a = own
 only_its_id op ms none (Create config id) own a = own
 only_its_id op ms none (Kill id signal) own a = own
 
 -- no `op` of such a request
-pub no_such_op : (op : List ℕ) (ms : Members) → op ≢ codes "start" → op ≢ codes "pause" → op ≢ codes "resume" → op ≢ codes "delete" → op ≢ codes "state" → op ≢ codes "wait"
-    → (r : Request) → HasOnlyId r → IsAsked op ms r → ⊥
-no_such_op op ms a b c d e f (Start id) own is = a is.same
-no_such_op op ms a b c d e f (Pause id) own is = b is.same
-no_such_op op ms a b c d e f (Resume id) own is = c is.same
-no_such_op op ms a b c d e f (Delete id) own is = d is.same
-no_such_op op ms a b c d e f (State id) own is = e is.same
-no_such_op op ms a b c d e f (Wait id) own is = f is.same
-no_such_op op ms a b c d e f (Put bytes) own is = own
-no_such_op op ms a b c d e f (Create config id) own is = own
-no_such_op op ms a b c d e f (Kill id signal) own is = own
+pub no_such_op : (op : List ℕ) (ms : Members) → op ≢ codes "lease_create" → op ≢ codes "lease_delete" → op ≢ codes "start" → op ≢ codes "pause" → op ≢ codes "resume" → op ≢ codes "delete"
+    → op ≢ codes "state" → op ≢ codes "wait" → (r : Request) → HasOnlyId r → IsAsked op ms r → ⊥
+no_such_op op ms g h a b c d e f (LeaseCreate id) own is = g is.same
+no_such_op op ms g h a b c d e f (LeaseDelete id) own is = h is.same
+no_such_op op ms g h a b c d e f (Start id) own is = a is.same
+no_such_op op ms g h a b c d e f (Pause id) own is = b is.same
+no_such_op op ms g h a b c d e f (Resume id) own is = c is.same
+no_such_op op ms g h a b c d e f (Delete id) own is = d is.same
+no_such_op op ms g h a b c d e f (State id) own is = e is.same
+no_such_op op ms g h a b c d e f (Wait id) own is = f is.same
+no_such_op op ms g h a b c d e f (Put bytes) own is = own
+no_such_op op ms g h a b c d e f (Remove digest) own is = own
+no_such_op op ms g h a b c d e f (LeaseAdd digest id) own is = own
+no_such_op op ms g h a b c d e f Gc own is = own
+no_such_op op ms g h a b c d e f (Create config id) own is = own
+no_such_op op ms g h a b c d e f (Kill id signal) own is = own
 
 -- the keys of an event do not have `op` among them
 rest_of : (e : Event) (d : Data) (ms : Members) → HasEventKeys ms e → without (codes "op") (put (codes "op") d ms) ≡ ms
 rest_of (Call (Put bytes)) d ms h = rw (h.1) refl
+rest_of (Call (Remove digest)) d ms h = rw h refl
+rest_of (Call (LeaseCreate id)) d ms h = rw h refl
+rest_of (Call (LeaseAdd digest id)) d ms h = rw h refl
+rest_of (Call (LeaseDelete id)) d ms h = rw h refl
+rest_of (Call Gc) d ms h = rw h refl
 rest_of (Call (Create config id)) d ms h = rw h refl
 rest_of (Call (Start id)) d ms h = rw h refl
 rest_of (Call (Pause id)) d ms h = rw h refl

@@ -19,6 +19,14 @@ TwiceExample = IsEvent (codes "{\"op\":\"start\",\"id\":\"a\",\"op\":\"state\"}"
 abbrev pub TakeExample : Type 0
 TakeExample = IsEvent (codes "{\"op\":\"take\",\"id\":\"a\",\"budget\":100}") (Take (codes "a") 100)
 
+-- the digests of a list are in its order
+abbrev pub RemovedExample : Type 0
+RemovedExample =
+    line_text (json_of (Ok (reply.Gc (codes "b" ∷ codes "a" ∷ [])))) ≡ codes "{\"ok\":true,\"removed\":[\"b\",\"a\"]}\n"
+
+abbrev pub LeaseExample : Type 0
+LeaseExample = IsEvent (codes "{\"op\":\"lease_add\",\"id\":\"l\",\"digest\":\"d\"}") (Call (request.LeaseAdd (codes "d") (codes "l")))
+
 abbrev pub StoppedExample : Type 0
 StoppedExample =
     line_text (json_of (Ok (reply.State (record { id = codes "a"; n = 2; status = Stopped; end = Some (Exit 7) }))))

@@ -1,6 +1,7 @@
 -- What is answered, as JSON values and as lines. The members of a value are listed in the order of their keys.
-use Rattle.std.specs.Prelude.{ℕ, List, [], ◌∷◌, ◌++◌, true, false, Option, None, Some, Result, Ok, Err, codes}
-use Rattle.serde_json.specs.Data.{Data, string, boolean, number, unsigned}
+use Rattle.std.specs.Prelude.{ℕ, List, [], ◌∷◌, ◌++◌, map, true, false, Option, None, Some, Result, Ok, Err, codes}
+use Rattle.serde_json.specs.Data.{Data, string, boolean, number, array, unsigned}
+use Rattle.serde_json.specs.View.{items_of}
 use Rattle.serde_json.specs.Written.{compact_text}
 use Rattle.wasm_ast.specs.Names.{refusal_name, refusal_number, trap_name}
 use Rattle.wasm_ast.specs.declared.refusal.Refusal.{Refusal}
@@ -38,6 +39,23 @@ abbrev pub put_data : (digest : List ℕ) → (size : ℕ) → Data
 put_data digest size = object_of
     ((codes "digest", string digest) ∷ (codes "ok", boolean true) ∷ (codes "size", count size) ∷ [])
 
+abbrev pub digest_data : (digest : List ℕ) → Data
+digest_data digest = object_of ((codes "digest", string digest) ∷ (codes "ok", boolean true) ∷ [])
+
+abbrev pub id_data : (id : List ℕ) → Data
+id_data id = object_of ((codes "id", string id) ∷ (codes "ok", boolean true) ∷ [])
+
+abbrev pub member_data : (digest id : List ℕ) → Data
+member_data digest id = object_of
+    ((codes "digest", string digest) ∷ (codes "id", string id) ∷ (codes "ok", boolean true) ∷ [])
+
+-- a list of texts
+abbrev pub texts_data : List (List ℕ) → Data
+texts_data texts = array (items_of (map string texts))
+
+abbrev pub removed_data : (digests : List (List ℕ)) → Data
+removed_data digests = object_of ((codes "ok", boolean true) ∷ (codes "removed", texts_data digests) ∷ [])
+
 abbrev pub status_data : (id : List ℕ) → Status → Data
 status_data id status = object_of
     ((codes "id", string id) ∷ (codes "ok", boolean true) ∷ (codes "status", string (status_name status)) ∷ [])
@@ -69,6 +87,11 @@ state_data s = object_of
 
 abbrev pub reply_data : Reply → Data
 reply_data (reply.Put digest size) = put_data digest size
+reply_data (reply.Remove digest) = digest_data digest
+reply_data (reply.LeaseCreate id) = id_data id
+reply_data (reply.LeaseAdd digest id) = member_data digest id
+reply_data (reply.LeaseDelete id) = id_data id
+reply_data (reply.Gc removed) = removed_data removed
 reply_data (reply.Create id status) = status_data id status
 reply_data (reply.Start id status) = status_data id status
 reply_data (reply.Pause id status) = status_data id status

@@ -3,7 +3,7 @@ use Rattle.std.specs.Prelude.{◌≡◌, ◌≤◌, ℕ, List, [], ◌∷◌, Ok
 use Rattle.hex.specs.Hex.{decode_of}
 use Rattle.serde_json.specs.Data.{Data, string, number, unsigned, object, Members, put}
 use Rattle.task_board.specs.declared.request.Request.{Request}
-use Rattle.task_board.specs.declared.request.Request.TheVariants.{Put, Create, Start, Pause, Resume, Kill, Delete, State, Wait}
+use Rattle.task_board.specs.declared.request.Request.TheVariants.{Put, Remove, LeaseCreate, LeaseAdd, LeaseDelete, Gc, Create, Start, Pause, Resume, Kill, Delete, State, Wait}
 use Rattle.task_board.specs.declared.event.Event.{Event}
 use Rattle.task_board.specs.declared.event.Event.TheVariants.{Call, Take, Return}
 use Rattle.shim_service.specs.Shape.{IsJson, members}
@@ -13,6 +13,11 @@ use Rattle.shim_service.specs.Shape.{IsJson, members}
 -- the value of the key `op`
 abbrev pub op_of : Request → List ℕ
 op_of (Put bytes) = codes "put"
+op_of (Remove digest) = codes "remove"
+op_of (LeaseCreate id) = codes "lease_create"
+op_of (LeaseAdd digest id) = codes "lease_add"
+op_of (LeaseDelete id) = codes "lease_delete"
+op_of Gc = codes "gc"
 op_of (Create config id) = codes "create"
 op_of (Start id) = codes "start"
 op_of (Pause id) = codes "pause"
@@ -29,6 +34,11 @@ only_id id = members ((codes "id", string id) ∷ [])
 -- the other members, by their keys: `hex` is an even number of hexadecimal digits of either case
 abbrev pub HasKeys : Members → Request → Type 0
 HasKeys ms (Put bytes) = (hex : List ℕ) × (ms ≡ members ((codes "hex", string hex) ∷ [])) × (decode_of hex ≡ Ok bytes)
+HasKeys ms (Remove digest) = ms ≡ members ((codes "digest", string digest) ∷ [])
+HasKeys ms (LeaseCreate id) = ms ≡ only_id id
+HasKeys ms (LeaseAdd digest id) = ms ≡ members ((codes "digest", string digest) ∷ (codes "id", string id) ∷ [])
+HasKeys ms (LeaseDelete id) = ms ≡ only_id id
+HasKeys ms Gc = ms ≡ members []
 HasKeys ms (Create config id) = ms ≡ members ((codes "config", string config) ∷ (codes "id", string id) ∷ [])
 HasKeys ms (Start id) = ms ≡ only_id id
 HasKeys ms (Pause id) = ms ≡ only_id id

@@ -8,7 +8,7 @@ ghost use Rattle.task_board.specs.declared.request.Request.{Request};
 ghost use Rattle.task_board.specs.BoardState.{BoardState};
 ghost use Rattle.task_board.specs.Choices.{IsDetermined};
 ghost use Rattle.task_board.specs.Step.{Answer};
-ghost use Rattle.shim_service.specs.Examples.{PutExample, TwiceExample, TakeExample, StoppedExample};
+ghost use Rattle.shim_service.specs.Examples.{PutExample, LeaseExample, TwiceExample, TakeExample, RemovedExample, StoppedExample};
 ghost use Rattle.shim_service.specs.Replay.{IsReplied};
 ghost use Rattle.shim_service.specs.Reply.{json_of, line_text};
 ghost use Rattle.shim_service.specs.Request.{IsRequest, IsEvent};
@@ -63,7 +63,9 @@ pub fn long_lines_are_no_requests()
 /// Lines that are read so, and one that is written so.
 pub fn examples()
     ensures put { PutExample }
+    ensures lease { LeaseExample }
     ensures twice { TwiceExample }
     ensures take { TakeExample }
+    ensures removed { RemovedExample }
     ensures stopped { StoppedExample }
 {}

@@ -7,7 +7,7 @@ ghost use Rattle.task_board.specs.declared.request.Request.{Request};
 ghost use Rattle.task_board.specs.declared.request.Request.TheVariants as Asked;
 ghost use Rattle.shim_service.specs.Request.{HasKeys, only_id, AsksFor, IsRequest};
 ghost use Rattle.shim_service.specs.Shape.{max_line_bytes};
-ghost use Rattle.shim_service.specs.Inside.Parse.{Parses, IsAsked, HasOnlyId};
+ghost use Rattle.shim_service.specs.Inside.Parse.{Parses, IsAsked, HasOnlyId, IsSimple};
 
 use crate::line_error::LineError;
 use crate::members::{
@@ -74,12 +74,43 @@ fn read_kill(members: Members) -> Option<(Text, u64)>
     Some((id, signal))
 }
 
+/// Reads the members beside `op` of a removal: the digest.
+fn read_remove(members: Members) -> Option<Text>
+    ensures some { IfSome result (λ digest.
+        HasKeys (members_view members.entries) (Asked.Remove digest)) }
+    ensures none { IfNone result ((digest : List ℕ) →
+        HasKeys (members_view members.entries) (Asked.Remove digest) → ⊥) }
+{
+    let mut left = members;
+    let Some(digest) = take_text(&mut left, "digest") else {
+        return None;
+    };
+    if is_done(&left) { Some(digest) } else { None }
+}
+
+/// Reads the members beside `op` of an addition to a lease: the digest and the id.
+fn read_lease_add(members: Members) -> Option<(Text, Text)>
+    ensures some { IfSome result (λ r.
+        HasKeys (members_view members.entries) (Asked.LeaseAdd r.0 r.1)) }
+    ensures none { IfNone result ((digest id : List ℕ) →
+        HasKeys (members_view members.entries) (Asked.LeaseAdd digest id) → ⊥) }
+{
+    let mut left = members;
+    let Some(digest) = take_text(&mut left, "digest") else {
+        return None;
+    };
+    let id = read_only_id(left)?;
+    Some((digest, id))
+}
+
 /// The request with this `op` that has the key `id` and no other.
 fn request_with_id(op: &str, id: Text) -> Option<Request>
     ensures some { IfSome result (λ r. IsAsked op.now (only_id id) r) }
     ensures none { IfNone result ((r : Request) → HasOnlyId r → IsAsked op.now (only_id id) r → ⊥) }
 {
     match op {
+        "lease_create" => Some(Request::LeaseCreate { id }),
+        "lease_delete" => Some(Request::LeaseDelete { id }),
         "start" => Some(Request::Start { id }),
         "pause" => Some(Request::Pause { id }),
         "resume" => Some(Request::Resume { id }),
@@ -100,6 +131,30 @@ fn read_id_request(op: &str, members: Members) -> Option<Request>
     request_with_id(op, id)
 }
 
+/// Reads a request other than put, create and kill.
+fn read_simple(op: &str, members: Members) -> Option<Request>
+    ensures some { IfSome result (λ r. IsAsked op.now (members_view members.entries) r) }
+    ensures none { IfNone result
+        ((r : Request) → IsSimple r → IsAsked op.now (members_view members.entries) r → ⊥) }
+{
+    match op {
+        "remove" => {
+            let digest = read_remove(members)?;
+            Some(Request::Remove { digest })
+        }
+        "lease_add" => {
+            let (digest, id) = read_lease_add(members)?;
+            Some(Request::LeaseAdd { digest, id })
+        }
+        "gc" => if is_done(&members) {
+            Some(Request::Gc)
+        } else {
+            None
+        },
+        _ => read_id_request(op, members),
+    }
+}
+
 /// Reads a request by its `op` and its other members.
 pub(crate) fn read_request(alloc: Global, op: &str, members: Members) -> Result<Request, LineError>
     ensures { Parses (IsAsked op.now (members_view members.entries)) result }
@@ -116,7 +171,7 @@ pub(crate) fn read_request(alloc: Global, op: &str, members: Members) -> Result<
             let (id, signal) = read_kill(members).ok_or(LineError::NoRequest)?;
             Request::Kill { id, signal }
         }
-        _ => read_id_request(op, members).ok_or(LineError::NoRequest)?,
+        _ => read_simple(op, members).ok_or(LineError::NoRequest)?,
     };
     Ok(request)
 }

@@ -1,17 +1,17 @@
 //! Replies as JSON values.
 
-ghost use Rattle.std.specs.Prelude.{◌≡◌, IfOk, OnOk, codes};
-ghost use Rattle.serde_json.specs.Data.{string, put};
+ghost use Rattle.std.specs.Prelude.{◌≡◌, IfOk, OnOk, codes, [], ◌∷◌, true};
+ghost use Rattle.serde_json.specs.Data.{string, boolean, put};
 ghost use Rattle.serde_json.specs.View.{view, members_view};
 ghost use Rattle.task_lifecycle.specs.Names.{cause_name, exit_status};
-ghost use Rattle.shim_service.specs.Reply.{count as count_data, refusal_data, put_data, status_data, state_data, reply_data, json_of, event_data};
+ghost use Rattle.shim_service.specs.Reply.{count as count_data, refusal_data, put_data, digest_data, id_data, member_data, texts_data, removed_data, status_data, state_data, reply_data, json_of, event_data};
 ghost use Rattle.shim_service.specs.Inside.States.{base_members, with_detail};
 
 use crate::members::Members;
 use serde_json::{Map, Value, json};
 use std::alloc::{AllocError, Global};
 use task_board::{EventReply, ExitRecord, Reply, Status, TaskState};
-use wasm_ast::Refusal;
+use wasm_ast::{Refusal, Text};
 
 // The value of the refusal of a text that denotes no module.
 fn text_refusal_value(alloc: Global, line: u64, column: u64) -> Result<Value, AllocError>
@@ -35,6 +35,50 @@ fn put_value(alloc: Global, digest: &str, size: u64) -> Result<Value, AllocError
     ensures { IfOk result (λ v. view v ≡ put_data digest.now size) }
 {
     json!(in alloc; {"digest": digest, "ok": true, "size": size})
+}
+
+// The value of a reply to a removal.
+fn digest_value(alloc: Global, digest: &str) -> Result<Value, AllocError>
+    ensures { IfOk result (λ v. view v ≡ digest_data digest.now) }
+{
+    json!(in alloc; {"digest": digest, "ok": true})
+}
+
+// The value of a reply that is an id.
+fn id_value(alloc: Global, id: &str) -> Result<Value, AllocError>
+    ensures { IfOk result (λ v. view v ≡ id_data id.now) }
+{
+    json!(in alloc; {"id": id, "ok": true})
+}
+
+// The value of a reply to an addition to a lease.
+fn member_value(alloc: Global, digest: &str, id: &str) -> Result<Value, AllocError>
+    ensures { IfOk result (λ v. view v ≡ member_data digest.now id.now) }
+{
+    json!(in alloc; {"digest": digest, "id": id, "ok": true})
+}
+
+// The value of a list of texts.
+fn texts_value(alloc: Global, texts: &[Text]) -> Result<Value, AllocError>
+    ensures { IfOk result (λ v. view v ≡ texts_data texts.now) }
+{
+    let mut list = Vec::new(alloc);
+    for text in texts {
+        let value = Value::String(String::from_str(alloc, text.as_str())?);
+        list.push(value)?;
+    }
+    Ok(Value::Array(list))
+}
+
+// The value of a reply to a removal of all contents that are not held.
+fn removed_value(alloc: Global, digests: &[Text]) -> Result<Value, AllocError>
+    ensures { IfOk result (λ v. view v ≡ removed_data digests.now) }
+{
+    let list = texts_value(alloc, digests)?;
+    let mut members = Map::new(alloc);
+    serde_json::put(&mut members, alloc, "ok", Value::Bool(true))?;
+    serde_json::put(&mut members, alloc, "removed", list)?;
+    Ok(Value::Object(members))
 }
 
 // The value of a reply that is a task's status.
@@ -111,6 +155,11 @@ fn reply_value(alloc: Global, reply: &Reply) -> Result<Value, AllocError>
 {
     match reply {
         Reply::Put { digest, size } => put_value(alloc, digest.as_str(), *size),
+        Reply::Remove { digest } => digest_value(alloc, digest.as_str()),
+        Reply::LeaseCreate { id } => id_value(alloc, id.as_str()),
+        Reply::LeaseAdd { digest, id } => member_value(alloc, digest.as_str(), id.as_str()),
+        Reply::LeaseDelete { id } => id_value(alloc, id.as_str()),
+        Reply::Gc { removed } => removed_value(alloc, removed.as_slice()),
         Reply::Create { id, status } => status_value(alloc, id.as_str(), *status),
         Reply::Start { id, status } => status_value(alloc, id.as_str(), *status),
         Reply::Pause { id, status } => status_value(alloc, id.as_str(), *status),

@@ -17,17 +17,20 @@ use Rattle.task_board.specs.declared.request.Request.{Request}
 use Rattle.task_board.specs.declared.request.Request.TheVariants as request
 use Rattle.task_board.specs.declared.request.Reply.{Reply}
 use Rattle.task_board.specs.declared.request.Reply.TheVariants as reply
-use Rattle.task_board.specs.Identifiers.{is_id, digest_of}
-use Rattle.task_board.specs.BoardState.{Task, BoardState, entry_of, task_of, with_content, with_task, without_task}
+use Rattle.content_leases.specs.Identifiers.{is_id, digest_of}
+use Rattle.content_leases.specs.StoreState.{StoreState, with_content, without_content, with_lease, with_member, without_lease, unheld, collected}
+use Rattle.content_leases.specs.Refusals.{Refusals, first_refusal, put_refusals, remove_refusals, lease_create_refusals, lease_add_refusals, lease_delete_refusals}
+use Rattle.task_board.specs.BoardState.{Task, BoardState, used_by, with_store, entry_of, task_of, with_task, without_task}
 use Rattle.task_board.specs.Tasks.{started, paused, resumed, killed_while, killed_by, state_of}
-use Rattle.task_board.specs.Refusals.{Refusals, first_refusal, put_refusals, create_refusals, start_refusals, pause_refusals, resume_refusals, kill_refusals, delete_refusals, state_refusals, wait_refusals, task_refusals}
-use Rattle.task_board.specs.Step.{Answer, DecidedBy, OnFound, OnTask, Creates, Answers}
+use Rattle.task_board.specs.Refusals.{create_refusals, start_refusals, pause_refusals, resume_refusals, kill_refusals, delete_refusals, state_refusals, wait_refusals, task_refusals}
+use Rattle.task_board.specs.Step.{Answer, DecidedBy, OnStore, OnFound, OnTask, Creates, Answers}
 use Rattle.task_board.specs.Sound.{IsSound, IsBoard}
 use Rattle.task_board.specs.Inside.Changes.{change_call, change_request, change_reply, change_refusals, changed}
 use Rattle.task_board.specs.Inside.Plans.{IsAllowed, RefusesTask, RefusesKill}
 use Rattle.task_board.proofs.EntryLemmas.{none_is_not, some_is}
 use Rattle.task_board.proofs.SoundLemmas.{started_sound, paused_sound, resumed_sound, killed_sound, remove_sound}
-use Rattle.task_board.proofs.StepLemmas.{found, task_named, sound_of, changed_sound, decided, none_first, not_true, put_leaves, create_leaves}
+use Rattle.task_board.proofs.StepLemmas.{found, task_named, sound_of, changed_sound, decided, none_first, not_true, create_leaves}
+use Rattle.task_board.proofs.StoreLemmas.{StoreEffect, puts, removes, leases, adds, ends, collects, store_sound}
 
 -- ---- signals by their numbers
 
@@ -243,7 +246,7 @@ refused_kill s id number e h = (
 
 pub data Effect (s s' : BoardState) : Type 0 where
   nothing : s' ≡ s → Effect s s'
-  stores : (bytes : List ℕ) → first_refusal (put_refusals s bytes) ≡ None → s' ≡ with_content s bytes → Effect s s'
+  stores : (new : StoreState) → StoreEffect (used_by s.tasks) s.store new → s' ≡ with_store s new → Effect s s'
   enters : (config id : List ℕ) → (r : Answer) → first_refusal (create_refusals s config id) ≡ None → Creates s config id r s' → Effect s s'
   changes : (c : Change) → (id : List ℕ) → (t : Task) → task_of id s.tasks ≡ Some t → allowed (change_call c) t.status ≡ true → s' ≡ with_task s (changed c t) → Effect s s'
   deletes : (id : List ℕ) → (t : Task) → task_of id s.tasks ≡ Some t → allowed call.Delete t.status ≡ true → s' ≡ without_task s t.id → Effect s s'
@@ -251,6 +254,12 @@ pub data Effect (s s' : BoardState) : Type 0 where
 effect_by : (s s' : BoardState) (o : Option Refusal) (E : Type 0) → (o ≡ None → E → Effect s s') → (s' ≡ s) ⊎ ((o ≡ None) × E) → Effect s s'
 effect_by s s' o E f (inl same) = nothing same
 effect_by s s' o E f (inr e) = f e.0 e.1
+
+on_store_effect : (s : BoardState) (refusals : Refusals) (rep : Reply) (new : StoreState) (r : Answer) (s' : BoardState) → OnStore s refusals rep new r s'
+    → (first_refusal refusals ≡ None → StoreEffect (used_by s.tasks) s.store new) → Effect s s'
+on_store_effect s refusals rep new r s' on f =
+    effect_by s s' (first_refusal refusals) ((r ≡ Ok rep) × (s' ≡ with_store s new)) (λ none e. stores new (f none) e.1)
+    (decided (first_refusal refusals) ((r ≡ Ok rep) × (s' ≡ with_store s new)) s r s' on)
 
 on_task_effect : (s : BoardState) (id : List ℕ) (own : Task → Refusals) (rep : Task → Reply) (new : Task → BoardState) (o : Option Task) (r : Answer) (s' : BoardState)
     → OnFound id own rep new o s r s' → ((t : Task) → o ≡ Some t → first_refusal (task_refusals id own (Some t)) ≡ None → s' ≡ new t → Effect s s') → Effect s s'
@@ -271,8 +280,17 @@ kill_effect s s' id t (Some x) at none is = changes (change.Kill x) id t at (one
 
 pub effect_of : (s : BoardState) (q : Request) (r : Answer) (s' : BoardState) → Answers s q r s' → Effect s s'
 effect_of s (request.Put bytes) r s' a =
-    effect_by s s' (first_refusal (put_refusals s bytes)) ((r ≡ Ok (reply.Put (digest_of bytes) (length bytes))) × (s' ≡ with_content s bytes))
-    (λ none e. stores bytes none e.1) (decided (first_refusal (put_refusals s bytes)) _ s r s' a)
+    on_store_effect s (put_refusals s.store bytes) (reply.Put (digest_of bytes) (length bytes)) (with_content s.store bytes) r s' a (λ none. puts bytes none refl)
+effect_of s (request.Remove digest) r s' a =
+    on_store_effect s (remove_refusals (used_by s.tasks) s.store digest) (reply.Remove digest) (without_content s.store digest) r s' a (λ none. removes digest none refl)
+effect_of s (request.LeaseCreate id) r s' a =
+    on_store_effect s (lease_create_refusals s.store id) (reply.LeaseCreate id) (with_lease s.store id) r s' a (λ none. leases id none refl)
+effect_of s (request.LeaseAdd digest id) r s' a =
+    on_store_effect s (lease_add_refusals s.store digest id) (reply.LeaseAdd digest id) (with_member s.store digest id) r s' a (λ none. adds digest id none refl)
+effect_of s (request.LeaseDelete id) r s' a =
+    on_store_effect s (lease_delete_refusals s.store id) (reply.LeaseDelete id) (without_lease s.store id) r s' a (λ none. ends id none refl)
+effect_of s request.Gc r s' a =
+    on_store_effect s [] (reply.Gc (unheld (used_by s.tasks) s.store)) (collected (used_by s.tasks) s.store) r s' a (λ none. collects refl)
 effect_of s (request.Create config id) r s' a =
     effect_by s s' (first_refusal (create_refusals s config id)) (Creates s config id r s') (λ none e. enters config id r none e)
     (decided (first_refusal (create_refusals s config id)) (Creates s config id r s') s r s' a)
@@ -310,7 +328,7 @@ delete_keeps_sound s id t b at =
 
 effect_sound : (s s' : BoardState) → IsBoard s → Effect s s' → IsBoard s'
 effect_sound s s' b (nothing same) = subst IsBoard (sym same) b
-effect_sound s s' b (stores bytes none is) = subst IsBoard (sym is) (put_leaves s bytes b none)
+effect_sound s s' b (stores new change is) = subst IsBoard (sym is) (store_sound s (used_by s.tasks) new b change)
 effect_sound s s' b (enters config id r none made) = create_leaves s config id r s' b none made
 effect_sound s s' b (changes c id t at can is) = subst IsBoard (sym is) (change_keeps_sound s c id t b at can)
 effect_sound s s' b (deletes id t at can is) = subst IsBoard (sym is) (delete_keeps_sound s id t b at)

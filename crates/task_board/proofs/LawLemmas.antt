@@ -1,5 +1,5 @@
 -- Laws of steps and runs: soundness, the moves of tasks, contents, and what is determined.
-use Rattle.std.proofs.Common.{◌≡◌, ◌≢◌, ℕ, List, [], ◌∷◌, ◌++◌, ◌≤◌, arith, nat_le, ◌&&◌, length, Bool, true, false, true≢false, cond, Option, Some, None, is_some, option_and_then, Ok, Err, MatchBool, inl, inr, ◌⊎◌, refl, sym, ap, ◌∙◌, subst, append_assoc, append-nil, bytes_eq, nat_eq}
+use Rattle.std.proofs.Common.{◌≡◌, ◌≢◌, ℕ, List, [], ◌∷◌, ◌≤◌, arith, nat_le, ◌&&◌, length, Bool, true, false, true≢false, cond, Option, Some, None, is_some, option_and_then, Ok, Err, MatchBool, inl, inr, ◌⊎◌, refl, sym, ap, ◌∙◌, subst, bytes_eq, nat_eq}
 use Rattle.std.proofs.lemmas.Bool.Decides.{nat_tests}
 use Rattle.wasm_ast.specs.declared.module.Module.{Module}
 use Rattle.wasm_ast.specs.declared.refusal.Refusal.{Refusal}
@@ -7,7 +7,6 @@ use Rattle.wasm_ast.specs.declared.refusal.Refusal.TheVariants as refusal
 use Rattle.wasm_binary.specs.Grammar.{Spells}
 use Rattle.step_machine.specs.declared.process.ProcessConfig.{ProcessConfig}
 use Rattle.validator.specs.Typing.{ValidModule}
-use Rattle.step_machine.specs.Runs.{RunsModule}
 use Rattle.step_machine.specs.Instantiation.{instantiation_refusal}
 use Rattle.task_board.specs.declared.event.Event.{Event}
 use Rattle.task_board.specs.declared.event.Event.TheVariants as event
@@ -18,15 +17,17 @@ use Rattle.task_board.specs.declared.request.Request.TheVariants as request
 use Rattle.task_board.specs.declared.request.Reply.{Reply}
 use Rattle.task_board.specs.declared.request.Reply.TheVariants as reply
 use Rattle.task_board.specs.Limits.{max_budget}
-use Rattle.task_board.specs.Identifiers.{digest_of}
+use Rattle.content_leases.specs.Identifiers.{digest_of}
+use Rattle.content_leases.specs.StoreState.{StoreState, content_in, with_content, without_content, with_lease, with_member, without_lease, unheld, collected}
+use Rattle.content_leases.specs.Refusals.{Refusals, first_refusal, put_refusals, remove_refusals, lease_create_refusals, lease_add_refusals, lease_delete_refusals}
 use Rattle.task_lifecycle.specs.declared.lifecycle.TaskCall.TheVariants as call
 use Rattle.task_lifecycle.specs.declared.status.Signal.{Signal}
 use Rattle.task_lifecycle.specs.Lifecycle.{allowed, takes_turns}
 use Rattle.task_lifecycle.specs.Names.{signal_of}
-use Rattle.task_board.specs.BoardState.{Content, Task, Entries, BoardState, empty, created_task, content_in, with_content, task_in, entry_of, task_of, put_task, change_task, remove_task, with_task, without_task, with_new_task}
+use Rattle.task_board.specs.BoardState.{Task, Entries, BoardState, empty, created_task, used_by, with_store, task_in, entry_of, task_of, put_task, change_task, remove_task, with_task, without_task, with_new_task}
 use Rattle.task_board.specs.Tasks.{started, paused, resumed, killed_while, killed_by, can_lend, lent, advanced, slice_turns, state_of}
-use Rattle.task_board.specs.Refusals.{Refusals, first_refusal, put_refusals, create_refusals, start_refusals, pause_refusals, resume_refusals, kill_refusals, delete_refusals, state_refusals, wait_refusals, task_refusals, Openable, CannotOpen, no_module, too_much, invalid, refused, IsSpelled}
-use Rattle.task_board.specs.Step.{Answer, DecidedBy, OnFound, Opens, Creates, Answers, is_budget, lends, taken, is_out, Returns, Step}
+use Rattle.task_board.specs.Refusals.{create_refusals, start_refusals, pause_refusals, resume_refusals, kill_refusals, delete_refusals, state_refusals, wait_refusals, task_refusals, Openable, CannotOpen, no_module, too_much, invalid, refused, IsSpelled}
+use Rattle.task_board.specs.Step.{Answer, DecidedBy, OnStore, OnFound, Opens, Creates, Answers, is_budget, lends, taken, is_out, Returns, Step}
 use Rattle.task_board.specs.Run.{met_no_memory, Happens, Run}
 use Rattle.task_board.specs.Sound.{AreRising, slots_of, IsBoard}
 use Rattle.task_board.specs.declared.change.Change.{Change}
@@ -214,7 +215,7 @@ change_moves (change.Kill signal) t can = is_killed signal can refl
 
 effect_moves : (s s' : BoardState) → AreRising (slots_of s.tasks) → Effect s s' → AllMove s.tasks s'.tasks
 effect_moves s s' rising (nothing same) = stay_same s s' same
-effect_moves s s' rising (stores bytes none is) = subst (λ (x : BoardState). AllMove s.tasks x.tasks) (sym is) (all_stay s.tasks)
+effect_moves s s' rising (stores new change is) = subst (λ (x : BoardState). AllMove s.tasks x.tasks) (sym is) (all_stay s.tasks)
 effect_moves s s' rising (enters config id r none made) = create_moves s config id r s' made
 effect_moves s s' rising (changes c id t at can is) = subst (λ (x : BoardState). AllMove s.tasks x.tasks) (sym is) (one_moves s id t (changed c t) rising at (change_id c t) (change_moves c t can))
 effect_moves s s' rising (deletes id t at can is) = subst (λ (x : BoardState). AllMove s.tasks x.tasks) (sym is) (one_goes s id t rising at can)
@@ -277,58 +278,6 @@ pub quiet_stays : (s : BoardState) (e : Event) (r : EventReply) (s' : BoardState
     → (t' : Task) → task_in k s'.tasks ≡ Some t' → t'.turns ≡ t.turns
 quiet_stays s e r s' b h k t there quiet t' at = stay_by t t' (task_in k s'.tasks) quiet (happens_moves s e r s' b.slots h k t there) at
 
--- ---- contents
-
-abbrev pub Grows : BoardState → BoardState → Type 0
-Grows s s' = (more : List Content) × (s'.contents ≡ s.contents ++ more)
-
-keeps_contents : (s s' : BoardState) → s'.contents ≡ s.contents → Grows s s'
-keeps_contents s s' same = ([], same ∙ sym (append-nil s.contents))
-
-same_contents : (s s' : BoardState) → s' ≡ s → Grows s s'
-same_contents s s' same = keeps_contents s s' (ap (λ (x : BoardState). x.contents) same)
-
-create_grows : (s : BoardState) (config id : List ℕ) (r : Answer) (s' : BoardState) → Creates s config id r s' → Grows s s'
-create_grows s config id (Err e) s' effect = same_contents s s' effect.4.1
-create_grows s config id (Ok r) s' effect = keeps_contents s s' (ap (λ (x : BoardState). x.contents) effect.4.3.2)
-
-effect_grows : (s s' : BoardState) → Effect s s' → Grows s s'
-effect_grows s s' (nothing same) = same_contents s s' same
-effect_grows s s' (stores bytes none is) = (record { digest = digest_of bytes; bytes = bytes } ∷ [], ap (λ (x : BoardState). x.contents) is)
-effect_grows s s' (enters config id r none made) = create_grows s config id r s' made
-effect_grows s s' (changes c id t at can is) = keeps_contents s s' (ap (λ (x : BoardState). x.contents) is)
-effect_grows s s' (deletes id t at can is) = keeps_contents s s' (ap (λ (x : BoardState). x.contents) is)
-
-answers_grow : (s : BoardState) (q : Request) (r : Answer) (s' : BoardState) → Answers s q r s' → Grows s s'
-answers_grow s q r s' a = effect_grows s s' (effect_of s q r s' a)
-
-return_grows : (s : BoardState) (o : Option Task) (s' : BoardState) → Returns s o s' → Grows s s'
-return_grows s None s' back = absurd back
-return_grows s (Some t) s' back = keeps_contents s s' (ap (λ (x : BoardState). x.contents) back.2)
-
-step_grows : (s : BoardState) (e : Event) (r : EventReply) (s' : BoardState) → Step s e r s' → Grows s s'
-step_grows s (event.Call q) (answer.Called a) s' step = answers_grow s q a s' step
-step_grows s (event.Take id budget) (answer.Taken true) s' step = keeps_contents s s' (ap (λ (x : BoardState). x.contents) (taken_of s id budget s' step).leaves)
-step_grows s (event.Take id budget) (answer.Taken false) s' step = same_contents s s' step.1
-step_grows s (event.Return id) (answer.Returned true) s' step = return_grows s (task_of id s.tasks) s' step
-step_grows s (event.Return id) (answer.Returned false) s' step = same_contents s s' step.1
-step_grows s (event.Call q) (answer.Taken x) s' step = absurd step
-step_grows s (event.Call q) (answer.Returned x) s' step = absurd step
-step_grows s (event.Take id budget) (answer.Called a) s' step = absurd step
-step_grows s (event.Take id budget) (answer.Returned x) s' step = absurd step
-step_grows s (event.Return id) (answer.Called a) s' step = absurd step
-step_grows s (event.Return id) (answer.Taken x) s' step = absurd step
-
-grows_by : (s : BoardState) (e : Event) (r : EventReply) (s' : BoardState) → (s' ≡ s) ⊎ Step s e r s' → Grows s s'
-grows_by s e r s' (inl same) = same_contents s s' same
-grows_by s e r s' (inr step) = step_grows s e r s' step
-
-more_grows : (a s s' : BoardState) → Grows a s → Grows s s' → Grows a s'
-more_grows a s s' f g = (f.0 ++ g.0, g.1 ∙ (ap (λ (cs : List Content). cs ++ g.0) f.1 ∙ append_assoc a.contents f.0 g.0))
-
-pub run_grows : (s : BoardState) (es : List Event) (rs : List EventReply) (s' : BoardState) → Run s es rs s' → Grows s s'
-run_grows a es rs s' run = run_keeps (Grows a) (λ s e r s' f h. more_grows a s s' f (grows_by s e r s' (happens s e r s' h))) a es rs s' (same_contents a a refl) run
-
 -- ---- what is determined
 
 abbrev pub Same : {A : Type 0} → A → BoardState → A → BoardState → Type 0
@@ -349,9 +298,18 @@ on_task_same : (s : BoardState) (id : List ℕ) (own : Task → Refusals) (rep :
 on_task_same s id own rep new None r s1 r' s2 a b = refused_same (first_refusal (task_refusals id own None)) s r s1 r' s2 a b
 on_task_same s id own rep new (Some t) r s1 r' s2 a b = decided_same (first_refusal (task_refusals id own (Some t))) (rep t) (new t) s r s1 r' s2 a b
 
+on_store_same : (s : BoardState) (refusals : Refusals) (rep : Reply) (new : StoreState) (r : Answer) (s1 : BoardState) (r' : Answer) (s2 : BoardState)
+    → OnStore s refusals rep new r s1 → OnStore s refusals rep new r' s2 → Same r s1 r' s2
+on_store_same s refusals rep new r s1 r' s2 a b = decided_same (first_refusal refusals) rep (with_store s new) s r s1 r' s2 a b
+
 answers_same : (s : BoardState) (q : Request) (r : Answer) (s1 : BoardState) (r' : Answer) (s2 : BoardState) → IsDetermined (event.Call q)
     → Answers s q r s1 → Answers s q r' s2 → Same r s1 r' s2
-answers_same s (request.Put bytes) r s1 r' s2 d a b = decided_same (first_refusal (put_refusals s bytes)) (reply.Put (digest_of bytes) (length bytes)) (with_content s bytes) s r s1 r' s2 a b
+answers_same s (request.Put bytes) r s1 r' s2 d a b = on_store_same s (put_refusals s.store bytes) (reply.Put (digest_of bytes) (length bytes)) (with_content s.store bytes) r s1 r' s2 a b
+answers_same s (request.Remove digest) r s1 r' s2 d a b = on_store_same s (remove_refusals (used_by s.tasks) s.store digest) (reply.Remove digest) (without_content s.store digest) r s1 r' s2 a b
+answers_same s (request.LeaseCreate id) r s1 r' s2 d a b = on_store_same s (lease_create_refusals s.store id) (reply.LeaseCreate id) (with_lease s.store id) r s1 r' s2 a b
+answers_same s (request.LeaseAdd digest id) r s1 r' s2 d a b = on_store_same s (lease_add_refusals s.store digest id) (reply.LeaseAdd digest id) (with_member s.store digest id) r s1 r' s2 a b
+answers_same s (request.LeaseDelete id) r s1 r' s2 d a b = on_store_same s (lease_delete_refusals s.store id) (reply.LeaseDelete id) (without_lease s.store id) r s1 r' s2 a b
+answers_same s request.Gc r s1 r' s2 d a b = on_store_same s [] (reply.Gc (unheld (used_by s.tasks) s.store)) (collected (used_by s.tasks) s.store) r s1 r' s2 a b
 answers_same s (request.Create config id) r s1 r' s2 d a b = absurd d
 answers_same s (request.Start id) r s1 r' s2 d a b = on_task_same s id start_refusals (λ t. reply.Start t.id (started t).status) (λ t. with_task s (started t)) (task_of id s.tasks) r s1 r' s2 a b
 answers_same s (request.Pause id) r s1 r' s2 d a b = on_task_same s id pause_refusals (λ t. reply.Pause t.id (paused t).status) (λ t. with_task s (paused t)) (task_of id s.tasks) r s1 r' s2 a b
@@ -450,7 +408,7 @@ creates_agree : (s : BoardState) (config id : List ℕ) (r : Answer) (s1 : Board
     → Creates s config id r s1 → Creates s config id r' s2 → AgreeOnCreate s r s1 r' s2
 creates_agree s config id r s1 r' s2 one a b =
     let process : b.0 ≡ a.0 = some_is b.0 a.0 (sym b.2 ∙ a.2) in
-    let stored : b.1 ≡ a.1 = some_is b.1 a.1 (sym b.3 ∙ (ap (λ (p : ProcessConfig). content_in s.contents p.module) process ∙ a.3)) in
+    let stored : b.1 ≡ a.1 = some_is b.1 a.1 (sym b.3 ∙ (ap (λ (p : ProcessConfig). content_in s.store.contents p.module) process ∙ a.3)) in
     let moved = subst (λ (x : List ℕ). Opens s id x b.0 r' s2) stored b.4 in
     opens_agree s id a.1 a.0 r s1 r' s2 one a.4 (subst (λ (p : ProcessConfig). Opens s id a.1 p r' s2) process moved)
 
@@ -478,13 +436,13 @@ never_invalid_by false false false false h = cc
 never_invalid : (m : Module) (p : ProcessConfig) → instantiation_refusal m p ≡ Some refusal.Invalid → ⊥
 never_invalid m p h = never_invalid_by _ _ _ _ h
 
-not_invalid_by : (bytes : List ℕ) (p : ProcessConfig) (m : Module) (e : Refusal) → One → IsSpelled bytes m → ValidModule m → RunsModule m → e ≡ refusal.Invalid → CannotOpen bytes p e → ⊥
-not_invalid_by bytes p m _ one spelled valid runs is (no_module none) = none m spelled.spells
-not_invalid_by bytes p m _ one spelled valid runs is (too_much over none) = none m spelled
-not_invalid_by bytes p m _ one spelled valid runs is (invalid n other unfit) =
+not_invalid_by : (bytes : List ℕ) (p : ProcessConfig) (m : Module) (e : Refusal) → One → IsSpelled bytes m → ValidModule m → e ≡ refusal.Invalid → CannotOpen bytes p e → ⊥
+not_invalid_by bytes p m _ one spelled valid is (no_module none) = none m spelled.spells
+not_invalid_by bytes p m _ one spelled valid is (too_much over none) = none m spelled
+not_invalid_by bytes p m _ one spelled valid is (invalid n other unfit) =
     let same : m ≡ n = one bytes m n spelled.spells other.spells in
-    unfit (subst ValidModule same valid) (subst RunsModule same runs)
-not_invalid_by bytes p m _ one spelled valid runs is (refused n e other ok why) = never_invalid n p (why ∙ ap Some is)
+    unfit (subst ValidModule same valid)
+not_invalid_by bytes p m _ one spelled valid is (refused n e other ok why) = never_invalid n p (why ∙ ap Some is)
 
-pub not_invalid : (bytes : List ℕ) (p : ProcessConfig) (m : Module) → One → IsSpelled bytes m → ValidModule m → RunsModule m → CannotOpen bytes p refusal.Invalid → ⊥
-not_invalid bytes p m one spelled valid runs h = not_invalid_by bytes p m refusal.Invalid one spelled valid runs refl h
+pub not_invalid : (bytes : List ℕ) (p : ProcessConfig) (m : Module) → One → IsSpelled bytes m → ValidModule m → CannotOpen bytes p refusal.Invalid → ⊥
+not_invalid bytes p m one spelled valid h = not_invalid_by bytes p m refusal.Invalid one spelled valid refl h

@@ -3,10 +3,15 @@ pub mod SlabLemmas
 pub mod SoundLemmas
 pub mod TaskInvariant
 pub mod StepLemmas
+pub mod StoreLemmas
+pub mod OpenedLemmas
 pub mod EffectLemmas
+pub mod WaitingLemmas
+pub mod StoreChangeLemmas
 pub mod TableLemmas
 pub mod LoanCover
 pub mod InstantiateLemmas
 pub mod RunLemmas
 pub mod LifecycleLemmas
 pub mod LawLemmas
+pub mod HeldLemmas

@@ -122,7 +122,7 @@ delete_covered ls s id t b at covered j u budget there out =
 
 effect_covered : (ls : List Lent) (s s' : BoardState) → IsBoard s → Effect s s' → Covered ls s.tasks → Covered ls s'.tasks
 effect_covered ls s s' b (nothing same) covered = same_covered ls s s' same covered
-effect_covered ls s s' b (stores bytes none is) covered = subst (λ (x : BoardState). Covered ls x.tasks) (sym is) covered
+effect_covered ls s s' b (stores new change is) covered = subst (λ (x : BoardState). Covered ls x.tasks) (sym is) covered
 effect_covered ls s s' b (enters config id r none made) covered = create_covered ls s config id r s' made covered
 effect_covered ls s s' b (changes c id t at can is) covered = subst (λ (x : BoardState). Covered ls x.tasks) (sym is) (change_covered ls s c id t at covered)
 effect_covered ls s s' b (deletes id t at can is) covered = subst (λ (x : BoardState). Covered ls x.tasks) (sym is) (delete_covered ls s id t b at covered)

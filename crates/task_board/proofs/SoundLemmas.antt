@@ -10,18 +10,18 @@ use Rattle.step_machine.specs.declared.ends.SliceEnd.TheVariants as slice
 use Rattle.step_machine.specs.Configuration.{State as ExecutionState}
 use Rattle.step_machine.specs.Instantiation.{ended}
 use Rattle.step_machine.specs.Slices.{own_end, end_after, end_at, at_break}
-use Rattle.wasm_ast.specs.Limits.{max_module_bytes}
 use Rattle.task_lifecycle.specs.declared.status.Status.{Status}
 use Rattle.task_lifecycle.specs.declared.status.Status.TheVariants.{Created, Running, Pausing, Paused}
 use Rattle.task_lifecycle.specs.declared.status.Signal.{Signal}
 use Rattle.task_lifecycle.specs.declared.status.ExitRecord.TheVariants as exit
-use Rattle.task_board.specs.Limits.{max_tasks, max_contents, max_creates}
-use Rattle.task_board.specs.Identifiers.{is_id, digest_of}
+use Rattle.task_board.specs.Limits.{max_tasks, max_creates}
+use Rattle.content_leases.specs.Identifiers.{is_id, digest_of}
+use Rattle.content_leases.specs.StoreState.{Content, content_in}
 use Rattle.task_lifecycle.specs.Lifecycle.{takes_turns, is_pausing, is_stopped, is_going}
-use Rattle.task_board.specs.BoardState.{Content, Task, Entries, BoardState, created_task, content_in, with_content, task_in, entry_of, task_of, put_task, with_task, without_task, with_new_task}
+use Rattle.task_board.specs.BoardState.{Task, Entries, BoardState, created_task, task_in, entry_of, task_of, put_task, with_task, without_task, with_new_task}
 use Rattle.task_board.specs.Tasks.{execution_at, Standing, stopped_by, idle_task, standing_at_start, started, paused, resumed, killed_while, killed, standing_onward, standing_after, advanced}
 use Rattle.task_board.specs.Refusals.{Openable}
-use Rattle.task_board.specs.Sound.{Each, AreDistinct, AreRising, IsSound, IsContent, slots_of, ids_of, incarnations_of, digests_of, IsBoard}
+use Rattle.task_board.specs.Sound.{Each, AreDistinct, AreRising, IsSound, IsContent, slots_of, ids_of, incarnations_of, IsBoard}
 use Rattle.task_board.proofs.EntryLemmas.{none_is_not, some_is, cond_true, cond_false, by_slot, by_id, change_length, change_slots, change_ids, change_incarnations, change_each, put_length, put_each, remove_entries, remove_distinct, remove_rising, remove_length}
 
 -- ---- lists
@@ -188,28 +188,7 @@ created_sound id creates bytes m p named opens digest = record {
   goes = λ h. cc;
 }
 
--- ---- one content more
-
-no_content : (digest : List ℕ) (cs : List Content) → content_in cs digest ≡ None → Each (λ (y : List ℕ). y ≢ digest) (digests_of cs)
-no_content digest [] none = tt
-no_content digest (c ∷ cs) none =
-    by_id c.digest digest
-    (λ y same_y. absurd (none_is_not c.bytes (sym (cond_true (bytes_eq c.digest digest) (Some c.bytes) (content_in cs digest) None y none))))
-    (λ n other_n. (other_n, no_content digest cs (cond_false (bytes_eq c.digest digest) (Some c.bytes) (content_in cs digest) None n none)))
-
-pub content_sound : (s : BoardState) (bytes : List ℕ) → IsBoard s → content_in s.contents (digest_of bytes) ≡ None → length bytes ≤ max_module_bytes
-    → length s.contents < max_contents → IsBoard (with_content s bytes)
-content_sound s bytes b new short few = record {
-  tasks = b.tasks;
-  slots = b.slots;
-  ids = b.ids;
-  incarnations = b.incarnations;
-  contents = each_append IsContent s.contents (record { digest = digest_of bytes; bytes = bytes }) b.contents (record { digest = refl; short = short });
-  digests = subst (λ (xs : List (List ℕ)). AreDistinct xs) (sym (map_append (λ (c : Content). c.digest) s.contents (record { digest = digest_of bytes; bytes = bytes }))) (distinct_append (digests_of s.contents) (digest_of bytes) b.digests (no_content (digest_of bytes) s.contents new));
-  few_tasks = b.few_tasks;
-  few_contents = let more = length_append s.contents (record { digest = digest_of bytes; bytes = bytes }) in omega (arith, more, few);
-  few_creates = b.few_creates;
-}
+-- ---- contents
 
 -- the content that a digest names has it
 pub content_named : (digest bytes : List ℕ) (cs : List Content) → Each IsContent cs → content_in cs digest ≡ Some bytes → digest ≡ digest_of bytes

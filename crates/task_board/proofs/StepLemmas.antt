@@ -1,10 +1,9 @@
 -- What the steps do to a board: by the task that they concern, and that the board stays sound.
-use Rattle.std.proofs.Common.{◌≡◌, ◌≢◌, ℕ, ◌+◌, ◌<◌, ◌≤◌, List, [], ◌∷◌, ◌++◌, length, Bool, true, false, true≢false, cond, not, ◌||◌, ◌&&◌, bytes_eq, nat_le, nat_lt, Option, Some, None, is_some, is_none, option_map, option_and_then, Ok, Err, inl, inr, ◌⊎◌, refl, sym, ap, ◌∙◌, subst, arith}
+use Rattle.std.proofs.Common.{◌≡◌, ◌≢◌, ℕ, ◌+◌, ◌<◌, ◌≤◌, List, [], ◌∷◌, ◌++◌, length, Bool, true, false, true≢false, cond, not, ◌||◌, ◌&&◌, nat_le, Option, Some, None, is_some, is_none, option_map, option_and_then, Ok, Err, inl, inr, ◌⊎◌, refl, sym, ap, ◌∙◌, subst, arith}
 use Rattle.std.proofs.lemmas.Bool.Decides.{nat_tests}
 use Rattle.wasm_ast.specs.declared.module.Module.{Module}
 use Rattle.wasm_ast.specs.declared.refusal.Refusal.{Refusal}
 use Rattle.wasm_ast.specs.declared.refusal.Refusal.TheVariants as refusal
-use Rattle.wasm_ast.specs.Limits.{max_module_bytes}
 use Rattle.step_machine.specs.declared.process.ProcessConfig.{ProcessConfig}
 use Rattle.wasm_ast.specs.declared.place.Place.{Place}
 use Rattle.step_machine.specs.Instantiation.{after, ended}
@@ -14,18 +13,19 @@ use Rattle.task_board.specs.declared.request.Request.TheVariants as request
 use Rattle.task_board.specs.declared.request.Reply.TheVariants as reply
 use Rattle.task_lifecycle.specs.declared.status.Status.{Status}
 use Rattle.task_lifecycle.specs.declared.status.Status.TheVariants.{Created, Running, Pausing, Paused, Stopped}
-use Rattle.task_board.specs.Limits.{max_tasks, max_contents, max_creates, max_budget}
-use Rattle.task_board.specs.Identifiers.{is_id, digest_of}
+use Rattle.task_board.specs.Limits.{max_tasks, max_creates, max_budget}
+use Rattle.content_leases.specs.Identifiers.{is_id, digest_of}
+use Rattle.content_leases.specs.Refusals.{Refusals, first_refusal}
 use Rattle.task_board.specs.Config.{process_read}
 use Rattle.task_lifecycle.specs.Lifecycle.{is_running, is_going, takes_turns}
-use Rattle.task_board.specs.BoardState.{Task, Entries, BoardState, created_task, content_in, with_content, task_in, entry_of, task_of, with_task, with_new_task}
+use Rattle.task_board.specs.BoardState.{Task, Entries, BoardState, created_task, task_in, entry_of, task_of, with_task, with_new_task}
 use Rattle.task_board.specs.Tasks.{advanced, can_lend, lent, slice_turns, MayAdvance, HasReturned}
-use Rattle.task_board.specs.Refusals.{Refusals, first_refusal, put_refusals, create_refusals, named_bytes, is_full, has_conflict, is_bytes}
+use Rattle.task_board.specs.Refusals.{create_refusals, named_bytes, is_full}
 use Rattle.task_board.specs.Step.{Answer, DecidedBy, Creates, Answers, is_budget, lends, taken, Returns}
 use Rattle.task_board.specs.Sound.{IsSound, IsBoard}
 use Rattle.task_board.specs.Inside.Plans.{id_refusals, CreatePrepared}
 use Rattle.task_board.proofs.EntryLemmas.{none_is_not, some_is, cond_is_true, each_in, entry_at, named, in_slot}
-use Rattle.task_board.proofs.SoundLemmas.{change_sound, put_sound, created_sound, content_sound, content_named, advanced_sound}
+use Rattle.task_board.proofs.SoundLemmas.{change_sound, put_sound, created_sound, content_named, advanced_sound}
 
 -- ---- the task with an id
 
@@ -68,23 +68,6 @@ not_true false h = cc
 
 -- ---- what requests leave
 
-pub put_leaves : (s : BoardState) (bytes : List ℕ) → IsBoard s → first_refusal (put_refusals s bytes) ≡ None → IsBoard (with_content s bytes)
-put_leaves s bytes b h =
-    let stored = content_in s.contents (digest_of bytes) in
-    let l = none_first (nat_lt max_module_bytes (length bytes)) refusal.Limit _ h in
-    let e = none_first (is_bytes bytes stored) refusal.Exists _ l.1 in
-    let c = none_first (has_conflict stored bytes) refusal.DigestConflict _ e.1 in
-    let m = none_first (nat_le max_contents (length s.contents)) refusal.TooMany None c.1 in
-    let off = l.0 in
-    let short : length bytes ≤ max_module_bytes = grind (arith, nat_tests, off) in
-    let full = m.0 in
-    let few : length s.contents < max_contents = grind (arith, nat_tests, full) in
-    content_sound s bytes b (neither stored bytes e.0 c.0) short few
-  where
-    neither : (o : Option (List ℕ)) (bytes : List ℕ) → is_bytes bytes o ≡ false → has_conflict o bytes ≡ false → o ≡ None
-    neither None bytes e c = refl
-    neither (Some x) bytes e c = absurd (true≢false (sym (not_true (bytes_eq x bytes) c) ∙ e))
-
 no_task : (o : Option Task) → is_some o ≡ false → o ≡ None
 no_task None h = refl
 no_task (Some t) h = absurd (true≢false h)
@@ -108,7 +91,7 @@ create_leaves s config id (Ok r) s' b none effect =
     let p = effect.0 in
     let bytes = effect.1 in
     let opened = effect.4 in
-    let digest : p.module ≡ digest_of bytes = content_named p.module bytes s.contents b.contents effect.3 in
+    let digest : p.module ≡ digest_of bytes = content_named p.module bytes s.store.contents b.contents effect.3 in
     let t = created_task id s.creates bytes opened.0 p in
     let sound : IsSound (s.creates + 1) t = created_sound id s.creates bytes opened.0 p (not_true (is_id id) n.0) opened.1 digest in
     subst IsBoard (sym opened.3.2) (put_sound s opened.3.0 t b opened.3.1 (no_task (task_of id s.tasks) x.0) refl sound few low)

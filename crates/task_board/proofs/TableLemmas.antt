@@ -1,5 +1,5 @@
 -- The tables of a board after a write in a slot and after an insert.
-use Rattle.std.proofs.Common.{slice_set, ◌≡◌, ℕ, suc, ◌+◌, ◌-◌, ◌≤◌, List, length, Bool, true, IsTrue, ◌↔◌, Option, Some, None, option_map, Ok, refl, sym, ap, ◌∙◌, subst, arith}
+use Rattle.std.proofs.Common.{slice_set, ◌≡◌, ℕ, suc, ◌+◌, ◌-◌, ◌≤◌, List, length, Bool, true, IsTrue, ◌↔◌, Option, Some, None, option_map, Ok, sym, ap, ◌∙◌, subst, arith}
 use Rattle.slab.specs.Slab.{Slab, entries, entries_from, get, with_value, Updates, HasRoomFor}
 use Rattle.task_board.specs.declared.tables.Tables.TheInside as tables
 use Rattle.task_board.specs.declared.ticket.Ticket.{Ticket}
@@ -9,28 +9,31 @@ use Rattle.task_board.specs.declared.request.Reply.TheVariants as reply
 use Rattle.task_lifecycle.specs.declared.status.Status.TheVariants.{Created}
 use Rattle.task_board.specs.Limits.{max_budget}
 use Rattle.task_board.specs.BoardState.{Task, Entries, BoardState, task_in, entry_of, task_of, remove_task, with_task, without_task, with_new_task}
-use Rattle.task_board.specs.BoardValue.{KeepsCapacity}
+use Rattle.task_board.specs.BoardValue.{KeepsRoom}
 use Rattle.task_board.specs.Tasks.{can_lend, lent, advanced, slice_turns, state_of}
-use Rattle.task_board.specs.Refusals.{Refusals, delete_refusals}
+use Rattle.content_leases.specs.Refusals.{Refusals}
+use Rattle.task_board.specs.Refusals.{delete_refusals}
 use Rattle.task_board.specs.Step.{Answers, taken, Returns}
 use Rattle.task_board.specs.Sound.{IsBoard}
 use Rattle.task_board.specs.Loans.{Lent, loan_of, FitsTask, Fits}
-use Rattle.task_board.specs.Tickets.{Lends}
+use Rattle.task_board.specs.Tickets.{ticket_in, Lends}
+use Rattle.task_board.specs.Waiting.{running_ticket, AreWaiting}
 use Rattle.task_board.specs.declared.change.Change.{Change}
 use Rattle.task_board.specs.Inside.Plans.{CreatePrepared, CallPrepared}
 use Rattle.task_board.specs.Inside.Changes.{change_request, change_reply, change_refusals, changed as changed_by}
 use Rattle.task_board.specs.Inside.Shown.{board_state_of, board_of}
-use Rattle.task_board.proofs.EntryLemmas.{none_is_not, some_is, change_length, put_length, remove_length, named, in_slot, changed_in}
+use Rattle.task_board.proofs.EntryLemmas.{none_is_not, some_is, entry_at, change_length, put_length, remove_length, named, in_slot, changed_in}
 use Rattle.task_board.proofs.SlabLemmas.{in_slab, changed, removed, inserted, count}
-use Rattle.task_board.proofs.EffectLemmas.{change_id, change_answers, delete_answers}
+use Rattle.task_board.proofs.EffectLemmas.{change_id, change_incarnation, change_answers, delete_answers, answers_sound}
+use Rattle.task_board.proofs.WaitingLemmas.{same_ticket, stay_changed, stay_more}
 use Rattle.task_board.proofs.StepLemmas.{few_tasks, create_answers, lends_sound, takes, GoForward, StopFirst, returns, returned_sound}
 
 -- the tables with another slab of tasks
-abbrev pub with_slab : tables.Inside → Slab Task → tables.Inside
-with_slab b s = record { contents = b.contents; tasks = s; creates = b.creates }
+abbrev pub with_slab : tables.Inside → Slab Task → List Ticket → tables.Inside
+with_slab b s waiting = record { store = b.store; opened = b.opened; tasks = s; creates = b.creates; waiting = waiting }
 
 abbrev pub with_write : tables.Inside → ℕ → Task → tables.Inside
-with_write b k t = with_slab b (with_value b.tasks k t)
+with_write b k t = with_slab b (with_value b.tasks k t) b.waiting
 
 -- ---- a write in a slot
 
@@ -47,10 +50,20 @@ pub written : (b : tables.Inside) (k : ℕ) (old new : Task) → IsBoard (board_
     → board_state_of (with_write b k new) ≡ with_task (board_state_of b) new
 written b k old new sound h same = ap (λ (es : Entries). record (board_state_of b) { tasks = es }) (sym (changed b.tasks k old new h same sound.ids))
 
+-- those that wait still do, if the task keeps its id and incarnation
+pub written_waits : (b : tables.Inside) (k : ℕ) (old new : Task) → IsBoard (board_state_of b) → AreWaiting (board_state_of b).tasks b.waiting → get b.tasks k ≡ Some old → old.id ≡ new.id
+    → new.incarnation ≡ old.incarnation → AreWaiting (board_state_of (with_write b k new)).tasks b.waiting
+written_waits b k old new sound waits h same number =
+    let s = board_state_of b in
+    let entry : entry_of new.id s.tasks ≡ Some (k, old) = ap (λ (x : List ℕ). entry_of x s.tasks) (sym same) ∙ entry_at k old s.tasks sound.ids (there b k old h) in
+    let Q : BoardState → Type 0 = λ x. AreWaiting x.tasks b.waiting in
+    subst Q (sym (written b k old new sound h same)) (stay_changed s k old new b.waiting entry number waits)
+
 pub write_keeps : (b : tables.Inside) (k : ℕ) (new : Task) → board_state_of (with_write b k new) ≡ with_task (board_state_of b) new
-    → KeepsCapacity (board_of b) (board_of (with_write b k new))
+    → KeepsRoom (board_of b) (board_of (with_write b k new))
 write_keeps b k new is = record {
-  contents = refl;
+  contents = omega arith;
+  leases = omega arith;
   tasks =
       let same : length (entries (with_value b.tasks k new)) ≡ length (entries b.tasks) = ap (λ (s : BoardState). length s.tasks) is ∙ change_length new (entries b.tasks) in
       ap (λ (n : ℕ). n + (b.tasks.capacity - n)) same;
@@ -86,11 +99,13 @@ call_there b own slot id sound p = sym (in_slab b.tasks slot) ∙ in_slot id (sl
 -- what a change in a slot does
 pub record IsChangedThere (b : tables.Inside) (c : Change) (slot : ℕ) (id : List ℕ) (new : Task) : Type 0 where
   pub answers : Answers (board_state_of b) (change_request c id) (Ok (change_reply c id new.status)) (board_state_of (with_write b slot new))
-  pub capacity : KeepsCapacity (board_of b) (board_of (with_write b slot new))
+  pub ticket : running_ticket id (board_state_of (with_write b slot new)).tasks ≡ ticket_in slot (board_state_of (with_write b slot new)).tasks
+  pub waiting : AreWaiting (board_state_of (with_write b slot new)).tasks b.waiting
+  pub room : KeepsRoom (board_of b) (board_of (with_write b slot new))
 
-pub changed_there : (b : tables.Inside) (c : Change) (slot : ℕ) (id : List ℕ) (old new : Task) → IsBoard (board_state_of b) → (p : CallPrepared (board_state_of b) (change_refusals c) slot id)
+pub changed_there : (b : tables.Inside) (c : Change) (slot : ℕ) (id : List ℕ) (old new : Task) → IsBoard (board_state_of b) → AreWaiting (board_state_of b).tasks b.waiting → (p : CallPrepared (board_state_of b) (change_refusals c) slot id)
     → get b.tasks slot ≡ Some old → new ≡ changed_by c old → IsChangedThere b c slot id new
-changed_there b c slot id old new sound p here is =
+changed_there b c slot id old new sound waits p here is =
     let s = board_state_of b in
     let same : old ≡ p.task = some_is old p.task (sym here ∙ call_there b (change_refusals c) slot id sound p) in
     let keeps : old.id ≡ new.id = sym (ap (λ (u : Task). u.id) is ∙ change_id c old) in
@@ -101,36 +116,45 @@ changed_there b c slot id old new sound p here is =
     let done = change_answers c s id p.task s' at p.accepted (leaves ∙ ap (with_task s) by_task) in
     let name : p.task.id ≡ id = named id s.tasks (slot, p.task) p.found in
     let own = subst (λ (x : List ℕ). Answers s (change_request c id) (Ok (change_reply c x (changed_by c p.task).status)) s') name done in
+    let answers = subst (λ (u : Task). Answers s (change_request c id) (Ok (change_reply c id u.status)) s') (sym by_task) own in
+    let after = subst IsBoard leaves (answers_sound s (change_request c id) (Ok (change_reply c id new.status)) s' sound answers) in
+    let own_id : id ≡ new.id = sym name ∙ (ap (λ (u : Task). u.id) (sym same) ∙ keeps) in
+    let number : new.incarnation ≡ p.task.incarnation = ap (λ (u : Task). u.incarnation) by_task ∙ change_incarnation c p.task in
+    let entry : entry_of new.id s.tasks ≡ Some (slot, p.task) = ap (λ (x : List ℕ). entry_of x s.tasks) (sym own_id) ∙ p.found in
+    let P : BoardState → Type 0 = λ x. running_ticket id x.tasks ≡ ticket_in slot x.tasks in
+    let Q : BoardState → Type 0 = λ x. AreWaiting x.tasks b.waiting in
     record {
-      answers = subst (λ (u : Task). Answers s (change_request c id) (Ok (change_reply c id u.status)) s') (sym by_task) own;
-      capacity = write_keeps b slot new leaves;
+      answers = answers;
+      ticket = subst P (sym leaves) (same_ticket s slot id p.task new after own_id p.found);
+      waiting = subst Q (sym leaves) (stay_changed s slot p.task new b.waiting entry number waits);
+      room = write_keeps b slot new leaves;
     }
 
 -- ---- delete
 
 -- what a removal from a slot does
-pub record IsRemovedThere (b : tables.Inside) (slot : ℕ) (id : List ℕ) (new : Slab Task) (old : Task) : Type 0 where
-  pub answers : Answers (board_state_of b) (request.Delete id) (Ok (reply.Delete (state_of old))) (board_state_of (with_slab b new))
-  pub capacity : KeepsCapacity (board_of b) (board_of (with_slab b new))
+pub record IsRemovedThere (b : tables.Inside) (slot : ℕ) (id : List ℕ) (new : Slab Task) (waiting : List Ticket) (old : Task) : Type 0 where
+  pub answers : Answers (board_state_of b) (request.Delete id) (Ok (reply.Delete (state_of old))) (board_state_of (with_slab b new waiting))
+  pub room : KeepsRoom (board_of b) (board_of (with_slab b new waiting))
 
-pub removed_there : (b : tables.Inside) (slot : ℕ) (id : List ℕ) (new : Slab Task) (old : Task) → 64 ≤ b.tasks.capacity → IsBoard (board_state_of b)
+pub removed_there : (b : tables.Inside) (slot : ℕ) (id : List ℕ) (new : Slab Task) (waiting : List Ticket) (old : Task) → 64 ≤ b.tasks.capacity → IsBoard (board_state_of b)
     → (p : CallPrepared (board_state_of b) delete_refusals slot id) → get b.tasks slot ≡ Some old → new.slots ≡ slice_set b.tasks.slots slot None → new.capacity ≡ b.tasks.capacity
-    → IsRemovedThere b slot id new old
-removed_there b slot id new old room sound p here slots capacity =
+    → IsRemovedThere b slot id new waiting old
+removed_there b slot id new waiting old room sound p here slots capacity =
     let s = board_state_of b in
     let same : old ≡ p.task = some_is old p.task (sym here ∙ call_there b delete_refusals slot id sound p) in
     let left : entries new ≡ remove_task old.id (entries b.tasks) = ap (λ (xs : List (Option Task)). entries_from 0 xs) slots ∙ removed b.tasks slot old here sound.ids in
-    let leaves : board_state_of (with_slab b new) ≡ without_task s old.id = ap (λ (es : Entries). record s { tasks = es }) left in
+    let leaves : board_state_of (with_slab b new waiting) ≡ without_task s old.id = ap (λ (es : Entries). record s { tasks = es }) left in
     let at : task_of id s.tasks ≡ Some p.task = ap (option_map (λ (e : ℕ × Task). e.1)) p.found in
-    let done = delete_answers s id p.task (board_state_of (with_slab b new)) at p.accepted (leaves ∙ ap (λ (u : Task). without_task s u.id) same) in
+    let done = delete_answers s id p.task (board_state_of (with_slab b new waiting)) at p.accepted (leaves ∙ ap (λ (u : Task). without_task s u.id) same) in
     let name : p.task.id ≡ id = named id s.tasks (slot, p.task) p.found in
     let own : entry_of old.id s.tasks ≡ Some (slot, p.task) = ap (λ (x : List ℕ). entry_of x s.tasks) (ap (λ (u : Task). u.id) same ∙ name) ∙ p.found in
     let less = remove_length old.id (slot, p.task) s.tasks own in
     let fewer : length (entries new) ≡ length (remove_task old.id (entries b.tasks)) = ap (λ (es : Entries). length es) left in
     let few = sound.few_tasks in
     record {
-      answers = subst (λ (u : Task). Answers s (request.Delete id) (Ok (reply.Delete (state_of u))) (board_state_of (with_slab b new))) (sym same) done;
-      capacity = record { contents = refl; tasks = omega (arith, less, fewer, few, room, capacity) };
+      answers = subst (λ (u : Task). Answers s (request.Delete id) (Ok (reply.Delete (state_of u))) (board_state_of (with_slab b new waiting))) (sym same) done;
+      room = record { contents = omega arith; leases = omega arith; tasks = omega (arith, less, fewer, few, room, capacity) };
     }
 
 -- ---- create
@@ -143,12 +167,18 @@ room_for_task b r t id room p =
 
 -- the tables with a task more
 abbrev pub with_insert : tables.Inside → Slab Task → tables.Inside
-with_insert b s = record { contents = b.contents; tasks = s; creates = b.creates + 1 }
+with_insert b s = record { store = b.store; opened = b.opened; tasks = s; creates = b.creates + 1; waiting = b.waiting }
 
 pub inserted_leaves : (b : tables.Inside) (new : Slab Task) (key : ℕ) (t : Task) → get b.tasks key ≡ None → Updates b.tasks new key (Some t)
     → board_state_of (with_insert b new) ≡ with_new_task (board_state_of b) key t
 inserted_leaves b new key t free updates =
     ap (λ (es : Entries). record (board_state_of b) { tasks = es; creates = b.creates + 1 }) (inserted b.tasks new key t free updates)
+
+pub inserted_waits : (b : tables.Inside) (new : Slab Task) (key : ℕ) (t : Task) → AreWaiting (board_state_of b).tasks b.waiting → get b.tasks key ≡ None → Updates b.tasks new key (Some t)
+    → AreWaiting (board_state_of (with_insert b new)).tasks b.waiting
+inserted_waits b new key t waits free updates =
+    let Q : BoardState → Type 0 = λ x. AreWaiting x.tasks b.waiting in
+    subst Q (sym (inserted_leaves b new key t free updates)) (stay_more (board_state_of b) key t b.waiting (in_slab b.tasks key ∙ free) waits)
 
 pub inserted_answers : (b : tables.Inside) (new : Slab Task) (key : ℕ) (t : Task) (r : Request) (id : List ℕ) → get b.tasks key ≡ None → Updates b.tasks new key (Some t)
     → CreatePrepared (board_state_of b) r t id → Answers (board_state_of b) r (Ok (reply.Create id Created)) (board_state_of (with_insert b new))
@@ -156,9 +186,10 @@ inserted_answers b new key t r id free updates p =
     create_answers (board_state_of b) r t id key (board_state_of (with_insert b new)) p (in_slab b.tasks key ∙ free) (inserted_leaves b new key t free updates)
 
 pub insert_keeps : (b : tables.Inside) (new : Slab Task) (key : ℕ) (t : Task) → get b.tasks key ≡ None → Updates b.tasks new key (Some t)
-    → HasRoomFor b.tasks 1 → new.capacity ≡ b.tasks.capacity → KeepsCapacity (board_of b) (board_of (with_insert b new))
+    → HasRoomFor b.tasks 1 → new.capacity ≡ b.tasks.capacity → KeepsRoom (board_of b) (board_of (with_insert b new))
 insert_keeps b new key t free updates room capacity = record {
-  contents = refl;
+  contents = omega arith;
+  leases = omega arith;
   tasks =
       let more : length (entries new) ≡ suc (length (entries b.tasks)) = ap (λ (es : Entries). length es) (inserted b.tasks new key t free updates) ∙ put_length key t (entries b.tasks) in
       let n = count b.tasks in

@@ -1,5 +1,5 @@
 -- The abstract board: what a call can see of contents, leases and tasks.
-use Rattle.std.specs.Prelude.{ℕ, ◌+◌, ◌++◌, List, [], ◌∷◌, bytes_eq, nat_eq, nat_lt, if◌then◌else◌, Option, Some, None, option_map}
+use Rattle.std.specs.Prelude.{ℕ, ◌+◌, List, [], ◌∷◌, map, bytes_eq, nat_eq, nat_lt, if◌then◌else◌, Option, Some, None, option_map}
 use Rattle.wasm_ast.specs.declared.module.Module.{Module}
 use Rattle.step_machine.specs.declared.process.ProcessConfig.{ProcessConfig}
 use Rattle.wasm_ast.specs.declared.place.Place.{Place}
@@ -7,17 +7,7 @@ use Rattle.task_lifecycle.specs.declared.status.Status.{Status}
 use Rattle.task_lifecycle.specs.declared.status.Status.TheVariants.{Created}
 use Rattle.task_lifecycle.specs.declared.status.Signal.{Signal}
 use Rattle.task_lifecycle.specs.declared.status.ExitRecord.{ExitRecord}
-use Rattle.task_board.specs.Identifiers.{digest_of}
-
--- bytes that are stored under their digest
-pub record Content : Type 0 where
-  pub digest : List ℕ
-  pub bytes : List ℕ
-
--- a lease, and the digests of its members
-pub record Lease : Type 0 where
-  pub name : List ℕ
-  pub members : List (List ℕ)
+use Rattle.content_leases.specs.StoreState.{StoreState, empty as no_contents}
 
 -- A task. Its configuration after n turns is that of its module under its process (step_machine).
 pub record Task : Type 0 where
@@ -61,28 +51,25 @@ abbrev pub Entries : Type 0
 Entries = List (ℕ × Task)
 
 pub record BoardState : Type 0 where
-  -- in order of arrival
-  pub contents : List Content
-  pub leases : List Lease
+  -- contents and leases
+  pub store : StoreState
   pub tasks : Entries
   -- how many creates were accepted
   pub creates : ℕ
 
 -- a board to which nothing has happened
 abbrev pub empty : BoardState
-empty = record { contents = []; leases = []; tasks = []; creates = 0 }
+empty = record { store = no_contents; tasks = []; creates = 0 }
 
--- ---- contents
+-- ---- contents and leases
 
--- the bytes that are stored under a digest
-abbrev pub content_in : List Content → (digest : List ℕ) → Option (List ℕ)
-content_in [] digest = None
-content_in (c ∷ cs) digest = if bytes_eq c.digest digest then Some c.bytes else content_in cs digest
+-- the board with this store
+abbrev pub with_store : BoardState → StoreState → BoardState
+with_store s store = record s { store = store }
 
--- the board with these bytes stored, after all others
-abbrev pub with_content : BoardState → (bytes : List ℕ) → BoardState
-with_content s bytes =
-    record s { contents = s.contents ++ record { digest = digest_of bytes; bytes = bytes } ∷ [] }
+-- the digests that tasks name, each that of its module
+abbrev pub used_by : Entries → List (List ℕ)
+used_by es = map (λ (e : ℕ × Task). e.1.process.module) es
 
 -- ---- tasks
 

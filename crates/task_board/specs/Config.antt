@@ -8,7 +8,7 @@ use Rattle.serde_json.specs.Read.{read}
 use Rattle.serde_json.specs.Written.{has_float}
 use Rattle.step_machine.specs.declared.process.ProcessConfig.{ProcessConfig}
 use Rattle.task_board.specs.Limits.{max_args, max_args_bytes, default_pages}
-use Rattle.task_board.specs.Identifiers.{is_digest}
+use Rattle.content_leases.specs.Identifiers.{is_digest}
 
 -- the second step, if the first gave a value
 infixl 10 ◌>>=◌

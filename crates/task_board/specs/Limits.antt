@@ -4,9 +4,6 @@ use Rattle.std.specs.Prelude.{ℕ, ◌^◌}
 abbrev pub max_tasks : ℕ
 max_tasks = 64
 
-abbrev pub max_contents : ℕ
-max_contents = 256
-
 -- creates that a board accepts
 abbrev pub max_creates : ℕ
 max_creates = 2 ^ 60

@@ -17,4 +17,4 @@ refusal_answered (Err e) = Some e
 
 -- the request is prepared so on a board with this state and this room
 abbrev pub Prepares : BoardValue → Request → Prepared → Type 0
-Prepares b r p = Plans b.state b.room.contents r p.plan
+Prepares b r p = Plans b.state b.room r p.plan

@@ -1,5 +1,6 @@
--- The refusals of each request, in the order in which they are tried.
-use Rattle.std.specs.Prelude.{◌≡◌, ℕ, ◌≤◌, List, [], ◌∷◌, length, bytes_eq, nat_le, nat_lt, Bool, true, false, not, ◌||◌, if◌then◌else◌, Option, Some, None, is_some, is_none, option_and_then}
+-- The refusals of each request to a task, in the order in which they are tried. Those of the requests to the
+-- store are content_leases'.
+use Rattle.std.specs.Prelude.{◌≡◌, ℕ, ◌≤◌, List, [], ◌∷◌, length, nat_le, Bool, true, not, ◌||◌, Option, Some, None, is_some, is_none, option_and_then}
 use Rattle.wasm_ast.specs.declared.module.Module.{Module}
 use Rattle.wasm_ast.specs.declared.refusal.Refusal.{Refusal}
 use Rattle.wasm_ast.specs.declared.refusal.Refusal.TheVariants as refusal
@@ -8,43 +9,16 @@ use Rattle.wasm_binary.specs.Grammar.{Spells}
 use Rattle.wasm_binary.specs.Limits.{Over}
 use Rattle.step_machine.specs.declared.process.ProcessConfig.{ProcessConfig}
 use Rattle.validator.specs.Typing.{ValidModule}
-use Rattle.step_machine.specs.Runs.{RunsModule}
 use Rattle.step_machine.specs.Instantiation.{instantiation_refusal}
 use Rattle.task_lifecycle.specs.declared.lifecycle.TaskCall.TheVariants as call
-use Rattle.task_board.specs.Limits.{max_contents, max_tasks, max_creates}
-use Rattle.task_board.specs.Identifiers.{is_id, digest_of}
+use Rattle.task_board.specs.Limits.{max_tasks, max_creates}
+use Rattle.content_leases.specs.Identifiers.{is_id}
 use Rattle.task_board.specs.Config.{process_read}
 use Rattle.task_lifecycle.specs.Lifecycle.{allowed}
 use Rattle.task_lifecycle.specs.Names.{signal_of}
-use Rattle.task_board.specs.BoardState.{Task, BoardState, content_in, task_of}
-
--- refusals, each with the condition under which it is answered
-abbrev pub Refusals : Type 0
-Refusals = List (Bool × Refusal)
-
--- the first whose condition holds
-abbrev pub first_refusal : Refusals → Option Refusal
-first_refusal [] = None
-first_refusal (c ∷ cs) = if c.0 then Some c.1 else first_refusal cs
-
--- ---- contents
-
-abbrev pub is_bytes : List ℕ → Option (List ℕ) → Bool
-is_bytes bytes None = false
-is_bytes bytes (Some stored) = bytes_eq stored bytes
-
--- other bytes are stored under the same digest
-abbrev pub has_conflict : Option (List ℕ) → (bytes : List ℕ) → Bool
-has_conflict None bytes = false
-has_conflict (Some stored) bytes = not (bytes_eq stored bytes)
-
-abbrev pub put_refusals : BoardState → (bytes : List ℕ) → Refusals
-put_refusals s bytes =
-    (nat_lt max_module_bytes (length bytes), refusal.Limit)
-    ∷ (is_bytes bytes (content_in s.contents (digest_of bytes)), refusal.Exists)
-    ∷ (has_conflict (content_in s.contents (digest_of bytes)) bytes, refusal.DigestConflict)
-    ∷ (nat_le max_contents (length s.contents), refusal.TooMany)
-    ∷ []
+use Rattle.content_leases.specs.StoreState.{content_in}
+use Rattle.content_leases.specs.Refusals.{Refusals}
+use Rattle.task_board.specs.BoardState.{Task, BoardState, task_of}
 
 -- ---- create
 
@@ -54,7 +28,7 @@ is_full s = nat_le max_tasks (length s.tasks) || nat_le max_creates s.creates
 
 -- the stored bytes of the module that a config names
 abbrev pub named_bytes : BoardState → (config : List ℕ) → Option (List ℕ)
-named_bytes s config = option_and_then (λ (p : ProcessConfig). content_in s.contents p.module) (process_read config)
+named_bytes s config = option_and_then (λ (p : ProcessConfig). content_in s.store.contents p.module) (process_read config)
 
 -- those before the bytes are read
 abbrev pub create_refusals : BoardState → (config id : List ℕ) → Refusals
@@ -78,9 +52,9 @@ pub data CannotOpen (bytes : List ℕ) (p : ProcessConfig) : Refusal → Type 0 
   no_module : ((m : Module) → Spells bytes m → ⊥) → CannotOpen bytes p refusal.BadModule
   -- they pass a limit, and spell no module within the limits
   too_much : Over bytes → ((m : Module) → IsSpelled bytes m → ⊥) → CannotOpen bytes p refusal.Limit
-  -- they spell a module that is not valid, or that the machine cannot run yet
+  -- they spell a module that is not valid
   invalid :
-      (m : Module) → IsSpelled bytes m → (ValidModule m → RunsModule m → ⊥) → CannotOpen bytes p refusal.Invalid
+      (m : Module) → IsSpelled bytes m → (ValidModule m → ⊥) → CannotOpen bytes p refusal.Invalid
   -- a valid module that cannot be instantiated under the process
   refused :
       (m : Module) → (e : Refusal) → IsSpelled bytes m → ValidModule m → instantiation_refusal m p ≡ Some e

@@ -3,10 +3,12 @@ use Rattle.std.specs.Prelude.{◌≡◌, ◌≢◌, ℕ, ◌<◌, ◌≤◌, Lis
 use Rattle.step_machine.specs.Instantiation.{ended}
 use Rattle.wasm_ast.specs.Limits.{max_module_bytes}
 use Rattle.task_lifecycle.specs.declared.status.Status.TheVariants.{Created, Pausing}
-use Rattle.task_board.specs.Limits.{max_tasks, max_contents, max_creates, max_budget}
-use Rattle.task_board.specs.Identifiers.{is_id, digest_of}
+use Rattle.task_board.specs.Limits.{max_tasks, max_creates, max_budget}
+use Rattle.content_leases.specs.Limits.{max_contents}
+use Rattle.content_leases.specs.Identifiers.{is_id, digest_of}
+use Rattle.content_leases.specs.StoreState.{Content}
 use Rattle.task_lifecycle.specs.Lifecycle.{takes_turns, is_stopped, is_going}
-use Rattle.task_board.specs.BoardState.{Content, Task, Entries, BoardState}
+use Rattle.task_board.specs.BoardState.{Task, Entries, BoardState}
 use Rattle.task_board.specs.Tasks.{execution_at}
 use Rattle.task_board.specs.Refusals.{Openable}
 
@@ -64,8 +66,8 @@ pub record IsBoard (s : BoardState) : Type 0 where
   pub slots : AreRising (slots_of s.tasks)
   pub ids : AreDistinct (ids_of s.tasks)
   pub incarnations : AreDistinct (incarnations_of s.tasks)
-  pub contents : Each IsContent s.contents
-  pub digests : AreDistinct (digests_of s.contents)
+  pub contents : Each IsContent s.store.contents
+  pub digests : AreDistinct (digests_of s.store.contents)
   pub few_tasks : length s.tasks ≤ max_tasks
-  pub few_contents : length s.contents ≤ max_contents
+  pub few_contents : length s.store.contents ≤ max_contents
   pub few_creates : s.creates ≤ max_creates

@@ -1,6 +1,6 @@
 -- What may happen to a board: each request with its answer and its effect, a slice that is taken, and one
 -- that returns.
-use Rattle.std.specs.Prelude.{◌≡◌, ℕ, ◌&&◌, nat_le, List, length, Bool, true, false, if◌then◌else◌, Option, Some, None, is_some, option_and_then, Result, Ok, Err}
+use Rattle.std.specs.Prelude.{◌≡◌, ℕ, [], ◌&&◌, nat_le, List, length, Bool, true, false, if◌then◌else◌, Option, Some, None, is_some, option_and_then, Result, Ok, Err}
 use Rattle.wasm_ast.specs.declared.module.Module.{Module}
 use Rattle.wasm_ast.specs.declared.refusal.Refusal.{Refusal}
 use Rattle.step_machine.specs.declared.process.ProcessConfig.{ProcessConfig}
@@ -15,11 +15,13 @@ use Rattle.task_board.specs.declared.request.Reply.TheVariants as reply
 use Rattle.task_lifecycle.specs.declared.status.Status.TheVariants.{Created}
 use Rattle.task_lifecycle.specs.Names.{signal_of}
 use Rattle.task_board.specs.Limits.{max_budget}
-use Rattle.task_board.specs.Identifiers.{digest_of}
+use Rattle.content_leases.specs.Identifiers.{digest_of}
+use Rattle.content_leases.specs.StoreState.{StoreState, content_in, with_content, without_content, with_lease, with_member, without_lease, unheld, collected}
+use Rattle.content_leases.specs.Refusals.{Refusals, first_refusal, put_refusals, remove_refusals, lease_create_refusals, lease_add_refusals, lease_delete_refusals}
 use Rattle.task_board.specs.Config.{process_read}
-use Rattle.task_board.specs.BoardState.{Task, created_task, BoardState, content_in, with_content, task_in, task_of, with_task, without_task, with_new_task}
+use Rattle.task_board.specs.BoardState.{Task, created_task, BoardState, used_by, with_store, task_in, task_of, with_task, without_task, with_new_task}
 use Rattle.task_board.specs.Tasks.{state_of, started, paused, resumed, killed_by, can_lend, lent, HasReturned}
-use Rattle.task_board.specs.Refusals.{Refusals, first_refusal, put_refusals, create_refusals, CannotOpen, Openable, start_refusals, pause_refusals, resume_refusals, kill_refusals, delete_refusals, state_refusals, wait_refusals, task_refusals}
+use Rattle.task_board.specs.Refusals.{create_refusals, CannotOpen, Openable, start_refusals, pause_refusals, resume_refusals, kill_refusals, delete_refusals, state_refusals, wait_refusals, task_refusals}
 
 -- ---- requests
 
@@ -34,6 +36,10 @@ DecidedBy None Effect s r s' = Effect
 -- the first refusal whose condition holds, else the effect
 abbrev pub Decided : Refusals → (Effect : Type 0) → BoardState → Answer → BoardState → Type 0
 Decided refusals Effect s r s' = DecidedBy (first_refusal refusals) Effect s r s'
+
+-- a request to the store: its refusals, what it is answered, and the store that it leaves
+abbrev pub OnStore : BoardState → Refusals → Reply → StoreState → Answer → BoardState → Type 0
+OnStore s refusals reply new r s' = Decided refusals ((r ≡ Ok reply) × (s' ≡ with_store s new)) s r s'
 
 -- a request to the task with an id, if there is one: the request's own refusals, what it is answered,
 -- and the board that it leaves
@@ -62,13 +68,25 @@ Opens s id bytes p (Ok r) s' =
 abbrev pub Creates : BoardState → (config id : List ℕ) → Answer → BoardState → Type 0
 Creates s config id r s' =
     (p : ProcessConfig) × (bytes : List ℕ) × (process_read config ≡ Some p)
-    × (content_in s.contents p.module ≡ Some bytes) × Opens s id bytes p r s'
+    × (content_in s.store.contents p.module ≡ Some bytes) × Opens s id bytes p r s'
 
--- What a request may be answered on a board, and the board that it leaves. A refusal leaves the board.
+-- What a request may be answered on a board, and the board that it leaves. A refusal leaves the board. What
+-- a task names is held until the task is deleted.
 abbrev pub Answers : BoardState → Request → Answer → BoardState → Type 0
 Answers s (request.Put bytes) r s' =
-    Decided (put_refusals s bytes)
-    ((r ≡ Ok (reply.Put (digest_of bytes) (length bytes))) × (s' ≡ with_content s bytes)) s r s'
+    OnStore s (put_refusals s.store bytes) (reply.Put (digest_of bytes) (length bytes)) (with_content s.store bytes)
+    r s'
+Answers s (request.Remove digest) r s' =
+    OnStore s (remove_refusals (used_by s.tasks) s.store digest) (reply.Remove digest)
+    (without_content s.store digest) r s'
+Answers s (request.LeaseCreate id) r s' =
+    OnStore s (lease_create_refusals s.store id) (reply.LeaseCreate id) (with_lease s.store id) r s'
+Answers s (request.LeaseAdd digest id) r s' =
+    OnStore s (lease_add_refusals s.store digest id) (reply.LeaseAdd digest id) (with_member s.store digest id) r s'
+Answers s (request.LeaseDelete id) r s' =
+    OnStore s (lease_delete_refusals s.store id) (reply.LeaseDelete id) (without_lease s.store id) r s'
+Answers s request.Gc r s' =
+    OnStore s [] (reply.Gc (unheld (used_by s.tasks) s.store)) (collected (used_by s.tasks) s.store) r s'
 Answers s (request.Create config id) r s' = Decided (create_refusals s config id) (Creates s config id r s') s r s'
 Answers s (request.Start id) r s' =
     OnTask id start_refusals (λ t. reply.Start t.id (started t).status) (λ t. with_task s (started t)) s r s'

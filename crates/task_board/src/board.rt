@@ -1,6 +1,6 @@
-//! The board: contents and tasks, and what each request does to them.
+//! The board: the store and the tasks, and what each request does to them.
 
-ghost use Rattle.std.specs.Prelude.{◌≡◌, ◌≢◌, ◌≤◌, ◌↔◌, IsTrue, ◌∷◌, [], Some, None, Ok, Err, IfOk, IsOk, IfSome, IfNone, OnErr, true, false};
+ghost use Rattle.std.specs.Prelude.{◌≡◌, ◌≢◌, ◌≤◌, ◌↔◌, IsTrue, ◌∷◌, [], Some, None, Ok, Err, IfOk, IsOk, IfSome, IfNone, OnErr, option_map, true, false};
 ghost use Rattle.std.specs.Arc.{arc_value};
 ghost use Rattle.step_machine.specs.Processes.{config_of};
 ghost use Rattle.step_machine.specs.declared.process.ProcessConfig.{ProcessConfig as ProcessValue};
@@ -9,7 +9,7 @@ ghost use Rattle.task_board.specs.declared.request.Request.TheVariants as reques
 ghost use Rattle.task_board.specs.declared.event.Event.TheVariants as event;
 ghost use Rattle.task_board.specs.declared.event.EventReply.TheVariants as answer;
 ghost use Rattle.task_board.specs.BoardState.{Task as TaskValue, empty};
-ghost use Rattle.task_board.specs.BoardValue.{KeepsCapacity};
+ghost use Rattle.task_board.specs.BoardValue.{KeepsRoom};
 ghost use Rattle.task_board.specs.Limits.{max_budget};
 ghost use Rattle.task_board.specs.Loans.{Fits};
 ghost use Rattle.task_board.specs.Prepared.{Prepares, refusal_of, refusal_answered};
@@ -18,25 +18,28 @@ ghost use Rattle.task_board.specs.Run.{takes_memory};
 ghost use Rattle.task_board.specs.Sound.{IsBoard};
 ghost use Rattle.task_board.specs.Step.{Answers, Step};
 ghost use Rattle.task_board.specs.Tickets.{ticket_of, CanLend, Lends, ticket_in};
+ghost use Rattle.task_board.specs.Waiting.{enter_again, waiting_after, AreWaiting};
 ghost use Rattle.task_board.specs.Inside.Machines.{IsMachine};
 ghost use Rattle.task_board.specs.Inside.Plans.{Plans, PlansTask};
+ghost use Rattle.task_board.specs.Inside.OpenedModules.{IsOpen};
+ghost use Rattle.content_leases.specs.StoreState.{content_in};
 
 use crate::change::Change;
 use crate::checkout::Shared;
 use crate::config::read_config;
-use crate::contents::Content;
-use crate::identifier::digest_of;
 use crate::loan::Loan;
 use crate::open::instantiate;
 use crate::prepared::{Plan, Prepared};
 use crate::request::{Reply, Request};
+use crate::store_change::StoreChange;
 use crate::tables::Tables;
 use crate::task::Task;
 use crate::ticket::Ticket;
+use content_leases::{Members, digest_of};
 use std::alloc::{AllocError, Global};
 use std::marker::Model;
 use std::sync::Arc;
-use step_machine::{Machine, Process, ProcessConfig};
+use step_machine::{Machine, Process, ProcessConfig, Valid};
 use wasm_ast::{Bytes, Refusal, Text};
 
 /// The board. Contracts see the abstract board, the tasks that wait for a worker, and how much fits with
@@ -77,23 +80,65 @@ impl Board {
         self.tables.sound();
     }
 
+    /// What holds of the tasks that wait for a worker. It does nothing.
+    pub fn waiting_once(&self)
+        ensures { AreWaiting self.now.state.tasks self.now.waiting }
+    {
+        self.tables.waiting_once();
+    }
+
     // What a put is prepared as.
     fn prepare_put(&mut self, bytes: Bytes) -> Result<Plan, AllocError>
         ensures same { (self.new.state ≡ self.old.state) × (self.new.waiting ≡ self.old.waiting) }
         ensures ok { IfOk result
-            (λ p. Plans self.new.state self.new.room.contents (request.Put bytes) p) }
+            (λ p. Plans self.new.state self.new.room (request.Put bytes) p) }
     {
         let digest = digest_of(self.alloc, bytes.as_slice())?;
         if let Some(refusal) = self.tables.refusal_of_put(&digest, &bytes) {
             return Ok(Plan::Refused(refusal));
         }
         self.tables.reserve_content()?;
-        let answered = digest.copy(self.alloc)?;
+        let key = String::from_str(self.alloc, digest.as_str())?;
         let bytes = Arc::new(self.alloc, bytes)?;
-        Ok(Plan::Put {
-            content: Content::new(digest, bytes),
-            digest: answered,
-        })
+        Ok(Plan::Store(StoreChange::Put { key, bytes, digest }))
+    }
+
+    // What a lease's creation is prepared as.
+    fn prepare_lease_create(&mut self, id: Text) -> Result<Plan, AllocError>
+        ensures same { (self.new.state ≡ self.old.state) × (self.new.waiting ≡ self.old.waiting) }
+        ensures ok { IfOk result (λ p. Plans self.new.state self.new.room (request.LeaseCreate id) p) }
+    {
+        if let Some(refusal) = self.tables.refusal_of_lease_create(id.as_str()) {
+            return Ok(Plan::Refused(refusal));
+        }
+        self.tables.reserve_lease()?;
+        let key = String::from_str(self.alloc, id.as_str())?;
+        let members = Members::new(self.alloc)?;
+        Ok(Plan::Store(StoreChange::LeaseCreate { key, members, id }))
+    }
+
+    // What an addition to a lease is prepared as.
+    fn prepare_lease_add(&self, digest: Text, id: Text) -> Result<Plan, AllocError>
+        ensures { IfOk result
+            (λ p. Plans self.now.state self.now.room (request.LeaseAdd digest id) p) }
+    {
+        if let Some(refusal) = self
+            .tables
+            .refusal_of_lease_add(digest.as_str(), id.as_str())
+        {
+            return Ok(Plan::Refused(refusal));
+        }
+        let key = String::from_str(self.alloc, digest.as_str())?;
+        Ok(Plan::Store(StoreChange::LeaseAdd { key, digest, id }))
+    }
+
+    // What a removal of all contents that are not held is prepared as.
+    fn prepare_gc(&self) -> Result<Plan, AllocError>
+        ensures { IfOk result (λ p. Plans self.now.state self.now.room request.Gc p) }
+    {
+        let used = self.tables.used(self.alloc)?;
+        let removed = self.tables.unheld(used.as_slice())?;
+        Ok(Plan::Store(StoreChange::Gc { used, removed }))
     }
 
     // What a create is prepared as, once there is a machine for its task.
@@ -101,19 +146,19 @@ impl Board {
         &self,
         id: Text,
         process: ProcessConfig,
-        bytes: &Arc<Bytes>,
+        bytes: Arc<Bytes>,
         machine: Machine,
     ) -> Result<Plan, AllocError>
-        requires opens { Openable (arc_value bytes.now) process machine.module }
+        requires opens { Openable (arc_value bytes) process machine.module }
         requires fresh { IsMachine machine machine.module process 0 }
-        ensures { IfOk result (λ p. PlansTask self.now.state id (arc_value bytes.now) process p) }
+        ensures { IfOk result (λ p. PlansTask self.now.state id (arc_value bytes) process p) }
     {
         let answered = id.copy(self.alloc)?;
         let valid = machine.valid().share()?;
         let machine = Box::new(self.alloc, machine)?;
         let shared = Shared {
             id,
-            bytes: Arc::try_clone(bytes)?,
+            bytes,
             valid,
             process,
         };
@@ -121,29 +166,67 @@ impl Board {
         Ok(Plan::Create { task, id: answered })
     }
 
-    // What a create is prepared as, from stored bytes.
+    // What a create is prepared as, from stored bytes and the module that they spell.
     fn prepare_task(
         &self,
         id: Text,
         process: Process,
-        bytes: &Arc<Bytes>,
+        bytes: Arc<Bytes>,
+        valid: Valid,
     ) -> Result<Plan, AllocError>
         requires nothing_written { (process.out ≡ []) × (process.err ≡ []) }
+        requires opened { IsOpen (arc_value bytes) valid }
         ensures { IfOk result
-            (λ p. PlansTask self.now.state id (arc_value bytes.now) (config_of process) p) }
+            (λ p. PlansTask self.now.state id (arc_value bytes) (config_of process) p) }
     {
         let config = process.config(self.alloc)?;
-        match instantiate(self.alloc, bytes.as_slice(), process) {
+        match instantiate(self.alloc, valid, process) {
             Ok(machine) => self.plan_create(id, config, bytes, machine),
             Err(Refusal::NoMemory) => Err(AllocError),
             Err(refusal) => Ok(Plan::Refused(refusal)),
         }
     }
 
+    // What a create is prepared as, from stored bytes.
+    fn prepare_opened(
+        &mut self,
+        id: Text,
+        process: Process,
+        bytes: Arc<Bytes>,
+    ) -> Result<Plan, AllocError>
+        requires nothing_written { (process.out ≡ []) × (process.err ≡ []) }
+        requires stored { content_in self.old.state.store.contents process.module
+            ≡ Some (arc_value bytes) }
+        ensures same { self.new ≡ self.old }
+        ensures ok { IfOk result
+            (λ p. PlansTask self.old.state id (arc_value bytes) (config_of process) p) }
+    {
+        match self
+            .tables
+            .open(self.alloc, process.module.as_str(), &bytes)
+        {
+            Ok(valid) => self.prepare_task(id, process, bytes, valid),
+            Err(Refusal::NoMemory) => Err(AllocError),
+            Err(refusal) => Ok(Plan::Refused(refusal)),
+        }
+    }
+
+    // The stored bytes under a digest, shared.
+    fn shared_content(&self, digest: &str) -> Result<Option<Arc<Bytes>>, AllocError>
+        ensures { IfOk result (λ o. option_map (λ b. arc_value b) o
+            ≡ content_in self.now.state.store.contents digest.now) }
+    {
+        match self.tables.content(digest) {
+            Some(bytes) => Ok(Some(Arc::try_clone(bytes)?)),
+            None => Ok(None),
+        }
+    }
+
     // What a create is prepared as.
-    fn prepare_create(&self, config: Text, id: Text) -> Result<Plan, AllocError>
-        ensures { IfOk result
-            (λ p. Plans self.now.state self.now.room.contents (request.Create config id) p) }
+    fn prepare_create(&mut self, config: Text, id: Text) -> Result<Plan, AllocError>
+        ensures same { self.new ≡ self.old }
+        ensures ok { IfOk result
+            (λ p. Plans self.old.state self.old.room (request.Create config id) p) }
     {
         if let Some(refusal) = self.tables.refusal_of_id(id.as_str()) {
             return Ok(Plan::Refused(refusal));
@@ -151,8 +234,8 @@ impl Board {
         let Some(process) = read_config(self.alloc, config.as_str())? else {
             return Ok(Plan::Refused(Refusal::BadConfig));
         };
-        match self.tables.content(process.module.as_str()) {
-            Some(bytes) => self.prepare_task(id, process, bytes),
+        match self.shared_content(process.module.as_str())? {
+            Some(bytes) => self.prepare_opened(id, process, bytes),
             None => Ok(Plan::Refused(Refusal::NoContent)),
         }
     }
@@ -167,6 +250,11 @@ impl Board {
     {
         let plan = match request {
             Request::Put { bytes } => self.prepare_put(bytes)?,
+            Request::Remove { digest } => self.tables.plan_remove(digest),
+            Request::LeaseCreate { id } => self.prepare_lease_create(id)?,
+            Request::LeaseAdd { digest, id } => self.prepare_lease_add(digest, id)?,
+            Request::LeaseDelete { id } => self.tables.plan_lease_delete(id),
+            Request::Gc => self.prepare_gc()?,
             Request::Create { config, id } => self.prepare_create(config, id)?,
             Request::Start { id } => self.tables.plan_change(id, Change::Start),
             Request::Pause { id } => self.tables.plan_change(id, Change::Pause),
@@ -187,20 +275,23 @@ impl Board {
             → Answers self.old.state r result self.new.state }
         ensures refused { refusal_answered result ≡ refusal_of prepared }
         ensures memory { result ≢ Err Refusal.NoMemory }
-        ensures waiting { self.new.waiting ≡ self.old.waiting }
-        ensures capacity { KeepsCapacity self.old self.new }
+        ensures waiting { (r : RequestValue) → Prepares self.old r prepared → self.new.waiting
+            ≡ waiting_after r result self.new.state.tasks self.old.waiting }
+        ensures room { KeepsRoom self.old self.new }
     {
         self.tables.apply(prepared)
     }
 
     /// Answers a request, by preparing and applying it. `NoMemory` if an allocation failed, and then
-    /// nothing has changed; only a put and a create allocate, no other request is ever answered so.
+    /// nothing has changed; of the requests only put, lease_create, lease_add, gc and create allocate, and no
+    /// other is ever answered so.
     pub fn call(&mut self, request: Request) -> Result<Reply, Refusal>
         ensures answers { result ≢ Err Refusal.NoMemory
             → Answers self.old.state request result self.new.state }
         ensures no_memory { result ≡ Err Refusal.NoMemory → self.new.state ≡ self.old.state }
         ensures quiet { takes_memory request ≡ false → result ≢ Err Refusal.NoMemory }
-        ensures waiting { self.new.waiting ≡ self.old.waiting }
+        ensures waiting { self.new.waiting
+            ≡ waiting_after request result self.new.state.tasks self.old.waiting }
     {
         let prepared = self.prepare(request)?;
         self.apply(prepared)
@@ -224,7 +315,7 @@ impl Board {
         ensures none { IfNone result ((t : TaskValue) → CanLend ticket self.old.state.tasks t → ⊥) }
         ensures same { IfNone result (self.new ≡ self.old) }
         ensures waiting { self.new.waiting ≡ self.old.waiting }
-        ensures capacity { KeepsCapacity self.old self.new }
+        ensures room { KeepsRoom self.old self.new }
     {
         self.tables.take(ticket, budget)
     }
@@ -249,8 +340,28 @@ impl Board {
         ensures unfit { (Fits loan self.old.state.tasks → ⊥)
             → (self.new ≡ self.old) × (result ≡ None) }
         ensures waiting { self.new.waiting ≡ self.old.waiting }
-        ensures capacity { KeepsCapacity self.old self.new }
+        ensures room { KeepsRoom self.old self.new }
     {
         self.tables.give_back(loan)
+    }
+
+    /// The task that has waited longest for a worker, which waits no more. None if none waits. No memory is
+    /// taken.
+    pub fn next_waiting(&mut self) -> Option<Ticket>
+        ensures some { IfSome result (λ ticket. self.old.waiting ≡ ticket ∷ self.new.waiting) }
+        ensures none { IfNone result ((self.old.waiting ≡ []) × (self.new.waiting ≡ [])) }
+        ensures rest { self.new ≡ record self.old { waiting = self.new.waiting } }
+    {
+        self.tables.next_waiting()
+    }
+
+    /// Lets the ticket's task wait for a worker, after all that wait, unless it waits already. A ticket of no
+    /// present task is dropped. No memory is taken.
+    pub fn wait_again(&mut self, ticket: Ticket)
+        ensures { self.new ≡ record self.old {
+          waiting = enter_again self.old.state.tasks ticket self.old.waiting;
+        } }
+    {
+        self.tables.wait_again(ticket);
     }
 }

@@ -1,7 +1,7 @@
 //! What a request changes of a task.
 
 ghost use Rattle.std.specs.Prelude.{◌≡◌};
-ghost use Rattle.task_board.specs.Inside.Changes.{change_call, change_reply};
+ghost use Rattle.task_board.specs.Inside.Changes.{change_call, change_reply, enters};
 
 use crate::request::Reply;
 use task_lifecycle::{Signal, Status, TaskCall};
@@ -27,6 +27,13 @@ impl Change {
             Change::Resume => TaskCall::Resume,
             Change::Kill(_) => TaskCall::Kill,
         }
+    }
+
+    /// Whether the task waits for a worker afterwards, if it is running.
+    pub fn enters(self) -> bool
+        ensures { result ≡ enters self }
+    {
+        matches!(self, Change::Start | Change::Resume)
     }
 
     /// What it is answered, if it leads to this status.

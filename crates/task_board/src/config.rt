@@ -11,10 +11,10 @@ ghost use Rattle.step_machine.specs.Processes.{config_of};
 ghost use Rattle.task_board.specs.Limits.{default_pages};
 ghost use Rattle.task_board.specs.Config.{version_at, directory_at, process_part, text_at, begins, is_nul, is_plain, texts_in, are_texts, bytes_of, are_arguments, args_at, module_at, process_of, process_read};
 
-use crate::identifier::is_digest;
+use content_leases::is_digest;
 use serde_json::{Map, Value};
 use std::alloc::{AllocError, Global};
-use step_machine::{Output, Process};
+use step_machine::{Output, PageCap, Process};
 use wasm_ast::{Sequence, Text};
 
 /// The most arguments of a process.
@@ -245,7 +245,7 @@ fn new_process(alloc: Global, digest: &str, args: Vec<Text>) -> Result<Process, 
         module: Text::from_str(alloc, digest)?,
         args: Sequence::new(args),
         env: Sequence::new(Vec::new(alloc)),
-        cap: DEFAULT_PAGES,
+        cap: PageCap::new(DEFAULT_PAGES).unwrap(),
         out: Output::new(alloc)?,
         err: Output::new(alloc)?,
     })

@@ -1,17 +1,17 @@
 //! Laws of the abstract board. Each function is nothing but its contract.
 
-ghost use Rattle.std.specs.Prelude.{◌≡◌, ◌++◌, ℕ, List, Some, true, false};
+ghost use Rattle.std.specs.Prelude.{◌≡◌, ℕ, List, Some, is_some, true, false};
 ghost use Rattle.wasm_ast.specs.declared.module.Module.{Module};
 ghost use Rattle.step_machine.specs.declared.process.ProcessConfig.{ProcessConfig};
 ghost use Rattle.step_machine.specs.declared.ends.End.{End as EndValue};
 ghost use Rattle.step_machine.specs.Instantiation.{ended};
-ghost use Rattle.step_machine.specs.Runs.{RunsModule};
 ghost use Rattle.validator.specs.Typing.{ValidModule};
 ghost use Rattle.task_board.specs.declared.event.Event.{Event};
 ghost use Rattle.task_board.specs.declared.event.Event.TheVariants as event;
 ghost use Rattle.task_board.specs.declared.event.EventReply.{EventReply};
 ghost use Rattle.task_board.specs.declared.request.Request.TheVariants as request;
-ghost use Rattle.task_board.specs.BoardState.{Content, Task, BoardState, empty, task_in};
+ghost use Rattle.content_leases.specs.StoreState.{content_in, is_leased, is_held};
+ghost use Rattle.task_board.specs.BoardState.{Task, BoardState, empty, used_by, task_in};
 ghost use Rattle.task_board.specs.Choices.{IsDetermined, AgreeOnCreate};
 ghost use Rattle.task_lifecycle.specs.declared.status.Signal.{Signal as SignalValue};
 ghost use Rattle.task_lifecycle.specs.Lifecycle.{after, takes_turns};
@@ -91,11 +91,21 @@ pub fn slices_advance_legally()
     slices_stop_first();
 }
 
-/// Contents are never removed, and new ones come after them.
-pub fn contents_grow()
-    ensures { (s : BoardState) (es : List Event) (rs : List EventReply) (s' : BoardState)
-        → Run s es rs s'
-        → (more : List Content) × (s'.contents ≡ s.contents ++ more) }
+/// A held content is never removed: no event takes the bytes of a digest that a lease or a task names. So on
+/// every board that events lead to, what a lease names is stored, and of each task the bytes that it was
+/// created from.
+pub fn held_contents_stay()
+    ensures event { (s : BoardState) (e : Event) (r : EventReply) (s' : BoardState)
+        → Happens s e r s' → (digest bytes : List ℕ)
+        → is_held (used_by s.tasks) s.store.leases digest ≡ true
+        → content_in s.store.contents digest ≡ Some bytes
+        → content_in s'.store.contents digest ≡ Some bytes }
+    ensures leased { (es : List Event) (rs : List EventReply) (s : BoardState)
+        → Run empty es rs s → (digest : List ℕ) → is_leased s.store.leases digest ≡ true
+        → is_some (content_in s.store.contents digest) ≡ true }
+    ensures tasks { (es : List Event) (rs : List EventReply) (s : BoardState)
+        → Run empty es rs s → (k : ℕ) (t : Task) → task_in k s.tasks ≡ Some t
+        → content_in s.store.contents t.process.module ≡ Some t.bytes }
 {}
 
 /// The answer to an event, and the board that it leaves, are determined by the board and the event, unless
@@ -118,9 +128,11 @@ pub fn creates_are_determined()
     spells_one();
 }
 
-/// Only a put and a create allocate: no other request, no take and no return may be left out for lack of
-/// memory.
-pub fn puts_and_creates_allocate()
+/// Only put, lease_create, lease_add, gc and create allocate: no other request, no take and no return may be
+/// left out for lack of memory.
+pub fn few_requests_allocate()
+    ensures remove { (digest : List ℕ) → takes_memory (request.Remove digest) ≡ false }
+    ensures lease_delete { (id : List ℕ) → takes_memory (request.LeaseDelete id) ≡ false }
     ensures start { (id : List ℕ) → takes_memory (request.Start id) ≡ false }
     ensures pause { (id : List ℕ) → takes_memory (request.Pause id) ≡ false }
     ensures resume { (id : List ℕ) → takes_memory (request.Resume id) ≡ false }
@@ -132,10 +144,10 @@ pub fn puts_and_creates_allocate()
     ensures give_back { (id : List ℕ) (r : EventReply) → met_no_memory (event.Return id) r ≡ false }
 {}
 
-/// A valid module that the machine can run is never refused as invalid.
+/// A valid module is never refused as invalid.
 pub fn valid_modules_are_not_invalid()
     ensures { (bytes : List ℕ) (p : ProcessConfig) (m : Module) → IsSpelled bytes m → ValidModule m
-        → RunsModule m → CannotOpen bytes p Refusal.Invalid → ⊥ }
+        → CannotOpen bytes p Refusal.Invalid → ⊥ }
 {
     spells_one();
 }

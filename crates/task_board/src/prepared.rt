@@ -5,8 +5,8 @@ ghost use Rattle.task_board.specs.Prepared.{refusal_of};
 ghost use Rattle.task_board.specs.Inside.Plans.{refusal_in};
 
 use crate::change::Change;
-use crate::contents::Content;
 use crate::request::Reply;
+use crate::store_change::StoreChange;
 use crate::task::Task;
 use wasm_ast::{Refusal, Text};
 
@@ -33,11 +33,8 @@ pub enum Plan {
     Refused(Refusal),
     /// The reply is all.
     Answered(Reply),
-    /// A content is stored, and its digest answered.
-    Put {
-        content: Content,
-        digest: Text,
-    },
+    /// The store is changed.
+    Store(StoreChange),
     /// A task enters, and its id is answered.
     Create {
         task: Task,

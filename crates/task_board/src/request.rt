@@ -1,13 +1,23 @@
 //! What is asked of the board, and what it answers.
 
 use task_lifecycle::{ExitRecord, Status};
-use wasm_ast::{Bytes, Text};
+use wasm_ast::{Bytes, Sequence, Text};
 
 /// A request.
 #[derive(Drop)]
 pub enum Request {
     /// Stores bytes as a content, under their digest.
     Put { bytes: Bytes },
+    /// Removes the content under a digest.
+    Remove { digest: Text },
+    /// Creates a lease with an id.
+    LeaseCreate { id: Text },
+    /// Adds the digest of a content to a lease.
+    LeaseAdd { digest: Text, id: Text },
+    /// Deletes a lease.
+    LeaseDelete { id: Text },
+    /// Removes the contents that are not held.
+    Gc,
     /// Creates a task with an id from a config, which is the text of a JSON object.
     Create { config: Text, id: Text },
     /// Starts a created task.
@@ -41,6 +51,12 @@ pub struct TaskState {
 pub enum Reply {
     /// The digest of the bytes, and how many bytes they are.
     Put { digest: Text, size: u64 },
+    Remove { digest: Text },
+    LeaseCreate { id: Text },
+    LeaseAdd { digest: Text, id: Text },
+    LeaseDelete { id: Text },
+    /// The digests of the contents that were removed, in order of arrival.
+    Gc { removed: Sequence<Text> },
     Create { id: Text, status: Status },
     Start { id: Text, status: Status },
     Pause { id: Text, status: Status },

@@ -1,57 +1,67 @@
-//! The tables of a board: contents and tasks. No allocator is in reach here but those that the tables
-//! keep, so what changes a board takes no memory.
+//! The tables of a board: the store and the tasks.
 
-ghost use Rattle.std.specs.Prelude.{◌≡◌, ◌≢◌, ◌≤◌, ◌<◌, ◌+◌, ◌↔◌, IsTrue, ◌++◌, ◌∷◌, [], Some, None, Ok, Err, IfOk, IsOk, OnOk, IfErr, IfSome, IfNone, true, false, option_map, is_some};
+ghost use Rattle.std.specs.Prelude.{◌≡◌, ◌≢◌, ◌≤◌, ◌<◌, ◌+◌, ◌↔◌, IsTrue, ◌++◌, ◌∷◌, [], Some, None, Ok, Err, IfOk, IsOk, OnOk, OnErr, IfErr, IfSome, IfNone, true, false, option_map, is_some};
 ghost use Rattle.std.specs.Arc.{arc_value};
 ghost use Rattle.task_board.specs.declared.request.Request.{Request as RequestValue};
 ghost use Rattle.task_board.specs.declared.request.Request.TheVariants as request;
 ghost use Rattle.task_board.specs.declared.event.Event.TheVariants as event;
 ghost use Rattle.task_board.specs.declared.event.EventReply.TheVariants as answer;
 ghost use Rattle.task_lifecycle.specs.Names.{signal_of};
-ghost use Rattle.task_board.specs.BoardState.{Task as TaskValue, empty, content_in};
-ghost use Rattle.task_board.specs.BoardValue.{KeepsCapacity};
-ghost use Rattle.task_board.specs.Identifiers.{digest_of};
+ghost use Rattle.content_leases.specs.Identifiers.{digest_of};
+ghost use Rattle.content_leases.specs.StoreState.{content_in, unheld};
+ghost use Rattle.content_leases.specs.Refusals.{first_refusal, put_refusals, lease_create_refusals, lease_add_refusals};
+ghost use Rattle.task_board.specs.BoardState.{Task as TaskValue, empty, used_by};
+ghost use Rattle.task_board.specs.BoardValue.{KeepsRoom};
 ghost use Rattle.task_board.specs.Limits.{max_budget};
 ghost use Rattle.task_board.specs.Loans.{Fits};
 ghost use Rattle.task_board.specs.Prepared.{Prepares, refusal_of, refusal_answered};
-ghost use Rattle.task_board.specs.Refusals.{first_refusal, put_refusals, is_full, delete_refusals};
+ghost use Rattle.wasm_ast.specs.declared.refusal.Refusal.{Refusal as Reason};
+ghost use Rattle.step_machine.specs.declared.process.ProcessConfig.{ProcessConfig as ProcessValue};
+ghost use Rattle.task_board.specs.Refusals.{is_full, delete_refusals, CannotOpen};
+ghost use Rattle.task_board.specs.Inside.OpenedModules.{IsOpen};
 ghost use Rattle.task_board.specs.Sound.{IsBoard};
 ghost use Rattle.task_board.specs.Step.{Answers, Step};
 ghost use Rattle.task_board.specs.Tickets.{ticket_of, CanLend, Lends, ticket_in};
-ghost use Rattle.task_board.specs.Inside.Plans.{id_refusals, IsAllowed, RefusesTask, RefusesKill, PutPrepared, CreatePrepared, CallPrepared, Plans};
+ghost use Rattle.task_board.specs.Waiting.{enter_if, enter_again, running_ticket, waiting_after_call, waiting_after, AreWaiting};
+ghost use Rattle.task_board.specs.Inside.Plans.{id_refusals, IsAllowed, RefusesTask, RefusesKill, CreatePrepared, CallPrepared, Plans};
 ghost use Rattle.task_board.specs.Inside.Changes.{change_request, change_refusals};
+ghost use Rattle.task_board.specs.Inside.StoreChanges.{store_request, StorePrepared};
 
 use crate::change::Change;
-use crate::contents::{Content, content_of};
-use crate::identifier::is_id;
 use crate::loan::Loan;
+use crate::open::valid_of;
+use crate::opened::Opened;
 use crate::prepared::{Plan, Prepared};
 use crate::request::Reply;
-use crate::task::{Task, find_task};
+use crate::store_change::StoreChange;
+use crate::task::{Task, find_task, is_present, is_used, used_digests};
 use crate::ticket::Ticket;
+use crate::waiting::Waiting;
+use content_leases::{Store, is_id};
 use slab::Slab;
 use std::alloc::{AllocError, Global};
 use std::marker::Model;
 use std::sync::Arc;
+use step_machine::Valid;
 use step_machine::laws::{slices_go_forward, slices_stop_first};
 use task_lifecycle::{Signal, Status, TaskCall};
-use wasm_ast::{Bytes, MAX_MODULE_BYTES, Refusal, Text};
+use wasm_ast::{Bytes, Refusal, Sequence, Text};
 
 /// The most tasks of a board.
 const MAX_TASKS: usize = 64;
 
-/// The most contents of a board.
-const MAX_CONTENTS: usize = 256;
-
 /// The most creates that a board accepts.
 const MAX_CREATES: u64 = 1 << 60;
 
-/// Contents in order of arrival, tasks by their slots, and how many creates were accepted.
+/// The store, the modules of contents that were opened, tasks by their slots, how many creates were
+/// accepted, and the tasks that wait for a worker.
 #[derive(Drop)]
 pub struct Tables {
-    contents: Vec<Content>,
+    store: Store,
+    opened: Opened,
     tasks: Slab<Task>,
     creates: u64,
+    waiting: Waiting,
 }
 
 impl Model for Tables {
@@ -59,7 +69,9 @@ impl Model for Tables {
     ghost use Rattle.std.specs.Coded.{codes};
     ghost use Rattle.wasm_ast.specs.Inside.Code.{ops_code};
     ghost use Rattle.task_board.specs.BoardValue.{BoardValue};
-    ghost use Rattle.task_board.specs.Sound.{IsBoard};
+    ghost use Rattle.task_board.specs.Sound.{Each, IsBoard};
+    ghost use Rattle.task_board.specs.Waiting.{AreWaiting};
+    ghost use Rattle.task_board.specs.Inside.OpenedModules.{IsOpened};
     ghost use Rattle.task_board.specs.Inside.Shown.{board_of, board_state_of};
 
     ghost Value = { BoardValue };
@@ -68,25 +80,40 @@ impl Model for Tables {
 
     ghost view = { board_of };
 
-    ghost invariant = { λ b. record { tasks_room : 64 ≤ b.tasks.capacity; sound : IsBoard (board_state_of b) } };
+    ghost invariant = { λ b. record {
+      tasks_room : 64 ≤ b.tasks.capacity;
+      sound : IsBoard (board_state_of b);
+      waiting : AreWaiting (board_state_of b).tasks b.waiting;
+      opened : Each (IsOpened b.store.state.contents) b.opened;
+    } };
 }
 
 impl Tables {
-    /// Empty tables with room for all contents and tasks. An error if that cannot be allocated.
-    pub fn new(alloc: Global) -> Result<Tables, AllocError>
+    /// Empty tables with room for all that they may have. `NoMemory` if that cannot be allocated.
+    pub fn new(alloc: Global) -> Result<Tables, Refusal>
         ensures empty { IfOk result (λ b. b.state ≡ empty) }
         ensures waiting { IfOk result (λ b. b.waiting ≡ []) }
+        ensures err { OnErr result (result ≡ Err Refusal.NoMemory) }
     {
         Ok(Tables {
-            contents: Vec::with_capacity(alloc, MAX_CONTENTS)?,
+            store: Store::new(alloc)?,
+            opened: Opened::new(alloc)?,
             tasks: Slab::with_capacity(alloc, MAX_TASKS)?,
             creates: 0,
+            waiting: Waiting::new(alloc)?,
         })
     }
 
     /// What holds of every board.
     pub fn sound(&self)
         ensures { IsBoard self.now.state }
+    {
+        let _creates = self.creates;
+    }
+
+    /// What holds of the tasks that wait.
+    pub fn waiting_once(&self)
+        ensures { AreWaiting self.now.state.tasks self.now.waiting }
     {
         let _creates = self.creates;
     }
@@ -103,36 +130,104 @@ impl Tables {
         ensures same { (self.new.state ≡ self.old.state) × (self.new.waiting ≡ self.old.waiting) }
         ensures room { OnOk result (0 < self.new.room.contents) }
     {
-        self.contents.reserve(1)
+        self.store.reserve_content()
+    }
+
+    /// Makes room for one lease more. An error if that cannot be allocated.
+    pub fn reserve_lease(&mut self) -> Result<(), AllocError>
+        ensures same { (self.new.state ≡ self.old.state) × (self.new.waiting ≡ self.old.waiting) }
+        ensures room { OnOk result (0 < self.new.room.leases) }
+    {
+        self.store.reserve_lease()
     }
 
     /// The bytes that are stored under a digest.
     pub fn content(&self, digest: &str) -> Option<&Arc<Bytes>>
         ensures { option_map (λ b. arc_value b.now) result
-            ≡ content_in self.now.state.contents digest.now }
+            ≡ content_in self.now.state.store.contents digest.now }
     {
-        content_of(self.contents.as_slice(), digest)
+        self.store.content(digest)
+    }
+
+    /// The valid module that the content under a digest spells. It is decoded and validated but once. Each
+    /// refusal but `NoMemory` is a reason why there is none.
+    pub fn open(
+        &mut self,
+        alloc: Global,
+        digest: &str,
+        bytes: &Arc<Bytes>,
+    ) -> Result<Valid, Refusal>
+        requires { content_in self.old.state.store.contents digest.now
+            ≡ Some (arc_value bytes.now) }
+        ensures same { self.new ≡ self.old }
+        ensures ok { IfOk result (λ v. IsOpen (arc_value bytes.now) v) }
+        ensures refused { (e : Reason) (p : ProcessValue) → result ≡ Err e → e ≢ Refusal.NoMemory
+            → CannotOpen (arc_value bytes.now) p e }
+    {
+        if let Some(valid) = self.opened.get(digest) {
+            return Ok(valid.share()?);
+        }
+        let valid = valid_of(alloc, bytes.as_slice())?;
+        self.opened.add(alloc, digest, valid.share()?)?;
+        Ok(valid)
     }
 
     /// Why bytes cannot be stored, if they cannot.
     pub fn refusal_of_put(&self, digest: &Text, bytes: &Bytes) -> Option<Refusal>
         requires { digest.now ≡ digest_of bytes.now }
-        ensures { result ≡ first_refusal (put_refusals self.now.state bytes.now) }
+        ensures { result ≡ first_refusal (put_refusals self.now.state.store bytes.now) }
     {
-        if bytes.len() > MAX_MODULE_BYTES {
-            return Some(Refusal::Limit);
+        self.store.refusal_of_put(digest, bytes)
+    }
+
+    /// Why no lease with an id can be created, if none can.
+    pub fn refusal_of_lease_create(&self, id: &str) -> Option<Refusal>
+        ensures { result ≡ first_refusal (lease_create_refusals self.now.state.store id.now) }
+    {
+        self.store.refusal_of_lease_create(id)
+    }
+
+    /// Why a digest cannot be added to the lease with an id, if it cannot.
+    pub fn refusal_of_lease_add(&self, digest: &str, id: &str) -> Option<Refusal>
+        ensures { result
+            ≡ first_refusal (lease_add_refusals self.now.state.store digest.now id.now) }
+    {
+        self.store.refusal_of_lease_add(digest, id)
+    }
+
+    /// The digests that tasks name. An error if they cannot be allocated.
+    pub fn used(&self, alloc: Global) -> Result<Sequence<Text>, AllocError>
+        ensures { IfOk result (λ digests. digests ≡ used_by self.now.state.tasks) }
+    {
+        used_digests(alloc, &self.tasks)
+    }
+
+    /// The digests of the contents that no lease and none of these digests holds. An error if they cannot be
+    /// allocated.
+    pub fn unheld(&self, used: &[Text]) -> Result<Sequence<Text>, AllocError>
+        ensures { IfOk result (λ digests. digests ≡ unheld used.now self.now.state.store) }
+    {
+        Ok(Sequence::new(self.store.unheld(used)?))
+    }
+
+    /// What a removal of the content under a digest is prepared as.
+    pub fn plan_remove(&self, digest: Text) -> Plan
+        ensures { Plans self.now.state self.now.room (request.Remove digest) result }
+    {
+        let is_used = is_used(&self.tasks, digest.as_str());
+        match self.store.refusal_of_remove(digest.as_str(), is_used) {
+            Some(refusal) => Plan::Refused(refusal),
+            None => Plan::Store(StoreChange::Remove { digest }),
         }
-        match self.content(digest.as_str()) {
-            Some(stored) => if stored.is(bytes) {
-                Some(Refusal::Exists)
-            } else {
-                Some(Refusal::DigestConflict)
-            },
-            None => if self.contents.len() >= MAX_CONTENTS {
-                Some(Refusal::TooMany)
-            } else {
-                None
-            },
+    }
+
+    /// What the end of a lease is prepared as.
+    pub fn plan_lease_delete(&self, id: Text) -> Plan
+        ensures { Plans self.now.state self.now.room (request.LeaseDelete id) result }
+    {
+        match self.store.refusal_of_lease_delete(id.as_str()) {
+            Some(refusal) => Plan::Refused(refusal),
+            None => Plan::Store(StoreChange::LeaseDelete { id }),
         }
     }
 
@@ -185,7 +280,7 @@ impl Tables {
 
     /// What a request that changes a task is prepared as.
     pub fn plan_change(&self, id: Text, change: Change) -> Plan
-        ensures { Plans self.now.state self.now.room.contents (change_request change id) result }
+        ensures { Plans self.now.state self.now.room (change_request change id) result }
     {
         match self.entry_for(id.as_str(), change.call(), Refusal::WrongStatus) {
             Ok((slot, _task)) => Plan::Change { change, slot, id },
@@ -207,7 +302,7 @@ impl Tables {
 
     /// What a kill by the signal with a number is prepared as.
     pub fn plan_kill(&self, id: Text, number: u64) -> Plan
-        ensures { Plans self.now.state self.now.room.contents (request.Kill id number) result }
+        ensures { Plans self.now.state self.now.room (request.Kill id number) result }
     {
         match Signal::from_number(number) {
             Some(signal) => self.plan_change(id, Change::Kill(signal)),
@@ -217,7 +312,7 @@ impl Tables {
 
     /// What a delete is prepared as.
     pub fn plan_delete(&self, id: Text) -> Plan
-        ensures { Plans self.now.state self.now.room.contents (request.Delete id) result }
+        ensures { Plans self.now.state self.now.room (request.Delete id) result }
     {
         match self.entry_for(id.as_str(), TaskCall::Delete, Refusal::WrongStatus) {
             Ok((slot, _task)) => Plan::Delete { slot, id },
@@ -227,7 +322,7 @@ impl Tables {
 
     /// What a question for the state of a task is prepared as.
     pub fn plan_state(&self, id: Text) -> Plan
-        ensures { Plans self.now.state self.now.room.contents (request.State id) result }
+        ensures { Plans self.now.state self.now.room (request.State id) result }
     {
         match self.entry_for(id.as_str(), TaskCall::State, Refusal::WrongStatus) {
             Ok((_, task)) => Plan::Answered(Reply::State(task.state(id))),
@@ -237,7 +332,7 @@ impl Tables {
 
     /// What a wait is prepared as.
     pub fn plan_wait(&self, id: Text) -> Plan
-        ensures { Plans self.now.state self.now.room.contents (request.Wait id) result }
+        ensures { Plans self.now.state self.now.room (request.Wait id) result }
     {
         match self.entry_for(id.as_str(), TaskCall::Wait, Refusal::Busy) {
             Ok((_, task)) => Plan::Answered(Reply::Wait(task.state(id))),
@@ -245,17 +340,15 @@ impl Tables {
         }
     }
 
-    // Stores the content; there is room for it.
-    fn add_content(&mut self, content: Content, digest: Text) -> Reply
-        requires { PutPrepared self.old.state self.old.room.contents content digest }
+    // Changes the store.
+    fn change_store(&mut self, change: StoreChange) -> Reply
+        requires { StorePrepared self.old.state self.old.room change }
         ensures answers { Answers self.old.state
-            (request.Put content.bytes) (Ok result) self.new.state }
+            (store_request change) (Ok result) self.new.state }
         ensures waiting { self.new.waiting ≡ self.old.waiting }
-        ensures capacity { KeepsCapacity self.old self.new }
+        ensures room { KeepsRoom self.old self.new }
     {
-        let size = content.bytes().len() as u64;
-        self.contents.push_reserved(content);
-        Reply::Put { digest, size }
+        change.make_and_drop(&mut self.store, &mut self.opened)
     }
 
     // Lets the task in; there are fewer than 64.
@@ -264,7 +357,7 @@ impl Tables {
         ensures answers { (r : RequestValue) → CreatePrepared self.old.state r task id
             → Answers self.old.state r (Ok result) self.new.state }
         ensures waiting { self.new.waiting ≡ self.old.waiting }
-        ensures capacity { KeepsCapacity self.old self.new }
+        ensures room { KeepsRoom self.old self.new }
     {
         self.tasks.insert_reserved(task);
         self.creates += 1;
@@ -279,8 +372,10 @@ impl Tables {
         requires { CallPrepared self.old.state (change_refusals change) slot id }
         ensures answers { Answers self.old.state
             (change_request change id) (Ok result) self.new.state }
+        ensures ticket { running_ticket id self.new.state.tasks
+            ≡ ticket_in slot self.new.state.tasks }
         ensures waiting { self.new.waiting ≡ self.old.waiting }
-        ensures capacity { KeepsCapacity self.old self.new }
+        ensures room { KeepsRoom self.old self.new }
     {
         let Some(task) = self.tasks.get_mut(slot) else {
             unreachable!();
@@ -290,16 +385,55 @@ impl Tables {
         change.reply(id, status)
     }
 
+    // A ticket of the task in a slot, if that is running.
+    fn ticket_in(&self, slot: usize) -> Option<Ticket>
+        ensures { result ≡ ticket_in slot self.now.state.tasks }
+    {
+        match self.tasks.get(slot) {
+            Some(task) => task.ticket(slot),
+            None => None,
+        }
+    }
+
+    // Lets the task in a slot wait, if that is running and does not wait yet.
+    fn enter(&mut self, slot: usize)
+        ensures { self.new ≡ record self.old {
+          waiting = enter_if (ticket_in slot self.old.state.tasks) self.old.waiting;
+        } }
+    {
+        if let Some(ticket) = self.ticket_in(slot) {
+            self.waiting.enter(ticket);
+        }
+    }
+
+    // Changes the task in a slot, which waits afterwards if it was started or resumed and is running.
+    fn change_and_enter(&mut self, slot: usize, id: Text, change: Change) -> Reply
+        requires { CallPrepared self.old.state (change_refusals change) slot id }
+        ensures answers { Answers self.old.state
+            (change_request change id) (Ok result) self.new.state }
+        ensures waiting { self.new.waiting ≡ waiting_after_call (change_request change id)
+            self.new.state.tasks self.old.waiting }
+        ensures room { KeepsRoom self.old self.new }
+    {
+        let reply = self.change(slot, id, change);
+        if change.enters() {
+            self.enter(slot);
+        }
+        reply
+    }
+
     // Removes the task in a slot.
     fn delete(&mut self, slot: usize, id: Text) -> Reply
         requires { CallPrepared self.old.state delete_refusals slot id }
         ensures answers { Answers self.old.state (request.Delete id) (Ok result) self.new.state }
-        ensures waiting { self.new.waiting ≡ self.old.waiting }
-        ensures capacity { KeepsCapacity self.old self.new }
+        ensures waiting { self.new.waiting
+            ≡ waiting_after_call (request.Delete id) self.new.state.tasks self.old.waiting }
+        ensures room { KeepsRoom self.old self.new }
     {
         let Some(task) = self.tasks.try_remove(slot) else {
             unreachable!();
         };
+        self.waiting.keep_present(&self.tasks);
         Reply::Delete(task.state(id))
     }
 
@@ -310,16 +444,37 @@ impl Tables {
             → Answers self.old.state r result self.new.state }
         ensures refused { refusal_answered result ≡ refusal_of prepared }
         ensures memory { result ≢ Err Refusal.NoMemory }
-        ensures waiting { self.new.waiting ≡ self.old.waiting }
-        ensures capacity { KeepsCapacity self.old self.new }
+        ensures waiting { (r : RequestValue) → Prepares self.old r prepared → self.new.waiting
+            ≡ waiting_after r result self.new.state.tasks self.old.waiting }
+        ensures room { KeepsRoom self.old self.new }
     {
         match prepared.plan {
             Plan::Refused(refusal) => Err(refusal),
             Plan::Answered(reply) => Ok(reply),
-            Plan::Put { content, digest } => Ok(self.add_content(content, digest)),
+            Plan::Store(change) => Ok(self.change_store(change)),
             Plan::Create { task, id } => Ok(self.add_task(task, id)),
-            Plan::Change { change, slot, id } => Ok(self.change(slot, id, change)),
+            Plan::Change { change, slot, id } => Ok(self.change_and_enter(slot, id, change)),
             Plan::Delete { slot, id } => Ok(self.delete(slot, id)),
+        }
+    }
+
+    /// Takes the oldest of the tasks that wait out of the list.
+    pub fn next_waiting(&mut self) -> Option<Ticket>
+        ensures some { IfSome result (λ ticket. self.old.waiting ≡ ticket ∷ self.new.waiting) }
+        ensures none { IfNone result ((self.old.waiting ≡ []) × (self.new.waiting ≡ [])) }
+        ensures rest { self.new ≡ record self.old { waiting = self.new.waiting } }
+    {
+        self.waiting.next()
+    }
+
+    /// Lets the ticket's task wait again, if it is there and does not wait yet.
+    pub fn wait_again(&mut self, ticket: Ticket)
+        ensures { self.new ≡ record self.old {
+          waiting = enter_again self.old.state.tasks ticket self.old.waiting;
+        } }
+    {
+        if is_present(&self.tasks, ticket) {
+            self.waiting.enter(ticket);
         }
     }
 
@@ -343,7 +498,7 @@ impl Tables {
         ensures none { IfNone result ((t : TaskValue) → CanLend ticket self.old.state.tasks t → ⊥) }
         ensures same { IfNone result (self.new ≡ self.old) }
         ensures waiting { self.new.waiting ≡ self.old.waiting }
-        ensures capacity { KeepsCapacity self.old self.new }
+        ensures room { KeepsRoom self.old self.new }
     {
         let task = self.tasks.get_mut(ticket.slot)?;
         if task.incarnation() != ticket.incarnation {
@@ -371,7 +526,7 @@ impl Tables {
             (event.Return loan.id) (answer.Returned true) self.new.state }
         ensures ticket { result ≡ ticket_in loan.slot self.new.state.tasks }
         ensures waiting { self.new.waiting ≡ self.old.waiting }
-        ensures capacity { KeepsCapacity self.old self.new }
+        ensures room { KeepsRoom self.old self.new }
     {
         slices_go_forward();
         slices_stop_first();
@@ -394,7 +549,7 @@ impl Tables {
         ensures unfit { (Fits loan self.old.state.tasks → ⊥)
             → (self.new ≡ self.old) × (result ≡ None) }
         ensures waiting { self.new.waiting ≡ self.old.waiting }
-        ensures capacity { KeepsCapacity self.old self.new }
+        ensures room { KeepsRoom self.old self.new }
     {
         if self.fits(&loan) {
             self.receive(loan)

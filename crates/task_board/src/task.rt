@@ -6,11 +6,13 @@ ghost use Rattle.slab.specs.Slab.{entries};
 ghost use Rattle.step_machine.specs.Instantiation.{ended};
 ghost use Rattle.step_machine.specs.Slices.{at_break};
 ghost use Rattle.task_lifecycle.specs.Lifecycle.{allowed};
-ghost use Rattle.task_board.specs.BoardState.{created_task, entry_of};
+ghost use Rattle.content_leases.specs.StoreState.{is_among};
+ghost use Rattle.task_board.specs.BoardState.{created_task, entry_of, used_by};
 ghost use Rattle.task_board.specs.Loans.{Lent, loan_of, FitsTask};
 ghost use Rattle.task_board.specs.Refusals.{Openable};
 ghost use Rattle.task_board.specs.Tasks.{exit_of, standing_at_start, started, paused, resumed, first_signal, killed, standing_onward, standing_after, advanced, slice_turns, can_lend, lent, state_of};
 ghost use Rattle.task_board.specs.Tickets.{ticket_if_running};
+ghost use Rattle.task_board.specs.Waiting.{is_present};
 ghost use Rattle.task_board.specs.Inside.Machines.{IsMachine};
 ghost use Rattle.task_board.specs.Inside.Changes.{change_call, changed};
 
@@ -25,7 +27,7 @@ use std::marker::Model;
 use std::sync::Arc;
 use step_machine::{Breaks, End, Machine, SliceEnd};
 use task_lifecycle::{ExitRecord, Signal, Status};
-use wasm_ast::Text;
+use wasm_ast::{Sequence, Text};
 use wasm_binary::laws::spells_one;
 
 /// A task. Contracts see what a call can see of it.
@@ -94,6 +96,13 @@ impl Task {
         ensures { result.now ≡ self.now.id }
     {
         &self.shared.id
+    }
+
+    /// The digest of its module.
+    pub fn digest(&self) -> &Text
+        ensures { result.now ≡ self.now.process.module }
+    {
+        &self.shared.process.module
     }
 
     /// Its status.
@@ -313,4 +322,37 @@ pub fn find_task<'a>(tasks: &'a Slab<Task>, id: &str) -> Option<(usize, &'a Task
         }
     }
     None
+}
+
+/// Whether the task of a ticket is there.
+pub fn is_present(tasks: &Slab<Task>, ticket: Ticket) -> bool
+    ensures { result ≡ is_present (entries tasks.now) ticket }
+{
+    match tasks.get(ticket.slot) {
+        Some(task) => task.incarnation() == ticket.incarnation,
+        None => false,
+    }
+}
+
+/// Whether some task names a digest.
+pub fn is_used(tasks: &Slab<Task>, digest: &str) -> bool
+    ensures { result ≡ is_among digest.now (used_by (entries tasks.now)) }
+{
+    for (_slot, task) in tasks.iter() {
+        if task.digest().as_str() == digest {
+            return true;
+        }
+    }
+    false
+}
+
+/// The digests that tasks name. An error if they cannot be allocated.
+pub fn used_digests(alloc: Global, tasks: &Slab<Task>) -> Result<Sequence<Text>, AllocError>
+    ensures { IfOk result (λ digests. digests ≡ used_by (entries tasks.now)) }
+{
+    let mut digests = Vec::new(alloc);
+    for (_slot, task) in tasks.iter() {
+        digests.push(task.digest().copy(alloc)?)?;
+    }
+    Ok(Sequence::new(digests))
 }

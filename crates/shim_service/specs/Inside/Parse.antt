@@ -21,9 +21,19 @@ pub record Parses {X : Type 0} (Is : X → Type 0) (r : Result X LineError) : Ty
 -- a request whose only key beside `op` is `id`
 abbrev pub HasOnlyId : Request → Type 0
 HasOnlyId (request.Put bytes) = ⊥
+HasOnlyId (request.Remove digest) = ⊥
+HasOnlyId (request.LeaseAdd digest id) = ⊥
+HasOnlyId request.Gc = ⊥
 HasOnlyId (request.Create config id) = ⊥
 HasOnlyId (request.Kill id signal) = ⊥
 HasOnlyId other = Unit {0}
+
+-- a request that is no put, create or kill
+abbrev pub IsSimple : Request → Type 0
+IsSimple (request.Put bytes) = ⊥
+IsSimple (request.Create config id) = ⊥
+IsSimple (request.Kill id signal) = ⊥
+IsSimple other = Unit {0}
 
 -- what a line is answered that could not be read
 abbrev pub refusal_of : LineError → Refusal

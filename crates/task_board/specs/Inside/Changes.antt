@@ -1,5 +1,5 @@
 -- The requests that change a task, in one.
-use Rattle.std.specs.Prelude.{ℕ, List}
+use Rattle.std.specs.Prelude.{ℕ, List, Bool, true, false}
 use Rattle.task_lifecycle.specs.declared.lifecycle.TaskCall.{TaskCall}
 use Rattle.task_lifecycle.specs.declared.lifecycle.TaskCall.TheVariants as call
 use Rattle.task_lifecycle.specs.declared.status.Status.{Status}
@@ -10,15 +10,23 @@ use Rattle.task_board.specs.declared.request.Request.{Request}
 use Rattle.task_board.specs.declared.request.Request.TheVariants as request
 use Rattle.task_board.specs.declared.request.Reply.{Reply}
 use Rattle.task_board.specs.declared.request.Reply.TheVariants as reply
+use Rattle.content_leases.specs.Refusals.{Refusals}
 use Rattle.task_board.specs.BoardState.{Task}
 use Rattle.task_board.specs.Tasks.{started, paused, resumed, killed}
-use Rattle.task_board.specs.Refusals.{Refusals, start_refusals, pause_refusals, resume_refusals, kill_refusals}
+use Rattle.task_board.specs.Refusals.{start_refusals, pause_refusals, resume_refusals, kill_refusals}
 
 abbrev pub change_call : Change → TaskCall
 change_call change.Start = call.Start
 change_call change.Pause = call.Pause
 change_call change.Resume = call.Resume
 change_call (change.Kill signal) = call.Kill
+
+-- it lets the task wait for a worker, if that is running afterwards
+abbrev pub enters : Change → Bool
+enters change.Start = true
+enters change.Pause = false
+enters change.Resume = true
+enters (change.Kill signal) = false
 
 abbrev pub change_request : Change → (id : List ℕ) → Request
 change_request change.Start id = request.Start id

@@ -1,5 +1,5 @@
 -- What a request is prepared as.
-use Rattle.std.specs.Prelude.{◌≡◌, ◌≢◌, ℕ, ◌<◌, List, [], ◌∷◌, not, true, Option, None, Some, is_some, Ok, Err}
+use Rattle.std.specs.Prelude.{◌≡◌, ◌≢◌, ℕ, List, [], ◌∷◌, not, true, Option, None, Some, is_some, Ok, Err}
 use Rattle.wasm_ast.specs.declared.module.Module.{Module}
 use Rattle.wasm_ast.specs.declared.refusal.Refusal.{Refusal}
 use Rattle.wasm_ast.specs.declared.refusal.Refusal.TheVariants as refusal
@@ -10,12 +10,16 @@ use Rattle.task_board.specs.declared.request.Request.{Request}
 use Rattle.task_board.specs.declared.request.Request.TheVariants as request
 use Rattle.task_lifecycle.specs.declared.lifecycle.TaskCall.{TaskCall}
 use Rattle.task_lifecycle.specs.Lifecycle.{allowed}
-use Rattle.task_board.specs.Identifiers.{is_id, digest_of}
+use Rattle.content_leases.specs.Identifiers.{is_id}
+use Rattle.content_leases.specs.StoreState.{content_in}
+use Rattle.content_leases.specs.Refusals.{Refusals, first_refusal}
 use Rattle.task_board.specs.Config.{process_read}
-use Rattle.task_board.specs.BoardState.{Content, Task, created_task, BoardState, content_in, entry_of, task_of}
-use Rattle.task_board.specs.Refusals.{Refusals, is_full, first_refusal, put_refusals, create_refusals, kill_refusals, delete_refusals, task_refusals, Openable, CannotOpen}
+use Rattle.task_board.specs.BoardState.{Task, created_task, BoardState, entry_of, task_of}
+use Rattle.task_board.specs.BoardValue.{Room}
+use Rattle.task_board.specs.Refusals.{is_full, create_refusals, kill_refusals, delete_refusals, task_refusals, Openable, CannotOpen}
 use Rattle.task_board.specs.Step.{Answers}
 use Rattle.task_board.specs.Inside.Changes.{change_request, change_refusals}
+use Rattle.task_board.specs.Inside.StoreChanges.{store_request, StorePrepared}
 
 -- those of a create that concern its id alone
 abbrev pub id_refusals : BoardState → (id : List ℕ) → Refusals
@@ -41,20 +45,13 @@ abbrev pub RefusesKill : BoardState → (id : List ℕ) → (number : ℕ) → (
 RefusesKill s id number e =
     first_refusal (task_refusals id (kill_refusals number) (task_of id s.tasks)) ≡ Some e
 
--- a content that may be stored, in the room for that number of contents
-pub record PutPrepared (s : BoardState) (free : ℕ) (content : Content) (digest : List ℕ) : Type 0 where
-  pub accepted : first_refusal (put_refusals s content.bytes) ≡ None
-  pub named : content.digest ≡ digest_of content.bytes
-  pub answered : digest ≡ digest_of content.bytes
-  pub room : 0 < free
-
 -- a task that may enter in answer to a request
 pub record CreatePrepared (s : BoardState) (r : Request) (task : Task) (id : List ℕ) : Type 0 where
   pub config : List ℕ
   pub is : r ≡ request.Create config id
   pub accepted : first_refusal (create_refusals s config id) ≡ None
   pub read : process_read config ≡ Some task.process
-  pub content : content_in s.contents task.process.module ≡ Some task.bytes
+  pub content : content_in s.store.contents task.process.module ≡ Some task.bytes
   pub openable : Openable task.bytes task.process task.module
   pub created : task ≡ created_task id s.creates task.bytes task.module task.process
 
@@ -71,11 +68,17 @@ PlansTask s id bytes p (plan.Create task answered) =
     (answered ≡ id) × (m : Module) × Openable bytes p m × (task ≡ created_task id s.creates bytes m p)
 PlansTask s id bytes p other = ⊥
 
--- the request is prepared so on a board with that state and room for that number of contents
-abbrev pub Plans : BoardState → (room : ℕ) → Request → Plan → Type 0
+-- a request that changes nothing
+abbrev pub IsQuestion : Request → Type 0
+IsQuestion (request.State id) = Unit {0}
+IsQuestion (request.Wait id) = Unit {0}
+IsQuestion other = ⊥
+
+-- the request is prepared so on a board with that state and room
+abbrev pub Plans : BoardState → Room → Request → Plan → Type 0
 Plans s room r (plan.Refused e) = (e ≢ refusal.NoMemory) × Answers s r (Err e) s
-Plans s room r (plan.Answered reply) = Answers s r (Ok reply) s
-Plans s room r (plan.Put content digest) = (r ≡ request.Put content.bytes) × PutPrepared s room content digest
+Plans s room r (plan.Answered reply) = IsQuestion r × Answers s r (Ok reply) s
+Plans s room r (plan.Store c) = (r ≡ store_request c) × StorePrepared s room c
 Plans s room r (plan.Create task id) = CreatePrepared s r task id
 Plans s room r (plan.Change c slot id) = (r ≡ change_request c id) × CallPrepared s (change_refusals c) slot id
 Plans s room r (plan.Delete slot id) = (r ≡ request.Delete id) × CallPrepared s delete_refusals slot id

@@ -1,5 +1,5 @@
 -- What contracts see of tables, tasks and loans.
-use Rattle.std.specs.Prelude.{ℕ, ◌-◌, [], length, false, is_some, vec_capacity}
+use Rattle.std.specs.Prelude.{ℕ, ◌-◌, length, false, is_some}
 use Rattle.std.specs.Arc.{arc_value}
 use Rattle.task_board.specs.declared.checkout.Checkout.{Checkout}
 use Rattle.task_board.specs.declared.loan.Loan.TheInside as loan
@@ -44,14 +44,15 @@ task_of t = record {
 }
 
 abbrev pub board_state_of : tables.Inside → BoardState
-board_state_of b = record { contents = b.contents.items; leases = []; tasks = entries b.tasks; creates = b.creates }
+board_state_of b = record { store = b.store.state; tasks = entries b.tasks; creates = b.creates }
 
 abbrev pub board_of : tables.Inside → BoardValue
 board_of b = record {
   state = board_state_of b;
-  waiting = [];
+  waiting = b.waiting;
   room = record {
-    contents = vec_capacity b.contents - length b.contents.items;
+    contents = b.store.content_room;
+    leases = b.store.lease_room;
     tasks = b.tasks.capacity - length (entries b.tasks);
   };
 }

@@ -33,3 +33,15 @@ returns-clause-take c = record {
 pub returns-clause-stopped : goal.returns-clause-stopped
 unfolding serde_json_on_literals digits
 returns-clause-stopped c = refl
+
+pub returns-clause-lease : goal.returns-clause-lease
+unfolding serde_json_on_literals is_utf8 chars
+returns-clause-lease c = record {
+  value = _;
+  reads = record { short = omega arith; utf8 = IsUtf8-from_is_utf8 (codes "{\"op\":\"lease_add\",\"id\":\"l\",\"digest\":\"d\"}") refl; value = refl };
+  asks = (_, refl, refl);
+}
+
+pub returns-clause-removed : goal.returns-clause-removed
+unfolding serde_json_on_literals digits
+returns-clause-removed c = refl

@@ -2,4 +2,4 @@ use Rattle.task_board.proofs.LawLemmas.{not_invalid}
 use Rattle.task_board.proofs.laws.valid_modules_are_not_invalid.Goals as goal
 
 pub returns : goal.returns
-returns c bytes p m spelled valid runs h = not_invalid bytes p m c.spells_one.ensures spelled valid runs h
+returns c bytes p m spelled valid h = not_invalid bytes p m c.spells_one.ensures spelled valid h

@@ -4,7 +4,7 @@ use Rattle.task_lifecycle.specs.declared.status.Status.{Status}
 use Rattle.task_lifecycle.specs.Lifecycle.{allowed}
 use Rattle.task_board.specs.declared.request.Reply.{Reply}
 use Rattle.task_board.specs.BoardState.{Task}
-use Rattle.task_board.specs.BoardValue.{BoardValue, KeepsCapacity}
+use Rattle.task_board.specs.BoardValue.{BoardValue, KeepsRoom}
 use Rattle.task_board.specs.Step.{Answers}
 use Rattle.task_board.specs.Inside.Changes.{change_call, change_request, change_reply, change_refusals}
 use Rattle.task_board.specs.Inside.Plans.{CallPrepared}
@@ -36,9 +36,11 @@ invariant_of-self c =
     let P : BoardValue → Type 0 = λ v. CallPrepared v.state (change_refusals c.args.change) c.args.slot c.args.id in
     let p = subst P (sym c.self.view_is) c.requires in
     let here : get c.self.inside.tasks c.args.slot ≡ Some c.in-Some.task.now = search rules in
-    let done = changed_there c.self.inside c.args.change c.args.slot c.args.id c.in-Some.task.now c.change.new.self c.self.invariant.sound p here c.change.ensures in
+    let done = changed_there c.self.inside c.args.change c.args.slot c.args.id c.in-Some.task.now c.change.new.self c.self.invariant.sound c.self.invariant.waiting p here c.change.ensures in
     record {
+      opened = c.self.invariant.opened;
       tasks_room = c.self.invariant.tasks_room;
+      waiting = done.waiting;
       sound = answers_sound (board_state_of c.self.inside) (change_request c.args.change c.args.id) (Ok (change_reply c.args.change c.args.id c.change.new.self.status)) (board_state_of (with_write c.self.inside c.args.slot c.change.new.self)) c.self.invariant.sound done.answers;
     }
 
@@ -47,18 +49,25 @@ returns-clause-answers c =
     let P : BoardValue → Type 0 = λ v. CallPrepared v.state (change_refusals c.args.change) c.args.slot c.args.id in
     let p = subst P (sym c.self.view_is) c.requires in
     let here : get c.self.inside.tasks c.args.slot ≡ Some c.in-Some.task.now = search rules in
-    let done = changed_there c.self.inside c.args.change c.args.slot c.args.id c.in-Some.task.now c.change.new.self c.self.invariant.sound p here c.change.ensures in
+    let done = changed_there c.self.inside c.args.change c.args.slot c.args.id c.in-Some.task.now c.change.new.self c.self.invariant.sound c.self.invariant.waiting p here c.change.ensures in
     let s' = board_state_of (with_write c.self.inside c.args.slot c.change.new.self) in
     let Q : BoardValue → Type 0 = λ v. Answers v.state (change_request c.args.change c.args.id) (Ok (change_reply c.args.change c.args.id c.change.new.self.status)) s' in
     let R : Status → Type 0 = λ x. Answers c.args.self.now.state (change_request c.args.change c.args.id) (Ok (change_reply c.args.change c.args.id x)) s' in
     let T : Reply → Type 0 = λ x. Answers c.args.self.now.state (change_request c.args.change c.args.id) (Ok x) s' in
     subst T (sym c.reply.ensures) (subst R (sym c.status-status.ensures) (subst Q c.self.view_is done.answers))
 
-pub returns-clause-capacity : goal.returns-clause-capacity
-returns-clause-capacity c =
+pub returns-clause-room : goal.returns-clause-room
+returns-clause-room c =
     let P : BoardValue → Type 0 = λ v. CallPrepared v.state (change_refusals c.args.change) c.args.slot c.args.id in
     let p = subst P (sym c.self.view_is) c.requires in
     let here : get c.self.inside.tasks c.args.slot ≡ Some c.in-Some.task.now = search rules in
-    let done = changed_there c.self.inside c.args.change c.args.slot c.args.id c.in-Some.task.now c.change.new.self c.self.invariant.sound p here c.change.ensures in
-    let Q : BoardValue → Type 0 = λ v. KeepsCapacity v (board_of (with_write c.self.inside c.args.slot c.change.new.self)) in
-    subst Q c.self.view_is done.capacity
+    let done = changed_there c.self.inside c.args.change c.args.slot c.args.id c.in-Some.task.now c.change.new.self c.self.invariant.sound c.self.invariant.waiting p here c.change.ensures in
+    let Q : BoardValue → Type 0 = λ v. KeepsRoom v (board_of (with_write c.self.inside c.args.slot c.change.new.self)) in
+    subst Q c.self.view_is done.room
+
+pub returns-clause-ticket : goal.returns-clause-ticket
+returns-clause-ticket c =
+    let P : BoardValue → Type 0 = λ v. CallPrepared v.state (change_refusals c.args.change) c.args.slot c.args.id in
+    let p = subst P (sym c.self.view_is) c.requires in
+    let here : get c.self.inside.tasks c.args.slot ≡ Some c.in-Some.task.now = search rules in
+    (changed_there c.self.inside c.args.change c.args.slot c.args.id c.in-Some.task.now c.change.new.self c.self.invariant.sound c.self.invariant.waiting p here c.change.ensures).ticket

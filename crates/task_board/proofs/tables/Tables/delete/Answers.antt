@@ -1,10 +1,13 @@
-use Rattle.std.proofs.Common.{◌≡◌, ◌∙◌, Some, None, Ok, sym, ap, subst, ℕ, ◌≤◌, rules}
-use Rattle.slab.specs.Slab.{get}
+use Rattle.std.proofs.Common.{List, ◌≡◌, ◌∙◌, Some, None, Ok, sym, ap, subst, ℕ, ◌≤◌, rules}
+use Rattle.slab.specs.Slab.{get, entries}
+use Rattle.task_board.specs.declared.ticket.Ticket.{Ticket}
+use Rattle.task_board.specs.Waiting.{AreWaiting}
+use Rattle.task_board.proofs.WaitingLemmas.{filtered}
 use Rattle.task_board.specs.declared.request.Request.TheVariants as request
 use Rattle.task_board.specs.declared.request.Reply.TheVariants as reply
 use Rattle.task_board.specs.declared.request.TaskState.{TaskState}
 use Rattle.task_board.specs.BoardState.{Task}
-use Rattle.task_board.specs.BoardValue.{BoardValue, KeepsCapacity}
+use Rattle.task_board.specs.BoardValue.{BoardValue, KeepsRoom}
 use Rattle.task_board.specs.Refusals.{delete_refusals}
 use Rattle.task_board.specs.Step.{Answers}
 use Rattle.task_board.specs.Tasks.{state_of}
@@ -39,10 +42,12 @@ invariant_of-self c =
     let here : get c.self.inside.tasks c.args.slot ≡ Some c.in-Some.task = search rules in
     let new = c.try_remove.new.self in
     let e = c.in-Some.ensures in
-    let done = removed_there c.self.inside c.args.slot c.args.id new c.in-Some.task c.self.invariant.tasks_room c.self.invariant.sound p here e.slots e.capacity in
+    let done = removed_there c.self.inside c.args.slot c.args.id new c.keep_present.new.self c.in-Some.task c.self.invariant.tasks_room c.self.invariant.sound p here e.slots e.capacity in
     record {
+      waiting = subst (λ (ws : List Ticket). AreWaiting (entries new) ws) (sym c.keep_present.ensures) (filtered (entries new) c.self.inside.waiting c.self.invariant.waiting.once);
+      opened = c.self.invariant.opened;
       tasks_room = subst (λ (n : ℕ). 64 ≤ n) (sym e.capacity) c.self.invariant.tasks_room;
-      sound = answers_sound (board_state_of c.self.inside) (request.Delete c.args.id) (Ok (reply.Delete (state_of c.in-Some.task))) (board_state_of (with_slab c.self.inside new)) c.self.invariant.sound done.answers;
+      sound = answers_sound (board_state_of c.self.inside) (request.Delete c.args.id) (Ok (reply.Delete (state_of c.in-Some.task))) (board_state_of (with_slab c.self.inside new c.keep_present.new.self)) c.self.invariant.sound done.answers;
     }
 
 pub returns-clause-answers : goal.returns-clause-answers
@@ -52,19 +57,19 @@ returns-clause-answers c =
     let here : get c.self.inside.tasks c.args.slot ≡ Some c.in-Some.task = search rules in
     let new = c.try_remove.new.self in
     let e = c.in-Some.ensures in
-    let done = removed_there c.self.inside c.args.slot c.args.id new c.in-Some.task c.self.invariant.tasks_room c.self.invariant.sound p here e.slots e.capacity in
-    let s' = board_state_of (with_slab c.self.inside new) in
+    let done = removed_there c.self.inside c.args.slot c.args.id new c.keep_present.new.self c.in-Some.task c.self.invariant.tasks_room c.self.invariant.sound p here e.slots e.capacity in
+    let s' = board_state_of (with_slab c.self.inside new c.keep_present.new.self) in
     let Q : BoardValue → Type 0 = λ v. Answers v.state (request.Delete c.args.id) (Ok (reply.Delete (state_of c.in-Some.task))) s' in
     let R : TaskState → Type 0 = λ x. Answers c.args.self.now.state (request.Delete c.args.id) (Ok (reply.Delete x)) s' in
     subst R (sym c.state.ensures) (subst Q c.self.view_is done.answers)
 
-pub returns-clause-capacity : goal.returns-clause-capacity
-returns-clause-capacity c =
+pub returns-clause-room : goal.returns-clause-room
+returns-clause-room c =
     let P : BoardValue → Type 0 = λ v. CallPrepared v.state delete_refusals c.args.slot c.args.id in
     let p = subst P (sym c.self.view_is) c.requires in
     let here : get c.self.inside.tasks c.args.slot ≡ Some c.in-Some.task = search rules in
     let new = c.try_remove.new.self in
     let e = c.in-Some.ensures in
-    let done = removed_there c.self.inside c.args.slot c.args.id new c.in-Some.task c.self.invariant.tasks_room c.self.invariant.sound p here e.slots e.capacity in
-    let Q : BoardValue → Type 0 = λ v. KeepsCapacity v (board_of (with_slab c.self.inside new)) in
-    subst Q c.self.view_is done.capacity
+    let done = removed_there c.self.inside c.args.slot c.args.id new c.keep_present.new.self c.in-Some.task c.self.invariant.tasks_room c.self.invariant.sound p here e.slots e.capacity in
+    let Q : BoardValue → Type 0 = λ v. KeepsRoom v (board_of (with_slab c.self.inside new c.keep_present.new.self)) in
+    subst Q c.self.view_is done.room

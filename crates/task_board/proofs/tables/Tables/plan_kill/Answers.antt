@@ -11,7 +11,7 @@ refusal_of_signal-requires c = search rules
 pub returns-in-Some : goal.returns-in-Some
 returns-in-Some c =
     let is : signal_of c.args.number ≡ Some c.in-Some.signal = search rules in
-    subst (λ (n : ℕ). Plans c.args.self.now.state c.args.self.now.room.contents (request.Kill c.args.id n) c.plan_change.result)
+    subst (λ (n : ℕ). Plans c.args.self.now.state c.args.self.now.room (request.Kill c.args.id n) c.plan_change.result)
     (signal_known c.args.number c.in-Some.signal is) c.plan_change.ensures
 
 pub returns-in-None : goal.returns-in-None

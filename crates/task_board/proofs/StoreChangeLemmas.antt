@@ -1,0 +1,86 @@
+-- Changes of the store that were prepared: the store can take them, and they answer their requests.
+use Rattle.std.proofs.Common.{◌≡◌, ℕ, ◌-◌, ◌≤◌, List, [], length, Option, None, Ok, refl, sym, subst, arith}
+use Rattle.std.specs.Arc.{arc_value}
+use Rattle.wasm_ast.specs.declared.refusal.Refusal.{Refusal}
+use Rattle.content_leases.specs.Identifiers.{digest_of}
+use Rattle.content_leases.specs.StoreState.{StoreState, with_content, without_content, with_lease, with_member, without_lease, unheld, collected}
+use Rattle.content_leases.specs.StoreValue.{StoreValue, UsesRoom}
+use Rattle.content_leases.specs.Refusals.{Refusals, first_refusal, put_refusals, remove_refusals, lease_create_refusals, lease_add_refusals, lease_delete_refusals}
+use Rattle.content_leases.proofs.StoreLemmas.{put_new, create_new, add_takes}
+use Rattle.task_board.specs.declared.request.Reply.{Reply}
+use Rattle.task_board.specs.declared.request.Reply.TheVariants as reply
+use Rattle.task_board.specs.declared.store_change.StoreChange.{StoreChange}
+use Rattle.task_board.specs.declared.store_change.StoreChange.TheVariants as change
+use Rattle.task_board.specs.declared.tables.Tables.TheInside as tables
+use Rattle.task_board.specs.BoardState.{BoardState, used_by, with_store}
+use Rattle.task_board.specs.BoardValue.{Room, KeepsRoom}
+use Rattle.task_board.specs.Step.{Answer, DecidedBy, OnStore, Answers}
+use Rattle.task_board.specs.Inside.StoreChanges.{store_request, store_reply, store_after, StorePrepared, CanTake, contents_added, leases_added}
+use Rattle.task_board.specs.Inside.OpenedModules.{OpenedModule}
+use Rattle.task_board.specs.Inside.Shown.{board_state_of, board_of}
+use Rattle.task_board.proofs.SoundLemmas.{length_append}
+
+-- the effect, if no refusal's condition holds
+accepted_store : (s : BoardState) (refusals : Refusals) (rep : Reply) (new : StoreState) → first_refusal refusals ≡ None → OnStore s refusals rep new (Ok rep) (with_store s new)
+accepted_store s refusals rep new none =
+    let a : Answer = Ok rep in
+    let P : Option Refusal → Type 0 = λ x. DecidedBy x ((a ≡ Ok rep) × (with_store s new ≡ with_store s new)) s a (with_store s new) in
+    subst P (sym none) (refl, refl)
+
+pub store_answers : (s : BoardState) (room : Room) (c : StoreChange) → StorePrepared s room c → Answers s (store_request c) (Ok (store_reply c)) (with_store s (store_after s.store c))
+store_answers s room (change.Put key bytes digest) p =
+    let new = with_content s.store (arc_value bytes) in
+    let size = length (arc_value bytes) in
+    let done = accepted_store s (put_refusals s.store (arc_value bytes)) (reply.Put (digest_of (arc_value bytes)) size) new p.accepted in
+    subst (λ (x : List ℕ). OnStore s (put_refusals s.store (arc_value bytes)) (reply.Put (digest_of (arc_value bytes)) size) new (Ok (reply.Put x size)) (with_store s new)) (sym p.fitted.1) done
+store_answers s room (change.Remove digest) p = accepted_store s (remove_refusals (used_by s.tasks) s.store digest) (reply.Remove digest) (without_content s.store digest) p.accepted
+store_answers s room (change.LeaseCreate key members id) p = accepted_store s (lease_create_refusals s.store id) (reply.LeaseCreate id) (with_lease s.store id) p.accepted
+store_answers s room (change.LeaseAdd key digest id) p = accepted_store s (lease_add_refusals s.store digest id) (reply.LeaseAdd digest id) (with_member s.store digest id) p.accepted
+store_answers s room (change.LeaseDelete id) p = accepted_store s (lease_delete_refusals s.store id) (reply.LeaseDelete id) (without_lease s.store id) p.accepted
+store_answers s room (change.Gc used removed) p =
+    let gone = unheld (used_by s.tasks) s.store in
+    let new : List (List ℕ) → StoreState = λ u. collected u s.store in
+    let done = accepted_store s [] (reply.Gc gone) (new (used_by s.tasks)) refl in
+    let P : List (List ℕ) → List (List ℕ) → Type 0 = λ u r. OnStore s [] (reply.Gc gone) (new (used_by s.tasks)) (Ok (reply.Gc r)) (with_store s (new u)) in
+    subst (λ (u : List (List ℕ)). P u removed) (sym p.fitted.0) (subst (λ (r : List (List ℕ)). P (used_by s.tasks) r) (sym p.fitted.1) done)
+
+pub can_take : (b : tables.Inside) (c : StoreChange) → StorePrepared (board_state_of b) (board_of b).room c → CanTake b.store c
+can_take b (change.Put key bytes digest) p = (p.fitted.2, p.fitted.0, put_new b.store.state (arc_value bytes) p.accepted)
+can_take b (change.Remove digest) p = tt
+can_take b (change.LeaseCreate key members id) p = (p.fitted.2, p.fitted.0, p.fitted.1, create_new b.store.state id p.accepted)
+can_take b (change.LeaseAdd key digest id) p = let t = add_takes b.store.state digest id p.accepted in (p.fitted, t.0, t.1, t.2, t.3)
+can_take b (change.LeaseDelete id) p = tt
+can_take b (change.Gc used removed) p = tt
+
+-- ---- room
+
+-- the tables with another store
+abbrev pub with_shelf : tables.Inside → StoreValue → List OpenedModule → tables.Inside
+with_shelf b store opened = record { store = store; opened = opened; tasks = b.tasks; creates = b.creates; waiting = b.waiting }
+
+contents_more : (s : StoreState) (c : StoreChange) → contents_added c ≤ length (store_after s c).contents - length s.contents
+contents_more s (change.Put key bytes digest) = let more = length_append s.contents (record { digest = digest_of (arc_value bytes); bytes = arc_value bytes }) in omega (arith, more)
+contents_more s (change.Remove digest) = omega arith
+contents_more s (change.LeaseCreate key members id) = omega arith
+contents_more s (change.LeaseAdd key digest id) = omega arith
+contents_more s (change.LeaseDelete id) = omega arith
+contents_more s (change.Gc used removed) = omega arith
+
+leases_more : (s : StoreState) (c : StoreChange) → leases_added c ≤ length (store_after s c).leases - length s.leases
+leases_more s (change.Put key bytes digest) = omega arith
+leases_more s (change.Remove digest) = omega arith
+leases_more s (change.LeaseCreate key members id) = let more = length_append s.leases (record { name = id; members = [] }) in omega (arith, more)
+leases_more s (change.LeaseAdd key digest id) = omega arith
+leases_more s (change.LeaseDelete id) = omega arith
+leases_more s (change.Gc used removed) = omega arith
+
+pub store_keeps : (b : tables.Inside) (c : StoreChange) (new : StoreValue) (opened : List OpenedModule) → new.state ≡ store_after b.store.state c → UsesRoom (contents_added c) (leases_added c) b.store new
+    → KeepsRoom (board_of b) (board_of (with_shelf b new opened))
+store_keeps b c new opened is uses =
+    let contents = subst (λ (s : StoreState). contents_added c ≤ length s.contents - length b.store.state.contents) (sym is) (contents_more b.store.state c) in
+    let leases = subst (λ (s : StoreState). leases_added c ≤ length s.leases - length b.store.state.leases) (sym is) (leases_more b.store.state c) in
+    record {
+      contents = omega (arith, contents, uses.0);
+      leases = omega (arith, leases, uses.1);
+      tasks = refl;
+    }

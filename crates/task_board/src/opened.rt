@@ -1,0 +1,76 @@
+//! The modules of contents that were decoded and validated.
+
+ghost use Rattle.std.specs.Prelude.{◌≡◌, ◌++◌, ◌∷◌, [], None, option_map, filter, is_some, string_bytes, IfOk, OnOk, OnErr};
+ghost use Rattle.content_leases.specs.StoreState.{content_in};
+ghost use Rattle.task_board.specs.Inside.OpenedModules.{module_in};
+
+use content_leases::Store;
+use indexmap::IndexMap;
+use std::alloc::{AllocError, Global};
+use std::marker::Model;
+use step_machine::Valid;
+
+/// Valid modules by the digests of the contents that spell them.
+#[derive(Drop)]
+pub struct Opened {
+    map: IndexMap<String, Valid>,
+}
+
+impl Model for Opened {
+    ghost use Rattle.std.specs.Prelude.{List};
+    ghost use Rattle.std.specs.Coded.{codes};
+    ghost use Rattle.wasm_ast.specs.Inside.Code.{ops_code};
+    ghost use Rattle.task_board.specs.Inside.OpenedModules.{OpenedModule, opened_of};
+
+    ghost Value = { List OpenedModule };
+
+    ghost coded = { Prim.hlevel (codes, ops_code) };
+
+    ghost view = { λ o. opened_of o.map.entries };
+}
+
+impl Opened {
+    /// None that was opened. An error if the room for 256 cannot be allocated.
+    pub fn new(alloc: Global) -> Result<Opened, AllocError>
+        ensures { IfOk result (λ o. o ≡ []) }
+    {
+        Ok(Opened {
+            map: IndexMap::with_capacity(alloc, 256)?,
+        })
+    }
+
+    /// The module of the content under a digest, if it was opened.
+    pub fn get(&self, digest: &str) -> Option<&Valid>
+        ensures { option_map (λ v. v.now) result ≡ module_in self.now digest.now }
+    {
+        self.map.get(digest)
+    }
+
+    /// Adds the module of a content, which was not opened. An error, and nothing has changed, if memory runs
+    /// out.
+    pub fn add(&mut self, alloc: Global, digest: &str, valid: Valid) -> Result<(), AllocError>
+        requires { module_in self.old digest.now ≡ None }
+        ensures ok { OnOk result (self.new
+            ≡ self.old ++ record { digest = digest.now; «module» = valid } ∷ []) }
+        ensures err { OnErr result (self.new ≡ self.old) }
+    {
+        self.map.reserve(1)?;
+        let key = String::from_str(alloc, digest)?;
+        let _ = self.map.insert(key, valid).unwrap();
+        Ok(())
+    }
+
+    /// Drops the modules of contents that are not stored. No memory is taken.
+    pub fn keep_stored(&mut self, store: &Store)
+        ensures { self.new
+            ≡ filter (λ o. is_some (content_in store.now.state.contents o.digest)) self.old }
+    {
+        self.map.retain(
+            |digest: &String, valid: &mut Valid| -> bool
+                ensures { (result
+                    ≡ is_some (content_in store.entry.now.state.contents (string_bytes digest.now)))
+                    × (valid.new ≡ valid.old) }
+            { store.content(digest.as_str()).is_some() },
+        );
+    }
+}
