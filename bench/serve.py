@@ -3,9 +3,12 @@
 
     bench/serve.py [PROGRAM]
 
-Three scripts: 64 tasks, each created, started, waited for and asked for its state, over one content; 10,000
-tasks one after another, each created, started, waited for and deleted; and 200 puts of 262,144 bytes. Each runs seven times in turn with its comparison; the best time counts.
+Scripts: 64 tasks, each created, started, waited for and asked for its state, over one content; 10,000 tasks one after
+another, each created, started, waited for and deleted; 64 creates over one content of 82 bytes and over one of 196 KB;
+200 puts of 262,144 bytes; and 5,000 times a put and its removal, with no other content and with 255 others. Each runs
+seven times in turn with its comparison; the best time counts.
 """
+import hashlib
 import json
 import os
 import subprocess
@@ -27,12 +30,48 @@ def tasks():
     return lines
 
 
+def leb(number):
+    groups = [number & 0x7F]
+    while number := number >> 7:
+        groups.append(number & 0x7F)
+    return bytes(group | 0x80 for group in groups[:-1]) + bytes(groups[-1:])
+
+
+def sized(part):
+    return leb(len(part)) + part
+
+
+def padded(data, pairs):
+    """The first module with that number of constants dropped before its call."""
+    head, code = data.split(b"\x0a\x08\x01\x06", 1)
+    body = code[:1] + b"\x41\x00\x1a" * pairs + code[1:]
+    return head + b"\x0a" + sized(b"\x01" + sized(body))
+
+
+def with_config(data):
+    digest = "sha256:" + hashlib.sha256(data).hexdigest()
+    config = json.loads(FIRST[1]["config"])
+    config["annotations"]["dev.shim.module"] = digest
+    return {"op": "put", "hex": data.hex()}, dict(FIRST[1], config=json.dumps(config))
+
+
 def cycles():
     lines = [FIRST[0]]
     for _ in range(10000):
         lines.append(FIRST[1])
         lines += [{"op": op, "id": FIRST[1]["id"]} for op in ("start", "wait", "delete")]
     return lines
+
+
+def removals(others):
+    lines = [with_config(padded(bytes.fromhex(FIRST[0]["hex"]), i + 1))[0] for i in range(others)]
+    digest = "sha256:" + hashlib.sha256(b"abc").hexdigest()
+    return lines + [{"op": "put", "hex": "616263"}, {"op": "remove", "digest": digest}] * 5000
+
+
+def creates(pairs):
+    put, create = with_config(padded(bytes.fromhex(FIRST[0]["hex"]), pairs))
+    return [put, *(dict(create, id="t%d" % i) for i in range(64))]
 
 
 def puts():
@@ -48,7 +87,16 @@ def best(command, data):
     return min(times)
 
 
-for title, lines in (("64 tasks, 257 lines", tasks()), ("10,000 tasks, 40,001 lines", cycles()), ("200 puts of 262,144 bytes", puts())):
+SCRIPTS = (
+    ("64 tasks, 257 lines", tasks()),
+    ("10,000 tasks, 40,001 lines", cycles()),
+    ("64 creates over 82 bytes", creates(0)),
+    ("64 creates over 196 KB", creates(65533)),
+    ("200 puts of 262,144 bytes", puts()),
+    ("5,000 puts and removals", removals(0)),
+    ("the same with 255 contents", removals(255)),
+)
+for title, lines in SCRIPTS:
     data = "".join(json.dumps(line) + "\n" for line in lines).encode()
     replies = subprocess.run([PROGRAM, "serve"], input=data, stdout=subprocess.PIPE, check=True).stdout
     assert replies.count(b"\n") == len(lines) and b"false" not in replies, "a line was refused"

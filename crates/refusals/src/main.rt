@@ -62,7 +62,26 @@ const START_B: &str = r#"{"op":"start","id":"b"}"#;
 
 const KILL_B: &str = r#"{"op":"kill","id":"b","signal":9}"#;
 
+const KILL_A: &str = r#"{"op":"kill","id":"a","signal":15}"#;
+
+const DELETE_A: &str = r#"{"op":"delete","id":"a"}"#;
+
 const DELETE_B: &str = r#"{"op":"delete","id":"b"}"#;
+
+const REMOVE_EXIT_SEVEN: &str =
+    r#"{"op":"remove","digest":"sha256:2194f0d23626e6104d4a7a891350fbd0e82a54a29dd596a672d41474e9b6ee0a"}"#;
+
+const REMOVE_NO_ENTRY: &str =
+    r#"{"op":"remove","digest":"sha256:93a44bbb96c751218e4c00d479e4c14358122a389acca16205b1e4d0dc5f9476"}"#;
+
+const LEASE_CREATE_L: &str = r#"{"op":"lease_create","id":"l"}"#;
+
+const LEASE_ADD_NO_ENTRY: &str =
+    r#"{"op":"lease_add","id":"l","digest":"sha256:93a44bbb96c751218e4c00d479e4c14358122a389acca16205b1e4d0dc5f9476"}"#;
+
+const LEASE_DELETE_L: &str = r#"{"op":"lease_delete","id":"l"}"#;
+
+const GC: &str = r#"{"op":"gc"}"#;
 
 /// What is asked before the first slice.
 const FIRST: [&str; 8] = [
@@ -95,6 +114,27 @@ const LAST: [&str; 9] = [
 /// What is asked of the task that was created last.
 const END: [&str; 5] = [START_B, KILL_B, DELETE_B, DELETE_B, CREATE_B];
 
+/// What is asked while a lease and a task hold contents, and when they do no more.
+const HOLD: [&str; 17] = [
+    REMOVE_EXIT_SEVEN,
+    LEASE_CREATE_L,
+    LEASE_CREATE_L,
+    LEASE_ADD_NO_ENTRY,
+    LEASE_ADD_NO_ENTRY,
+    REMOVE_NO_ENTRY,
+    GC,
+    LEASE_DELETE_L,
+    LEASE_DELETE_L,
+    GC,
+    REMOVE_NO_ENTRY,
+    KILL_B,
+    DELETE_B,
+    KILL_A,
+    DELETE_A,
+    REMOVE_EXIT_SEVEN,
+    PUT_EXIT_SEVEN,
+];
+
 /// The board, and how often memory was refused so far.
 #[derive(Drop)]
 struct Session<'a> {
@@ -117,7 +157,9 @@ fn open(rt: &HostRuntime) -> Option<Session<'_>> {
 fn is_quiet(request: &Request) -> bool {
     matches!(
         request,
-        Request::Start { .. }
+        Request::Remove { .. }
+            | Request::LeaseDelete { .. }
+            | Request::Start { .. }
             | Request::Pause { .. }
             | Request::Resume { .. }
             | Request::Kill { .. }
@@ -183,6 +225,18 @@ impl Session<'_> {
         };
     }
 
+    // Prints which task has waited longest for a worker, and lets it wait again.
+    fn tell_waiting(&mut self) {
+        let _printed = match self.board.next_waiting() {
+            Some(ticket) => {
+                let incarnation = ticket.incarnation;
+                self.board.wait_again(ticket);
+                println!(self.rt; "waiting: incarnation {incarnation}")
+            }
+            None => println!(self.rt; "waiting: no task"),
+        };
+    }
+
     // Runs a slice of one turn, and prints whether the task goes on.
     fn slice(&mut self, id: &str) {
         let Some(ticket) = self.board.ticket(id) else {
@@ -207,6 +261,7 @@ fn main(rt: HostRuntime) -> ExitCode {
     };
     session.ask(&FIRST);
     session.tell("a");
+    session.tell_waiting();
     session.slice("a");
     session.ask(&AFTER);
     session.slice("a");
@@ -215,6 +270,9 @@ fn main(rt: HostRuntime) -> ExitCode {
     session.tell("b");
     session.ask(&END);
     session.tell("b");
+    session.tell_waiting();
+    session.ask(&HOLD);
+    session.tell_waiting();
     let refused = session.refused;
     let _told = eprintln!(rt; "refused for memory: {refused}");
     ExitCode::SUCCESS

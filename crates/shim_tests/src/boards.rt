@@ -130,6 +130,32 @@ fn tickets_of_deleted_tasks_are_not_served(rt: HostRuntime) -> Result<(), Fail> 
     Ok(())
 }
 
+// The task that waits longest, which waits no more; whether it is the one of this ticket.
+fn is_next(board: &mut Board, ticket: Option<Ticket>) -> bool {
+    board.next_waiting() == ticket
+}
+
+// A task that is started waits for a worker, once; a deleted one leaves, and its ticket is dropped.
+#[test]
+fn started_tasks_wait_once(rt: HostRuntime) -> Result<(), Fail> {
+    let alloc = rt.alloc();
+    let mut board = new_board(alloc)?;
+    board.call(put(alloc)?)?;
+    let ticket = started(alloc, &mut board)?;
+    if let Some(again) = ticket {
+        board.wait_again(again);
+    }
+    assert!(rt; is_next(&mut board, ticket));
+    assert!(rt; is_next(&mut board, None));
+    if let Some(again) = ticket {
+        board.wait_again(again);
+        ended(alloc, &mut board)?;
+        board.wait_again(again);
+    }
+    assert!(rt; is_next(&mut board, None));
+    Ok(())
+}
+
 /// An event of a run, of the one task.
 #[derive(Clone, Copy)]
 enum Action {

@@ -15,4 +15,6 @@ mod lines;
 #[cfg(test)]
 mod modules;
 #[cfg(test)]
+mod stores;
+#[cfg(test)]
 mod streams;

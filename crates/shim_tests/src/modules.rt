@@ -7,7 +7,9 @@ use crate::fixtures::EXIT_SEVEN_HEX;
 use std::alloc::{AllocError, Global};
 use std::process::Abort;
 use std::test::Fail;
-use step_machine::{Breaks, Machine, Output, Process, ProcessConfig, SliceEnd, Valid, validate};
+use step_machine::{
+    Breaks, Machine, Output, PageCap, Process, ProcessConfig, SliceEnd, Valid, validate,
+};
 use wasm_ast::{Export, Func, FuncType, Import, Instr, Module, Refusal, Sequence, Simple, Text};
 use wasm_binary::{decode, encode};
 
@@ -29,7 +31,7 @@ fn process(alloc: Global) -> Result<Process, AllocError>
         module: text(alloc, "sha256:")?,
         args: Sequence::new(args),
         env: Sequence::new(Vec::new(alloc)),
-        cap: 16,
+        cap: PageCap::new(16).unwrap(),
         out: Output::new(alloc)?,
         err: Output::new(alloc)?,
     })
