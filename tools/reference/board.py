@@ -4,9 +4,11 @@ import json
 import re
 
 from reference import wasm
+from reference.execute import Machine
 
 MOST_LINE, MOST_CONTENTS, MOST_TASKS, MOST_DEPTH = 1_048_576, 256, 64, 127
-NAMES = {1: "BadRequest", 2: "BadId", 3: "Exists", 4: "NotFound", 5: "NoContent", 7: "BadModule", 8: "Invalid",
+MOST_LEASES, MOST_MEMBERS = 64, 64
+NAMES = {1: "BadRequest", 2: "BadId", 3: "Exists", 4: "NotFound", 5: "NoContent", 6: "InUse", 7: "BadModule", 8: "Invalid",
          9: "Limit", 10: "BadConfig", 11: "WrongStatus", 12: "Busy", 13: "OutOfRange", 14: "TooMany", 21: "NoEntry",
          22: "BadImport", 23: "SegmentOutOfBounds"}
 ID = re.compile(r"[A-Za-z0-9][A-Za-z0-9._-]{0,63}\Z")
@@ -93,7 +95,8 @@ def request_of(line, in_replay):
         return None
     if len(line) > MOST_LINE or not isinstance(value, dict) or not isinstance(value.get("op"), str):
         return None
-    keys = {"put": ["hex"], "create": ["config", "id"], "start": ["id"], "pause": ["id"],
+    keys = {"put": ["hex"], "remove": ["digest"], "lease_create": ["id"], "lease_add": ["digest", "id"],
+            "lease_delete": ["id"], "gc": [], "create": ["config", "id"], "start": ["id"], "pause": ["id"],
             "resume": ["id"], "kill": ["id", "signal"], "delete": ["id"], "state": ["id"], "wait": ["id"]}
     if in_replay:
         keys |= {"return": ["id"], "take": ["budget", "id"]}
@@ -143,18 +146,18 @@ class Refused(Exception):
 
 
 class Task:
-    def __init__(self, data):
-        self.data, self.turns, self.status, self.out, self.end = data, 0, "created", None, None
-        self.signal = None
+    def __init__(self, digest, data):
+        self.digest, self.data, self.turns, self.status, self.out, self.end = digest, data, 0, "created", None, None
+        self.signal = self.machine = None
 
     def start(self):
-        self.status = "running"
+        self.status, self.machine = "running", Machine(wasm.Decoder(self.data).module())
         self.run(0)
 
     def run(self, budget):
-        end = wasm.ends(self.data)
-        self.turns = min(end["n"], self.turns + budget)
-        if self.turns == end["n"]:
+        self.machine.run(budget)
+        self.turns, end = self.machine.turns, self.machine.end
+        if end is not None:
             self.status, self.end = "stopped", end
         elif self.signal is not None:
             self.stop_by(self.signal)
@@ -163,7 +166,7 @@ class Task:
 
     def stop_by(self, signal):
         self.status = "stopped"
-        self.end = {"cause": "kill", "exit": 128 + signal, "n": self.turns, "signal": signal}
+        self.end = {"cause": "kill", "exit": 128 + signal, "signal": signal}
 
     def state(self, name):
         return {"id": name, "n": self.turns, "ok": True, "status": self.status, **(self.end or {})}
@@ -171,7 +174,7 @@ class Task:
 
 class Board:
     def __init__(self, in_replay):
-        self.in_replay, self.contents, self.tasks = in_replay, {}, {}
+        self.in_replay, self.contents, self.leases, self.tasks = in_replay, {}, {}, {}
 
     def answer(self, line):
         """The line that a line is answered."""
@@ -196,6 +199,58 @@ class Board:
         self.contents[digest] = data
         return {"digest": digest, "ok": True, "size": len(data)}
 
+    def is_held(self, digest):
+        return any(digest in members for members in self.leases.values()) or any(
+            task.digest == digest for task in self.tasks.values())
+
+    def remove_(self, digest):
+        if not DIGEST.match(digest):
+            raise Refused(2)
+        if digest not in self.contents:
+            raise Refused(5)
+        if self.is_held(digest):
+            raise Refused(6)
+        del self.contents[digest]
+        return {"digest": digest, "ok": True}
+
+    def lease_create_(self, id):
+        if not ID.match(id):
+            raise Refused(2)
+        if id in self.leases:
+            raise Refused(3)
+        if len(self.leases) >= MOST_LEASES:
+            raise Refused(14)
+        self.leases[id] = []
+        return {"id": id, "ok": True}
+
+    def lease_add_(self, digest, id):
+        if not DIGEST.match(digest) or not ID.match(id):
+            raise Refused(2)
+        if id not in self.leases:
+            raise Refused(4)
+        if digest not in self.contents:
+            raise Refused(5)
+        if digest in self.leases[id]:
+            raise Refused(3)
+        if len(self.leases[id]) >= MOST_MEMBERS:
+            raise Refused(14)
+        self.leases[id].append(digest)
+        return {"digest": digest, "id": id, "ok": True}
+
+    def lease_delete_(self, id):
+        if not ID.match(id):
+            raise Refused(2)
+        if id not in self.leases:
+            raise Refused(4)
+        del self.leases[id]
+        return {"id": id, "ok": True}
+
+    def gc_(self):
+        removed = [digest for digest in self.contents if not self.is_held(digest)]
+        for digest in removed:
+            del self.contents[digest]
+        return {"ok": True, "removed": removed}
+
     def create_(self, config, id):
         if not ID.match(id):
             raise Refused(2)
@@ -210,7 +265,7 @@ class Board:
             raise Refused(5)
         for number in wasm.refusals_of(self.contents[digest]):
             raise Refused(number)
-        self.tasks[id] = Task(self.contents[digest])
+        self.tasks[id] = Task(digest, self.contents[digest])
         return {"id": id, "ok": True, "status": "created"}
 
     def task(self, name):

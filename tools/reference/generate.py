@@ -1,4 +1,5 @@
 """Random modules, configs and lines: mostly right, then bent a little."""
+import hashlib
 import json
 import random
 
@@ -343,20 +344,29 @@ def config(digest):
 
 
 IDS = ["a", "b", "c", "0", "A.b_-", "", ".a", "a" * 64, "a" * 65, "ä", "a b", "a\n"]
+OTHERS = ["sha256:" + hashlib.sha256(data).hexdigest() for data in (b"", b"abc", b"\xab\xcd")]
 BUDGETS = [1, 1, 2, 1_000_000, 0, 1_000_001, 1.0, -1, 2**64 - 1, 2**64, True, None, "1"]
 
 
 def request(data, digest):
     name = random.choice(IDS if random.random() < 0.5 else "abc")
-    texts = [data.hex(), data.hex().upper(), "", "616263", "ABcd", "0", "0g", "00" * random.randint(0, 9)]
+    texts = [data.hex(), data.hex(), data.hex().upper(), "", "616263", "ABcd", "0", "0g", "00" * random.randint(0, 9)]
+    named = random.choice([digest, digest, *OTHERS, digest.upper(), digest[:-1], "sha256:" + "0" * 64, ""])
+    lease = random.choice(IDS) if random.random() < 0.2 else random.choice("lm")
     kinds = {
         "put": {"hex": random.choice(texts)},
+        "remove": {"digest": named},
+        "lease_create": {"id": lease},
+        "lease_add": {"digest": named, "id": lease},
+        "lease_delete": {"id": lease},
+        "gc": {},
         "create": {"id": name, "config": config(digest)},
         "take": {"id": name, "budget": random.choice(BUDGETS)},
         "kill": {"id": name, "signal": random.choice([9, 9, 15, 15, 10, 0, -1, 2**64, 9.0, "9", None])},
     }
-    op = random.choice(["put", *["create"] * 4, "start", "start", "state", "wait", "take", "take", "return", "pause",
-                        "resume", "kill", "delete"])
+    op = random.choice(["put", "put", *["create"] * 4, "start", "start", "state", "wait", "take", "take", "return", "pause",
+                        "resume", "kill", "delete", "remove", "lease_create", "lease_add", "lease_add", "lease_delete",
+                        "gc"])
     return {"op": op, **kinds.get(op, {"id": name})}
 
 

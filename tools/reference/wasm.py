@@ -1,4 +1,4 @@
-"""Modules: what bytes spell, whether that is valid, whether a task can be opened on it, and how it runs."""
+"""Modules: what bytes spell, whether that is valid, and whether a task can be opened on it."""
 from dataclasses import dataclass, field
 
 I32, I64 = 0x7F, 0x7E
@@ -484,14 +484,6 @@ def is_valid(module):
     return True
 
 
-def is_runnable(module):
-    """What the machine runs so far."""
-    def runs(opcode, *rest):
-        return opcode in (0x1A, 0x41, 0x42) or opcode == 0x10 and rest[0] < len(module.imports)
-
-    return module.start is None and all(runs(*instruction) for func in module.funcs for instruction in func.body)
-
-
 def is_inside(module):
     entries = module.tables[0][0] if module.tables else 0
     size = module.memories[0][0] * PAGE if module.memories else 0
@@ -515,7 +507,7 @@ def refusals_of(data):
         return {9} if fault.over else {7}
     if decoder.over:
         return {9}
-    if not is_valid(module) or not is_runnable(module):
+    if not is_valid(module):
         return {8}
     if entry_of(module) is None:
         return {21}
@@ -524,20 +516,3 @@ def refusals_of(data):
     if module.memories and module.memories[0][0] > PAGE_CAP:
         return {9}
     return set() if is_inside(module) else {23}
-
-
-def ends(data):
-    """How a task on these bytes ends, as the members of its state: only where a create accepts them."""
-    module = Decoder(data).module()
-    func = module.funcs[entry_of(module) - len(module.imports)]
-    stack = []
-    for turn, (opcode, *rest) in enumerate(func.body, 1):
-        if opcode in (0x41, 0x42):
-            stack.append(rest[0])
-        elif opcode == 0x1A:
-            stack.pop()
-        else:
-            return {"cause": "exit", "exit": stack[-1], "n": turn}
-        if len(func.locals) + len(stack) > MOST_VALUES:
-            return {"cause": "trap", "exit": 134, "n": turn, "trap": "exhausted"}
-    return {"cause": "return", "exit": 0, "n": len(func.body)}
