@@ -4,7 +4,8 @@ use Rattle.std.proofs.lemmas.Bool.Decides.{nat_tests}
 use Rattle.std.proofs.lemmas.Slice.Eq.{bytes_eq-Decides}
 use Rattle.wasm_ast.specs.declared.refusal.Refusal.{Refusal}
 use Rattle.wasm_ast.specs.declared.refusal.Refusal.TheVariants as refusal
-use Rattle.content_leases.specs.Identifiers.{is_id, is_digest, digest_of}
+use Rattle.wasm_ast.specs.Identifiers.{is_id, is_digest}
+use Rattle.content_leases.specs.Digests.{digest_of}
 use Rattle.content_leases.specs.Limits.{max_members}
 use Rattle.content_leases.specs.StoreState.{Content, StoreState, content_in, lease_in, is_among, is_held, collected}
 use Rattle.content_leases.specs.Refusals.{first_refusal, is_bytes, has_conflict, put_refusals, remove_refusals, lease_create_refusals, is_member, is_full, lease_add_refusals}

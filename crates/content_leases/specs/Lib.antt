@@ -1,5 +1,6 @@
 pub mod Limits
-pub mod Identifiers
+pub use Rattle.wasm_ast.specs.Identifiers
+pub mod Digests
 pub mod StoreState
 pub mod Refusals
 pub mod Requests

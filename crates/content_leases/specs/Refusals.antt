@@ -4,7 +4,8 @@ use Rattle.wasm_ast.specs.declared.refusal.Refusal.{Refusal}
 use Rattle.wasm_ast.specs.declared.refusal.Refusal.TheVariants as refusal
 use Rattle.wasm_ast.specs.Limits.{max_module_bytes}
 use Rattle.content_leases.specs.Limits.{max_contents, max_leases, max_members}
-use Rattle.content_leases.specs.Identifiers.{is_id, is_digest, digest_of}
+use Rattle.wasm_ast.specs.Identifiers.{is_id, is_digest}
+use Rattle.content_leases.specs.Digests.{digest_of}
 use Rattle.content_leases.specs.StoreState.{StoreState, content_in, lease_in, is_among, is_held}
 
 -- refusals, each with the condition under which it is answered

@@ -1,7 +1,7 @@
 -- Contents, leases, and what is held.
 use Rattle.std.specs.Prelude.{ℕ, List, [], ◌∷◌, ◌++◌, bytes_eq, if◌then◌else◌, Bool, not, ◌||◌, filter, map, Option, Some, None}
 use Rattle.std.specs.List.{list_any}
-use Rattle.content_leases.specs.Identifiers.{digest_of}
+use Rattle.content_leases.specs.Digests.{digest_of}
 
 -- bytes that are stored under their digest
 pub record Content : Type 0 where

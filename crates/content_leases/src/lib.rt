@@ -2,12 +2,12 @@
 #![tactic(auto)]
 
 mod contents;
-mod identifier;
+mod digest;
 pub mod laws;
 mod leases;
 mod members;
 mod store;
 
-pub use identifier::{digest_of, is_digest, is_id};
+pub use digest::digest_of;
 pub use members::Members;
 pub use store::Store;

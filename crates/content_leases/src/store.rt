@@ -4,7 +4,7 @@ ghost use Rattle.std.specs.Prelude.{◌≡◌, ◌≢◌, ◌≤◌, ◌<◌, �
 ghost use Rattle.std.specs.List.{list_any};
 ghost use Rattle.std.specs.Arc.{arc_value};
 ghost use Rattle.std.specs.Prelude.{is_none, nat_le};
-ghost use Rattle.content_leases.specs.Identifiers.{digest_of};
+ghost use Rattle.content_leases.specs.Digests.{digest_of};
 ghost use Rattle.content_leases.specs.Limits.{max_members};
 ghost use Rattle.content_leases.specs.Refusals.{first_refusal, put_refusals, remove_refusals, lease_create_refusals, lease_add_refusals, lease_delete_refusals};
 ghost use Rattle.content_leases.specs.Requests.{IsAnswered};
@@ -12,13 +12,13 @@ ghost use Rattle.content_leases.specs.StoreValue.{UsesRoom};
 ghost use Rattle.content_leases.specs.StoreState.{empty, content_in, lease_in, is_among, with_content, without_content, with_lease, with_member, without_lease, unheld, collected};
 
 use crate::contents::{Contents, is_used};
-use crate::identifier::{digest_of, is_digest, is_id};
+use crate::digest::digest_of;
 use crate::leases::Leases;
 use crate::members::{MAX_MEMBERS, Members};
 use std::alloc::{AllocError, Global};
 use std::marker::Model;
 use std::sync::Arc;
-use wasm_ast::{Bytes, MAX_MODULE_BYTES, Refusal, Text};
+use wasm_ast::{Bytes, MAX_MODULE_BYTES, Refusal, Text, is_digest, is_id};
 
 /// The most contents of a store.
 const MAX_CONTENTS: usize = 256;

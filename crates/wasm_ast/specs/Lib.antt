@@ -4,6 +4,7 @@ pub mod Access
 pub mod Ranged
 pub mod Limits
 pub mod Names
+pub mod Identifiers
 pub mod View
 pub mod Worked
 pub mod Inside

@@ -4,6 +4,7 @@
 //! Sections are those of the WebAssembly Core Specification 1.0.
 #![tactic(auto)]
 
+mod identifier;
 mod instr;
 pub mod laws;
 mod module;
@@ -15,6 +16,7 @@ mod text;
 mod trap;
 mod values;
 
+pub use identifier::{is_digest, is_id};
 pub use instr::{BlockType, Body, GlobalOp, Instr, LocalOp, MemArg, Simple};
 pub use module::{
     Element, Export, ExportKind, Func, Global, Import, Limits, MAX_FUNCTIONS, MAX_LOCALS,

@@ -1,8 +1,7 @@
--- The ids of tasks and leases, and the digests of contents (FIPS 180-4).
-use Rattle.std.specs.Prelude.{ℕ, List, [], ◌∷◌, ◌++◌, Bool, false, ◌||◌, ◌&&◌, nat_le, nat_lt, nat_eq, bytes_eq, codes, length, drop, take}
+-- The ids of tasks and leases, and the form of the digests of contents: SHA-256 (FIPS 180-4) in lower-case
+-- hexadecimal, as the OCI Image Specification 1.0 writes it (descriptor.md, Digests).
+use Rattle.std.specs.Prelude.{ℕ, List, [], ◌∷◌, Bool, false, ◌||◌, ◌&&◌, nat_le, nat_lt, nat_eq, bytes_eq, codes, length, drop, take}
 use Rattle.std.specs.List.{list_all}
-use Rattle.sha2.specs.Sha256.{sha256}
-use Rattle.hex.specs.Hex.{encode_lower}
 
 abbrev pub is_letter_or_digit : ℕ → Bool
 is_letter_or_digit c = (nat_le 48 c && nat_le c 57) || (nat_le 65 c && nat_le c 90) || (nat_le 97 c && nat_le c 122)
@@ -23,6 +22,3 @@ is_lower_hex c = (nat_le 48 c && nat_le c 57) || (nat_le 97 c && nat_le c 102)
 -- sha256: and 64 hexadecimal digits
 abbrev pub is_digest : List ℕ → Bool
 is_digest text = nat_eq (length text) 71 && bytes_eq (take 7 text) (codes "sha256:") && list_all is_lower_hex (drop 7 text)
-
-abbrev pub digest_of : List ℕ → List ℕ
-digest_of bytes = codes "sha256:" ++ encode_lower (sha256 bytes)

@@ -1,12 +1,8 @@
-//! The ids of tasks and leases, and the digests of contents.
+//! The ids of tasks and leases, and the form of the digests of contents.
 
-ghost use Rattle.std.specs.Prelude.{◌≡◌, IfOk, codes, bytes_eq};
+ghost use Rattle.std.specs.Prelude.{◌≡◌, codes, bytes_eq};
 ghost use Rattle.std.specs.List.{list_all};
-ghost use Rattle.content_leases.specs.Identifiers.{is_id, is_digest, is_id_character, is_letter_or_digit, is_lower_hex, digest_of};
-
-use sha2::{Digest, Sha256};
-use std::alloc::{AllocError, Global};
-use wasm_ast::Text;
+ghost use Rattle.wasm_ast.specs.Identifiers.{is_id, is_digest, is_id_character, is_letter_or_digit, is_lower_hex};
 
 fn is_letter_or_digit(byte: u8) -> bool
     ensures { result ≡ is_letter_or_digit byte }
@@ -65,16 +61,4 @@ pub fn is_digest(text: &str) -> bool
     }
     let (head, digits) = bytes.split_at(7);
     is_sha256(head) && are_lower_hex(digits)
-}
-
-/// The digest of these bytes: `sha256:` and the SHA-256 (FIPS 180-4) in lower-case hexadecimal. An
-/// error where there is no room for the text.
-pub fn digest_of(alloc: Global, bytes: &[u8]) -> Result<Text, AllocError>
-    ensures { IfOk result (λ t. t ≡ digest_of bytes.now) }
-{
-    let hash = Sha256::digest(bytes);
-    let digits = hex::encode(alloc, hash.as_slice())?;
-    let mut digest = String::from_str(alloc, "sha256:")?;
-    digest.push_str(digits.as_str())?;
-    Ok(Text::new(digest))
 }

@@ -1,0 +1,2 @@
+-- What private clauses alone name.
+pub mod Parts

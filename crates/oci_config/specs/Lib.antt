@@ -1,0 +1,6 @@
+pub mod Limits
+pub mod Processes
+pub mod Streams
+pub mod Config
+pub mod Worked
+pub mod Inside
