@@ -1,0 +1,88 @@
+-- Buffers that are told one after the other, and a stream that they are appended to.
+use Rattle.std.proofs.Common.{◌≡◌, ℕ, zero, suc, ◌+◌, ◌*◌, ◌-◌, ◌<◌, ◌≤◌, List, [], ◌∷◌, ◌++◌, length, take, drop, refl, sym, ap, ◌∙◌, arith, length-append, length-take, length-drop, append_assoc, Bool, true, false, ◌&&◌}
+use Rattle.linear_memory.specs.Memory.{Memory, is_inside, range}
+use Rattle.oci_config.specs.Limits.{max_output}
+use Rattle.wasi_calls.proofs.RangeLemmas.{within}
+use Rattle.wasi_calls.specs.SystemCalls.{Buffer, buffer_at, buffers_at, are_inside, gathered}
+
+pub next_buffer : (m : Memory) (p n i : ℕ) → i < n
+    → buffers_at m (p + i * 8) (n - i) ≡ buffer_at m (p + i * 8) ∷ buffers_at m (p + (i + 1) * 8) (n - (i + 1))
+next_buffer m p n i h =
+    let more : n - i ≡ suc (n - (i + 1)) = omega arith in
+    let later : p + i * 8 + 8 ≡ p + (i + 1) * 8 = omega arith in
+    ap (λ k. buffers_at m (p + i * 8) k) more ∙ ap (λ a. buffer_at m (p + i * 8) ∷ buffers_at m a (n - (i + 1))) later
+
+pub no_buffer : (m : Memory) (a n i : ℕ) → n ≤ i → buffers_at m a (n - i) ≡ []
+no_buffer m a n i h =
+    let none : n - i ≡ 0 = omega arith in
+    ap (λ k. buffers_at m a k) none
+
+take_none : (n : ℕ) → take {A = ℕ} n [] ≡ []
+take_none zero = refl
+take_none (suc n) = refl
+
+taken : (n : ℕ) (xs ys : List ℕ) → take n (xs ++ ys) ≡ take n xs ++ take (n - length xs) ys
+taken n [] ys =
+    let all : n - 0 ≡ n = omega arith in
+    ap (λ k. take k ys) (sym all) ∙ ap (λ u. u ++ take (n - 0) ys) (sym (take_none n))
+taken zero (x ∷ xs) ys =
+    let none : 0 - length (x ∷ xs) ≡ 0 = omega arith in
+    ap (λ k. take k ys) (sym none)
+taken (suc n) (x ∷ xs) ys =
+    let rest = taken n xs ys in
+    let left : suc n - length (x ∷ xs) ≡ n - length xs = omega arith in
+    ap (λ u. x ∷ u) rest ∙ ap (λ k. x ∷ (take n xs ++ take k ys)) (sym left)
+
+-- as many of these bytes as a stream has room for
+abbrev pub with_bytes : (stream bytes : List ℕ) → List ℕ
+with_bytes stream bytes = stream ++ take (max_output - length stream) bytes
+
+pub appended_twice : (stream xs ys : List ℕ) → length stream ≤ max_output
+    → with_bytes (with_bytes stream xs) ys ≡ with_bytes stream (xs ++ ys)
+appended_twice stream xs ys h =
+    let r = max_output - length stream in
+    let sizes = length-append stream (take r xs) in
+    let some = length-take r xs in
+    let left : max_output - length (stream ++ take r xs) ≡ r - length xs = omega arith in
+    let split : take r (xs ++ ys) ≡ take r xs ++ take (r - length xs) ys = taken r xs ys in
+    ap (λ k. (stream ++ take r xs) ++ take k ys) left ∙ (append_assoc stream (take r xs) (take (r - length xs) ys)
+    ∙ ap (λ u. stream ++ u) (sym split))
+
+pub range_length : (m : Memory) (a n : ℕ) → a + n ≤ length m.bytes → length (range m a n) ≡ n
+range_length m a n h =
+    let some = length-take n (drop a m.bytes) in
+    let rest = length-drop a m.bytes in
+    omega arith
+
+both_true : (a b : Bool) → (a && b) ≡ true → (a ≡ true) × (b ≡ true)
+both_true true b h = (refl, h)
+both_true false b h = cc
+
+-- a buffer that is inside, and those after it
+module _ (m : Memory) (p n i : ℕ) (h : i < n) where
+  abbrev this : Buffer
+  this = buffer_at m (p + i * 8)
+
+  abbrev rest : List Buffer
+  rest = buffers_at m (p + (i + 1) * 8) (n - (i + 1))
+
+  abbrev all : List Buffer
+  all = buffers_at m (p + i * 8) (n - i)
+
+  pub rest_inside : is_inside m this.address this.size ≡ true → are_inside m rest ≡ are_inside m all
+  rest_inside e = sym (ap (are_inside m) (next_buffer m p n i h) ∙ ap (λ b. b && are_inside m rest) e)
+
+  pub inside_both : are_inside m all ≡ true → (is_inside m this.address this.size ≡ true) × (are_inside m rest ≡ true)
+  inside_both e = both_true (is_inside m this.address this.size) (are_inside m rest) (sym (ap (are_inside m)
+      (next_buffer m p n i h)) ∙ e)
+
+  pub gathers : gathered m all ≡ range m this.address this.size ++ gathered m rest
+  gathers = ap (gathered m) (next_buffer m p n i h)
+
+  pub gathered_length : is_inside m this.address this.size ≡ true
+      → length (gathered m all) ≡ this.size + length (gathered m rest)
+  gathered_length e =
+      let sizes = length-append (range m this.address this.size) (gathered m rest) in
+      let one = range_length m this.address this.size (within m this.address this.size e) in
+      let split = ap length gathers in
+      omega arith

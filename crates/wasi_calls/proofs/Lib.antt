@@ -1,0 +1,4 @@
+pub mod RangeLemmas
+pub mod TextLemmas
+pub mod BufferLemmas
+pub mod HostLemmas

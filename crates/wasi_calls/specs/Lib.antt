@@ -1,0 +1,4 @@
+pub mod HostCalls
+pub mod SystemCalls
+pub mod NoMemory
+pub mod Worked

@@ -1,0 +1,115 @@
+//! `fd_write`: bytes of the memory to an output stream.
+
+ghost use Rattle.std.specs.Prelude.{◌≡◌, ◌≤◌, ◌<◌, ◌+◌, ◌-◌, ◌*◌, ◌^◌, ◌++◌, length, take, drop, true, if◌then◌else◌, Some, None};
+ghost use Rattle.linear_memory.specs.Memory.{is_inside};
+ghost use Rattle.oci_config.specs.Limits.{max_output};
+ghost use Rattle.wasi_calls.specs.SystemCalls.{buffer_at, buffer_bytes, buffers_at, are_inside, gathered, write_stream};
+
+use crate::errno::{FAULT, NOSPC, SUCCESS};
+use crate::ranges::is_inside;
+use linear_memory::{LinearMemory, Width};
+use oci_config::Output;
+
+/// The bytes of a buffer's address and length.
+const BUFFER_BYTES: u64 = 8;
+
+/// A buffer to be written: where it begins, and how many bytes it has ($ciovec).
+#[derive(Clone, Copy)]
+struct Buffer {
+    address: u32,
+    size: u32,
+}
+
+/// The u32 at an address that is inside.
+fn word_at(memory: &LinearMemory, address: u64) -> u32
+    requires { is_inside memory.now address 4 ≡ true }
+    ensures { result ≡ (buffer_at memory.now address).address }
+{
+    match memory.load(address, Width::Four) {
+        Some(number) => number as u32,
+        None => unreachable!(),
+    }
+}
+
+/// The buffer that is told at an address.
+fn buffer_at(memory: &LinearMemory, address: u64) -> Buffer
+    requires small { address < 2 ^ 63 }
+    requires inside { is_inside memory.now address buffer_bytes ≡ true }
+    ensures address { result.address ≡ (buffer_at memory.now address).address }
+    ensures size { result.size ≡ (buffer_at memory.now address).size }
+    ensures within { result.size < 2 ^ 32 }
+{
+    Buffer {
+        address: word_at(memory, address),
+        size: word_at(memory, address + 4),
+    }
+}
+
+/// How many bytes the `n` buffers that are told at an address have. None if one is not inside.
+fn size_of_buffers(memory: &LinearMemory, address: u64, n: u32) -> Option<u64>
+    requires small { address < 2 ^ 32 }
+    requires inside { is_inside memory.now address (n * buffer_bytes) ≡ true }
+    ensures { result ≡ (if are_inside memory.now (buffers_at memory.now address n)
+        then Some (length (gathered memory.now (buffers_at memory.now address n))) else None) }
+{
+    let mut sum = 0u64;
+    for i in 0..n {
+        let buffer = buffer_at(memory, address + u64::from(i) * BUFFER_BYTES);
+        if !is_inside(memory, u64::from(buffer.address), u64::from(buffer.size)) {
+            return None;
+        }
+        sum += u64::from(buffer.size);
+    }
+    Some(sum)
+}
+
+/// Appends a buffer of the memory to a stream, as far as there is room.
+fn append(memory: &LinearMemory, buffer: &Buffer, stream: &mut Output)
+    requires { is_inside memory.now buffer.now.address buffer.now.size ≡ true }
+    ensures { stream.new ≡ stream.old ++ take (max_output - length stream.old)
+        (take buffer.now.size (drop buffer.now.address memory.now.bytes)) }
+{
+    match memory.read_range(u64::from(buffer.address), u64::from(buffer.size)) {
+        Some(bytes) => stream.append(bytes),
+        None => unreachable!(),
+    }
+}
+
+/// Appends the `n` buffers that are told at an address to a stream, in order, as far as there is
+/// room.
+fn append_all(memory: &LinearMemory, address: u64, n: u32, stream: &mut Output)
+    requires small { address < 2 ^ 32 }
+    requires inside { is_inside memory.now address (n * buffer_bytes) ≡ true }
+    requires buffers { are_inside memory.now (buffers_at memory.now address n) ≡ true }
+    requires within { length stream.old ≤ max_output }
+    ensures { stream.new ≡ stream.old ++ take (max_output - length stream.old)
+        (gathered memory.now (buffers_at memory.now address n)) }
+{
+    for i in 0..n {
+        let buffer = buffer_at(memory, address + u64::from(i) * BUFFER_BYTES);
+        append(memory, &buffer, stream);
+    }
+}
+
+/// Writes the `n` buffers that are told at `p` to a stream, and the number of bytes that it took
+/// at `q`. The answer is an error number.
+pub fn write_stream(memory: &mut LinearMemory, p: u32, n: u32, q: u32, stream: &mut Output) -> u32
+    ensures { write_stream memory.old stream.old p n q
+        ≡ record { number = result; memory = memory.new; stream = stream.new } }
+{
+    let p = u64::from(p);
+    let q = u64::from(q);
+    if !is_inside(memory, p, u64::from(n) * BUFFER_BYTES) || !is_inside(memory, q, 4) {
+        return FAULT;
+    }
+    let Some(asked) = size_of_buffers(memory, p, n) else {
+        return FAULT;
+    };
+    let room = stream.room() as u64;
+    if asked > 0 && room == 0 {
+        return NOSPC;
+    }
+    append_all(memory, p, n, stream);
+    memory.store(q, Width::Four, asked.min(room));
+    SUCCESS
+}
