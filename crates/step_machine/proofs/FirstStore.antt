@@ -16,7 +16,7 @@ use Rattle.wasm_ast.specs.Types.{type_of, zero_of}
 use Rattle.wasm_ast.specs.Ranged.{RangedValue, RangedOps, RangedGlobal, Ranged}
 use Rattle.validator.specs.Typing.{IsConstant, ValidLimits, standard_pages, ValidElement, ValidModule}
 use Rattle.linear_memory.specs.Memory.{Memory, is_inside, pages_of, page_bytes, max_pages}
-use Rattle.step_machine.specs.declared.process.ProcessConfig.{ProcessConfig}
+use Rattle.oci_config.specs.declared.process.ProcessConfig.{ProcessConfig}
 use Rattle.step_machine.specs.Instantiation.{constant, first_global, offset_of, most_pages, zero_memory, empty_table, with_items, with_element, with_segment, first_memory, are_segments_inside, first_store}
 use Rattle.step_machine.specs.Inside.Simulates.{InTable, RangedStore}
 use Rattle.step_machine.proofs.HostCallLemmas.{both}

@@ -40,7 +40,11 @@ pub mod FlatGoing
 pub mod SettleLemmas
 pub mod FlatBreaks
 pub mod MachineLemmas
+pub mod SystemArguments
+pub mod SystemWords
+pub mod HostParts
 pub mod StartLemmas
+pub mod RunTurns
 pub mod SliceLemmas
 pub mod SliceCuts
 pub mod WrittenPlaces

@@ -5,7 +5,7 @@ use Rattle.wasm_ast.specs.declared.values.Value.{Value}
 use Rattle.wasm_ast.specs.declared.values.Value.TheVariants.{I32}
 use Rattle.wasm_ast.specs.declared.trap.Trap.TheVariants as trap
 use Rattle.wasm_ast.specs.Syntax.{Op, Ops, stop, next}
-use Rattle.step_machine.specs.declared.process.ProcessConfig.{ProcessConfig}
+use Rattle.oci_config.specs.declared.process.ProcessConfig.{ProcessConfig}
 use Rattle.step_machine.specs.declared.ends.End.TheVariants as ends
 use Rattle.step_machine.specs.Limits.{max_values, last_turn}
 use Rattle.step_machine.specs.Program.{Program, program}

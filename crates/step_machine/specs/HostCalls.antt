@@ -1,28 +1,10 @@
--- The system calls of WASI snapshot_preview1 that this profile has, and which imports are one.
-use Rattle.std.specs.Prelude.{ℕ, List, [], ◌∷◌, codes, bytes_eq, Bool, true, false, ◌&&◌, if◌then◌else◌, Option, Some, None, slice_get, is_some}
-use Rattle.wasm_ast.specs.declared.values.ValType.{ValType}
-use Rattle.wasm_ast.specs.declared.values.ValType.TheVariants.{I32, I64}
+-- Which imports are system calls.
+use Rattle.std.specs.Prelude.{ℕ, List, [], ◌∷◌, bytes_eq, Bool, true, ◌&&◌, if◌then◌else◌, Option, Some, None, slice_get, is_some}
 use Rattle.wasm_ast.specs.declared.values.FuncType.{FuncType}
 use Rattle.wasm_ast.specs.declared.module.Import.{Import}
 use Rattle.flat_code.specs.TypeClasses.{is_of_type}
-use Rattle.step_machine.specs.declared.host_calls.HostCall.{HostCall}
-use Rattle.step_machine.specs.declared.host_calls.HostCall.TheVariants.{ProcExit}
-
--- ---- the table: a call's name and its type
-
-abbrev pub host_name : HostCall → List ℕ
-host_name ProcExit = codes "proc_exit"
-
-abbrev pub host_type : HostCall → FuncType
-host_type ProcExit = record { params = I32 ∷ []; results = [] }
-
-abbrev pub host_calls : List HostCall
-host_calls = ProcExit ∷ []
-
--- ---- imports
-
-abbrev pub host_module : List ℕ
-host_module = codes "wasi_snapshot_preview1"
+use Rattle.wasi_calls.specs.declared.host_call.HostCall.{HostCall}
+use Rattle.wasi_calls.specs.HostCalls.{host_name, host_type, host_calls, host_module}
 
 -- the first of these calls that an import of this name and type is
 abbrev pub call_named : List ℕ → Option FuncType → List HostCall → Option HostCall

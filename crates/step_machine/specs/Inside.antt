@@ -6,3 +6,5 @@ pub mod FlatView
 pub mod Stands
 pub mod Simulates
 pub mod Going
+pub mod Ran
+pub mod SharedCode

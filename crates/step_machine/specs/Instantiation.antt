@@ -1,6 +1,6 @@
 -- How a module is instantiated and its entry invoked (4.5.4, 4.5.5): why it may be refused, and the
 -- configuration that a task begins with.
-use Rattle.std.specs.Prelude.{ℕ, ◌+◌, min, nat_le, List, [], ◌∷◌, ◌++◌, map, fold, take, drop, replicate, length, codes, bytes_eq, Bool, true, false, ◌&&◌, not, if◌then◌else◌, Option, Some, None, is_some, unwrap_or}
+use Rattle.std.specs.Prelude.{ℕ, ◌+◌, min, nat_le, List, [], ◌∷◌, ◌++◌, map, fold, take, drop, replicate, length, codes, bytes_eq, Bool, true, false, ◌&&◌, ◌||◌, not, if◌then◌else◌, Option, Some, None, is_some, unwrap_or}
 use Rattle.wasm_ast.specs.declared.values.Value.{Value}
 use Rattle.wasm_ast.specs.declared.values.Value.TheVariants.{I32}
 use Rattle.wasm_ast.specs.declared.instr.Simple.TheVariants as instr
@@ -19,10 +19,14 @@ use Rattle.wasm_ast.specs.Syntax.{simple, Ops, stop, next}
 use Rattle.wasm_ast.specs.Types.{zero_of, func_types, type_at}
 use Rattle.linear_memory.specs.Memory.{Memory, new_memory, is_inside, with_range}
 use Rattle.wasm_ast.specs.Limits.{is_within}
-use Rattle.step_machine.specs.declared.process.ProcessConfig.{ProcessConfig}
+use Rattle.oci_config.specs.declared.process.ProcessConfig.{ProcessConfig}
 use Rattle.step_machine.specs.declared.ends.End.{End}
 use Rattle.step_machine.specs.declared.ends.End.TheVariants as ends
 use Rattle.flat_code.specs.TypeClasses.{is_of_type}
+use Rattle.wasm_ast.specs.declared.module.Import.{Import}
+use Rattle.wasi_calls.specs.declared.host_call.HostCall.{HostCall}
+use Rattle.wasi_calls.specs.declared.host_call.HostCall.TheVariants.{ProcExit, SchedYield}
+use Rattle.wasi_calls.specs.HostCalls.{host_name, host_calls, host_module}
 use Rattle.step_machine.specs.HostCalls.{all_known}
 use Rattle.step_machine.specs.Program.{program}
 use Rattle.step_machine.specs.Configuration.{Store, Items, seq, done, more, invoke, State, running, exited, trapped, stuck, Configuration}
@@ -101,6 +105,35 @@ first_memory m cap = fold with_segment (zero_memory m.memories cap) m.segments
 
 -- ---- refusals
 
+-- a system call that reads or writes memory
+abbrev pub uses_memory : HostCall → Bool
+uses_memory ProcExit = false
+uses_memory SchedYield = false
+uses_memory _ = true
+
+-- the name is one of a call that uses memory
+abbrev pub names_one : List ℕ → List HostCall → Bool
+names_one name [] = false
+names_one name (h ∷ hs) = uses_memory h && bytes_eq name (host_name h) || names_one name hs
+
+-- an import, by its module and name, is of such a call, whatever its type
+abbrev pub needs_memory : List Import → Bool
+needs_memory [] = false
+needs_memory (i ∷ is) = bytes_eq i.module host_module && names_one i.name host_calls || needs_memory is
+
+abbrev pub is_memory : ExportKind → Bool
+is_memory kind.Memory = true
+is_memory _ = false
+
+-- a memory is exported as `memory`
+abbrev pub exports_memory : List Export → Bool
+exports_memory [] = false
+exports_memory (e ∷ es) = bytes_eq e.name (codes "memory") && is_memory e.kind || exports_memory es
+
+-- it has an entry, and exports its memory if a system call needs it
+abbrev pub can_enter : Module → Bool
+can_enter m = is_some (entry m) && (not (needs_memory m.imports) || exports_memory m.exports)
+
 -- the memory begins with at most the process's cap of pages
 abbrev pub are_pages_within : List Limits → (cap : ℕ) → Bool
 are_pages_within [] cap = true
@@ -120,7 +153,7 @@ are_segments_inside memory (s ∷ ss) =
 -- why no task can run it: the first reason that holds
 abbrev pub instantiation_refusal : Module → ProcessConfig → Option Refusal
 instantiation_refusal m p =
-    if not (is_some (entry m)) then Some refusal.NoEntry
+    if not (can_enter m) then Some refusal.NoEntry
     else if not (all_known m.types m.imports) then Some refusal.BadImport
     else if not (is_within m && are_pages_within m.memories p.cap) then Some refusal.Limit
     else if not (are_elements_inside (length (empty_table m.tables)) m.elements

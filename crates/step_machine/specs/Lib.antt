@@ -5,7 +5,6 @@ pub mod Configuration
 pub mod Effects
 pub mod Reduction
 pub mod Places
-pub mod Processes
 pub mod Turns
 pub mod Instantiation
 pub mod Slices
@@ -13,4 +12,5 @@ pub mod MachineView
 pub mod Worked
 pub mod WorkedEffects
 pub mod WorkedStores
+pub mod WorkedCalls
 pub mod Inside

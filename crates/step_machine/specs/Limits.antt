@@ -16,7 +16,3 @@ last_turn = 10 ^ 15
 -- breakpoints of a task
 abbrev pub max_breakpoints : ℕ
 max_breakpoints = 32
-
--- bytes that an output stream takes
-abbrev pub max_output : ℕ
-max_output = 65536

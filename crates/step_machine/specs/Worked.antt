@@ -1,5 +1,5 @@
 -- Worked programs, and the words in which laws on public functions speak.
-use Rattle.std.specs.Prelude.{ℕ, zero, suc, List, [], ◌∷◌, codes, Option, Some, None}
+use Rattle.std.specs.Prelude.{ℕ, zero, suc, List, [], ◌∷◌, codes, None}
 use Rattle.wasm_ast.specs.declared.values.ValType.{ValType}
 use Rattle.wasm_ast.specs.declared.values.ValType.TheVariants as type
 use Rattle.wasm_ast.specs.declared.values.Value.{Value}
@@ -16,7 +16,7 @@ use Rattle.wasm_ast.specs.declared.module.Module.{Module}
 use Rattle.wasm_ast.specs.declared.place.Place.{Place}
 use Rattle.linear_memory.specs.Memory.{new_memory}
 use Rattle.wasm_ast.specs.Syntax.{Op, simple, block, loop, if', Ops, stop, next, ops_of}
-use Rattle.step_machine.specs.declared.process.ProcessConfig.{ProcessConfig}
+use Rattle.oci_config.specs.declared.process.ProcessConfig.{ProcessConfig}
 use Rattle.step_machine.specs.Configuration.{Store, Target, onward, Tree, seq, Items, done, more, Item, label, frame, items_of, State, running, Configuration}
 use Rattle.step_machine.specs.Effects.{Env}
 use Rattle.step_machine.specs.Reduction.{Reduced, to}

@@ -5,8 +5,8 @@ use Rattle.wasm_ast.specs.declared.values.Value.{Value}
 use Rattle.wasm_ast.specs.declared.values.FuncType.{FuncType}
 use Rattle.wasm_ast.specs.declared.instr.MemArg.{MemArg}
 use Rattle.wasm_ast.specs.Syntax.{stop}
-use Rattle.linear_memory.specs.Memory.{Memory, new_memory}
-use Rattle.step_machine.specs.declared.host_calls.HostCall.TheVariants.{ProcExit}
+use Rattle.linear_memory.specs.Memory.{new_memory}
+use Rattle.wasi_calls.specs.declared.host_call.HostCall.TheVariants.{ProcExit}
 use Rattle.step_machine.specs.Program.{host, own, Program}
 use Rattle.step_machine.specs.Configuration.{Store}
 use Rattle.step_machine.specs.Effects.{Env, with_memory}

@@ -1,5 +1,5 @@
 -- Small modules and segments for what a task begins with.
-use Rattle.std.specs.Prelude.{ℕ, List, [], ◌∷◌, Option, Some, None}
+use Rattle.std.specs.Prelude.{ℕ, List, [], ◌∷◌, Option, Some}
 use Rattle.wasm_ast.specs.declared.values.ValType.TheVariants as type
 use Rattle.wasm_ast.specs.declared.values.Value.{Value}
 use Rattle.wasm_ast.specs.declared.values.Value.TheVariants.{I32}
@@ -11,10 +11,9 @@ use Rattle.wasm_ast.specs.declared.module.Global.{Global}
 use Rattle.wasm_ast.specs.declared.module.Element.{Element}
 use Rattle.wasm_ast.specs.declared.module.Segment.{Segment}
 use Rattle.wasm_ast.specs.declared.module.Module.{Module}
-use Rattle.wasm_ast.specs.declared.module.Func.{Func}
-use Rattle.wasm_ast.specs.Syntax.{simple, Ops, stop, next, Op}
+use Rattle.wasm_ast.specs.Syntax.{simple, Ops, stop, next}
 use Rattle.linear_memory.specs.Memory.{Memory}
-use Rattle.step_machine.specs.declared.process.ProcessConfig.{ProcessConfig}
+use Rattle.oci_config.specs.declared.process.ProcessConfig.{ProcessConfig}
 use Rattle.step_machine.specs.Worked.{bare_process, i32_const, drop', call, func, with_funcs, to_i32, empty_entry, with_callee, nothing_to_nothing}
 
 -- a process with this cap of pages

@@ -1,6 +1,6 @@
 //! Breakpoints.
 
-ghost use Rattle.std.specs.Prelude.{◌≡◌, ◌≤◌, IfOk, [], true, false, length, vec_len};
+ghost use Rattle.std.specs.Prelude.{IsTrue, ◌↔◌, ◌≡◌, ◌≤◌, IfOk, [], true, false, length, vec_len};
 ghost use Rattle.step_machine.specs.Limits.{max_breakpoints};
 ghost use Rattle.step_machine.specs.Slices.{is_among};
 
@@ -69,6 +69,14 @@ impl Breaks {
     {
         let Breaks { places } = self;
         places
+    }
+
+    /// Whether there is none.
+    #[inline(always)]
+    pub fn is_empty(&self) -> bool
+        ensures { IsTrue result ↔ (self.now ≡ []) }
+    {
+        self.places.is_empty()
     }
 
     /// Whether one of them is this place.

@@ -1,17 +1,12 @@
-//! System calls (WASI snapshot_preview1), and which imports are one.
+//! Which imports are system calls.
 
-ghost use Rattle.std.specs.Prelude.{◌≡◌, slice_get, option_copied};
+ghost use Rattle.std.specs.Prelude.{◌≡◌, ◌&&◌, bytes_eq, slice_get, option_copied};
 ghost use Rattle.flat_code.specs.TypeClasses.{are_same_types, is_of_type};
-ghost use Rattle.step_machine.specs.HostCalls.{host_calls, call_named, known, all_known};
+ghost use Rattle.wasi_calls.specs.HostCalls.{host_name, host_type};
+ghost use Rattle.step_machine.specs.HostCalls.{call_named, known, all_known};
 
+use wasi_calls::HostCall;
 use wasm_ast::{FuncType, Import, ValType};
-
-/// A system call that this profile has.
-#[derive(Clone, Copy, PartialEq, Eq, Debug)]
-pub enum HostCall {
-    /// `proc_exit`: ends the task with a number
-    ProcExit,
-}
 
 /// Whether each import is a system call, by module, name and type.
 pub fn are_known(types: &[FuncType], imports: &[Import]) -> bool
@@ -29,10 +24,11 @@ pub fn are_known(types: &[FuncType], imports: &[Import]) -> bool
 pub fn known(types: &[FuncType], import: &Import) -> Option<HostCall>
     ensures { result ≡ known types.now import.now }
 {
-    if import.module.as_str() == "wasi_snapshot_preview1" {
+    if import.module.as_str() == HostCall::module() {
         call_named(
             import.name.as_str(),
             type_with_index(types, import.type_index),
+            HostCall::all(),
         )
     } else {
         None
@@ -45,13 +41,22 @@ fn type_with_index(types: &[FuncType], index: u32) -> Option<&FuncType>
     types.get(index as usize)
 }
 
-fn call_named(name: &str, found: Option<&FuncType>) -> Option<HostCall>
-    ensures { result ≡ call_named name.now (option_copied found.entry) host_calls }
+fn call_named(name: &str, found: Option<&FuncType>, calls: &[HostCall]) -> Option<HostCall>
+    ensures { result ≡ call_named name.now (option_copied found.entry) calls.now }
 {
-    if name == "proc_exit" && is_of_type(&[ValType::I32], &[], found) {
-        return Some(HostCall::ProcExit);
+    for call in calls {
+        if is_call(*call, name, found) {
+            return Some(*call);
+        }
     }
     None
+}
+
+fn is_call(call: HostCall, name: &str, found: Option<&FuncType>) -> bool
+    ensures { result ≡ bytes_eq name.now (host_name call)
+        && is_of_type (host_type call) (option_copied found.entry) }
+{
+    name == call.name() && is_of_type(call.params(), call.results(), found)
 }
 
 /// Whether a type is there and has these parameters and results.

@@ -2,16 +2,17 @@
 
 ghost use Rattle.std.specs.Prelude.{◌≡◌, ◌&&◌, ◌+◌, ◌*◌, nat_le, ℕ, IfOk, OnOk, None, Some, Err, length, option_copied, true};
 ghost use Rattle.linear_memory.specs.Memory.{Memory, is_inside, page_bytes};
-ghost use Rattle.wasm_ast.specs.Limits.{is_within};
+ghost use Rattle.wasm_ast.specs.Limits.{is_within as within_limits};
 ghost use Rattle.wasm_ast.specs.Types.{func_types};
 ghost use Rattle.wasm_ast.specs.declared.refusal.Refusal.{Refusal};
-ghost use Rattle.step_machine.specs.declared.process.ProcessConfig.{ProcessConfig};
+ghost use Rattle.oci_config.specs.declared.process.ProcessConfig.{ProcessConfig};
 ghost use Rattle.step_machine.specs.HostCalls.{all_known};
 ghost use Rattle.step_machine.specs.Instantiation.{is_bare, is_entry, entry_in, entry, constant, offset_of, zero_memory, empty_table, are_pages_within, are_elements_inside, are_segments_inside, instantiation_refusal};
 
 use crate::func_types::type_of;
 use crate::host_calls::{are_known, is_of_type};
-use crate::page_cap::PageCap;
+use crate::needed_memory::has_needed_memory;
+use oci_config::PageCap;
 use wasm_ast::{
     Body, Element, Export, ExportKind, Instr, Limits, Module, Refusal, Segment, Simple, Value,
 };
@@ -20,13 +21,16 @@ use wasm_ast::{
 const PAGE_BYTES: u64 = 65_536;
 
 /// The entry, imports counted first, of a module that can be instantiated in a process with this cap of
-/// pages. Else the first refusal that holds: `NoEntry`, `BadImport` if an import is no system call or has
+/// pages. Else the first refusal that holds: `NoEntry`, also if a system call that needs memory is
+/// imported and no memory is exported as `memory`; `BadImport` if an import is no system call or has
 /// another type, `Limit` if the module passes a limit of the profile or begins with more pages than the
-/// cap, and `SegmentOutOfBounds` if a segment is not inside its table or memory as it begins.
-pub fn find_entry(of: &Module, cap: PageCap) -> Result<u32, Refusal>
+/// cap, and `SegmentOutOfBounds` if a segment is not inside its table or memory as it begins. The caller
+/// says whether the module is within the limits, since finding that out takes time linear in its bodies.
+pub fn find_entry(of: &Module, is_within: bool, cap: PageCap) -> Result<u32, Refusal>
+    requires { is_within ≡ within_limits of.now }
     ensures entry { IfOk result (λ f. entry of.now ≡ Some f) }
     ensures known { OnOk result (all_known of.now.types of.now.imports ≡ true) }
-    ensures within { OnOk result (is_within of.now ≡ true) }
+    ensures within { OnOk result (within_limits of.now ≡ true) }
     ensures pages { OnOk result (are_pages_within of.now.memories cap ≡ true) }
     ensures inside { OnOk result (are_elements_inside (length (empty_table of.now.tables)) of.now.elements
         && are_segments_inside (zero_memory of.now.memories cap) of.now.segments ≡ true) }
@@ -38,10 +42,13 @@ pub fn find_entry(of: &Module, cap: PageCap) -> Result<u32, Refusal>
     let Some(entry) = entry_of(of, of.exports.as_slice()) else {
         return Err(Refusal::NoEntry);
     };
+    if !has_needed_memory(of) {
+        return Err(Refusal::NoEntry);
+    }
     if !are_known(of.types.as_slice(), of.imports.as_slice()) {
         return Err(Refusal::BadImport);
     }
-    if !of.is_within_limits() || !are_pages_within(of.memories.as_slice(), cap.pages()) {
+    if !is_within || !are_pages_within(of.memories.as_slice(), cap.pages()) {
         return Err(Refusal::Limit);
     }
     if !are_inside(of) {

@@ -4,7 +4,7 @@ ghost use Rattle.std.specs.Prelude.{◌≡◌, ◌≢◌, ℕ, sum, ◌+◌, ◌
 ghost use Rattle.wasm_ast.specs.declared.values.Value.{Value};
 ghost use Rattle.wasm_ast.specs.declared.module.Module.{Module};
 ghost use Rattle.wasm_ast.specs.declared.place.Place.{Place};
-ghost use Rattle.step_machine.specs.declared.process.ProcessConfig.{ProcessConfig};
+ghost use Rattle.oci_config.specs.declared.process.ProcessConfig.{ProcessConfig};
 ghost use Rattle.step_machine.specs.declared.ends.SliceEnd.TheVariants as slice;
 ghost use Rattle.step_machine.specs.Limits.{last_turn};
 ghost use Rattle.step_machine.specs.Program.{Program, functions};

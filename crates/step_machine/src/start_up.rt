@@ -4,13 +4,14 @@ ghost use Rattle.std.specs.Prelude.{◌≡◌, ◌∷◌, ◌++◌, [], ℕ, Som
 ghost use Rattle.wasm_ast.specs.declared.module.Module.{Module as ModuleValue};
 ghost use Rattle.flat_code.specs.Layout.{cell_of};
 ghost use Rattle.flat_code.specs.FlatCode.{flat_of};
-ghost use Rattle.step_machine.specs.declared.process.ProcessConfig.{ProcessConfig};
+ghost use Rattle.oci_config.specs.declared.process.ProcessConfig.{ProcessConfig};
+ghost use Rattle.oci_config.specs.Processes.{config_of};
 ghost use Rattle.step_machine.specs.Limits.{max_values};
 ghost use Rattle.step_machine.specs.Instantiation.{entry as entry_of, first_store};
 ghost use Rattle.step_machine.specs.Inside.FlatState.{callees as all_callees};
 ghost use Rattle.step_machine.specs.Inside.FlatView.{callee_of, flat_from};
 ghost use Rattle.step_machine.specs.Inside.Simulates.{Stored};
-ghost use Rattle.step_machine.specs.Inside.Going.{Runnable, Stopped};
+ghost use Rattle.step_machine.specs.Inside.Going.{HasTexts, Runnable, Stopped};
 
 use crate::callee::Callee;
 use crate::current::Current;
@@ -41,7 +42,8 @@ pub fn start_up(
     entry: u32,
 ) -> Option<End>
     requires limit { at.old.stack.limit ≡ max_values }
-    ensures stopped { (m : ModuleValue) → (p : ProcessConfig) → Runnable m
+    ensures stopped { (m : ModuleValue) → (p : ProcessConfig) → HasTexts p
+        → config_of kept.old.process ≡ p → Runnable m
         → map cell_of code.now ≡ map (λ l. l.cell) (flat_of m).lines
         → map callee_of callees.now ≡ all_callees m → start ≡ m.start → entry_of m ≡ Some entry
         → Stored m (flat_from at.old kept.old) (first_store m p)

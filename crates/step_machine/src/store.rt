@@ -7,8 +7,8 @@ ghost use Rattle.step_machine.specs.Instantiation.{first_global, most_pages, zer
 ghost use Rattle.step_machine.specs.Inside.FlatState.{word_of};
 
 use crate::instantiate::{constant, offset_of};
-use crate::page_cap::PageCap;
 use linear_memory::LinearMemory;
+use oci_config::PageCap;
 use std::alloc::{AllocError, Global};
 use wasm_ast::{Element, Limits, Module, Segment, Value};
 

@@ -7,10 +7,12 @@ ghost use Rattle.wasm_ast.specs.declared.values.Value.TheVariants.{I32, I64};
 ghost use Rattle.wasm_ast.specs.declared.instr.BlockType.TheVariants.{Empty, One};
 ghost use Rattle.wasm_ast.specs.declared.trap.Trap.TheVariants as trap;
 ghost use Rattle.wasm_ast.specs.Syntax.{Op, block, loop, if', Ops, stop, next, ops_of};
-ghost use Rattle.step_machine.specs.declared.process.ProcessConfig.{ProcessConfig};
+ghost use Rattle.oci_config.specs.declared.process.ProcessConfig.{ProcessConfig};
+ghost use Rattle.oci_config.specs.declared.stream.Stream.TheVariants as stream;
+ghost use Rattle.step_machine.specs.MachineView.{written_to};
 ghost use Rattle.step_machine.specs.declared.ends.End.TheVariants as end;
 ghost use Rattle.step_machine.specs.declared.ends.SliceEnd.TheVariants as slice;
-ghost use Rattle.step_machine.specs.Limits.{max_frames, max_values, last_turn, max_breakpoints, max_output};
+ghost use Rattle.step_machine.specs.Limits.{max_frames, max_values, last_turn, max_breakpoints};
 ghost use Rattle.step_machine.specs.Program.{unknown, Program, program};
 ghost use Rattle.step_machine.specs.Configuration.{onward, again, seq, Items, done, more, plain, label, frame, enter, branch, ret, items_of, running, exited, trapped, stuck, is_halted, frames, values};
 ghost use Rattle.step_machine.specs.Effects.{Env, enter_block, enter_loop, becomes};
@@ -30,6 +32,12 @@ pub fn exit_takes_a_turn()
 pub fn empty_entry_returns()
     ensures returns { ended (after empty_entry bare_process 0).state ≡ Some end.Returned }
     ensures store { (after empty_entry bare_process 0).store ≡ empty_store }
+{}
+
+/// What was written to one output stream is not told of the other.
+pub fn streams_are_apart()
+    ensures out { written_to stream.Out (record empty_store { out = 1 ∷ []; err = 2 ∷ [] }) ≡ 1 ∷ [] }
+    ensures err { written_to stream.Err (record empty_store { out = 1 ∷ []; err = 2 ∷ [] }) ≡ 2 ∷ [] }
 {}
 
 /// A branch out of a block keeps the top value: the task exits with 2 at its fifth turn.
@@ -227,5 +235,4 @@ pub fn limits_are_these()
     ensures values { max_values ≡ 65536 }
     ensures last_turn { last_turn ≡ 1000000000000000 }
     ensures breakpoints { max_breakpoints ≡ 32 }
-    ensures output { max_output ≡ 65536 }
 {}

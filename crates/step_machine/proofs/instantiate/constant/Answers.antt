@@ -1,8 +1,7 @@
-use Rattle.std.proofs.Common.{◌≡◌, List, [], ◌∷◌, map, length, None, subst, refl, sym, ap, ◌∙◌, arith}
+use Rattle.std.proofs.Common.{◌≡◌, List, [], ◌∷◌, map, length, None, refl, ap, ◌∙◌}
 use Rattle.wasm_ast.specs.declared.instr.Instr.{Instr}
-use Rattle.wasm_ast.specs.declared.instr.Instr.TheVariants.{Simple, Block, Loop, If}
 use Rattle.wasm_ast.specs.declared.instr.Simple.TheVariants as instr
-use Rattle.wasm_ast.specs.Syntax.{Op, simple, block, loop, if', Ops, stop, next, ops_of}
+use Rattle.wasm_ast.specs.Syntax.{Op, simple, block, loop, if', Ops, next, ops_of}
 use Rattle.wasm_ast.specs.View.{op_of}
 use Rattle.step_machine.specs.Instantiation.{constant}
 use Rattle.step_machine.proofs.instantiate.constant.Goals as goal
