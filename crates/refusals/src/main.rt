@@ -46,13 +46,15 @@ const CREATE_NO_CONTENT: &str =
 const CREATE_NO_CONFIG: &str = r#"{"op":"create","id":"b","config":"{}"}"#;
 
 const CREATE_B: &str =
-    r#"{"op":"create","id":"b","config":"{\"ociVersion\":\"1.0.2\",\"process\":{\"args\":[\"a\"],\"cwd\":\"/\"},\"annotations\":{\"dev.shim.module\":\"sha256:2194f0d23626e6104d4a7a891350fbd0e82a54a29dd596a672d41474e9b6ee0a\"}}"}"#;
+    r#"{"op":"create","id":"b","config":"{\"ociVersion\":\"1.0.2\",\"process\":{\"args\":[\"a\"],\"cwd\":\"/\",\"env\":[\"B=1\"]},\"annotations\":{\"dev.shim.module\":\"sha256:2194f0d23626e6104d4a7a891350fbd0e82a54a29dd596a672d41474e9b6ee0a\"},\"linux\":{\"resources\":{\"memory\":{\"limit\":65536}}}}"}"#;
 
 const START_A: &str = r#"{"op":"start","id":"a"}"#;
 
 const STATE_A: &str = r#"{"op":"state","id":"a"}"#;
 
 const WAIT_A: &str = r#"{"op":"wait","id":"a"}"#;
+
+const OUTPUT_A: &str = r#"{"op":"output","id":"a","stream":1}"#;
 
 const PAUSE_A: &str = r#"{"op":"pause","id":"a"}"#;
 
@@ -96,7 +98,7 @@ const FIRST: [&str; 8] = [
 ];
 
 /// What is asked after a slice.
-const AFTER: [&str; 2] = [STATE_A, WAIT_A];
+const AFTER: [&str; 3] = [STATE_A, WAIT_A, OUTPUT_A];
 
 /// What is asked last: one create after creates that are refused for other reasons.
 const LAST: [&str; 9] = [

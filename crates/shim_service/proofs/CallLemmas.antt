@@ -39,6 +39,7 @@ nothing_before s (request.Resume id) other = refl
 nothing_before s (request.Kill id signal) other = refl
 nothing_before s (request.Delete id) other = refl
 nothing_before s (request.State id) other = refl
+nothing_before s (request.Output id stream) other = refl
 
 -- a request other than wait
 pub calls_other : (s : BoardState) (r : Request) (a : Answer) (s' : BoardState) → ((id : List ℕ) → r ≡ request.Wait id → ⊥) → (a ≢ Err refusal.NoMemory → Answers s r a s')

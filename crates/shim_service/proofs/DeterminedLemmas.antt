@@ -129,6 +129,7 @@ same_before law s (request.Resume id) s1 s2 a b = a ∙ sym b
 same_before law s (request.Kill id signal) s1 s2 a b = a ∙ sym b
 same_before law s (request.Delete id) s1 s2 a b = a ∙ sym b
 same_before law s (request.State id) s1 s2 a b = a ∙ sym b
+same_before law s (request.Output id stream) s1 s2 a b = a ∙ sym b
 same_before law s (request.Wait id) s1 s2 a b = same_slices law id a.count b.count s s1 s2 a.slices b.slices a.idle b.idle
 
 -- ---- a line of a stream

@@ -6,7 +6,7 @@ use Rattle.serde_json.specs.Data.{Data, number, string, object, Members, unsigne
 use Rattle.serde_json.specs.Find.{get_member}
 use Rattle.task_board.specs.declared.event.Event.{Event}
 use Rattle.task_board.specs.declared.event.Event.TheVariants.{Call, Take, Return}
-use Rattle.task_board.specs.declared.request.Request.TheVariants.{Put, Remove, LeaseCreate, LeaseAdd, LeaseDelete, Gc, Create, Start, Pause, Resume, Kill, Delete, State, Wait}
+use Rattle.task_board.specs.declared.request.Request.TheVariants.{Put, Remove, LeaseCreate, LeaseAdd, LeaseDelete, Gc, Create, Start, Pause, Resume, Kill, Delete, State, Wait, Output}
 use Rattle.shim_service.specs.Request.{AsksEvent, IsEvent}
 
 abbrev put_read : Result (List ℕ) FromHexError → Option Event
@@ -39,8 +39,9 @@ of_op ms op =
     (cond (bytes_eq op (codes "delete")) (text_of (get_member (codes "id") ms) (λ id. Some (Call (Delete id))))
     (cond (bytes_eq op (codes "state")) (text_of (get_member (codes "id") ms) (λ id. Some (Call (State id))))
     (cond (bytes_eq op (codes "wait")) (text_of (get_member (codes "id") ms) (λ id. Some (Call (Wait id))))
+    (cond (bytes_eq op (codes "output")) (text_of (get_member (codes "id") ms) (λ id. number_of (get_member (codes "stream") ms) (λ stream. Some (Call (Output id stream)))))
     (cond (bytes_eq op (codes "return")) (text_of (get_member (codes "id") ms) (λ id. Some (Return id)))
-    (text_of (get_member (codes "id") ms) (λ id. number_of (get_member (codes "budget") ms) (λ budget. Some (Take id budget))))))))))))))))))
+    (text_of (get_member (codes "id") ms) (λ id. number_of (get_member (codes "budget") ms) (λ budget. Some (Take id budget)))))))))))))))))))
 
 -- the event of a value that is one
 abbrev of_data : Data → Option Event
@@ -62,6 +63,7 @@ recovered d (Call (Kill id signal)) (ms, whole, keys) = rw (whole, keys) refl
 recovered d (Call (Delete id)) (ms, whole, keys) = rw (whole, keys) refl
 recovered d (Call (State id)) (ms, whole, keys) = rw (whole, keys) refl
 recovered d (Call (Wait id)) (ms, whole, keys) = rw (whole, keys) refl
+recovered d (Call (Output id stream)) (ms, whole, keys) = rw (whole, keys) refl
 recovered d (Take id budget) (ms, whole, (keys, least, most)) = rw (whole, keys) refl
 recovered d (Return id) (ms, whole, keys) = rw (whole, keys) refl
 

@@ -7,7 +7,7 @@ use Rattle.serde_json.proofs.Views.{get_member-put}
 use Rattle.task_board.specs.declared.event.Event.{Event}
 use Rattle.task_board.specs.declared.event.Event.TheVariants.{Call, Take, Return}
 use Rattle.task_board.specs.declared.request.Request.{Request}
-use Rattle.task_board.specs.declared.request.Request.TheVariants.{Put, Remove, LeaseCreate, LeaseAdd, LeaseDelete, Gc, Create, Start, Pause, Resume, Kill, Delete, State, Wait}
+use Rattle.task_board.specs.declared.request.Request.TheVariants.{Put, Remove, LeaseCreate, LeaseAdd, LeaseDelete, Gc, Create, Start, Pause, Resume, Kill, Delete, State, Wait, Output}
 use Rattle.shim_service.specs.declared.line_error.LineError.{LineError}
 use Rattle.shim_service.specs.Request.{only_id, HasKeys, event_op, HasEventKeys, AsksEvent}
 use Rattle.shim_service.specs.Inside.Parse.{Parses, without, IsAsked, IsEventAsked, HasOnlyId, IsSimple}
@@ -28,6 +28,7 @@ only_put op ms is none (Kill id signal) a = let same = a.same in cc
 only_put op ms is none (Delete id) a = let same = a.same in cc
 only_put op ms is none (State id) a = let same = a.same in cc
 only_put op ms is none (Wait id) a = let same = a.same in cc
+only_put op ms is none (Output id stream) a = let same = a.same in cc
 
 -- no request with these keys beside `op`, and none that is simple
 pub none_left : (op : List ℕ) (ms : Members) → op ≢ codes "put" → op ≢ codes "create" → op ≢ codes "kill" → ((r : Request) → IsSimple r → IsAsked op ms r → ⊥)
@@ -46,6 +47,7 @@ none_left op ms put create kill none (Resume id) a = none (Resume id) tt a
 none_left op ms put create kill none (Delete id) a = none (Delete id) tt a
 none_left op ms put create kill none (State id) a = none (State id) tt a
 none_left op ms put create kill none (Wait id) a = none (Wait id) tt a
+none_left op ms put create kill none (Output id stream) a = none (Output id stream) tt a
 
 -- a word is not another
 differ : (x y op : List ℕ) → bytes_eq x y ≡ false → op ≡ x → op ≡ y → ⊥
@@ -67,6 +69,7 @@ only_remove op ms is none (Resume id) own a = differ (codes "remove") (codes "re
 only_remove op ms is none (Delete id) own a = differ (codes "remove") (codes "delete") op refl is a.same
 only_remove op ms is none (State id) own a = differ (codes "remove") (codes "state") op refl is a.same
 only_remove op ms is none (Wait id) own a = differ (codes "remove") (codes "wait") op refl is a.same
+only_remove op ms is none (Output id stream) own a = differ (codes "remove") (codes "output") op refl is a.same
 
 pub only_lease_add : (op : List ℕ) (ms : Members) → op ≡ codes "lease_add" → ((digest id : List ℕ) → HasKeys ms (LeaseAdd digest id) → ⊥) → (r : Request) → IsSimple r → IsAsked op ms r → ⊥
 only_lease_add op ms is none (LeaseAdd digest id) own a = none digest id a.keys
@@ -83,6 +86,24 @@ only_lease_add op ms is none (Resume id) own a = differ (codes "lease_add") (cod
 only_lease_add op ms is none (Delete id) own a = differ (codes "lease_add") (codes "delete") op refl is a.same
 only_lease_add op ms is none (State id) own a = differ (codes "lease_add") (codes "state") op refl is a.same
 only_lease_add op ms is none (Wait id) own a = differ (codes "lease_add") (codes "wait") op refl is a.same
+only_lease_add op ms is none (Output id stream) own a = differ (codes "lease_add") (codes "output") op refl is a.same
+
+pub only_output : (op : List ℕ) (ms : Members) → op ≡ codes "output" → ((id : List ℕ) (stream : ℕ) → HasKeys ms (Output id stream) → ⊥) → (r : Request) → IsSimple r → IsAsked op ms r → ⊥
+only_output op ms is none (Output id stream) own a = none id stream a.keys
+only_output op ms is none (Put bytes) own a = own
+only_output op ms is none (Create config id) own a = own
+only_output op ms is none (Kill id signal) own a = own
+only_output op ms is none (Remove digest) own a = differ (codes "output") (codes "remove") op refl is a.same
+only_output op ms is none (LeaseCreate id) own a = differ (codes "output") (codes "lease_create") op refl is a.same
+only_output op ms is none (LeaseAdd digest id) own a = differ (codes "output") (codes "lease_add") op refl is a.same
+only_output op ms is none (LeaseDelete id) own a = differ (codes "output") (codes "lease_delete") op refl is a.same
+only_output op ms is none Gc own a = differ (codes "output") (codes "gc") op refl is a.same
+only_output op ms is none (Start id) own a = differ (codes "output") (codes "start") op refl is a.same
+only_output op ms is none (Pause id) own a = differ (codes "output") (codes "pause") op refl is a.same
+only_output op ms is none (Resume id) own a = differ (codes "output") (codes "resume") op refl is a.same
+only_output op ms is none (Delete id) own a = differ (codes "output") (codes "delete") op refl is a.same
+only_output op ms is none (State id) own a = differ (codes "output") (codes "state") op refl is a.same
+only_output op ms is none (Wait id) own a = differ (codes "output") (codes "wait") op refl is a.same
 
 pub only_gc : (op : List ℕ) (ms : Members) → op ≡ codes "gc" → (ms ≡ no_members → ⊥) → (r : Request) → IsSimple r → IsAsked op ms r → ⊥
 only_gc op ms is none Gc own a = none a.keys
@@ -99,24 +120,26 @@ only_gc op ms is none (Resume id) own a = differ (codes "gc") (codes "resume") o
 only_gc op ms is none (Delete id) own a = differ (codes "gc") (codes "delete") op refl is a.same
 only_gc op ms is none (State id) own a = differ (codes "gc") (codes "state") op refl is a.same
 only_gc op ms is none (Wait id) own a = differ (codes "gc") (codes "wait") op refl is a.same
+only_gc op ms is none (Output id stream) own a = differ (codes "gc") (codes "output") op refl is a.same
 
 -- no simple request with these keys, and none that has the key `id` alone
-pub none_simple : (op : List ℕ) (ms : Members) → op ≢ codes "remove" → op ≢ codes "lease_add" → op ≢ codes "gc" → ((r : Request) → HasOnlyId r → IsAsked op ms r → ⊥)
+pub none_simple : (op : List ℕ) (ms : Members) → op ≢ codes "remove" → op ≢ codes "lease_add" → op ≢ codes "output" → op ≢ codes "gc" → ((r : Request) → HasOnlyId r → IsAsked op ms r → ⊥)
     → (r : Request) → IsSimple r → IsAsked op ms r → ⊥
-none_simple op ms remove add gc none (Put bytes) own a = own
-none_simple op ms remove add gc none (Create config id) own a = own
-none_simple op ms remove add gc none (Kill id signal) own a = own
-none_simple op ms remove add gc none (Remove digest) own a = remove a.same
-none_simple op ms remove add gc none (LeaseAdd digest id) own a = add a.same
-none_simple op ms remove add gc none Gc own a = gc a.same
-none_simple op ms remove add gc none (LeaseCreate id) own a = none (LeaseCreate id) tt a
-none_simple op ms remove add gc none (LeaseDelete id) own a = none (LeaseDelete id) tt a
-none_simple op ms remove add gc none (Start id) own a = none (Start id) tt a
-none_simple op ms remove add gc none (Pause id) own a = none (Pause id) tt a
-none_simple op ms remove add gc none (Resume id) own a = none (Resume id) tt a
-none_simple op ms remove add gc none (Delete id) own a = none (Delete id) tt a
-none_simple op ms remove add gc none (State id) own a = none (State id) tt a
-none_simple op ms remove add gc none (Wait id) own a = none (Wait id) tt a
+none_simple op ms remove add output gc none (Put bytes) own a = own
+none_simple op ms remove add output gc none (Create config id) own a = own
+none_simple op ms remove add output gc none (Kill id signal) own a = own
+none_simple op ms remove add output gc none (Remove digest) own a = remove a.same
+none_simple op ms remove add output gc none (LeaseAdd digest id) own a = add a.same
+none_simple op ms remove add output gc none Gc own a = gc a.same
+none_simple op ms remove add output gc none (LeaseCreate id) own a = none (LeaseCreate id) tt a
+none_simple op ms remove add output gc none (LeaseDelete id) own a = none (LeaseDelete id) tt a
+none_simple op ms remove add output gc none (Start id) own a = none (Start id) tt a
+none_simple op ms remove add output gc none (Pause id) own a = none (Pause id) tt a
+none_simple op ms remove add output gc none (Resume id) own a = none (Resume id) tt a
+none_simple op ms remove add output gc none (Delete id) own a = none (Delete id) tt a
+none_simple op ms remove add output gc none (State id) own a = none (State id) tt a
+none_simple op ms remove add output gc none (Wait id) own a = none (Wait id) tt a
+none_simple op ms remove add output gc none (Output id stream) own a = output a.same
 
 -- a request of the key `id` alone has these members
 pub only_its_id : (op : List ℕ) (ms : Members) → ((id : List ℕ) → ms ≢ only_id id) → (r : Request) → HasOnlyId r → IsAsked op ms r → ⊥
@@ -134,6 +157,7 @@ only_its_id op ms none (LeaseAdd digest id) own a = own
 only_its_id op ms none Gc own a = own
 only_its_id op ms none (Create config id) own a = own
 only_its_id op ms none (Kill id signal) own a = own
+only_its_id op ms none (Output id stream) own a = own
 
 -- no `op` of such a request
 pub no_such_op : (op : List ℕ) (ms : Members) → op ≢ codes "lease_create" → op ≢ codes "lease_delete" → op ≢ codes "start" → op ≢ codes "pause" → op ≢ codes "resume" → op ≢ codes "delete"
@@ -152,6 +176,7 @@ no_such_op op ms g h a b c d e f (LeaseAdd digest id) own is = own
 no_such_op op ms g h a b c d e f Gc own is = own
 no_such_op op ms g h a b c d e f (Create config id) own is = own
 no_such_op op ms g h a b c d e f (Kill id signal) own is = own
+no_such_op op ms g h a b c d e f (Output id stream) own is = own
 
 -- the keys of an event do not have `op` among them
 rest_of : (e : Event) (d : Data) (ms : Members) → HasEventKeys ms e → without (codes "op") (put (codes "op") d ms) ≡ ms
@@ -169,6 +194,7 @@ rest_of (Call (Kill id signal)) d ms h = rw h refl
 rest_of (Call (Delete id)) d ms h = rw h refl
 rest_of (Call (State id)) d ms h = rw h refl
 rest_of (Call (Wait id)) d ms h = rw h refl
+rest_of (Call (Output id stream)) d ms h = rw h refl
 rest_of (Take id budget) d ms h = rw (h.0) refl
 rest_of (Return id) d ms h = rw h refl
 

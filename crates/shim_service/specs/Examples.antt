@@ -19,6 +19,14 @@ TwiceExample = IsEvent (codes "{\"op\":\"start\",\"id\":\"a\",\"op\":\"state\"}"
 abbrev pub TakeExample : Type 0
 TakeExample = IsEvent (codes "{\"op\":\"take\",\"id\":\"a\",\"budget\":100}") (Take (codes "a") 100)
 
+abbrev pub OutputExample : Type 0
+OutputExample = IsEvent (codes "{\"op\":\"output\",\"id\":\"a\",\"stream\":1}") (Call (request.Output (codes "a") 1))
+
+-- in lower-case digits, two for each byte
+abbrev pub WrittenExample : Type 0
+WrittenExample =
+    line_text (json_of (Ok (reply.Output (0 ∷ 255 ∷ []) (codes "a") 2))) ≡ codes "{\"hex\":\"00ff\",\"id\":\"a\",\"ok\":true,\"size\":2}\n"
+
 -- the digests of a list are in its order
 abbrev pub RemovedExample : Type 0
 RemovedExample =

@@ -1,5 +1,6 @@
 -- What is answered, as JSON values and as lines. The members of a value are listed in the order of their keys.
 use Rattle.std.specs.Prelude.{ℕ, List, [], ◌∷◌, ◌++◌, map, true, false, Option, None, Some, Result, Ok, Err, codes}
+use Rattle.hex.specs.Hex.{encode_lower}
 use Rattle.serde_json.specs.Data.{Data, string, boolean, number, array, unsigned}
 use Rattle.serde_json.specs.View.{items_of}
 use Rattle.serde_json.specs.Written.{compact_text}
@@ -85,6 +86,15 @@ state_data s = object_of
     ++ (codes "status", string (status_name s.status))
     ∷ trap_members s.end)
 
+-- the bytes in lower-case hexadecimal digits
+abbrev pub output_data : (bytes id : List ℕ) → (size : ℕ) → Data
+output_data bytes id size = object_of
+    ((codes "hex", string (encode_lower bytes))
+    ∷ (codes "id", string id)
+    ∷ (codes "ok", boolean true)
+    ∷ (codes "size", count size)
+    ∷ [])
+
 abbrev pub reply_data : Reply → Data
 reply_data (reply.Put digest size) = put_data digest size
 reply_data (reply.Remove digest) = digest_data digest
@@ -100,6 +110,7 @@ reply_data (reply.Kill id status) = status_data id status
 reply_data (reply.Delete state) = state_data state
 reply_data (reply.State state) = state_data state
 reply_data (reply.Wait state) = state_data state
+reply_data (reply.Output bytes id size) = output_data bytes id size
 
 -- what a request is answered
 abbrev pub json_of : Result Reply Refusal → Data

@@ -3,7 +3,7 @@ use Rattle.std.specs.Prelude.{◌≡◌, ◌≤◌, ℕ, List, [], ◌∷◌, Ok
 use Rattle.hex.specs.Hex.{decode_of}
 use Rattle.serde_json.specs.Data.{Data, string, number, unsigned, object, Members, put}
 use Rattle.task_board.specs.declared.request.Request.{Request}
-use Rattle.task_board.specs.declared.request.Request.TheVariants.{Put, Remove, LeaseCreate, LeaseAdd, LeaseDelete, Gc, Create, Start, Pause, Resume, Kill, Delete, State, Wait}
+use Rattle.task_board.specs.declared.request.Request.TheVariants.{Put, Remove, LeaseCreate, LeaseAdd, LeaseDelete, Gc, Create, Start, Pause, Resume, Kill, Delete, State, Wait, Output}
 use Rattle.task_board.specs.declared.event.Event.{Event}
 use Rattle.task_board.specs.declared.event.Event.TheVariants.{Call, Take, Return}
 use Rattle.shim_service.specs.Shape.{IsJson, members}
@@ -26,6 +26,7 @@ op_of (Kill id signal) = codes "kill"
 op_of (Delete id) = codes "delete"
 op_of (State id) = codes "state"
 op_of (Wait id) = codes "wait"
+op_of (Output id stream) = codes "output"
 
 -- the key `id` and no other
 abbrev pub only_id : List ℕ → Members
@@ -48,6 +49,8 @@ HasKeys ms (Kill id signal) =
 HasKeys ms (Delete id) = ms ≡ only_id id
 HasKeys ms (State id) = ms ≡ only_id id
 HasKeys ms (Wait id) = ms ≡ only_id id
+HasKeys ms (Output id stream) =
+    ms ≡ members ((codes "id", string id) ∷ (codes "stream", number (unsigned stream)) ∷ [])
 
 -- ---- the event lines of a replay
 

@@ -8,7 +8,7 @@ ghost use Rattle.task_board.specs.declared.request.Request.{Request};
 ghost use Rattle.task_board.specs.BoardState.{BoardState};
 ghost use Rattle.task_board.specs.Choices.{IsDetermined};
 ghost use Rattle.task_board.specs.Step.{Answer};
-ghost use Rattle.shim_service.specs.Examples.{PutExample, LeaseExample, TwiceExample, TakeExample, RemovedExample, StoppedExample};
+ghost use Rattle.shim_service.specs.Examples.{PutExample, LeaseExample, TwiceExample, TakeExample, RemovedExample, StoppedExample, OutputExample, WrittenExample};
 ghost use Rattle.shim_service.specs.Replay.{IsReplied};
 ghost use Rattle.shim_service.specs.Reply.{json_of, line_text};
 ghost use Rattle.shim_service.specs.Request.{IsRequest, IsEvent};
@@ -60,12 +60,14 @@ pub fn long_lines_are_no_requests()
         → (a ≡ Err refusal.BadRequest) × (s' ≡ s) }
 {}
 
-/// Lines that are read so, and one that is written so.
+/// Lines that are read so, and some that are written so.
 pub fn examples()
     ensures put { PutExample }
     ensures lease { LeaseExample }
     ensures twice { TwiceExample }
     ensures take { TakeExample }
+    ensures output { OutputExample }
     ensures removed { RemovedExample }
+    ensures written { WrittenExample }
     ensures stopped { StoppedExample }
 {}

@@ -103,6 +103,21 @@ fn read_lease_add(members: Members) -> Option<(Text, Text)>
     Some((digest, id))
 }
 
+/// Reads the members beside `op` of a question for an output: the id and the number of the stream.
+fn read_output(members: Members) -> Option<(Text, u64)>
+    ensures some { IfSome result (λ r.
+        HasKeys (members_view members.entries) (Asked.Output r.0 r.1)) }
+    ensures none { IfNone result ((id : List ℕ) (stream : ℕ) →
+        HasKeys (members_view members.entries) (Asked.Output id stream) → ⊥) }
+{
+    let mut left = members;
+    let Some(stream) = take_number(&mut left, "stream") else {
+        return None;
+    };
+    let id = read_only_id(left)?;
+    Some((id, stream))
+}
+
 /// The request with this `op` that has the key `id` and no other.
 fn request_with_id(op: &str, id: Text) -> Option<Request>
     ensures some { IfSome result (λ r. IsAsked op.now (only_id id) r) }
@@ -145,6 +160,10 @@ fn read_simple(op: &str, members: Members) -> Option<Request>
         "lease_add" => {
             let (digest, id) = read_lease_add(members)?;
             Some(Request::LeaseAdd { digest, id })
+        }
+        "output" => {
+            let (id, stream) = read_output(members)?;
+            Some(Request::Output { id, stream })
         }
         "gc" => if is_done(&members) {
             Some(Request::Gc)

@@ -4,7 +4,7 @@ ghost use Rattle.std.specs.Prelude.{◌≡◌, IfOk, OnOk, codes, [], ◌∷◌,
 ghost use Rattle.serde_json.specs.Data.{string, boolean, put};
 ghost use Rattle.serde_json.specs.View.{view, members_view};
 ghost use Rattle.task_lifecycle.specs.Names.{cause_name, exit_status};
-ghost use Rattle.shim_service.specs.Reply.{count as count_data, refusal_data, put_data, digest_data, id_data, member_data, texts_data, removed_data, status_data, state_data, reply_data, json_of, event_data};
+ghost use Rattle.shim_service.specs.Reply.{count as count_data, refusal_data, put_data, digest_data, id_data, member_data, texts_data, removed_data, status_data, state_data, output_data, reply_data, json_of, event_data};
 ghost use Rattle.shim_service.specs.Inside.States.{base_members, with_detail};
 
 use crate::members::Members;
@@ -149,6 +149,14 @@ fn state_value(alloc: Global, state: &TaskState) -> Result<Value, AllocError>
     Ok(Value::Object(members))
 }
 
+// The value of a reply that is what a task has written.
+fn output_value(alloc: Global, bytes: &[u8], id: &str, size: u64) -> Result<Value, AllocError>
+    ensures { IfOk result (λ v. view v ≡ output_data bytes.now id.now size) }
+{
+    let digits = hex::encode(alloc, bytes)?;
+    json!(in alloc; {"hex": digits.as_str(), "id": id, "ok": true, "size": size})
+}
+
 // The value of a reply.
 fn reply_value(alloc: Global, reply: &Reply) -> Result<Value, AllocError>
     ensures { IfOk result (λ v. view v ≡ reply_data reply.now) }
@@ -167,6 +175,9 @@ fn reply_value(alloc: Global, reply: &Reply) -> Result<Value, AllocError>
         Reply::Kill { id, status } => status_value(alloc, id.as_str(), *status),
         Reply::Delete(state) | Reply::State(state) | Reply::Wait(state) => {
             state_value(alloc, state)
+        }
+        Reply::Output { bytes, id, size } => {
+            output_value(alloc, bytes.as_slice(), id.as_str(), *size)
         }
     }
 }

@@ -2,8 +2,9 @@
 
 use crate::checks::check_text;
 use crate::fixtures::{
-    CREATED_LINE, EXIT_SEVEN_CONFIG, EXIT_SEVEN_HEX, EXITED_LINE, NOT_RETURNED_LINE,
-    NOT_TAKEN_LINE, ONE_TURN_LINE, PUT_LINE, RETURNED_LINE, STARTED_LINE, TAKEN_LINE,
+    BUSY_LINE, CREATED_LINE, EXIT_SEVEN_CONFIG, EXIT_SEVEN_HEX, EXITED_LINE, NO_OUTPUT_LINE,
+    NOT_RETURNED_LINE, NOT_TAKEN_LINE, ONE_TURN_LINE, OUT_OF_RANGE_LINE, PUT_LINE, RETURNED_LINE,
+    STARTED_LINE, TAKEN_LINE,
 };
 use shim_service::{event_line_of, line_of};
 use std::alloc::{AllocError, Global};
@@ -40,6 +41,11 @@ fn state(alloc: Global) -> Result<Request, AllocError> {
 fn wait(alloc: Global) -> Result<Request, AllocError> {
     let id = id(alloc)?;
     Ok(Request::Wait { id })
+}
+
+fn output(alloc: Global, stream: u64) -> Result<Request, AllocError> {
+    let id = id(alloc)?;
+    Ok(Request::Output { id, stream })
 }
 
 fn new_board(alloc: Global) -> Result<Box<Board>, Fail> {
@@ -164,6 +170,7 @@ enum Action {
     Start,
     State,
     Wait,
+    Output(u64),
     Take(u64),
     Return,
 }
@@ -175,6 +182,7 @@ fn event(alloc: Global, action: Action) -> Result<Event, Fail> {
         Action::Start => Ok(Event::Call(start(alloc)?)),
         Action::State => Ok(Event::Call(state(alloc)?)),
         Action::Wait => Ok(Event::Call(wait(alloc)?)),
+        Action::Output(stream) => Ok(Event::Call(output(alloc, stream)?)),
         Action::Take(budget) => Ok(Event::Take(id(alloc)?, budget)),
         Action::Return => Ok(Event::Return(id(alloc)?)),
     }
@@ -213,6 +221,10 @@ const ROWS: &[Row] = &[
         line: ONE_TURN_LINE,
     },
     Row {
+        action: Action::Output(1),
+        line: NO_OUTPUT_LINE,
+    },
+    Row {
         action: Action::Take(0),
         line: NOT_TAKEN_LINE,
     },
@@ -229,6 +241,14 @@ const ROWS: &[Row] = &[
         line: NOT_TAKEN_LINE,
     },
     Row {
+        action: Action::Output(2),
+        line: BUSY_LINE,
+    },
+    Row {
+        action: Action::Output(3),
+        line: OUT_OF_RANGE_LINE,
+    },
+    Row {
         action: Action::Return,
         line: RETURNED_LINE,
     },
@@ -239,6 +259,10 @@ const ROWS: &[Row] = &[
     Row {
         action: Action::Wait,
         line: EXITED_LINE,
+    },
+    Row {
+        action: Action::Output(2),
+        line: NO_OUTPUT_LINE,
     },
 ];
 

@@ -53,3 +53,9 @@ pub const BAD_REQUEST_LINE: &str = "{\"error\":\"BadRequest\",\"number\":1,\"ok\
 pub const BAD_ID_LINE: &str = "{\"error\":\"BadId\",\"number\":2,\"ok\":false}\n";
 
 pub const NOT_FOUND_LINE: &str = "{\"error\":\"NotFound\",\"number\":4,\"ok\":false}\n";
+
+pub const NO_OUTPUT_LINE: &str = "{\"hex\":\"\",\"id\":\"a\",\"ok\":true,\"size\":0}\n";
+
+pub const BUSY_LINE: &str = "{\"error\":\"Busy\",\"number\":12,\"ok\":false}\n";
+
+pub const OUT_OF_RANGE_LINE: &str = "{\"error\":\"OutOfRange\",\"number\":13,\"ok\":false}\n";

@@ -9,6 +9,8 @@ mod checks;
 #[cfg(test)]
 mod commands;
 #[cfg(test)]
+mod configs;
+#[cfg(test)]
 mod fixtures;
 #[cfg(test)]
 mod lines;

@@ -4,12 +4,11 @@ ghost use Rattle.std.specs.Prelude.{◌≡◌, [], IfOk};
 
 use crate::checks::{check_bytes, check_text};
 use crate::fixtures::EXIT_SEVEN_HEX;
+use oci_config::{Output, PageCap, Process, ProcessConfig};
 use std::alloc::{AllocError, Global};
 use std::process::Abort;
 use std::test::Fail;
-use step_machine::{
-    Breaks, Machine, Output, PageCap, Process, ProcessConfig, SliceEnd, Valid, validate,
-};
+use step_machine::{Breaks, Machine, SliceEnd, Valid, validate};
 use wasm_ast::{Export, Func, FuncType, Import, Instr, Module, Refusal, Sequence, Simple, Text};
 use wasm_binary::{decode, encode};
 

@@ -17,13 +17,15 @@ use Rattle.task_board.specs.declared.request.Request.{Request}
 use Rattle.task_board.specs.declared.request.Request.TheVariants as request
 use Rattle.task_board.specs.declared.request.Reply.{Reply}
 use Rattle.task_board.specs.declared.request.Reply.TheVariants as reply
-use Rattle.content_leases.specs.Identifiers.{is_id, digest_of}
+use Rattle.wasm_ast.specs.Identifiers.{is_id}
+use Rattle.content_leases.specs.Digests.{digest_of}
 use Rattle.content_leases.specs.StoreState.{StoreState, with_content, without_content, with_lease, with_member, without_lease, unheld, collected}
 use Rattle.content_leases.specs.Refusals.{Refusals, first_refusal, put_refusals, remove_refusals, lease_create_refusals, lease_add_refusals, lease_delete_refusals}
 use Rattle.task_board.specs.BoardState.{Task, BoardState, used_by, with_store, entry_of, task_of, with_task, without_task}
-use Rattle.task_board.specs.Tasks.{started, paused, resumed, killed_while, killed_by, state_of}
-use Rattle.task_board.specs.Refusals.{create_refusals, start_refusals, pause_refusals, resume_refusals, kill_refusals, delete_refusals, state_refusals, wait_refusals, task_refusals}
-use Rattle.task_board.specs.Step.{Answer, DecidedBy, OnStore, OnFound, OnTask, Creates, Answers}
+use Rattle.oci_config.specs.Streams.{stream_of}
+use Rattle.task_board.specs.Tasks.{started, paused, resumed, killed_while, killed_by, state_of, output_of}
+use Rattle.task_board.specs.Refusals.{create_refusals, start_refusals, pause_refusals, resume_refusals, kill_refusals, delete_refusals, state_refusals, wait_refusals, output_refusals, task_refusals}
+use Rattle.task_board.specs.Step.{Answer, DecidedBy, OnStore, OnFound, OnTask, Creates, Answers, output_reply}
 use Rattle.task_board.specs.Sound.{IsSound, IsBoard}
 use Rattle.task_board.specs.Inside.Changes.{change_call, change_request, change_reply, change_refusals, changed}
 use Rattle.task_board.specs.Inside.Plans.{IsAllowed, RefusesTask, RefusesKill}
@@ -164,7 +166,7 @@ delete_answers s id t s' at none is = accepted_on s id delete_refusals (λ u. re
 
 -- ---- refusals of requests of one task
 
-not_memory : (a b : Bool) (x e : Refusal) → x ≢ refusal.NoMemory → cond a (Some refusal.BadId) (cond b (Some x) None) ≡ Some e → e ≢ refusal.NoMemory
+pub not_memory : (a b : Bool) (x e : Refusal) → x ≢ refusal.NoMemory → cond a (Some refusal.BadId) (cond b (Some x) None) ≡ Some e → e ≢ refusal.NoMemory
 not_memory true b x e known h is = cc
 not_memory false true x e known h is = known (some_is x e h ∙ is)
 not_memory false false x e known h is = cc
@@ -214,17 +216,18 @@ no_signal s id number e none is =
     let own : first_refusal (task_refusals id (kill_refusals number) (Some e.1)) ≡ Some refusal.OutOfRange = rw (named, off) refl in
     ap (λ (o : Option Task). first_refusal (task_refusals id (kill_refusals number) o)) at ∙ own
 
-no_task_by : (id : List ℕ) (number : ℕ) (o : Option Task) (e : Refusal) → first_refusal (task_refusals id (λ t. (not (allowed call.State t.status), refusal.WrongStatus) ∷ []) o) ≡ Some e
-    → first_refusal (task_refusals id (kill_refusals number) o) ≡ Some e
-no_task_by id number None e h = h
-no_task_by id number (Some t) e h = by (not (is_id id)) h
+-- of a call that no status refuses, the refusals before a request's own
+pub no_task_by : (id : List ℕ) (own : Task → Refusals) (o : Option Task) (e : Refusal) → first_refusal (task_refusals id (λ t. (not (allowed call.State t.status), refusal.WrongStatus) ∷ []) o) ≡ Some e
+    → first_refusal (task_refusals id own o) ≡ Some e
+no_task_by id own None e h = h
+no_task_by id own (Some t) e h = by (not (is_id id)) h
   where
-    by : (b : Bool) → cond b (Some refusal.BadId) None ≡ Some e → cond b (Some refusal.BadId) (first_refusal (kill_refusals number t)) ≡ Some e
+    by : (b : Bool) → cond b (Some refusal.BadId) None ≡ Some e → cond b (Some refusal.BadId) (first_refusal (own t)) ≡ Some e
     by true g = g
     by false g = absurd (none_is_not e g)
 
 pub no_task_to_kill : (s : BoardState) (id : List ℕ) (number : ℕ) (e : Refusal) → RefusesTask s id call.State refusal.WrongStatus e → RefusesKill s id number e
-no_task_to_kill s id number e h = no_task_by id number (task_of id s.tasks) e h
+no_task_to_kill s id number e h = no_task_by id (kill_refusals number) (task_of id s.tasks) e h
 
 kill_known : (id : List ℕ) (number : ℕ) (o : Option Task) (e : Refusal) → first_refusal (task_refusals id (kill_refusals number) o) ≡ Some e → e ≢ refusal.NoMemory
 kill_known id number None e h = not_memory (not (is_id id)) true refusal.NotFound e (λ x. cc) h
@@ -313,6 +316,8 @@ effect_of s (request.State id) r s' a =
     on_task_effect s id state_refusals (λ t. reply.State (state_of t)) (λ t. s) (task_of id s.tasks) r s' a (λ t at none is. nothing is)
 effect_of s (request.Wait id) r s' a =
     on_task_effect s id wait_refusals (λ t. reply.Wait (state_of t)) (λ t. s) (task_of id s.tasks) r s' a (λ t at none is. nothing is)
+effect_of s (request.Output id number) r s' a =
+    on_task_effect s id (output_refusals number) (λ t. output_reply t.id (output_of (stream_of number) t)) (λ t. s) (task_of id s.tasks) r s' a (λ t at none is. nothing is)
 
 -- ---- soundness
 

@@ -6,7 +6,7 @@ use Rattle.wasm_ast.specs.declared.refusal.Refusal.TheVariants as refusal
 use Rattle.wasm_ast.specs.Limits.{max_module_bytes, Within}
 use Rattle.wasm_binary.specs.Grammar.{Spells}
 use Rattle.wasm_binary.specs.Limits.{Over}
-use Rattle.step_machine.specs.declared.process.ProcessConfig.{ProcessConfig}
+use Rattle.oci_config.specs.declared.process.ProcessConfig.{ProcessConfig}
 use Rattle.task_board.specs.Refusals.{CannotOpen, no_module, too_much}
 
 -- what a decoder's refusal says

@@ -5,7 +5,7 @@ use Rattle.wasm_ast.specs.declared.module.Module.{Module}
 use Rattle.wasm_ast.specs.declared.refusal.Refusal.{Refusal}
 use Rattle.wasm_ast.specs.declared.refusal.Refusal.TheVariants as refusal
 use Rattle.wasm_binary.specs.Grammar.{Spells}
-use Rattle.step_machine.specs.declared.process.ProcessConfig.{ProcessConfig}
+use Rattle.oci_config.specs.declared.process.ProcessConfig.{ProcessConfig}
 use Rattle.validator.specs.Typing.{ValidModule}
 use Rattle.step_machine.specs.Instantiation.{instantiation_refusal}
 use Rattle.task_board.specs.declared.event.Event.{Event}
@@ -17,7 +17,7 @@ use Rattle.task_board.specs.declared.request.Request.TheVariants as request
 use Rattle.task_board.specs.declared.request.Reply.{Reply}
 use Rattle.task_board.specs.declared.request.Reply.TheVariants as reply
 use Rattle.task_board.specs.Limits.{max_budget}
-use Rattle.content_leases.specs.Identifiers.{digest_of}
+use Rattle.content_leases.specs.Digests.{digest_of}
 use Rattle.content_leases.specs.StoreState.{StoreState, content_in, with_content, without_content, with_lease, with_member, without_lease, unheld, collected}
 use Rattle.content_leases.specs.Refusals.{Refusals, first_refusal, put_refusals, remove_refusals, lease_create_refusals, lease_add_refusals, lease_delete_refusals}
 use Rattle.task_lifecycle.specs.declared.lifecycle.TaskCall.TheVariants as call
@@ -25,9 +25,10 @@ use Rattle.task_lifecycle.specs.declared.status.Signal.{Signal}
 use Rattle.task_lifecycle.specs.Lifecycle.{allowed, takes_turns}
 use Rattle.task_lifecycle.specs.Names.{signal_of}
 use Rattle.task_board.specs.BoardState.{Task, Entries, BoardState, empty, created_task, used_by, with_store, task_in, entry_of, task_of, put_task, change_task, remove_task, with_task, without_task, with_new_task}
-use Rattle.task_board.specs.Tasks.{started, paused, resumed, killed_while, killed_by, can_lend, lent, advanced, slice_turns, state_of}
-use Rattle.task_board.specs.Refusals.{create_refusals, start_refusals, pause_refusals, resume_refusals, kill_refusals, delete_refusals, state_refusals, wait_refusals, task_refusals, Openable, CannotOpen, no_module, too_much, invalid, refused, IsSpelled}
-use Rattle.task_board.specs.Step.{Answer, DecidedBy, OnStore, OnFound, Opens, Creates, Answers, is_budget, lends, taken, is_out, Returns, Step}
+use Rattle.oci_config.specs.Streams.{stream_of}
+use Rattle.task_board.specs.Tasks.{started, paused, resumed, killed_while, killed_by, can_lend, lent, advanced, slice_turns, state_of, output_of}
+use Rattle.task_board.specs.Refusals.{create_refusals, start_refusals, pause_refusals, resume_refusals, kill_refusals, delete_refusals, state_refusals, wait_refusals, output_refusals, task_refusals, Openable, CannotOpen, no_module, too_much, invalid, refused, IsSpelled}
+use Rattle.task_board.specs.Step.{Answer, DecidedBy, OnStore, OnFound, Opens, Creates, Answers, output_reply, is_budget, lends, taken, is_out, Returns, Step}
 use Rattle.task_board.specs.Run.{met_no_memory, Happens, Run}
 use Rattle.task_board.specs.Sound.{AreRising, slots_of, IsBoard}
 use Rattle.task_board.specs.declared.change.Change.{Change}
@@ -319,6 +320,8 @@ answers_same s (request.Kill id number) r s1 r' s2 d a b =
 answers_same s (request.Delete id) r s1 r' s2 d a b = on_task_same s id delete_refusals (λ t. reply.Delete (state_of t)) (λ t. without_task s t.id) (task_of id s.tasks) r s1 r' s2 a b
 answers_same s (request.State id) r s1 r' s2 d a b = on_task_same s id state_refusals (λ t. reply.State (state_of t)) (λ t. s) (task_of id s.tasks) r s1 r' s2 a b
 answers_same s (request.Wait id) r s1 r' s2 d a b = on_task_same s id wait_refusals (λ t. reply.Wait (state_of t)) (λ t. s) (task_of id s.tasks) r s1 r' s2 a b
+answers_same s (request.Output id number) r s1 r' s2 d a b =
+    on_task_same s id (output_refusals number) (λ t. output_reply t.id (output_of (stream_of number) t)) (λ t. s) (task_of id s.tasks) r s1 r' s2 a b
 
 -- a task returns in one way
 return_same : (s : BoardState) (o : Option Task) (s1 s2 : BoardState) → Returns s o s1 → Returns s o s2 → s1 ≡ s2

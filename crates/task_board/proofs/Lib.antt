@@ -6,6 +6,7 @@ pub mod StepLemmas
 pub mod StoreLemmas
 pub mod OpenedLemmas
 pub mod EffectLemmas
+pub mod OutputLemmas
 pub mod WaitingLemmas
 pub mod StoreChangeLemmas
 pub mod TableLemmas

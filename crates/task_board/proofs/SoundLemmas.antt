@@ -15,7 +15,8 @@ use Rattle.task_lifecycle.specs.declared.status.Status.TheVariants.{Created, Run
 use Rattle.task_lifecycle.specs.declared.status.Signal.{Signal}
 use Rattle.task_lifecycle.specs.declared.status.ExitRecord.TheVariants as exit
 use Rattle.task_board.specs.Limits.{max_tasks, max_creates}
-use Rattle.content_leases.specs.Identifiers.{is_id, digest_of}
+use Rattle.wasm_ast.specs.Identifiers.{is_id}
+use Rattle.content_leases.specs.Digests.{digest_of}
 use Rattle.content_leases.specs.StoreState.{Content, content_in}
 use Rattle.task_lifecycle.specs.Lifecycle.{takes_turns, is_pausing, is_stopped, is_going}
 use Rattle.task_board.specs.BoardState.{Task, Entries, BoardState, created_task, task_in, entry_of, task_of, put_task, with_task, without_task, with_new_task}

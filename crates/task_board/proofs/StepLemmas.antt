@@ -4,7 +4,7 @@ use Rattle.std.proofs.lemmas.Bool.Decides.{nat_tests}
 use Rattle.wasm_ast.specs.declared.module.Module.{Module}
 use Rattle.wasm_ast.specs.declared.refusal.Refusal.{Refusal}
 use Rattle.wasm_ast.specs.declared.refusal.Refusal.TheVariants as refusal
-use Rattle.step_machine.specs.declared.process.ProcessConfig.{ProcessConfig}
+use Rattle.oci_config.specs.declared.process.ProcessConfig.{ProcessConfig}
 use Rattle.wasm_ast.specs.declared.place.Place.{Place}
 use Rattle.step_machine.specs.Instantiation.{after, ended}
 use Rattle.step_machine.specs.Slices.{turns_made, ends_slice}
@@ -14,9 +14,10 @@ use Rattle.task_board.specs.declared.request.Reply.TheVariants as reply
 use Rattle.task_lifecycle.specs.declared.status.Status.{Status}
 use Rattle.task_lifecycle.specs.declared.status.Status.TheVariants.{Created, Running, Pausing, Paused, Stopped}
 use Rattle.task_board.specs.Limits.{max_tasks, max_creates, max_budget}
-use Rattle.content_leases.specs.Identifiers.{is_id, digest_of}
+use Rattle.wasm_ast.specs.Identifiers.{is_id}
+use Rattle.content_leases.specs.Digests.{digest_of}
 use Rattle.content_leases.specs.Refusals.{Refusals, first_refusal}
-use Rattle.task_board.specs.Config.{process_read}
+use Rattle.oci_config.specs.Config.{process_read}
 use Rattle.task_lifecycle.specs.Lifecycle.{is_running, is_going, takes_turns}
 use Rattle.task_board.specs.BoardState.{Task, Entries, BoardState, created_task, task_in, entry_of, task_of, with_task, with_new_task}
 use Rattle.task_board.specs.Tasks.{advanced, can_lend, lent, slice_turns, MayAdvance, HasReturned}

@@ -2,7 +2,7 @@
 use Rattle.std.proofs.Common.{◌≡◌, ℕ, ◌-◌, ◌≤◌, List, [], length, Option, None, Ok, refl, sym, subst, arith}
 use Rattle.std.specs.Arc.{arc_value}
 use Rattle.wasm_ast.specs.declared.refusal.Refusal.{Refusal}
-use Rattle.content_leases.specs.Identifiers.{digest_of}
+use Rattle.content_leases.specs.Digests.{digest_of}
 use Rattle.content_leases.specs.StoreState.{StoreState, with_content, without_content, with_lease, with_member, without_lease, unheld, collected}
 use Rattle.content_leases.specs.StoreValue.{StoreValue, UsesRoom}
 use Rattle.content_leases.specs.Refusals.{Refusals, first_refusal, put_refusals, remove_refusals, lease_create_refusals, lease_add_refusals, lease_delete_refusals}

@@ -5,7 +5,8 @@ use Rattle.std.proofs.lemmas.Slice.Eq.{bytes_eq-Decides}
 use Rattle.wasm_ast.specs.Limits.{max_module_bytes}
 use Rattle.wasm_ast.specs.declared.refusal.Refusal.TheVariants as refusal
 use Rattle.content_leases.specs.Limits.{max_contents}
-use Rattle.content_leases.specs.Identifiers.{is_id, is_digest, digest_of}
+use Rattle.wasm_ast.specs.Identifiers.{is_id, is_digest}
+use Rattle.content_leases.specs.Digests.{digest_of}
 use Rattle.content_leases.specs.StoreState.{Content, Lease, StoreState, content_in, lease_in, with_content, remove_content, without_content, with_lease, add_member, with_member, remove_lease, without_lease, is_among, is_leased, is_held, collected}
 use Rattle.content_leases.specs.Refusals.{first_refusal, is_bytes, has_conflict, put_refusals, remove_refusals, lease_create_refusals, lease_add_refusals, lease_delete_refusals}
 use Rattle.content_leases.proofs.StoreLemmas.{put_new, held_kept, held_refused}

@@ -3,7 +3,7 @@ use Rattle.std.proofs.Common.{◌≡◌, ℕ, ◌+◌, List, Bool, true, false, 
 use Rattle.std.specs.Arc.{arc_value}
 use Rattle.wasm_ast.specs.declared.module.Module.{Module}
 use Rattle.wasm_binary.specs.Grammar.{Spells}
-use Rattle.step_machine.specs.declared.process.ProcessConfig.{ProcessConfig}
+use Rattle.oci_config.specs.declared.process.ProcessConfig.{ProcessConfig}
 use Rattle.step_machine.specs.declared.ends.SliceEnd.{SliceEnd}
 use Rattle.step_machine.specs.MachineView.{MachineView}
 use Rattle.step_machine.specs.Slices.{slice_end}
@@ -127,7 +127,7 @@ same_module l m bytes p one mine other same =
 
 -- a loan fits a task exactly if its numbers agree, it is the task's own budget, and it shares what the task has
 pub fits_shared : (l : Lent) (t : task.Inside) (r : Bool) → (l.incarnation ≡ t.incarnation) × (l.turns ≡ t.turns) × (t.out ≡ Some l.budget)
-    → (l.bytes ≡ arc_value (arc_value t.shared).bytes → l.module ≡ (arc_value t.shared).valid)
+    → (l.bytes ≡ arc_value (arc_value t.shared).bytes → l.module ≡ (arc_value t.shared).flat)
     → IsTrue r ↔ SharesWith l (arc_value t.shared) (arc_value t.breaks) → IsTrue r ↔ FitsTask l (task_of t)
 fits_shared l t r numbers one is = (
   λ yes.

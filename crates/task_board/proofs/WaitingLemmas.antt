@@ -248,6 +248,7 @@ store_waits (store.Gc used removed) ts ws = refl
 pub question_waits : (r : Request) (ts : Entries) (ws : List Ticket) → IsQuestion r → waiting_after_call r ts ws ≡ ws
 question_waits (request.State id) ts ws is = refl
 question_waits (request.Wait id) ts ws is = refl
+question_waits (request.Output id stream) ts ws is = refl
 question_waits (request.Put bytes) ts ws is = refl
 question_waits (request.Remove digest) ts ws is = refl
 question_waits (request.LeaseCreate id) ts ws is = refl

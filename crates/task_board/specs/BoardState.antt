@@ -1,7 +1,7 @@
 -- The abstract board: what a call can see of contents, leases and tasks.
 use Rattle.std.specs.Prelude.{ℕ, ◌+◌, List, [], ◌∷◌, map, bytes_eq, nat_eq, nat_lt, if◌then◌else◌, Option, Some, None, option_map}
 use Rattle.wasm_ast.specs.declared.module.Module.{Module}
-use Rattle.step_machine.specs.declared.process.ProcessConfig.{ProcessConfig}
+use Rattle.oci_config.specs.declared.process.ProcessConfig.{ProcessConfig}
 use Rattle.wasm_ast.specs.declared.place.Place.{Place}
 use Rattle.task_lifecycle.specs.declared.status.Status.{Status}
 use Rattle.task_lifecycle.specs.declared.status.Status.TheVariants.{Created}

@@ -1,7 +1,7 @@
 -- Loans: a task's machine, checked out for one slice.
 use Rattle.std.specs.Prelude.{◌≡◌, ℕ, List, Bool, false, Some}
 use Rattle.wasm_ast.specs.declared.module.Module.{Module}
-use Rattle.step_machine.specs.declared.process.ProcessConfig.{ProcessConfig}
+use Rattle.oci_config.specs.declared.process.ProcessConfig.{ProcessConfig}
 use Rattle.wasm_ast.specs.declared.place.Place.{Place}
 use Rattle.task_board.specs.BoardState.{Task, Entries, task_in}
 

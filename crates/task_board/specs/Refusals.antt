@@ -7,13 +7,14 @@ use Rattle.wasm_ast.specs.declared.refusal.Refusal.TheVariants as refusal
 use Rattle.wasm_ast.specs.Limits.{max_module_bytes, Within}
 use Rattle.wasm_binary.specs.Grammar.{Spells}
 use Rattle.wasm_binary.specs.Limits.{Over}
-use Rattle.step_machine.specs.declared.process.ProcessConfig.{ProcessConfig}
+use Rattle.oci_config.specs.declared.process.ProcessConfig.{ProcessConfig}
 use Rattle.validator.specs.Typing.{ValidModule}
 use Rattle.step_machine.specs.Instantiation.{instantiation_refusal}
 use Rattle.task_lifecycle.specs.declared.lifecycle.TaskCall.TheVariants as call
 use Rattle.task_board.specs.Limits.{max_tasks, max_creates}
-use Rattle.content_leases.specs.Identifiers.{is_id}
-use Rattle.task_board.specs.Config.{process_read}
+use Rattle.wasm_ast.specs.Identifiers.{is_id}
+use Rattle.oci_config.specs.Config.{process_read}
+use Rattle.oci_config.specs.Streams.{stream_of}
 use Rattle.task_lifecycle.specs.Lifecycle.{allowed}
 use Rattle.task_lifecycle.specs.Names.{signal_of}
 use Rattle.content_leases.specs.StoreState.{content_in}
@@ -89,6 +90,10 @@ state_refusals t = []
 
 abbrev pub wait_refusals : Task → Refusals
 wait_refusals t = (not (allowed call.Wait t.status), refusal.Busy) ∷ []
+
+abbrev pub output_refusals : (stream : ℕ) → Task → Refusals
+output_refusals stream t =
+    (is_none (stream_of stream), refusal.OutOfRange) ∷ (is_some t.out, refusal.Busy) ∷ []
 
 -- the id is malformed, then no task has it, then the request's own
 abbrev pub task_refusals : (id : List ℕ) → (own : Task → Refusals) → Option Task → Refusals

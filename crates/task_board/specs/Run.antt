@@ -17,6 +17,7 @@ takes_memory (request.LeaseCreate id) = true
 takes_memory (request.LeaseAdd digest id) = true
 takes_memory request.Gc = true
 takes_memory (request.Create config id) = true
+takes_memory (request.Output id stream) = true
 takes_memory other = false
 
 abbrev pub is_no_memory : Answer → Bool

@@ -5,7 +5,8 @@ use Rattle.wasm_ast.specs.Limits.{max_module_bytes}
 use Rattle.task_lifecycle.specs.declared.status.Status.TheVariants.{Created, Pausing}
 use Rattle.task_board.specs.Limits.{max_tasks, max_creates, max_budget}
 use Rattle.content_leases.specs.Limits.{max_contents}
-use Rattle.content_leases.specs.Identifiers.{is_id, digest_of}
+use Rattle.wasm_ast.specs.Identifiers.{is_id}
+use Rattle.content_leases.specs.Digests.{digest_of}
 use Rattle.content_leases.specs.StoreState.{Content}
 use Rattle.task_lifecycle.specs.Lifecycle.{takes_turns, is_stopped, is_going}
 use Rattle.task_board.specs.BoardState.{Task, Entries, BoardState}

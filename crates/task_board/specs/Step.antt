@@ -3,7 +3,7 @@
 use Rattle.std.specs.Prelude.{◌≡◌, ℕ, [], ◌&&◌, nat_le, List, length, Bool, true, false, if◌then◌else◌, Option, Some, None, is_some, option_and_then, Result, Ok, Err}
 use Rattle.wasm_ast.specs.declared.module.Module.{Module}
 use Rattle.wasm_ast.specs.declared.refusal.Refusal.{Refusal}
-use Rattle.step_machine.specs.declared.process.ProcessConfig.{ProcessConfig}
+use Rattle.oci_config.specs.declared.process.ProcessConfig.{ProcessConfig}
 use Rattle.task_board.specs.declared.event.Event.{Event}
 use Rattle.task_board.specs.declared.event.Event.TheVariants as event
 use Rattle.task_board.specs.declared.event.EventReply.{EventReply}
@@ -15,13 +15,14 @@ use Rattle.task_board.specs.declared.request.Reply.TheVariants as reply
 use Rattle.task_lifecycle.specs.declared.status.Status.TheVariants.{Created}
 use Rattle.task_lifecycle.specs.Names.{signal_of}
 use Rattle.task_board.specs.Limits.{max_budget}
-use Rattle.content_leases.specs.Identifiers.{digest_of}
+use Rattle.content_leases.specs.Digests.{digest_of}
 use Rattle.content_leases.specs.StoreState.{StoreState, content_in, with_content, without_content, with_lease, with_member, without_lease, unheld, collected}
 use Rattle.content_leases.specs.Refusals.{Refusals, first_refusal, put_refusals, remove_refusals, lease_create_refusals, lease_add_refusals, lease_delete_refusals}
-use Rattle.task_board.specs.Config.{process_read}
+use Rattle.oci_config.specs.Config.{process_read}
+use Rattle.oci_config.specs.Streams.{stream_of}
 use Rattle.task_board.specs.BoardState.{Task, created_task, BoardState, used_by, with_store, task_in, task_of, with_task, without_task, with_new_task}
-use Rattle.task_board.specs.Tasks.{state_of, started, paused, resumed, killed_by, can_lend, lent, HasReturned}
-use Rattle.task_board.specs.Refusals.{create_refusals, CannotOpen, Openable, start_refusals, pause_refusals, resume_refusals, kill_refusals, delete_refusals, state_refusals, wait_refusals, task_refusals}
+use Rattle.task_board.specs.Tasks.{state_of, output_of, started, paused, resumed, killed_by, can_lend, lent, HasReturned}
+use Rattle.task_board.specs.Refusals.{create_refusals, CannotOpen, Openable, start_refusals, pause_refusals, resume_refusals, kill_refusals, delete_refusals, state_refusals, wait_refusals, output_refusals, task_refusals}
 
 -- ---- requests
 
@@ -70,6 +71,10 @@ Creates s config id r s' =
     (p : ProcessConfig) × (bytes : List ℕ) × (process_read config ≡ Some p)
     × (content_in s.store.contents p.module ≡ Some bytes) × Opens s id bytes p r s'
 
+-- the reply that tells these bytes, and how many they are
+abbrev pub output_reply : (id bytes : List ℕ) → Reply
+output_reply id bytes = reply.Output bytes id (length bytes)
+
 -- What a request may be answered on a board, and the board that it leaves. A refusal leaves the board. What
 -- a task names is held until the task is deleted.
 abbrev pub Answers : BoardState → Request → Answer → BoardState → Type 0
@@ -101,6 +106,8 @@ Answers s (request.Delete id) r s' =
     OnTask id delete_refusals (λ t. reply.Delete (state_of t)) (λ t. without_task s t.id) s r s'
 Answers s (request.State id) r s' = OnTask id state_refusals (λ t. reply.State (state_of t)) (λ t. s) s r s'
 Answers s (request.Wait id) r s' = OnTask id wait_refusals (λ t. reply.Wait (state_of t)) (λ t. s) s r s'
+Answers s (request.Output id stream) r s' =
+    OnTask id (output_refusals stream) (λ t. output_reply t.id (output_of (stream_of stream) t)) (λ t. s) s r s'
 
 -- ---- slices
 

@@ -1,11 +1,13 @@
 -- What happens to a task: it is started, its slice goes out, and it advances by turns.
-use Rattle.std.specs.Prelude.{◌≡◌, ℕ, ◌+◌, ◌<◌, ◌≤◌, ◌&&◌, Bool, true, false, Option, Some, None, is_some, is_none}
+use Rattle.std.specs.Prelude.{◌≡◌, ℕ, ◌+◌, ◌<◌, ◌≤◌, ◌&&◌, List, [], Bool, true, false, Option, Some, None, is_some, is_none}
 use Rattle.step_machine.specs.declared.ends.End.{End}
 use Rattle.step_machine.specs.declared.ends.End.TheVariants as ends
 use Rattle.step_machine.specs.declared.ends.SliceEnd.{SliceEnd}
 use Rattle.step_machine.specs.declared.ends.SliceEnd.TheVariants as slice
 use Rattle.step_machine.specs.Configuration.{State as ExecutionState}
 use Rattle.step_machine.specs.Instantiation.{after, ended}
+use Rattle.step_machine.specs.MachineView.{written_to}
+use Rattle.oci_config.specs.declared.stream.Stream.{Stream}
 use Rattle.step_machine.specs.Slices.{at_break, ends_slice, end_at, turns_made}
 use Rattle.task_lifecycle.specs.declared.lifecycle.Situation.{Situation}
 use Rattle.task_lifecycle.specs.declared.lifecycle.TaskCall.TheVariants as call
@@ -25,6 +27,11 @@ state_of t = record { id = t.id; n = t.turns; status = t.status; end = t.end }
 -- where its execution is after that number of turns
 abbrev pub execution_at : Task → ℕ → ExecutionState
 execution_at t n = (after t.module t.process n).state
+
+-- what it has written to an output stream, if that is one
+abbrev pub output_of : Option Stream → Task → List ℕ
+output_of None t = []
+output_of (Some stream) t = written_to stream (after t.module t.process t.turns).store
 
 -- a status, and how the task has ended if it is stopped
 abbrev pub Standing : Type 0

@@ -2,8 +2,8 @@
 
 ghost use Rattle.std.specs.Prelude.{◌≡◌, ◌≢◌, ◌≤◌, ◌↔◌, IsTrue, ◌∷◌, [], Some, None, Ok, Err, IfOk, IsOk, IfSome, IfNone, OnErr, option_map, true, false};
 ghost use Rattle.std.specs.Arc.{arc_value};
-ghost use Rattle.step_machine.specs.Processes.{config_of};
-ghost use Rattle.step_machine.specs.declared.process.ProcessConfig.{ProcessConfig as ProcessValue};
+ghost use Rattle.oci_config.specs.Processes.{config_of};
+ghost use Rattle.oci_config.specs.declared.process.ProcessConfig.{ProcessConfig as ProcessValue};
 ghost use Rattle.task_board.specs.declared.request.Request.{Request as RequestValue};
 ghost use Rattle.task_board.specs.declared.request.Request.TheVariants as request;
 ghost use Rattle.task_board.specs.declared.event.Event.TheVariants as event;
@@ -26,7 +26,6 @@ ghost use Rattle.content_leases.specs.StoreState.{content_in};
 
 use crate::change::Change;
 use crate::checkout::Shared;
-use crate::config::read_config;
 use crate::loan::Loan;
 use crate::open::instantiate;
 use crate::prepared::{Plan, Prepared};
@@ -36,10 +35,11 @@ use crate::tables::Tables;
 use crate::task::Task;
 use crate::ticket::Ticket;
 use content_leases::{Members, digest_of};
+use oci_config::{Process, ProcessConfig, read_config};
 use std::alloc::{AllocError, Global};
 use std::marker::Model;
 use std::sync::Arc;
-use step_machine::{Machine, Process, ProcessConfig, Valid};
+use step_machine::{FlatModule, Machine};
 use wasm_ast::{Bytes, Refusal, Text};
 
 /// The board. Contracts see the abstract board, the tasks that wait for a worker, and how much fits with
@@ -154,12 +154,12 @@ impl Board {
         ensures { IfOk result (λ p. PlansTask self.now.state id (arc_value bytes) process p) }
     {
         let answered = id.copy(self.alloc)?;
-        let valid = machine.valid().share()?;
+        let flat = machine.flat().share()?;
         let machine = Box::new(self.alloc, machine)?;
         let shared = Shared {
             id,
             bytes,
-            valid,
+            flat,
             process,
         };
         let task = Task::new(self.alloc, shared, self.tables.creates(), machine)?;
@@ -172,15 +172,15 @@ impl Board {
         id: Text,
         process: Process,
         bytes: Arc<Bytes>,
-        valid: Valid,
+        flat: FlatModule,
     ) -> Result<Plan, AllocError>
         requires nothing_written { (process.out ≡ []) × (process.err ≡ []) }
-        requires opened { IsOpen (arc_value bytes) valid }
+        requires opened { IsOpen (arc_value bytes) flat }
         ensures { IfOk result
             (λ p. PlansTask self.now.state id (arc_value bytes) (config_of process) p) }
     {
         let config = process.config(self.alloc)?;
-        match instantiate(self.alloc, valid, process) {
+        match instantiate(self.alloc, flat, process) {
             Ok(machine) => self.plan_create(id, config, bytes, machine),
             Err(Refusal::NoMemory) => Err(AllocError),
             Err(refusal) => Ok(Plan::Refused(refusal)),
@@ -205,7 +205,7 @@ impl Board {
             .tables
             .open(self.alloc, process.module.as_str(), &bytes)
         {
-            Ok(valid) => self.prepare_task(id, process, bytes, valid),
+            Ok(flat) => self.prepare_task(id, process, bytes, flat),
             Err(Refusal::NoMemory) => Err(AllocError),
             Err(refusal) => Ok(Plan::Refused(refusal)),
         }
@@ -231,8 +231,10 @@ impl Board {
         if let Some(refusal) = self.tables.refusal_of_id(id.as_str()) {
             return Ok(Plan::Refused(refusal));
         }
-        let Some(process) = read_config(self.alloc, config.as_str())? else {
-            return Ok(Plan::Refused(Refusal::BadConfig));
+        let process = match read_config(self.alloc, config.as_str().as_bytes()) {
+            Ok(process) => process,
+            Err(Refusal::NoMemory) => return Err(AllocError),
+            Err(refusal) => return Ok(Plan::Refused(refusal)),
         };
         match self.shared_content(process.module.as_str())? {
             Some(bytes) => self.prepare_opened(id, process, bytes),
@@ -263,6 +265,7 @@ impl Board {
             Request::Delete { id } => self.tables.plan_delete(id),
             Request::State { id } => self.tables.plan_state(id),
             Request::Wait { id } => self.tables.plan_wait(id),
+            Request::Output { id, stream } => self.tables.plan_output(self.alloc, id, stream)?,
         };
         Ok(Prepared { plan })
     }
@@ -283,8 +286,8 @@ impl Board {
     }
 
     /// Answers a request, by preparing and applying it. `NoMemory` if an allocation failed, and then
-    /// nothing has changed; of the requests only put, lease_create, lease_add, gc and create allocate, and no
-    /// other is ever answered so.
+    /// nothing has changed; of the requests only put, lease_create, lease_add, gc, create and output allocate,
+    /// and no other is ever answered so.
     pub fn call(&mut self, request: Request) -> Result<Reply, Refusal>
         ensures answers { result ≢ Err Refusal.NoMemory
             → Answers self.old.state request result self.new.state }

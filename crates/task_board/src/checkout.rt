@@ -3,9 +3,10 @@
 ghost use Rattle.std.specs.Prelude.{[], ◌≡◌, IfOk};
 ghost use Rattle.std.specs.Arc.{arc_value};
 
+use oci_config::ProcessConfig;
 use std::alloc::{AllocError, Global};
 use std::sync::Arc;
-use step_machine::{Breaks, Machine, ProcessConfig, Valid};
+use step_machine::{Breaks, FlatModule, Machine};
 use wasm_ast::{Bytes, Text};
 
 /// What a task shares with the worker that runs a slice of it.
@@ -13,7 +14,7 @@ use wasm_ast::{Bytes, Text};
 pub struct Shared {
     pub id: Text,
     pub bytes: Arc<Bytes>,
-    pub valid: Valid,
+    pub flat: FlatModule,
     pub process: ProcessConfig,
 }
 

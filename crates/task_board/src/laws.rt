@@ -2,7 +2,7 @@
 
 ghost use Rattle.std.specs.Prelude.{◌≡◌, ℕ, List, Some, is_some, true, false};
 ghost use Rattle.wasm_ast.specs.declared.module.Module.{Module};
-ghost use Rattle.step_machine.specs.declared.process.ProcessConfig.{ProcessConfig};
+ghost use Rattle.oci_config.specs.declared.process.ProcessConfig.{ProcessConfig};
 ghost use Rattle.step_machine.specs.declared.ends.End.{End as EndValue};
 ghost use Rattle.step_machine.specs.Instantiation.{ended};
 ghost use Rattle.validator.specs.Typing.{ValidModule};
@@ -128,8 +128,8 @@ pub fn creates_are_determined()
     spells_one();
 }
 
-/// Only put, lease_create, lease_add, gc and create allocate: no other request, no take and no return may be
-/// left out for lack of memory.
+/// Only put, lease_create, lease_add, gc, create and output allocate: no other request, no take and no
+/// return may be left out for lack of memory.
 pub fn few_requests_allocate()
     ensures remove { (digest : List ℕ) → takes_memory (request.Remove digest) ≡ false }
     ensures lease_delete { (id : List ℕ) → takes_memory (request.LeaseDelete id) ≡ false }

@@ -4,7 +4,6 @@
 mod board;
 mod change;
 mod checkout;
-mod config;
 mod event;
 pub mod laws;
 mod loan;
@@ -20,7 +19,7 @@ mod ticket;
 mod waiting;
 
 pub use board::Board;
-pub use content_leases::{digest_of, is_digest, is_id};
+pub use content_leases::digest_of;
 pub use event::{Event, EventReply};
 pub use loan::Loan;
 pub use prepared::Prepared;
@@ -28,3 +27,4 @@ pub use request::{Reply, Request, TaskState};
 pub use run::run_events;
 pub use task_lifecycle::{ExitRecord, Signal, Status, TaskCall};
 pub use ticket::Ticket;
+pub use wasm_ast::{is_digest, is_id};

@@ -1,4 +1,4 @@
-//! The modules of contents that were decoded and validated.
+//! The modules of contents that were decoded, validated and made flat code of.
 
 ghost use Rattle.std.specs.Prelude.{◌≡◌, ◌++◌, ◌∷◌, [], None, option_map, filter, is_some, string_bytes, IfOk, OnOk, OnErr};
 ghost use Rattle.content_leases.specs.StoreState.{content_in};
@@ -8,12 +8,12 @@ use content_leases::Store;
 use indexmap::IndexMap;
 use std::alloc::{AllocError, Global};
 use std::marker::Model;
-use step_machine::Valid;
+use step_machine::FlatModule;
 
-/// Valid modules by the digests of the contents that spell them.
+/// Valid modules with their flat code, by the digests of the contents that spell them.
 #[derive(Drop)]
 pub struct Opened {
-    map: IndexMap<String, Valid>,
+    map: IndexMap<String, FlatModule>,
 }
 
 impl Model for Opened {
@@ -40,23 +40,23 @@ impl Opened {
     }
 
     /// The module of the content under a digest, if it was opened.
-    pub fn get(&self, digest: &str) -> Option<&Valid>
-        ensures { option_map (λ v. v.now) result ≡ module_in self.now digest.now }
+    pub fn get(&self, digest: &str) -> Option<&FlatModule>
+        ensures { option_map (λ m. m.now) result ≡ module_in self.now digest.now }
     {
         self.map.get(digest)
     }
 
     /// Adds the module of a content, which was not opened. An error, and nothing has changed, if memory runs
     /// out.
-    pub fn add(&mut self, alloc: Global, digest: &str, valid: Valid) -> Result<(), AllocError>
+    pub fn add(&mut self, alloc: Global, digest: &str, flat: FlatModule) -> Result<(), AllocError>
         requires { module_in self.old digest.now ≡ None }
         ensures ok { OnOk result (self.new
-            ≡ self.old ++ record { digest = digest.now; «module» = valid } ∷ []) }
+            ≡ self.old ++ record { digest = digest.now; «module» = flat } ∷ []) }
         ensures err { OnErr result (self.new ≡ self.old) }
     {
         self.map.reserve(1)?;
         let key = String::from_str(alloc, digest)?;
-        let _ = self.map.insert(key, valid).unwrap();
+        let _ = self.map.insert(key, flat).unwrap();
         Ok(())
     }
 
@@ -66,10 +66,10 @@ impl Opened {
             ≡ filter (λ o. is_some (content_in store.now.state.contents o.digest)) self.old }
     {
         self.map.retain(
-            |digest: &String, valid: &mut Valid| -> bool
+            |digest: &String, flat: &mut FlatModule| -> bool
                 ensures { (result
                     ≡ is_some (content_in store.entry.now.state.contents (string_bytes digest.now)))
-                    × (valid.new ≡ valid.old) }
+                    × (flat.new ≡ flat.old) }
             { store.content(digest.as_str()).is_some() },
         );
     }

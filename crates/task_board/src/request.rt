@@ -34,6 +34,8 @@ pub enum Request {
     State { id: Text },
     /// Asks for the state of a task that is not running.
     Wait { id: Text },
+    /// Asks for what a task has written to the output stream with this number.
+    Output { id: Text, stream: u64 },
 }
 
 /// What a call can see of a task: its id, how many turns it has made, its status, and how it ended,
@@ -66,4 +68,6 @@ pub enum Reply {
     Delete(TaskState),
     State(TaskState),
     Wait(TaskState),
+    /// What the task has written to the stream, and how many bytes they are.
+    Output { bytes: Bytes, id: Text, size: u64 },
 }

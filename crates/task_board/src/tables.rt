@@ -7,7 +7,7 @@ ghost use Rattle.task_board.specs.declared.request.Request.TheVariants as reques
 ghost use Rattle.task_board.specs.declared.event.Event.TheVariants as event;
 ghost use Rattle.task_board.specs.declared.event.EventReply.TheVariants as answer;
 ghost use Rattle.task_lifecycle.specs.Names.{signal_of};
-ghost use Rattle.content_leases.specs.Identifiers.{digest_of};
+ghost use Rattle.content_leases.specs.Digests.{digest_of};
 ghost use Rattle.content_leases.specs.StoreState.{content_in, unheld};
 ghost use Rattle.content_leases.specs.Refusals.{first_refusal, put_refusals, lease_create_refusals, lease_add_refusals};
 ghost use Rattle.task_board.specs.BoardState.{Task as TaskValue, empty, used_by};
@@ -16,20 +16,20 @@ ghost use Rattle.task_board.specs.Limits.{max_budget};
 ghost use Rattle.task_board.specs.Loans.{Fits};
 ghost use Rattle.task_board.specs.Prepared.{Prepares, refusal_of, refusal_answered};
 ghost use Rattle.wasm_ast.specs.declared.refusal.Refusal.{Refusal as Reason};
-ghost use Rattle.step_machine.specs.declared.process.ProcessConfig.{ProcessConfig as ProcessValue};
+ghost use Rattle.oci_config.specs.declared.process.ProcessConfig.{ProcessConfig as ProcessValue};
 ghost use Rattle.task_board.specs.Refusals.{is_full, delete_refusals, CannotOpen};
 ghost use Rattle.task_board.specs.Inside.OpenedModules.{IsOpen};
 ghost use Rattle.task_board.specs.Sound.{IsBoard};
 ghost use Rattle.task_board.specs.Step.{Answers, Step};
 ghost use Rattle.task_board.specs.Tickets.{ticket_of, CanLend, Lends, ticket_in};
 ghost use Rattle.task_board.specs.Waiting.{enter_if, enter_again, running_ticket, waiting_after_call, waiting_after, AreWaiting};
-ghost use Rattle.task_board.specs.Inside.Plans.{id_refusals, IsAllowed, RefusesTask, RefusesKill, CreatePrepared, CallPrepared, Plans};
+ghost use Rattle.task_board.specs.Inside.Plans.{id_refusals, IsAllowed, RefusesTask, RefusesKill, RefusesOutput, TellsOutput, CreatePrepared, CallPrepared, Plans};
 ghost use Rattle.task_board.specs.Inside.Changes.{change_request, change_refusals};
 ghost use Rattle.task_board.specs.Inside.StoreChanges.{store_request, StorePrepared};
 
 use crate::change::Change;
 use crate::loan::Loan;
-use crate::open::valid_of;
+use crate::open::module_of;
 use crate::opened::Opened;
 use crate::prepared::{Plan, Prepared};
 use crate::request::Reply;
@@ -37,15 +37,16 @@ use crate::store_change::StoreChange;
 use crate::task::{Task, find_task, is_present, is_used, used_digests};
 use crate::ticket::Ticket;
 use crate::waiting::Waiting;
-use content_leases::{Store, is_id};
+use content_leases::Store;
+use oci_config::Stream;
 use slab::Slab;
 use std::alloc::{AllocError, Global};
 use std::marker::Model;
 use std::sync::Arc;
-use step_machine::Valid;
+use step_machine::FlatModule;
 use step_machine::laws::{slices_go_forward, slices_stop_first};
 use task_lifecycle::{Signal, Status, TaskCall};
-use wasm_ast::{Bytes, Refusal, Sequence, Text};
+use wasm_ast::{Bytes, Refusal, Sequence, Text, is_id};
 
 /// The most tasks of a board.
 const MAX_TASKS: usize = 64;
@@ -149,27 +150,27 @@ impl Tables {
         self.store.content(digest)
     }
 
-    /// The valid module that the content under a digest spells. It is decoded and validated but once. Each
+    /// The valid module that the content under a digest spells, with its flat code. That is made once. Each
     /// refusal but `NoMemory` is a reason why there is none.
     pub fn open(
         &mut self,
         alloc: Global,
         digest: &str,
         bytes: &Arc<Bytes>,
-    ) -> Result<Valid, Refusal>
+    ) -> Result<FlatModule, Refusal>
         requires { content_in self.old.state.store.contents digest.now
             ≡ Some (arc_value bytes.now) }
         ensures same { self.new ≡ self.old }
-        ensures ok { IfOk result (λ v. IsOpen (arc_value bytes.now) v) }
+        ensures ok { IfOk result (λ m. IsOpen (arc_value bytes.now) m) }
         ensures refused { (e : Reason) (p : ProcessValue) → result ≡ Err e → e ≢ Refusal.NoMemory
             → CannotOpen (arc_value bytes.now) p e }
     {
-        if let Some(valid) = self.opened.get(digest) {
-            return Ok(valid.share()?);
+        if let Some(flat) = self.opened.get(digest) {
+            return Ok(flat.share()?);
         }
-        let valid = valid_of(alloc, bytes.as_slice())?;
-        self.opened.add(alloc, digest, valid.share()?)?;
-        Ok(valid)
+        let flat = module_of(alloc, bytes.as_slice())?;
+        self.opened.add(alloc, digest, flat.share()?)?;
+        Ok(flat)
     }
 
     /// Why bytes cannot be stored, if they cannot.
@@ -337,6 +338,42 @@ impl Tables {
         match self.entry_for(id.as_str(), TaskCall::Wait, Refusal::Busy) {
             Ok((_, task)) => Plan::Answered(Reply::Wait(task.state(id))),
             Err(refusal) => Plan::Refused(refusal),
+        }
+    }
+
+    // What the task with an id has written to the stream with a number. `BadId` if the id is malformed,
+    // `NotFound` if no task has it, `OutOfRange` if the number is no stream's, `Busy` if its slice is
+    // out.
+    fn output_of(&self, id: &str, number: u64) -> Result<&[u8], Refusal>
+        ensures ok { IfOk result (λ b. TellsOutput self.now.state id.now number b.now) }
+        ensures err { IfErr result (λ e. RefusesOutput self.now.state id.now number e) }
+    {
+        let (_slot, task) = match self.entry_for(id, TaskCall::State, Refusal::WrongStatus) {
+            Ok(found) => found,
+            Err(refusal) => return Err(refusal),
+        };
+        let Some(stream) = Stream::from_number(number) else {
+            return Err(Refusal::OutOfRange);
+        };
+        match task.output(stream) {
+            Some(bytes) => Ok(bytes),
+            None => Err(Refusal::Busy),
+        }
+    }
+
+    /// What a question for the output of a task is prepared as. An error if a copy of it cannot be
+    /// allocated.
+    pub fn plan_output(&self, alloc: Global, id: Text, number: u64) -> Result<Plan, AllocError>
+        ensures { IfOk result
+            (λ p. Plans self.now.state self.now.room (request.Output id number) p) }
+    {
+        match self.output_of(id.as_str(), number) {
+            Ok(written) => {
+                let size = written.len() as u64;
+                let bytes = Sequence::new(Vec::from_slice(alloc, written)?);
+                Ok(Plan::Answered(Reply::Output { bytes, id, size }))
+            }
+            Err(refusal) => Ok(Plan::Refused(refusal)),
         }
     }
 

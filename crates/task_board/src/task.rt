@@ -10,7 +10,7 @@ ghost use Rattle.content_leases.specs.StoreState.{is_among};
 ghost use Rattle.task_board.specs.BoardState.{created_task, entry_of, used_by};
 ghost use Rattle.task_board.specs.Loans.{Lent, loan_of, FitsTask};
 ghost use Rattle.task_board.specs.Refusals.{Openable};
-ghost use Rattle.task_board.specs.Tasks.{exit_of, standing_at_start, started, paused, resumed, first_signal, killed, standing_onward, standing_after, advanced, slice_turns, can_lend, lent, state_of};
+ghost use Rattle.task_board.specs.Tasks.{exit_of, standing_at_start, started, paused, resumed, first_signal, killed, standing_onward, standing_after, advanced, slice_turns, can_lend, lent, state_of, output_of};
 ghost use Rattle.task_board.specs.Tickets.{ticket_if_running};
 ghost use Rattle.task_board.specs.Waiting.{is_present};
 ghost use Rattle.task_board.specs.Inside.Machines.{IsMachine};
@@ -21,6 +21,7 @@ use crate::checkout::{Checkout, Shared};
 use crate::loan::Loan;
 use crate::request::TaskState;
 use crate::ticket::Ticket;
+use oci_config::Stream;
 use slab::Slab;
 use std::alloc::{AllocError, Global};
 use std::marker::Model;
@@ -70,10 +71,10 @@ impl Task {
         incarnation: u64,
         machine: Box<Machine>,
     ) -> Result<Task, AllocError>
-        requires opens { Openable (arc_value shared.bytes) shared.process shared.valid }
-        requires fresh { IsMachine machine.value shared.valid shared.process 0 }
+        requires opens { Openable (arc_value shared.bytes) shared.process shared.flat }
+        requires fresh { IsMachine machine.value shared.flat shared.process 0 }
         ensures { let bytes = arc_value shared.bytes in IfOk result
-            (λ t. t ≡ created_task shared.id incarnation bytes shared.valid shared.process) }
+            (λ t. t ≡ created_task shared.id incarnation bytes shared.flat shared.process) }
     {
         let shared = Arc::new(alloc, shared)?;
         let checkout = Checkout::new(alloc, machine, &shared)?;
@@ -142,6 +143,16 @@ impl Task {
             status: self.status,
             end: self.end,
         }
+    }
+
+    /// What it has written to an output stream. None if its slice is out.
+    pub fn output(&self, stream: Stream) -> Option<&[u8]>
+        ensures some { IfSome result (λ bytes. (self.now.out ≡ None)
+            × (bytes.now ≡ output_of (Some stream) self.now)) }
+        ensures none { IfNone result (is_some self.now.out ≡ true) }
+    {
+        let checkout = self.checkout.as_ref()?;
+        Some(checkout.machine.output(stream))
     }
 
     /// Starts it.

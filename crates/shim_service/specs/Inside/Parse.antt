@@ -26,6 +26,7 @@ HasOnlyId (request.LeaseAdd digest id) = ⊥
 HasOnlyId request.Gc = ⊥
 HasOnlyId (request.Create config id) = ⊥
 HasOnlyId (request.Kill id signal) = ⊥
+HasOnlyId (request.Output id stream) = ⊥
 HasOnlyId other = Unit {0}
 
 -- a request that is no put, create or kill

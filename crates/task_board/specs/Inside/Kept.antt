@@ -2,7 +2,7 @@
 use Rattle.std.specs.Prelude.{◌≡◌, ℕ, ◌+◌, List, true, Option, Some, None}
 use Rattle.std.specs.Arc.{arc_value}
 use Rattle.wasm_ast.specs.declared.module.Module.{Module}
-use Rattle.step_machine.specs.declared.process.ProcessConfig.{ProcessConfig}
+use Rattle.oci_config.specs.declared.process.ProcessConfig.{ProcessConfig}
 use Rattle.wasm_ast.specs.declared.place.Place.{Place}
 use Rattle.step_machine.specs.declared.ends.SliceEnd.{SliceEnd}
 use Rattle.step_machine.specs.MachineView.{MachineView}
@@ -19,7 +19,7 @@ use Rattle.task_board.specs.Inside.Machines.{IsMachine}
 pub record IsOwn (c : Checkout) (id bytes : List ℕ) (m : Module) (p : ProcessConfig) (breaks : List Place) : Type 0 where
   pub same_id : (arc_value c.shared).id ≡ id
   pub same_bytes : arc_value (arc_value c.shared).bytes ≡ bytes
-  pub same_module : (arc_value c.shared).valid ≡ m
+  pub same_module : (arc_value c.shared).flat ≡ m
   pub same_process : (arc_value c.shared).process ≡ p
   pub same_breaks : arc_value c.breaks ≡ breaks
 

@@ -1,7 +1,7 @@
 -- Machines as contracts see them.
 use Rattle.std.specs.Prelude.{◌≡◌, ℕ}
 use Rattle.wasm_ast.specs.declared.module.Module.{Module}
-use Rattle.step_machine.specs.declared.process.ProcessConfig.{ProcessConfig}
+use Rattle.oci_config.specs.declared.process.ProcessConfig.{ProcessConfig}
 use Rattle.step_machine.specs.MachineView.{MachineView}
 
 -- a machine of this module and process after that number of turns

@@ -3,21 +3,23 @@ use Rattle.std.specs.Prelude.{◌≡◌, ◌≢◌, ℕ, List, [], ◌∷◌, no
 use Rattle.wasm_ast.specs.declared.module.Module.{Module}
 use Rattle.wasm_ast.specs.declared.refusal.Refusal.{Refusal}
 use Rattle.wasm_ast.specs.declared.refusal.Refusal.TheVariants as refusal
-use Rattle.step_machine.specs.declared.process.ProcessConfig.{ProcessConfig}
+use Rattle.oci_config.specs.declared.process.ProcessConfig.{ProcessConfig}
 use Rattle.task_board.specs.declared.prepared.Plan.{Plan}
 use Rattle.task_board.specs.declared.prepared.Plan.TheVariants as plan
 use Rattle.task_board.specs.declared.request.Request.{Request}
 use Rattle.task_board.specs.declared.request.Request.TheVariants as request
 use Rattle.task_lifecycle.specs.declared.lifecycle.TaskCall.{TaskCall}
 use Rattle.task_lifecycle.specs.Lifecycle.{allowed}
-use Rattle.content_leases.specs.Identifiers.{is_id}
+use Rattle.wasm_ast.specs.Identifiers.{is_id}
 use Rattle.content_leases.specs.StoreState.{content_in}
 use Rattle.content_leases.specs.Refusals.{Refusals, first_refusal}
-use Rattle.task_board.specs.Config.{process_read}
+use Rattle.oci_config.specs.Config.{process_read}
+use Rattle.oci_config.specs.Streams.{stream_of}
 use Rattle.task_board.specs.BoardState.{Task, created_task, BoardState, entry_of, task_of}
 use Rattle.task_board.specs.BoardValue.{Room}
-use Rattle.task_board.specs.Refusals.{is_full, create_refusals, kill_refusals, delete_refusals, task_refusals, Openable, CannotOpen}
+use Rattle.task_board.specs.Refusals.{is_full, create_refusals, kill_refusals, delete_refusals, output_refusals, task_refusals, Openable, CannotOpen}
 use Rattle.task_board.specs.Step.{Answers}
+use Rattle.task_board.specs.Tasks.{output_of}
 use Rattle.task_board.specs.Inside.Changes.{change_request, change_refusals}
 use Rattle.task_board.specs.Inside.StoreChanges.{store_request, StorePrepared}
 
@@ -44,6 +46,18 @@ RefusesTask s id c refused e =
 abbrev pub RefusesKill : BoardState → (id : List ℕ) → (number : ℕ) → (e : Refusal) → Type 0
 RefusesKill s id number e =
     first_refusal (task_refusals id (kill_refusals number) (task_of id s.tasks)) ≡ Some e
+
+-- why the output of the task with this id to the stream with that number is not told
+abbrev pub RefusesOutput : BoardState → (id : List ℕ) → (number : ℕ) → (e : Refusal) → Type 0
+RefusesOutput s id number e =
+    first_refusal (task_refusals id (output_refusals number) (task_of id s.tasks)) ≡ Some e
+
+-- these bytes are the output of the task with this id to the stream with that number, which may be told
+pub record TellsOutput (s : BoardState) (id : List ℕ) (number : ℕ) (bytes : List ℕ) : Type 0 where
+  pub task : Task
+  pub found : task_of id s.tasks ≡ Some task
+  pub accepted : first_refusal (task_refusals id (output_refusals number) (Some task)) ≡ None
+  pub is : bytes ≡ output_of (stream_of number) task
 
 -- a task that may enter in answer to a request
 pub record CreatePrepared (s : BoardState) (r : Request) (task : Task) (id : List ℕ) : Type 0 where
@@ -72,6 +86,7 @@ PlansTask s id bytes p other = ⊥
 abbrev pub IsQuestion : Request → Type 0
 IsQuestion (request.State id) = Unit {0}
 IsQuestion (request.Wait id) = Unit {0}
+IsQuestion (request.Output id stream) = Unit {0}
 IsQuestion other = ⊥
 
 -- the request is prepared so on a board with that state and room

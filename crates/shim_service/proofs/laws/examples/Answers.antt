@@ -45,3 +45,15 @@ returns-clause-lease c = record {
 pub returns-clause-removed : goal.returns-clause-removed
 unfolding serde_json_on_literals digits
 returns-clause-removed c = refl
+
+pub returns-clause-output : goal.returns-clause-output
+unfolding serde_json_on_literals is_utf8 chars
+returns-clause-output c = record {
+  value = _;
+  reads = record { short = omega arith; utf8 = IsUtf8-from_is_utf8 (codes "{\"op\":\"output\",\"id\":\"a\",\"stream\":1}") refl; value = refl };
+  asks = (_, refl, refl);
+}
+
+pub returns-clause-written : goal.returns-clause-written
+unfolding serde_json_on_literals hex_on_literals digits
+returns-clause-written c = refl

@@ -10,8 +10,8 @@ returns-clause-ok c =
     let none = subst (λ (d : List ℕ). module_in (opened_of before) d ≡ None) (sym named) (ap (λ os. module_in os c.args.digest.now) c.self.view_is ∙ c.requires) in
     let same : c.reserve.new.self.entries ≡ before = search rules in
     let is = rw c.unwrap.ensures at c.insert.ensures.entries in
-    let at = is ∙ ap (λ es. Rattle.indexmap.specs.IndexMap.insert_entry Rattle.std.specs.String.string_eq es c.in_ok-key.key c.args.valid) same in
+    let at = is ∙ ap (λ es. Rattle.indexmap.specs.IndexMap.insert_entry Rattle.std.specs.String.string_eq es c.in_ok-key.key c.args.flat) same in
     ap opened_of at
-    ∙ (pushed c.in_ok-key.key c.args.valid before none
-    ∙ (ap (λ (os : List OpenedModule). os ++ opened_module (c.in_ok-key.key, c.args.valid) ∷ []) c.self.view_is
-    ∙ ap (λ (d : List ℕ). c.args.self.now ++ record { digest = d; «module» = c.args.valid } ∷ []) named))
+    ∙ (pushed c.in_ok-key.key c.args.flat before none
+    ∙ (ap (λ (os : List OpenedModule). os ++ opened_module (c.in_ok-key.key, c.args.flat) ∷ []) c.self.view_is
+    ∙ ap (λ (d : List ℕ). c.args.self.now ++ record { digest = d; «module» = c.args.flat } ∷ []) named))

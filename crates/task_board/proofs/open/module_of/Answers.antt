@@ -3,7 +3,7 @@ use Rattle.wasm_ast.specs.declared.refusal.Refusal.{Refusal}
 use Rattle.wasm_ast.specs.declared.refusal.Refusal.TheVariants as refusal
 use Rattle.task_board.specs.Refusals.{IsSpelled, CannotOpen, invalid}
 use Rattle.task_board.proofs.InstantiateLemmas.{undecoded, unchecked}
-use Rattle.task_board.proofs.open.valid_of.Goals as goal
+use Rattle.task_board.proofs.open.module_of.Goals as goal
 
 pub returns-in_err-module-clause-refused : goal.returns-in_err-module-clause-refused
 returns-in_err-module-clause-refused c e p is other =
@@ -15,10 +15,17 @@ returns-in_err-module-clause-refused c e p is other =
     (record { bad = λ h. told.bad (ap Err h); over = λ h. told.over (ap Err h); none = λ h. told.none_within (ap Err h) }) causes in
     subst (λ (y : Refusal). CannotOpen c.args.bytes.now p y) same (says (λ n. other (sym same ∙ n)))
 
-pub returns-clause-refused : goal.returns-clause-refused
-returns-clause-refused c e p is other =
+pub returns-in_err-valid-clause-refused : goal.returns-in_err-valid-clause-refused
+returns-in_err-valid-clause-refused c e p is other =
+    let x = c.in_err-valid.field-0.0 in
+    let same : x ≡ e = search rules in
     let m = c.in_ok-module.module in
     let spelled : IsSpelled c.args.bytes.now m = record { spells = c.in_ok-module.ensures.spelled; within = c.in_ok-module.ensures.within.0; short = c.in_ok-module.ensures.within.1 } in
-    let why = unchecked c.validate.result e c.validate.ensures.err is other in
-    subst (λ (x : Refusal). CannotOpen c.args.bytes.now p x) (sym why)
-    (invalid m spelled (c.validate.ensures.invalid (is ∙ ap Err why)))
+    let why = unchecked c.validate.result e c.validate.ensures.err (c.in_err-valid.was ∙ ap Err same) other in
+    subst (λ (y : Refusal). CannotOpen c.args.bytes.now p y) (sym why)
+    (invalid m spelled (c.validate.ensures.invalid (c.in_err-valid.was ∙ ap Err (same ∙ why))))
+
+pub returns-clause-refused : goal.returns-clause-refused
+returns-clause-refused c e p is other =
+    let memory : e ≡ refusal.NoMemory = search rules in
+    absurd (other memory)

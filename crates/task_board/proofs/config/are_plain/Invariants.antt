@@ -1,8 +1,0 @@
-use Rattle.std.proofs.Common.{◌≡◌, drop}
-use Rattle.std.specs.List.{list_all}
-use Rattle.task_board.specs.Config.{is_plain}
-use Rattle.task_board.proofs.config.are_plain.Given as goal
-
--- those before are plain
-abbrev pub invariant-loop-text : goal.invariant-loop-text
-invariant-loop-text l = list_all is_plain l.texts ≡ list_all is_plain (drop l.text-index l.texts)

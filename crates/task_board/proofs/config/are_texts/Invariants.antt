@@ -1,8 +1,0 @@
-use Rattle.std.proofs.Common.{◌≡◌}
-use Rattle.serde_json.specs.View.{members_view}
-use Rattle.task_board.specs.Config.{are_texts}
-use Rattle.task_board.proofs.config.are_texts.Given as goal
-
--- those before are texts
-abbrev pub invariant-loop-key : goal.invariant-loop-key
-invariant-loop-key l = are_texts (members_view l.members.entries) ≡ are_texts (members_view l._key-iterator)
