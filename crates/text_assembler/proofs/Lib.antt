@@ -1,0 +1,10 @@
+pub mod PartLoops
+pub mod Comments
+pub mod WordLists
+pub mod Utf8
+pub mod Labels
+pub mod OpenBlocks
+pub mod FieldLoops
+pub mod Nesting
+pub mod ModuleNesting
+pub mod Denoted

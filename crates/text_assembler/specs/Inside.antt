@@ -1,0 +1,3 @@
+-- What private clauses alone name: no public clause rests on these.
+pub mod Answers
+pub mod Parts

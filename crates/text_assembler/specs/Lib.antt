@@ -1,0 +1,12 @@
+pub mod Reading
+pub mod Characters
+pub mod Numbers
+pub mod Tokens
+pub mod Words
+pub mod Names
+pub mod Phrases
+pub mod Instructions
+pub mod Modules
+pub mod Lines
+pub mod Worked
+pub mod Inside

@@ -1,0 +1,27 @@
+-- Worked modules. The first names a function before it is written, and a label inside two blocks.
+use Rattle.std.specs.Prelude.{[], ◌∷◌, Some, None}
+use Rattle.wasm_ast.specs.declared.instr.Simple.TheVariants.{Br, Call, Const, Load}
+use Rattle.wasm_ast.specs.declared.values.ValType.TheVariants as type
+use Rattle.wasm_ast.specs.declared.values.Value.TheVariants.{I32}
+use Rattle.wasm_ast.specs.declared.operators.LoadOp.TheVariants as load
+use Rattle.wasm_ast.specs.declared.module.Mutability.TheVariants.{Var}
+use Rattle.wasm_ast.specs.declared.instr.BlockType.TheVariants.{Empty}
+use Rattle.wasm_ast.specs.declared.module.Module.{Module}
+use Rattle.wasm_ast.specs.Syntax.{simple, block, ops_of}
+use Rattle.text_assembler.specs.Modules.{module_from}
+
+abbrev pub worked : Module
+worked =
+    module_from (record { params = []; results = [] } ∷ []) []
+    (record { type_index = 0; locals = []; body = ops_of (block Empty (ops_of (block Empty (ops_of (simple (Br 1) ∷ simple (Call 1) ∷ [])) ∷ [])) ∷ []) }
+    ∷ record { type_index = 0; locals = []; body = ops_of [] } ∷ []) [] [] [] [] (Some 1) [] []
+
+-- an offset, an alignment, and a constant with a sign
+abbrev pub worked_access : Module
+worked_access =
+    module_from [] [] [] [] (record { min = 1; max = Some 2 } ∷ [])
+    (record {
+      val_type = type.I32;
+      mutability = Var;
+      init = ops_of (simple (Const (I32 4294967295)) ∷ simple (Load load.I32From16U (record { align = 0; offset = 4 })) ∷ []);
+    } ∷ []) [] None [] []

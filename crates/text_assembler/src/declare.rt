@@ -1,0 +1,99 @@
+//! What the fields of a module declare (6.6.1).
+
+ghost use Rattle.std.specs.Prelude.{◌≡◌, [], ◌∷◌, ◌++◌, Ok};
+ghost use Rattle.text_assembler.specs.Inside.Answers.{Gives};
+ghost use Rattle.text_assembler.specs.Names.{with_id};
+ghost use Rattle.text_assembler.specs.Phrases.{id_of};
+ghost use Rattle.text_assembler.specs.Modules.{declare_as, declare_field, declare_fields, no_scopes, read_imported, read_type};
+
+use crate::fault::ReadError;
+use crate::field::{read_imported, read_type};
+use crate::ids::Ids;
+use crate::phrases::{id_of, take_word};
+use crate::scopes::{Scopes, Signatures};
+use crate::token::{Lexeme, Token};
+use std::alloc::Global;
+
+// Declares an entry with the identifier that is next, if there is one.
+fn declare_id(alloc: Global, ids: &mut Ids, tokens: &[Token]) -> Result<(), ReadError>
+    ensures { Gives (λ _. ids.new) result (with_id ids.old (id_of tokens.now)) }
+{
+    let id = id_of(alloc, tokens)?;
+    ids.declare(id, tokens.len())
+}
+
+// Declares what the field with this keyword does.
+#[tactic(auto, unfolding(crate::specs::Modules::declare_as))]
+fn declare_as(
+    alloc: Global,
+    scopes: &mut Scopes,
+    word: &[u8],
+    tokens: &[Token],
+) -> Result<(), ReadError>
+    ensures { Gives (λ _. scopes.new) result (declare_as scopes.old word.now tokens.now) }
+{
+    if word == b"type".as_slice() {
+        declare_id(alloc, &mut scopes.types, tokens)?;
+        let (signature, _) = read_type(alloc, tokens)?;
+        scopes.signatures.push(signature)
+    } else if word == b"import".as_slice() {
+        let (_, rest) = read_imported(tokens)?;
+        declare_id(alloc, &mut scopes.funcs, rest)
+    } else if word == b"func".as_slice() {
+        declare_id(alloc, &mut scopes.funcs, tokens)
+    } else if word == b"table".as_slice() {
+        declare_id(alloc, &mut scopes.tables, tokens)
+    } else if word == b"memory".as_slice() {
+        declare_id(alloc, &mut scopes.memories, tokens)
+    } else if word == b"global".as_slice() {
+        declare_id(alloc, &mut scopes.globals, tokens)
+    } else {
+        Ok(())
+    }
+}
+
+#[tactic(auto, unfolding(crate::specs::Modules::declare_field))]
+fn declare_field(alloc: Global, scopes: &mut Scopes, tokens: &[Token]) -> Result<(), ReadError>
+    ensures { Gives (λ _. scopes.new) result (declare_field scopes.old tokens.now) }
+{
+    let (word, rest) = take_word(tokens)?;
+    declare_as(alloc, scopes, word, rest)
+}
+
+// No declarations. No memory is taken.
+fn no_scopes(alloc: Global) -> Scopes
+    ensures { result ≡ no_scopes }
+{
+    Scopes {
+        types: Ids::new(alloc),
+        signatures: Signatures::new(alloc),
+        funcs: Ids::new(alloc),
+        tables: Ids::new(alloc),
+        memories: Ids::new(alloc),
+        globals: Ids::new(alloc),
+    }
+}
+
+/// The declarations of all fields of a module. A field begins where one parenthesis is open.
+#[tactic(auto, unfolding(crate::specs::Modules::declare_fields))]
+pub fn declare_fields(alloc: Global, tokens: &[Token]) -> Result<Scopes, ReadError>
+    ensures { Gives (λ x. x) result (declare_fields 0 no_scopes tokens.now) }
+{
+    let mut scopes = no_scopes(alloc);
+    let mut depth = 0usize;
+    let mut rest = tokens;
+    while let [first, tail @ ..] = rest {
+        match first.lexeme() {
+            Lexeme::Open => {
+                if depth == 1 {
+                    declare_field(alloc, &mut scopes, tail)?;
+                }
+                depth += 1;
+            }
+            Lexeme::Close => depth = depth.saturating_sub(1),
+            Lexeme::Word(_) | Lexeme::Text(_) => {}
+        }
+        rest = tail;
+    }
+    Ok(scopes)
+}

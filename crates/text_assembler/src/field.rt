@@ -1,0 +1,434 @@
+//! Fields of modules (6.6).
+
+ghost use Rattle.std.specs.Prelude.{◌≡◌, [], ◌∷◌, map, Ok, codes};
+ghost use Rattle.wasm_ast.specs.View.{op_of};
+ghost use Rattle.wasm_ast.specs.Syntax.{ops_of};
+ghost use Rattle.text_assembler.specs.Inside.Answers.{Gives, with_front};
+ghost use Rattle.text_assembler.specs.Reading.{read_parts};
+ghost use Rattle.text_assembler.specs.Phrases.{is_close, take_text, types_of};
+ghost use Rattle.text_assembler.specs.Modules.{read_type, read_imported, read_import, read_func, read_table, read_memory, read_global_type, read_expression, read_global, kind_of, space_of, read_exported, read_export, read_offset, read_element, read_segment, read_defined, read_contents, read_field};
+
+use crate::blocks::push_body;
+use crate::fault::ReadError;
+use crate::ids::Ids;
+use crate::phrases::{
+    after_id, begins_group, fault, is_close, push_bindings, push_indices, push_results, read_index,
+    read_limits, read_name, read_val_type, skip_close, skip_group, skip_open, skip_word, take_text,
+    take_word,
+};
+use crate::scopes::Scopes;
+use crate::token::Token;
+use crate::uses::{declare_bindings, read_use, types_of};
+use std::alloc::Global;
+use wasm_ast;
+use wasm_ast::{
+    Body, Element, Export, ExportKind, Func, FuncType, Import, Limits, Mutability, Segment,
+    Sequence, Text, ValType,
+};
+
+/// A field.
+#[derive(Drop)]
+pub enum Field {
+    Type(FuncType),
+    Import(Import),
+    Func(Func),
+    Table(Limits),
+    Memory(Limits),
+    Global(wasm_ast::Global),
+    Export(Export),
+    Start(u32),
+    Element(Element),
+    Segment(Segment),
+}
+
+/// A type after its keyword, and what follows it.
+#[tactic(auto, unfolding(crate::specs::Modules::read_type))]
+pub fn read_type(alloc: Global, tokens: &[Token]) -> Result<(FuncType, &[Token]), ReadError>
+    ensures { Gives (λ x. (x.0, x.1.now)) result (read_type tokens.now) }
+{
+    let rest = skip_group("func", after_id(tokens))?;
+    let mut params = Vec::new(alloc);
+    let rest = push_bindings(alloc, "param", &mut params, rest)?;
+    let mut results = Vec::new(alloc);
+    let rest = push_results(&mut results, rest)?;
+    let rest = skip_close(rest)?;
+    let params = Sequence::new(types_of(alloc, params.as_slice())?);
+    let results = Sequence::new(results);
+    Ok((FuncType { params, results }, rest))
+}
+
+/// The two names of an import, and what follows its `( func`.
+#[tactic(auto, unfolding(crate::specs::Modules::read_imported))]
+pub fn read_imported(tokens: &[Token]) -> Result<((&str, &str), &[Token]), ReadError>
+    ensures { Gives (λ x. ((x.0.0.now, x.0.1.now), x.1.now)) result
+        (read_imported tokens.now) }
+{
+    let (module, rest) = read_name(tokens)?;
+    let (name, rest) = read_name(rest)?;
+    let rest = skip_group("func", rest)?;
+    Ok(((module, name), rest))
+}
+
+#[tactic(auto, unfolding(crate::specs::Modules::read_import))]
+fn read_import<'a>(
+    alloc: Global,
+    scopes: &Scopes,
+    tokens: &'a [Token],
+) -> Result<(Import, &'a [Token]), ReadError>
+    ensures { Gives (λ x. (x.0, x.1.now)) result (read_import scopes.now tokens.now) }
+{
+    let ((module, name), rest) = read_imported(tokens)?;
+    let (type_use, rest) = read_use(alloc, scopes, after_id(rest))?;
+    let rest = skip_close(rest)?;
+    let module = Text::from_str(alloc, module)?;
+    let name = Text::from_str(alloc, name)?;
+    let type_index = type_use.type_index;
+    Ok((
+        Import {
+            module,
+            name,
+            type_index,
+        },
+        rest,
+    ))
+}
+
+#[tactic(auto, unfolding(crate::specs::Modules::read_func))]
+fn read_func<'a>(
+    alloc: Global,
+    nesting: usize,
+    scopes: &Scopes,
+    tokens: &'a [Token],
+) -> Result<(Func, &'a [Token]), ReadError>
+    ensures { Gives (λ x. (x.0, x.1.now)) result
+        (read_func nesting scopes.now tokens.now) }
+{
+    let (type_use, from) = read_use(alloc, scopes, after_id(tokens))?;
+    let mut locals = Vec::new(alloc);
+    let rest = push_bindings(alloc, "local", &mut locals, from)?;
+    let mut ids = type_use.params;
+    declare_bindings(alloc, &mut ids, locals.as_slice(), from.len())?;
+    let mut labels = Ids::new(alloc);
+    let mut body = Vec::new(alloc);
+    let rest = push_body(alloc, scopes, &ids, &mut labels, nesting, &mut body, rest)?;
+    let locals = Sequence::new(types_of(alloc, locals.as_slice())?);
+    Ok((
+        Func {
+            type_index: type_use.type_index,
+            locals,
+            body: Body::new(body),
+        },
+        rest,
+    ))
+}
+
+#[tactic(auto, unfolding(crate::specs::Modules::read_table))]
+fn read_table(tokens: &[Token]) -> Result<(Limits, &[Token]), ReadError>
+    ensures { Gives (λ x. (x.0, x.1.now)) result (read_table tokens.now) }
+{
+    let (limits, rest) = read_limits(after_id(tokens))?;
+    let rest = skip_word("funcref", rest)?;
+    Ok((limits, rest))
+}
+
+#[tactic(auto, unfolding(crate::specs::Modules::read_memory))]
+fn read_memory(tokens: &[Token]) -> Result<(Limits, &[Token]), ReadError>
+    ensures { Gives (λ x. (x.0, x.1.now)) result (read_memory tokens.now) }
+{
+    read_limits(after_id(tokens))
+}
+
+#[tactic(auto, unfolding(crate::specs::Modules::read_global_type))]
+fn read_global_type(tokens: &[Token]) -> Result<((ValType, Mutability), &[Token]), ReadError>
+    ensures { Gives (λ x. ((x.0.0, x.0.1), x.1.now)) result (read_global_type tokens.now) }
+{
+    if !begins_group("mut", tokens) {
+        let (val_type, rest) = read_val_type(tokens)?;
+        return Ok(((val_type, Mutability::Const), rest));
+    }
+    let rest = skip_group("mut", tokens)?;
+    let (val_type, rest) = read_val_type(rest)?;
+    let rest = skip_close(rest)?;
+    Ok(((val_type, Mutability::Var), rest))
+}
+
+// The instructions of a constant, and what follows them.
+#[tactic(auto, unfolding(crate::specs::Modules::read_expression))]
+fn read_expression<'a>(
+    alloc: Global,
+    nesting: usize,
+    scopes: &Scopes,
+    tokens: &'a [Token],
+) -> Result<(Body, &'a [Token]), ReadError>
+    ensures { Gives (λ x. (x.0, x.1.now)) result
+        (read_expression nesting scopes.now tokens.now) }
+{
+    let locals = Ids::new(alloc);
+    let mut labels = Ids::new(alloc);
+    let mut body = Vec::new(alloc);
+    let rest = push_body(
+        alloc,
+        scopes,
+        &locals,
+        &mut labels,
+        nesting,
+        &mut body,
+        tokens,
+    )?;
+    Ok((Body::new(body), rest))
+}
+
+#[tactic(auto, unfolding(crate::specs::Modules::read_global))]
+fn read_global<'a>(
+    alloc: Global,
+    nesting: usize,
+    scopes: &Scopes,
+    tokens: &'a [Token],
+) -> Result<(wasm_ast::Global, &'a [Token]), ReadError>
+    ensures { Gives (λ x. (x.0, x.1.now)) result
+        (read_global nesting scopes.now tokens.now) }
+{
+    let ((val_type, mutability), rest) = read_global_type(after_id(tokens))?;
+    let (init, rest) = read_expression(alloc, nesting, scopes, rest)?;
+    Ok((
+        wasm_ast::Global {
+            val_type,
+            mutability,
+            init,
+        },
+        rest,
+    ))
+}
+
+#[tactic(auto, unfolding(crate::specs::Modules::kind_of))]
+fn kind_of(word: &[u8], left: usize) -> Result<ExportKind, ReadError>
+    ensures { Gives (λ x. x) result (kind_of word.now) }
+{
+    if word == b"func".as_slice() {
+        Ok(ExportKind::Func)
+    } else if word == b"table".as_slice() {
+        Ok(ExportKind::Table)
+    } else if word == b"memory".as_slice() {
+        Ok(ExportKind::Memory)
+    } else if word == b"global".as_slice() {
+        Ok(ExportKind::Global)
+    } else {
+        Err(ReadError::Malformed { left })
+    }
+}
+
+fn space_of(scopes: &Scopes, kind: ExportKind) -> &Ids
+    ensures { result.now ≡ space_of scopes.now kind }
+{
+    match kind {
+        ExportKind::Func => &scopes.funcs,
+        ExportKind::Table => &scopes.tables,
+        ExportKind::Memory => &scopes.memories,
+        ExportKind::Global => &scopes.globals,
+    }
+}
+
+#[tactic(auto, unfolding(crate::specs::Modules::read_exported))]
+fn read_exported<'a>(
+    scopes: &Scopes,
+    tokens: &'a [Token],
+) -> Result<((ExportKind, u32), &'a [Token]), ReadError>
+    ensures { Gives (λ x. ((x.0.0, x.0.1), x.1.now)) result
+        (read_exported scopes.now tokens.now) }
+{
+    let rest = skip_open(tokens)?;
+    let (word, after) = take_word(rest)?;
+    let kind = kind_of(word, rest.len())?;
+    let (index, rest) = read_index(space_of(scopes, kind), after)?;
+    let rest = skip_close(rest)?;
+    Ok(((kind, index), rest))
+}
+
+#[tactic(auto, unfolding(crate::specs::Modules::read_export))]
+fn read_export<'a>(
+    alloc: Global,
+    scopes: &Scopes,
+    tokens: &'a [Token],
+) -> Result<(Export, &'a [Token]), ReadError>
+    ensures { Gives (λ x. (x.0, x.1.now)) result (read_export scopes.now tokens.now) }
+{
+    let (name, rest) = read_name(tokens)?;
+    let ((kind, index), rest) = read_exported(scopes, rest)?;
+    let name = Text::from_str(alloc, name)?;
+    Ok((Export { name, kind, index }, rest))
+}
+
+#[tactic(auto, unfolding(crate::specs::Modules::read_offset))]
+fn read_offset<'a>(
+    alloc: Global,
+    nesting: usize,
+    scopes: &Scopes,
+    tokens: &'a [Token],
+) -> Result<(Body, &'a [Token]), ReadError>
+    ensures { Gives (λ x. (x.0, x.1.now)) result
+        (read_offset nesting scopes.now tokens.now) }
+{
+    let rest = skip_group("offset", tokens)?;
+    let (offset, rest) = read_expression(alloc, nesting, scopes, rest)?;
+    let rest = skip_close(rest)?;
+    Ok((offset, rest))
+}
+
+#[tactic(auto, unfolding(crate::specs::Modules::read_element))]
+fn read_element<'a>(
+    alloc: Global,
+    nesting: usize,
+    scopes: &Scopes,
+    tokens: &'a [Token],
+) -> Result<(Element, &'a [Token]), ReadError>
+    ensures { Gives (λ x. (x.0, x.1.now)) result
+        (read_element nesting scopes.now tokens.now) }
+{
+    let (offset, rest) = read_offset(alloc, nesting, scopes, tokens)?;
+    let mut funcs = Vec::new(alloc);
+    let rest = push_indices(&scopes.funcs, &mut funcs, rest)?;
+    let funcs = Sequence::new(funcs);
+    Ok((
+        Element {
+            table: 0,
+            offset,
+            funcs,
+        },
+        rest,
+    ))
+}
+
+fn push_text<'a>(out: &mut Vec<u8>, tokens: &'a [Token]) -> Result<&'a [Token], ReadError>
+    ensures { Gives (λ rest. (out.new.items, rest.now)) result
+        (with_front out.old.items (take_text tokens.now)) }
+{
+    let (bytes, rest) = take_text(tokens)?;
+    out.extend_from_slice(bytes)?;
+    Ok(rest)
+}
+
+// Pushes the bytes of the strings up to a `)`, and gives what follows them.
+fn push_texts<'a>(out: &mut Vec<u8>, tokens: &'a [Token]) -> Result<&'a [Token], ReadError>
+    ensures { Gives (λ rest. (out.new.items, rest.now)) result
+        (with_front out.old.items (read_parts is_close take_text tokens.now)) }
+{
+    let mut rest = tokens;
+    for _ in 0..tokens.len() {
+        if is_close(rest) {
+            return Ok(rest);
+        }
+        rest = push_text(out, rest)?;
+    }
+    if is_close(rest) {
+        Ok(rest)
+    } else {
+        Err(fault(rest))
+    }
+}
+
+#[tactic(auto, unfolding(crate::specs::Modules::read_segment))]
+fn read_segment<'a>(
+    alloc: Global,
+    nesting: usize,
+    scopes: &Scopes,
+    tokens: &'a [Token],
+) -> Result<(Segment, &'a [Token]), ReadError>
+    ensures { Gives (λ x. (x.0, x.1.now)) result
+        (read_segment nesting scopes.now tokens.now) }
+{
+    let (offset, rest) = read_offset(alloc, nesting, scopes, tokens)?;
+    let mut bytes = Vec::new(alloc);
+    let rest = push_texts(&mut bytes, rest)?;
+    let bytes = Sequence::new(bytes);
+    Ok((
+        Segment {
+            memory: 0,
+            offset,
+            bytes,
+        },
+        rest,
+    ))
+}
+
+// A function, table, memory or global after its keyword, and what follows it.
+#[tactic(auto, unfolding(crate::specs::Modules::read_defined))]
+fn read_defined<'a>(
+    alloc: Global,
+    nesting: usize,
+    scopes: &Scopes,
+    word: &[u8],
+    tokens: &'a [Token],
+) -> Result<(Field, &'a [Token]), ReadError>
+    ensures { Gives (λ x. (x.0, x.1.now)) result
+        (read_defined nesting scopes.now word.now tokens.now) }
+{
+    if word == b"func".as_slice() {
+        let (func, rest) = read_func(alloc, nesting, scopes, tokens)?;
+        Ok((Field::Func(func), rest))
+    } else if word == b"table".as_slice() {
+        let (table, rest) = read_table(tokens)?;
+        Ok((Field::Table(table), rest))
+    } else if word == b"memory".as_slice() {
+        let (memory, rest) = read_memory(tokens)?;
+        Ok((Field::Memory(memory), rest))
+    } else if word == b"global".as_slice() {
+        let (global, rest) = read_global(alloc, nesting, scopes, tokens)?;
+        Ok((Field::Global(global), rest))
+    } else {
+        Err(ReadError::Malformed {
+            left: tokens.len() + 1,
+        })
+    }
+}
+
+#[tactic(auto, unfolding(crate::specs::Modules::read_contents))]
+fn read_contents<'a>(
+    alloc: Global,
+    nesting: usize,
+    scopes: &Scopes,
+    word: &[u8],
+    tokens: &'a [Token],
+) -> Result<(Field, &'a [Token]), ReadError>
+    ensures { Gives (λ x. (x.0, x.1.now)) result
+        (read_contents nesting scopes.now word.now tokens.now) }
+{
+    if word == b"type".as_slice() {
+        let (signature, rest) = read_type(alloc, tokens)?;
+        Ok((Field::Type(signature), rest))
+    } else if word == b"import".as_slice() {
+        let (import, rest) = read_import(alloc, scopes, tokens)?;
+        Ok((Field::Import(import), rest))
+    } else if word == b"export".as_slice() {
+        let (export, rest) = read_export(alloc, scopes, tokens)?;
+        Ok((Field::Export(export), rest))
+    } else if word == b"start".as_slice() {
+        let (func, rest) = read_index(&scopes.funcs, tokens)?;
+        Ok((Field::Start(func), rest))
+    } else if word == b"elem".as_slice() {
+        let (element, rest) = read_element(alloc, nesting, scopes, tokens)?;
+        Ok((Field::Element(element), rest))
+    } else if word == b"data".as_slice() {
+        let (segment, rest) = read_segment(alloc, nesting, scopes, tokens)?;
+        Ok((Field::Segment(segment), rest))
+    } else {
+        read_defined(alloc, nesting, scopes, word, tokens)
+    }
+}
+
+/// A field, and what follows it.
+#[tactic(auto, unfolding(crate::specs::Modules::read_field))]
+pub fn read_field<'a>(
+    alloc: Global,
+    nesting: usize,
+    scopes: &Scopes,
+    tokens: &'a [Token],
+) -> Result<(Field, &'a [Token]), ReadError>
+    ensures { Gives (λ x. (x.0, x.1.now)) result
+        (read_field nesting scopes.now tokens.now) }
+{
+    let rest = skip_open(tokens)?;
+    let (word, rest) = take_word(rest)?;
+    let (field, rest) = read_contents(alloc, nesting, scopes, word, rest)?;
+    let rest = skip_close(rest)?;
+    Ok((field, rest))
+}

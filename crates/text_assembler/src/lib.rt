@@ -1,0 +1,100 @@
+//! The text format of modules (section 6 of the WebAssembly Core Specification 1.0).
+#![tactic(auto)]
+
+ghost use Rattle.std.specs.Prelude.{◌≡◌, ◌⊎◌, IfOk, IfErr, string_bytes};
+ghost use Rattle.wasm_ast.specs.declared.module.Module.{Module};
+ghost use Rattle.wasm_ast.specs.declared.refusal.Refusal.TheVariants as Refusals;
+ghost use Rattle.wasm_binary.specs.Canonical.{canon, FitsLimits};
+ghost use Rattle.wasm_ast.specs.View.{op_of};
+ghost use Rattle.text_assembler.specs.Modules.{Denotes, IsTooDeep, IsBadText};
+ghost use Rattle.text_assembler.specs.Lines.{line_of, IsAligned};
+
+use fault::ReadError;
+use std::alloc::Global;
+use wasm_ast::{Instr, Refusal};
+
+mod blocks;
+mod characters;
+mod declare;
+mod fault;
+mod field;
+mod ids;
+mod keyword;
+pub mod laws;
+mod lexer;
+mod line;
+mod numbers;
+mod parser;
+mod parts;
+mod phrases;
+mod place;
+mod plain;
+mod scopes;
+mod strings;
+mod token;
+mod uses;
+
+/// The canonical encoding of the module that a text denotes (6.1 to 6.6): what
+/// `wasm_binary::encode` gives for it. Nothing is validated.
+///
+/// `BadText` if the text denotes no module, with the line and the column, from 1 and in characters,
+/// of the first character of the token at fault, or of the place after the last character.
+/// `Limit` if it denotes a module that is over a limit or whose encoding is too long, or if more
+/// than 256 blocks are open at one word. `NoMemory` if memory runs out.
+pub fn assemble(alloc: Global, text: &str) -> Result<Vec<u8>, Refusal>
+    // The bytes are those of a module that the text denotes and that fits.
+    ensures denoted { IfOk result (λ v.
+        (m : Module) × Denotes text.now m × FitsLimits m × (v.items ≡ canon m)) }
+    // A module that is denoted and fits is assembled, unless memory runs out.
+    ensures assembled { IfErr result (λ e.
+        (m : Module) → Denotes text.now m → FitsLimits m → e ≡ Refusals.NoMemory) }
+    ensures bad { IfErr result (λ e.
+        IsBadText e → (m : Module) → Denotes text.now m → ⊥) }
+    ensures limit { IfErr result (λ e. e ≡ Refusals.Limit
+        → (m : Module) → Denotes text.now m → FitsLimits m → ⊥) }
+    ensures over { IfErr result (λ e. e ≡ Refusals.Limit
+        → ((m : Module) × Denotes text.now m) ⊎ IsTooDeep text.now) }
+    ensures causes { IfErr result (λ e.
+        IsBadText e ⊎ ((e ≡ Refusals.Limit) ⊎ (e ≡ Refusals.NoMemory))) }
+{
+    match parser::read_text(alloc, text.as_bytes()) {
+        Ok(module) => wasm_binary::encode(alloc, &module),
+        Err(ReadError::Memory) => Err(Refusal::NoMemory),
+        Err(ReadError::TooDeep) => Err(Refusal::Limit),
+        Err(ReadError::Malformed { left }) => {
+            let (line, column) = place::line_and_column(text.as_bytes(), left);
+            Err(Refusal::BadText { line, column })
+        }
+    }
+}
+
+/// An instruction as one line of text (6.5); of a `block`, a `loop` or an `if` its opening line. Numbers
+/// are written for indices, constants are decimal and have a sign, an offset is written if it is
+/// not 0, and an alignment if it is not natural. `NoMemory` if memory runs out.
+pub fn instr_text(alloc: Global, instr: &Instr) -> Result<String, Refusal>
+    // The exponent of an alignment is below 32, as that of a module which a text denotes is.
+    requires { IsAligned (op_of instr.now) }
+    ensures line { IfOk result (λ text. string_bytes text ≡ line_of (op_of instr.now)) }
+    ensures causes { IfErr result (λ e. e ≡ Refusals.NoMemory) }
+{
+    let mut text = String::new(alloc);
+    match instr {
+        Instr::Simple(simple) => {
+            text.push_str(line::keyword_for(simple).word())?;
+            line::push_operands(&mut text, simple)?;
+        }
+        Instr::Block(block_type, _) => {
+            text.push_str("block")?;
+            line::push_result(&mut text, *block_type)?;
+        }
+        Instr::Loop(block_type, _) => {
+            text.push_str("loop")?;
+            line::push_result(&mut text, *block_type)?;
+        }
+        Instr::If(block_type, _, _) => {
+            text.push_str("if")?;
+            line::push_result(&mut text, *block_type)?;
+        }
+    }
+    Ok(text)
+}

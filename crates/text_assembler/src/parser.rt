@@ -1,0 +1,60 @@
+//! Texts to modules (6.6.13).
+
+ghost use Rattle.std.specs.Prelude.{◌≡◌, ◌≤◌, List, ℕ, Result};
+ghost use Rattle.wasm_ast.specs.declared.module.Module.{Module};
+ghost use Rattle.wasm_ast.specs.Limits.{max_nesting};
+ghost use Rattle.text_assembler.specs.declared.fault.Fault.{Fault};
+ghost use Rattle.text_assembler.specs.Inside.Answers.{Gives, Fails};
+ghost use Rattle.text_assembler.specs.Modules.{read_text, read_tokens};
+
+use crate::declare::declare_fields;
+use crate::fault::ReadError;
+use crate::lexer::tokens_of;
+use crate::parts::read_module;
+use crate::token::Token;
+use std::alloc::Global;
+use wasm_ast::{MAX_NESTING, Module};
+
+// The module that these tokens denote.
+#[tactic(auto, unfolding(crate::specs::Modules::read_tokens))]
+fn read_tokens(alloc: Global, tokens: &[Token]) -> Result<Module, ReadError>
+    ensures { Gives (λ m. m) result (read_tokens max_nesting tokens.now) }
+{
+    let scopes = declare_fields(alloc, tokens)?;
+    read_module(alloc, MAX_NESTING, &scopes, tokens)
+}
+
+// How many bytes are left where this many tokens are left.
+fn bytes_left(tokens: &[Token], left: usize) -> usize {
+    if left == 0 || left > tokens.len() {
+        return 0;
+    }
+    match tokens.get(tokens.len() - left) {
+        Some(token) => token.left(),
+        None => 0,
+    }
+}
+
+// The same fault, placed by the bytes that are left and not by the tokens.
+fn placed(tokens: &[Token], error: ReadError) -> ReadError
+    ensures { (read : Result Module Fault) → Fails error read → Fails result read }
+{
+    match error {
+        ReadError::Malformed { left } => ReadError::Malformed {
+            left: bytes_left(tokens, left),
+        },
+        other => other,
+    }
+}
+
+/// The module that a text denotes, where at most 256 blocks are open at one word.
+#[tactic(auto, unfolding(crate::specs::Modules::read_text))]
+pub fn read_text(alloc: Global, text: &[u8]) -> Result<Module, ReadError>
+    ensures { Gives (λ m. m) result (read_text max_nesting text.now) }
+{
+    let tokens = tokens_of(alloc, text)?;
+    match read_tokens(alloc, tokens.as_slice()) {
+        Ok(module) => Ok(module),
+        Err(error) => Err(placed(tokens.as_slice(), error)),
+    }
+}

@@ -1,0 +1,153 @@
+//! Uses of types (6.6.3).
+
+ghost use Rattle.std.specs.Prelude.{◌≡◌, [], ◌∷◌, ◌++◌, Ok, IfOk, None, replicate};
+ghost use Rattle.text_assembler.specs.Inside.Answers.{Gives};
+ghost use Rattle.text_assembler.specs.Phrases.{names_of, types_of};
+ghost use Rattle.text_assembler.specs.Instructions.{declare_all, is_unwritten, fits_signature, params_of_use, read_type_index, read_use};
+
+use crate::fault::ReadError;
+use crate::ids::Ids;
+use crate::phrases::{
+    Binding, fault, push_bindings, push_results, read_index, same_types, skip_close, skip_group,
+};
+use crate::scopes::Scopes;
+use crate::token::Token;
+use std::alloc::{AllocError, Global};
+use wasm_ast::{Bytes, FuncType, ValType};
+
+/// A use of a type: its index, and the parameters as locals.
+#[derive(Drop)]
+pub struct TypeUse {
+    pub type_index: u32,
+    pub params: Ids,
+}
+
+/// The same name, in memory of its own.
+pub fn copy_name(alloc: Global, name: &Option<Bytes>) -> Result<Option<Bytes>, AllocError>
+    ensures { IfOk result (λ copy. copy ≡ name.now) }
+{
+    match name {
+        Some(name) => Ok(Some(name.copy(alloc)?)),
+        None => Ok(None),
+    }
+}
+
+/// Declares the identifiers of these parameters or locals, in order.
+#[tactic(auto, unfolding(crate::specs::Instructions::declare_all))]
+pub fn declare_bindings(
+    alloc: Global,
+    ids: &mut Ids,
+    bindings: &[Binding],
+    left: usize,
+) -> Result<(), ReadError>
+    ensures { Gives (λ _. ids.new) result (declare_all ids.old (names_of bindings.now)) }
+{
+    let mut rest = bindings;
+    while let [first, tail @ ..] = rest {
+        ids.declare(copy_name(alloc, &first.name)?, left)?;
+        rest = tail;
+    }
+    Ok(())
+}
+
+// This many entries without identifiers.
+#[tactic(auto, unfolding(crate::specs::Names::with_id))]
+fn nameless(alloc: Global, count: usize) -> Result<Ids, ReadError>
+    ensures { Gives (λ x. x) result (Ok (replicate count None)) }
+{
+    let mut ids = Ids::new(alloc);
+    for _ in 0..count {
+        ids.declare(None, 0)?;
+    }
+    Ok(ids)
+}
+
+/// The types of these parameters or locals, in order.
+pub fn types_of(alloc: Global, bindings: &[Binding]) -> Result<Vec<ValType>, AllocError>
+    ensures { IfOk result (λ types. types.items ≡ types_of bindings.now) }
+{
+    bindings
+        .iter()
+        .map(|binding| binding.val_type)
+        .collect(alloc)
+}
+
+#[tactic(auto, unfolding(crate::specs::Instructions::fits_signature))]
+fn fits_signature(
+    alloc: Global,
+    signature: &FuncType,
+    params: &[Binding],
+    results: &[ValType],
+) -> Result<bool, AllocError>
+    ensures { IfOk result (λ fits. fits ≡ fits_signature signature.now params.now results.now) }
+{
+    let types = types_of(alloc, params)?;
+    Ok(
+        same_types(signature.params.as_slice(), types.as_slice())
+            && same_types(signature.results.as_slice(), results),
+    )
+}
+
+// The parameters of a use as locals.
+#[tactic(auto, unfolding(crate::specs::Instructions::params_of_use))]
+fn params_of_use(
+    alloc: Global,
+    signature: &FuncType,
+    params: &[Binding],
+    results: &[ValType],
+    left: usize,
+) -> Result<Ids, ReadError>
+    ensures { Gives (λ x. x) result (params_of_use signature.now params.now results.now) }
+{
+    if params.is_empty() && results.is_empty() {
+        return nameless(alloc, signature.params.len());
+    }
+    if !fits_signature(alloc, signature, params, results)? {
+        return Err(ReadError::Malformed { left });
+    }
+    let mut ids = Ids::new(alloc);
+    declare_bindings(alloc, &mut ids, params, left)?;
+    Ok(ids)
+}
+
+// `( type index )`, and what follows it.
+#[tactic(auto, unfolding(crate::specs::Instructions::read_type_index))]
+fn read_type_index<'a>(
+    scopes: &Scopes,
+    tokens: &'a [Token],
+) -> Result<(u32, &'a [Token]), ReadError>
+    ensures { Gives (λ x. (x.0, x.1.now)) result (read_type_index scopes.now tokens.now) }
+{
+    let rest = skip_group("type", tokens)?;
+    let (index, rest) = read_index(&scopes.types, rest)?;
+    let rest = skip_close(rest)?;
+    Ok((index, rest))
+}
+
+/// A use of a type, and what follows it.
+#[tactic(auto, unfolding(crate::specs::Instructions::read_use))]
+pub fn read_use<'a>(
+    alloc: Global,
+    scopes: &Scopes,
+    tokens: &'a [Token],
+) -> Result<(TypeUse, &'a [Token]), ReadError>
+    ensures { Gives (λ x. ((x.0.type_index, x.0.params), x.1.now)) result
+        (read_use scopes.now tokens.now) }
+{
+    let (type_index, rest) = read_type_index(scopes, tokens)?;
+    let mut params = Vec::new(alloc);
+    let rest = push_bindings(alloc, "param", &mut params, rest)?;
+    let mut results = Vec::new(alloc);
+    let rest = push_results(&mut results, rest)?;
+    let Some(signature) = scopes.signatures.as_slice().get(type_index as usize) else {
+        return Err(fault(tokens));
+    };
+    let params = params_of_use(
+        alloc,
+        signature,
+        params.as_slice(),
+        results.as_slice(),
+        tokens.len(),
+    )?;
+    Ok((TypeUse { type_index, params }, rest))
+}
