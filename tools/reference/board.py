@@ -2,6 +2,7 @@
 import hashlib
 import json
 import re
+import typing
 
 from reference import wasm
 from reference.execute import Machine
@@ -97,15 +98,16 @@ def request_of(line, in_replay):
         return None
     keys = {"put": ["hex"], "remove": ["digest"], "lease_create": ["id"], "lease_add": ["digest", "id"],
             "lease_delete": ["id"], "gc": [], "create": ["config", "id"], "start": ["id"], "pause": ["id"],
-            "resume": ["id"], "kill": ["id", "signal"], "delete": ["id"], "state": ["id"], "wait": ["id"]}
+            "resume": ["id"], "kill": ["id", "signal"], "delete": ["id"], "state": ["id"], "wait": ["id"],
+            "output": ["id", "stream"]}
     if in_replay:
         keys |= {"return": ["id"], "take": ["budget", "id"]}
     wanted = keys.get(value["op"])
     if wanted is None or set(value) != {"op", *wanted}:
         return None
-    if not all(isinstance(value[key], str) for key in wanted if key not in ("budget", "signal")):
+    if not all(isinstance(value[key], str) for key in wanted if key not in ("budget", "signal", "stream")):
         return None
-    if "signal" in wanted and not (type(value["signal"]) is int and value["signal"] >= 0):
+    if not all(type(value[key]) is int and value[key] >= 0 for key in wanted if key in ("signal", "stream")):
         return None
     if "hex" in wanted and not HEX.match(value["hex"]):
         return None
@@ -114,29 +116,57 @@ def request_of(line, in_replay):
     return value
 
 
-def module_named(text):
-    """The digest that a config names; None where it is no config."""
+class Process(typing.NamedTuple):
+    digest: str
+    args: list
+    env: list
+    cap: int
+
+
+def texts_of(value, least, most):
+    """A list of at least and at most these numbers of texts without U+0000; None for any other value."""
+    if not isinstance(value, list) or not least <= len(value) <= most:
+        return None
+    return value if all(isinstance(text, str) and "\0" not in text for text in value) else None
+
+
+def cap_of(config):
+    """The most pages that a config lets a memory have; None where its part for Linux is malformed."""
+    part = config
+    for key in ("linux", "resources", "memory"):
+        part = part.get(key, {})
+        if not isinstance(part, dict):
+            return None
+    limit = part.get("limit", -1)
+    if type(limit) is not int or limit < -1:
+        return None
+    return wasm.PAGE_CAP if limit == -1 else min(limit // wasm.PAGE, wasm.MOST_PAGES)
+
+
+def process_of(text):
+    """The process that a config asks for; None where it is no config."""
     try:
         value = parse(text)
     except NoJson:
         return None
-    if not isinstance(value, dict) or has_fraction(value) or "linux" in value:
+    if not isinstance(value, dict) or has_fraction(value):
         return None
-    version, process, notes = (value.get(key) for key in ("ociVersion", "process", "annotations"))
-    if not isinstance(version, str) or not version.startswith("1."):
+    version, process, notes, cap = *(value.get(key) for key in ("ociVersion", "process", "annotations")), cap_of(value)
+    if not isinstance(version, str) or not version.startswith("1.") or cap is None:
         return None
-    if not isinstance(process, dict) or "env" in process or not isinstance(notes, dict):
+    if not isinstance(process, dict) or not isinstance(notes, dict):
         return None
-    args, cwd, digest = process.get("args"), process.get("cwd"), notes.get("dev.shim.module")
-    if not isinstance(args, list) or not 1 <= len(args) <= 64 or not all(isinstance(arg, str) for arg in args):
+    args, env, cwd = texts_of(process.get("args"), 1, 64), texts_of(process.get("env", []), 0, 64), process.get("cwd")
+    if args is None or env is None or not all("=" in entry[1:] for entry in env):
         return None
-    if not isinstance(cwd, str) or not cwd.startswith("/") or "\0" in "".join(args) + cwd:
+    if not isinstance(cwd, str) or not cwd.startswith("/") or "\0" in cwd:
         return None
-    if sum(len(arg.encode()) + 1 for arg in args) > 65_536:
+    if sum(len(text.encode()) + 1 for text in args + env) > 65_536:
         return None
-    if not all(isinstance(note, str) for note in notes.values()):
+    digest = notes.get("dev.shim.module")
+    if not all(isinstance(note, str) for note in notes.values()) or digest is None or not DIGEST.match(digest):
         return None
-    return digest if digest is not None and DIGEST.match(digest) else None
+    return Process(digest, args, env, cap)
 
 
 class Refused(Exception):
@@ -146,12 +176,13 @@ class Refused(Exception):
 
 
 class Task:
-    def __init__(self, digest, data):
-        self.digest, self.data, self.turns, self.status, self.out, self.end = digest, data, 0, "created", None, None
+    def __init__(self, process, data):
+        self.process, self.data, self.turns, self.status, self.out, self.end = process, data, 0, "created", None, None
         self.signal = self.machine = None
 
     def start(self):
-        self.status, self.machine = "running", Machine(wasm.Decoder(self.data).module())
+        self.status, self.machine = "running", Machine(
+            wasm.Decoder(self.data).module(), self.process.cap, self.process.args, self.process.env)
         self.run(0)
 
     def run(self, budget):
@@ -167,6 +198,10 @@ class Task:
     def stop_by(self, signal):
         self.status = "stopped"
         self.end = {"cause": "kill", "exit": 128 + signal, "signal": signal}
+
+    def output(self, stream):
+        """What it has written."""
+        return b"" if self.machine is None else bytes(self.machine.streams[stream])
 
     def state(self, name):
         return {"id": name, "n": self.turns, "ok": True, "status": self.status, **(self.end or {})}
@@ -201,7 +236,7 @@ class Board:
 
     def is_held(self, digest):
         return any(digest in members for members in self.leases.values()) or any(
-            task.digest == digest for task in self.tasks.values())
+            task.process.digest == digest for task in self.tasks.values())
 
     def remove_(self, digest):
         if not DIGEST.match(digest):
@@ -258,14 +293,15 @@ class Board:
             raise Refused(3)
         if len(self.tasks) >= MOST_TASKS:
             raise Refused(14)
-        digest = module_named(config)
-        if digest is None:
+        process = process_of(config)
+        if process is None:
             raise Refused(10)
-        if digest not in self.contents:
+        if process.digest not in self.contents:
             raise Refused(5)
-        for number in wasm.refusals_of(self.contents[digest]):
+        data = self.contents[process.digest]
+        for number in wasm.refusals_of(data, process.cap):
             raise Refused(number)
-        self.tasks[id] = Task(digest, self.contents[digest])
+        self.tasks[id] = Task(process, data)
         return {"id": id, "ok": True, "status": "created"}
 
     def task(self, name):
@@ -325,6 +361,15 @@ class Board:
         if task.status == "running":
             task.run(10**15)
         return task.state(id)
+
+    def output_(self, id, stream):
+        task = self.task(id)
+        if stream not in (1, 2):
+            raise Refused(13)
+        if task.out is not None:
+            raise Refused(12)
+        written = task.output(stream)
+        return {"hex": written.hex(), "id": id, "ok": True, "size": len(written)}
 
     def take_(self, budget, id):
         task = self.tasks.get(id)

@@ -329,16 +329,42 @@ def bent_text(text):
     return text
 
 
+ENTRIES = ["A=1", "A=1", "B=", "ä=x", "==x", "=x", "A", "", "A=\0", "ä=", 1, None]
+MEMORY_LIMITS = [-1, 0, 65_535, 65_536, 131_071, 1_048_576, 2_000_000, 16_777_216, 2**64 - 1, 2**64, -2, 1.0, "1", None, True]
+
+
+def entries():
+    """An environment, at times one that a config may not have."""
+    if random.random() < 0.1:
+        return random.choice([None, {}, "A=1", 1])
+    if random.random() < 0.1:
+        return ["A=" + "x" * random.choice([65_530, 65_531, 65_532, 65_533])]
+    good = random.random() < 0.6
+    return [random.choice(ENTRIES[:5] if good else ENTRIES) for _ in range(random.choice([0, 1, 1, 2, 64, 65]))]
+
+
+def linux():
+    """A part for Linux, at times cut short or malformed."""
+    part = {"limit": random.choice(MEMORY_LIMITS)} if random.random() < 0.9 else {}
+    for key in ("memory", "resources", "linux"):
+        part = {key: random.choice([None, [], {}]) if random.random() < 0.05 else part}
+    return part
+
+
 def config(digest):
     many = random.random() < 0.3
     digests = [digest] * 5 + ["sha256:" + "0" * 64, digest.upper(), digest[:-1]]
+    process = {
+        "args": [random.choice(["a", "", "ä"]) for _ in range(random.choice([1, 2, 0, 64, 65]))] if many else ["a"],
+        "cwd": random.choice(["/", "/x", "", " /"]) if random.random() < 0.15 else "/",
+    }
+    if random.random() < 0.4:
+        process["env"] = entries()
     text = json.dumps({
         "ociVersion": random.choice(["1.0.2", "1.", "1", "2.0", ""]) if random.random() < 0.2 else "1.0.2",
-        "process": {
-            "args": [random.choice(["a", "", "ä"]) for _ in range(random.choice([1, 2, 0, 64, 65]))] if many else ["a"],
-            "cwd": random.choice(["/", "/x", "", " /"]) if random.random() < 0.15 else "/",
-        },
+        "process": process,
         "annotations": {"dev.shim.module": random.choice(digests)},
+        **(linux() if random.random() < 0.4 else {}),
     })
     return bent_text(text) if random.random() < 0.5 else text
 
@@ -362,11 +388,12 @@ def request(data, digest):
         "gc": {},
         "create": {"id": name, "config": config(digest)},
         "take": {"id": name, "budget": random.choice(BUDGETS)},
+        "output": {"id": name, "stream": random.choice([1, 1, 2, 2, 0, 3, -1, 2**64, 1.0, "1", None])},
         "kill": {"id": name, "signal": random.choice([9, 9, 15, 15, 10, 0, -1, 2**64, 9.0, "9", None])},
     }
     op = random.choice(["put", "put", *["create"] * 4, "start", "start", "state", "wait", "take", "take", "return", "pause",
                         "resume", "kill", "delete", "remove", "lease_create", "lease_add", "lease_add", "lease_delete",
-                        "gc"])
+                        "gc", "output", "output"])
     return {"op": op, **kinds.get(op, {"id": name})}
 
 

@@ -1,10 +1,11 @@
 """Modules: what bytes spell, whether that is valid, and whether a task can be opened on it."""
 from dataclasses import dataclass, field
 
+from reference import system_calls
+
 I32, I64 = 0x7F, 0x7E
 MOST_BYTES, MOST_FUNCTIONS, MOST_LOCALS, MOST_VALUES = 262_144, 4096, 1024, 65_536
 MOST_NESTING, MOST_ENTRIES, MOST_PAGES, PAGE_CAP, PAGE = 256, 4096, 256, 16, 65_536
-SYSTEM_CALL = (b"wasi_snapshot_preview1", b"proc_exit")
 
 # Instructions whose types never change: the opcode, and what they take and give.
 FIXED = {0x45: (I32,), 0x50: (I64,), 0xA7: (I64,), 0xAC: (I32,), 0xAD: (I32,)}
@@ -498,8 +499,8 @@ def entry_of(module):
     return found[0] if found else None
 
 
-def refusals_of(data):
-    """The numbers with which a create may be refused over these bytes; none where it is accepted."""
+def refusals_of(data, cap=PAGE_CAP):
+    """The numbers with which a create may be refused over these bytes and this cap on pages; none where it is accepted."""
     try:
         decoder = Decoder(data)
         module = decoder.module()
@@ -509,10 +510,10 @@ def refusals_of(data):
         return {9}
     if not is_valid(module):
         return {8}
-    if entry_of(module) is None:
+    if entry_of(module) is None or system_calls.lacks_memory(module):
         return {21}
-    if any(names != SYSTEM_CALL or module.types[index] != ((I32,), ()) for names, index in module.imports):
+    if not all(system_calls.is_known(names, module.types[index]) for names, index in module.imports):
         return {22}
-    if module.memories and module.memories[0][0] > PAGE_CAP:
+    if module.memories and module.memories[0][0] > cap:
         return {9}
     return set() if is_inside(module) else {23}
