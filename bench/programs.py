@@ -1,0 +1,91 @@
+#!/usr/bin/env python3
+"""Measures how fast tasks run, beside `wasm-interp` (Debian's wabt) in the same run.
+
+    bench/programs.py [PROGRAM] [--rounds N]
+
+Each C source in bench/programs is compiled by clang and wasm-ld (version 14) to a module and by the same clang to a
+native program, whose checksum both engines have to give. A task is put, created, started and waited for by `serve`;
+its processor time is that of the process less that of one which creates the same task and does not start it.
+`wasm-interp` runs the module with its import left open, so that it prints the checksum and traps. The two take turns,
+N rounds (3); the least time of each counts. Prints seconds, the ratio of the two, and turns a second.
+"""
+import hashlib
+import json
+import math
+import os
+import re
+import resource
+import subprocess
+import sys
+import tempfile
+
+TOP = os.path.dirname(os.path.dirname(os.path.abspath(__file__)))
+SOURCES = os.path.join(TOP, "bench/programs")
+WASM = ["clang-14", "--target=wasm32", "-mcpu=mvp", "-O2", "-nostdlib", "-ffreestanding", "-Wl,--no-entry",
+        "-Wl,-z,stack-size=16384", "-Wl,--strip-all"]
+
+
+def compiled(folder, name):
+    source = os.path.join(SOURCES, name + ".c")
+    module, native = os.path.join(folder, name + ".wasm"), os.path.join(folder, name)
+    subprocess.run(WASM + ["-o", module, source], check=True)
+    subprocess.run(["clang-14", "-O2", "-w", "-o", native, source], check=True)
+    return module, int(subprocess.check_output([native]))
+
+
+def timed(command, given=b""):
+    before = resource.getrusage(resource.RUSAGE_CHILDREN)
+    done = subprocess.run(command, input=given, capture_output=True)
+    after = resource.getrusage(resource.RUSAGE_CHILDREN)
+    return after.ru_utime + after.ru_stime - before.ru_utime - before.ru_stime, done.stdout
+
+
+def script(module, ops):
+    data = open(module, "rb").read()
+    config = {"ociVersion": "1.0.2", "process": {"args": ["bench"], "cwd": "/"},
+              "annotations": {"dev.shim.module": "sha256:" + hashlib.sha256(data).hexdigest()}}
+    lines = [{"op": "put", "hex": data.hex()}, {"op": "create", "id": "t", "config": json.dumps(config)}]
+    lines += [{"op": op, "id": "t"} for op in ops]
+    return "".join(json.dumps(line) + "\n" for line in lines).encode()
+
+
+def by_shim(program, module, checksum):
+    idle, _ = timed([program, "serve"], script(module, []))
+    busy, out = timed([program, "serve"], script(module, ["start", "wait", "state"]))
+    state = json.loads(out.splitlines()[-1])
+    assert state.get("exit") == checksum, state
+    return busy - idle, state["n"]
+
+
+def by_wabt(module, checksum):
+    seconds, out = timed(["wasm-interp", "--dummy-import-func", "--run-all-exports", module])
+    given = re.search(rb"proc_exit\(i32:(\d+)\)", out)
+    assert given and int(given.group(1)) == checksum, out
+    return seconds
+
+
+def main():
+    words = [word for word in sys.argv[1:] if not word.startswith("--")]
+    rounds = 3
+    if "--rounds" in sys.argv:
+        rounds = int(sys.argv[sys.argv.index("--rounds") + 1])
+        words.remove(str(rounds))
+    program = words[0] if words else os.path.join(TOP, "crates/wasm_shim/out/wasm_shim")
+    names = sorted(name[:-2] for name in os.listdir(SOURCES) if name.endswith(".c"))
+    ratios = []
+    print("%-10s %12s %8s %12s %8s %14s" % ("program", "turns", "shim", "wasm-interp", "ratio", "turns a second"))
+    with tempfile.TemporaryDirectory() as folder:
+        for name in names:
+            module, checksum = compiled(folder, name)
+            shim, wabt = [], []
+            for _ in range(rounds):
+                seconds, turns = by_shim(program, module, checksum)
+                shim.append(seconds)
+                wabt.append(by_wabt(module, checksum))
+            ratios.append(min(wabt) / min(shim))
+            print("%-10s %12d %7.3fs %11.3fs %8.2f %11.0f M" % (
+                name, turns, min(shim), min(wabt), ratios[-1], turns / min(shim) / 1e6), flush=True)
+    print("geometric mean %.2f" % math.exp(sum(map(math.log, ratios)) / len(ratios)))
+
+
+main()
