@@ -97,12 +97,12 @@ preamble_sound bytes = sound_need (bytes_eq (take 8 bytes) preamble) (λ e.
     sound_ok (drop 8 bytes) (sym (take-append-drop 8 bytes) ∙ ap (λ (front : List ℕ). front ++ drop 8 bytes) k))
 
 -- functions with these type indices
-abbrev placeholder : ℕ → Func
-placeholder index = record { type_index = index; locals = []; body = stop }
+abbrev without_body : ℕ → Func
+without_body index = record { type_index = index; locals = []; body = stop }
 
-placeholder_indices : (indices : List ℕ) → indices_of (map placeholder indices) ≡ indices
-placeholder_indices [] = refl
-placeholder_indices (i ∷ is) = ap (λ (js : List ℕ). i ∷ js) (placeholder_indices is)
+without_body_indices : (indices : List ℕ) → indices_of (map without_body indices) ≡ indices
+without_body_indices [] = refl
+without_body_indices (i ∷ is) = ap (λ (js : List ℕ). i ∷ js) (without_body_indices is)
 
 -- a module that has these types, imports and type indices
 abbrev HasHead : Head → Module → Type 0
@@ -144,10 +144,10 @@ nothing_between = record { exports = []; start = None; elements = [] }
 
 -- some module that has these values
 abbrev module_with : Head → Stored → Between → Module
-module_with h s b = module_of h s b (map placeholder h.indices) []
+module_with h s b = module_of h s b (map without_body h.indices) []
 
 with_head : (h : Head) (s : Stored) (b : Between) → HasHead h (module_with h s b)
-with_head h s b = (refl, refl, placeholder_indices h.indices)
+with_head h s b = (refl, refl, without_body_indices h.indices)
 
 head_sound : (bytes sections : List ℕ) → bytes ≡ preamble ++ sections → Sound (HeadRead bytes) (limits.Over bytes) (read_head true sections)
 unfolding read_head
@@ -201,7 +201,7 @@ bounded (j ∷ is) (suc k) i e = omega (arith, bounded is k i e)
 codes_over : (bytes : List ℕ) (h : Head) (s : Stored) (b : Between × List ℕ) → MiddleRead bytes h s b → InSection code_section (CodesOver h.types h.indices) b.1 → limits.Over bytes
 codes_over bytes h s b r q =
     let m : Module = module_with h s b.0 in
-    let same : indices_of m.funcs ≡ h.indices = placeholder_indices h.indices in
+    let same : indices_of m.funcs ≡ h.indices = without_body_indices h.indices in
     let count : length h.indices ≡ length m.funcs = sym (ap length same) ∙ length_indices m.funcs in
     let w = q.2.3 in
     let some = w.2 in
