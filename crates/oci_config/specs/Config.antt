@@ -112,6 +112,15 @@ abbrev pub are_arguments : List (List ℕ) → Bool
 are_arguments texts =
     nat_le 1 (length texts) && nat_le (length texts) max_args && list_all is_plain texts
 
+-- the arguments of a process without an environment
+abbrev pub are_arguments_alone : List (List ℕ) → Bool
+are_arguments_alone texts = are_arguments texts && nat_le (bytes_of texts) max_text_bytes
+
+-- what a process is configured with that has these arguments alone: no config names its module, so its digest is
+-- empty; and there is no limit on its memory
+abbrev pub process_with : (args : List (List ℕ)) → ProcessConfig
+process_with args = record { «module» = []; args = args; env = []; cap = default_pages }
+
 -- the arguments
 abbrev pub args_at : (process : Data) → Option (List (List ℕ))
 args_at process = do

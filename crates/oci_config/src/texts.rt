@@ -4,7 +4,7 @@ ghost use Rattle.std.specs.Prelude.{◌≡◌, ◌+◌, ◌<◌, option_map, IfO
 ghost use Rattle.std.specs.List.{list_any, list_all};
 ghost use Rattle.serde_json.specs.View.{view, items_view};
 ghost use Rattle.oci_config.specs.Limits.{max_text_bytes};
-ghost use Rattle.oci_config.specs.Config.{is_plain, is_equals_sign, is_entry, texts_in, bytes_of, are_arguments, args_at, are_entries, entries_in, env_at, texts_at};
+ghost use Rattle.oci_config.specs.Config.{is_plain, is_equals_sign, is_entry, texts_in, bytes_of, are_arguments, are_arguments_alone, args_at, are_entries, entries_in, env_at, texts_at};
 
 use crate::properties::is_plain;
 use serde_json::Value;
@@ -146,6 +146,13 @@ fn fit(args: &[Text], env: &[Text]) -> bool
         Some(left) => bytes_left(env, left).is_some(),
         None => false,
     }
+}
+
+/// Whether a process without an environment may have these arguments.
+pub fn are_arguments_alone(texts: &[Text]) -> bool
+    ensures { result ≡ are_arguments_alone texts.now }
+{
+    are_arguments(texts) && bytes_left(texts, MAX_TEXT_BYTES).is_some()
 }
 
 /// The arguments and the environment of a process, if they are as the profile demands. An error if
