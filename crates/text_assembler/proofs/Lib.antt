@@ -2,7 +2,14 @@ pub mod PartLoops
 pub mod Comments
 pub mod WordLists
 pub mod Utf8
-pub mod Labels
+pub mod Immediates
+pub mod Spaces
+pub mod Scanning
+pub mod Decimals
+pub mod ReadBack
+pub mod LineScans
+pub mod LineReads
+pub mod Openings
 pub mod OpenBlocks
 pub mod FieldLoops
 pub mod Nesting

@@ -7,7 +7,7 @@ use Rattle.text_assembler.specs.declared.fault.ReadError.{ReadError}
 use Rattle.text_assembler.specs.declared.fault.ReadError.TheVariants as errors
 use Rattle.text_assembler.specs.Reading.{Read, ◌>>=◌, read_some, read_parts}
 use Rattle.text_assembler.specs.Tokens.{is_empty}
-use Rattle.text_assembler.specs.Inside.Answers.{Fails, with_front}
+use Rattle.text_assembler.specs.Inside.Answers.{Fails, IsMalformed, with_front}
 
 -- before the first
 pub begins : {I X : Type 0} (total : Read I (List X)) → with_front [] total ≡ total
@@ -111,3 +111,9 @@ pub fails_all : {I X Y : Type 0} (e : ReadError) (read : Read I X) (f : X × Lis
 fails_all errors.Memory read f h = tt
 fails_all (errors.Malformed left) read f h = rw h refl
 fails_all errors.TooDeep read f h = rw h refl
+
+-- a fault at another place
+pub moved : {Y : Type 0} (e : ReadError) (read : Result Y Fault) → IsMalformed e → read ≡ Err Malformed → Fails e read
+moved errors.Memory read m h = absurd m
+moved (errors.Malformed left) read m h = h
+moved errors.TooDeep read m h = absurd m

@@ -1,3 +1,4 @@
 -- What private clauses alone name: no public clause rests on these.
 pub mod Answers
 pub mod Parts
+pub mod Spaces

@@ -1,6 +1,6 @@
 -- An instruction as one line of text (6.5), and of one that has bodies its opening line: numbers for indices, decimal
 -- constants with their sign, an offset that is not 0, and an alignment that is not natural; one space between words.
-use Rattle.std.specs.Prelude.{ℕ, ◌-◌, ◌^◌, ◌<◌, List, [], ◌++◌, codes, decimal, nat_lt, ◌==◌, if◌then◌else◌}
+use Rattle.std.specs.Prelude.{ℕ, ◌-◌, ◌^◌, ◌<◌, List, [], ◌++◌, length, codes, decimal, nat_lt, ◌==◌, if◌then◌else◌, Result}
 use Rattle.std.specs.List.{flat_map}
 use Rattle.wasm_ast.specs.declared.values.Value.TheVariants.{I32, I64}
 use Rattle.wasm_ast.specs.declared.values.ValType.TheVariants as type
@@ -13,7 +13,14 @@ use Rattle.wasm_ast.specs.Syntax.{Op, simple, block, loop, if'}
 use Rattle.wasm_ast.specs.Access.{load_bytes, store_bytes}
 use Rattle.text_assembler.specs.declared.keyword.Keyword.{Keyword}
 use Rattle.text_assembler.specs.declared.keyword.Keyword.TheVariants as keyword
+use Rattle.text_assembler.specs.declared.fault.Fault.{Fault}
+use Rattle.text_assembler.specs.declared.scopes.Scopes.{Scopes}
+use Rattle.text_assembler.specs.Reading.{◌>>=◌}
+use Rattle.text_assembler.specs.Tokens.{tokens_of}
 use Rattle.text_assembler.specs.Words.{type_word, keyword_word}
+use Rattle.text_assembler.specs.Names.{Ids}
+use Rattle.text_assembler.specs.Phrases.{Tokens}
+use Rattle.text_assembler.specs.Instructions.{Bodies, read_op}
 
 -- the keyword of an instruction without a body
 abbrev pub keyword_for : Simple → Keyword
@@ -88,3 +95,14 @@ HasAlignment other = Unit {0}
 abbrev pub IsAligned : Op → Type 0
 IsAligned (simple s) = HasAlignment s
 IsAligned other = Unit {0}
+
+-- ---- a line, read by the grammar of instructions
+
+-- the type that an instruction names is written
+abbrev pub IsWritten : Scopes → Simple → Type 0
+IsWritten s (instr.CallIndirect index) = index < length s.signatures
+IsWritten s other = Unit {0}
+
+-- what is read of a line as an instruction, in these scopes and with these labels, where bodies are read so
+abbrev pub read_instr_line : Scopes → (locals : Ids) → Result Bodies Fault → (labels : Ids) → List ℕ → Result (Op × Tokens) Fault
+read_instr_line s locals inner labels line = tokens_of line >>= λ ts. read_op s locals inner labels ts

@@ -9,6 +9,7 @@ ghost use Rattle.text_assembler.specs.Instructions.{read_block_type, skip_label,
 use crate::fault::ReadError;
 use crate::ids::{Ids, is_id, is_named};
 use crate::keyword::keyword_of;
+use crate::labels::Labels;
 use crate::phrases::{
     after_id, begins_group, begins_word, fault, id_of, read_val_type, skip_close, skip_group,
     skip_word, take_word,
@@ -93,7 +94,7 @@ fn read_simple<'a>(
     alloc: Global,
     scopes: &Scopes,
     locals: &Ids,
-    labels: &Ids,
+    labels: &Labels,
     word: &[u8],
     tokens: &'a [Token],
 ) -> Result<(Instr, &'a [Token]), ReadError>
@@ -115,7 +116,7 @@ fn read_labelled<'a>(
     alloc: Global,
     scopes: &Scopes,
     locals: &Ids,
-    labels: &mut Ids,
+    labels: &mut Labels,
     more: usize,
     label: &Option<Bytes>,
     tokens: &'a [Token],
@@ -138,7 +139,7 @@ fn read_else<'a>(
     alloc: Global,
     scopes: &Scopes,
     locals: &Ids,
-    labels: &mut Ids,
+    labels: &mut Labels,
     more: usize,
     label: &Option<Bytes>,
     tokens: &'a [Token],
@@ -163,7 +164,7 @@ fn read_if<'a>(
     alloc: Global,
     scopes: &Scopes,
     locals: &Ids,
-    labels: &mut Ids,
+    labels: &mut Labels,
     more: usize,
     tokens: &'a [Token],
 ) -> Result<(Instr, &'a [Token]), ReadError>
@@ -187,7 +188,7 @@ fn read_enclosed<'a>(
     alloc: Global,
     scopes: &Scopes,
     locals: &Ids,
-    labels: &mut Ids,
+    labels: &mut Labels,
     more: usize,
     tokens: &'a [Token],
 ) -> Result<((BlockType, Body), &'a [Token]), ReadError>
@@ -210,7 +211,7 @@ fn read_nested<'a>(
     alloc: Global,
     scopes: &Scopes,
     locals: &Ids,
-    labels: &mut Ids,
+    labels: &mut Labels,
     more: usize,
     word: &[u8],
     tokens: &'a [Token],
@@ -238,7 +239,7 @@ fn read_instr<'a>(
     alloc: Global,
     scopes: &Scopes,
     locals: &Ids,
-    labels: &mut Ids,
+    labels: &mut Labels,
     more: usize,
     tokens: &'a [Token],
 ) -> Result<(Instr, &'a [Token]), ReadError>
@@ -264,7 +265,7 @@ fn push_instr<'a>(
     alloc: Global,
     scopes: &Scopes,
     locals: &Ids,
-    labels: &mut Ids,
+    labels: &mut Labels,
     more: usize,
     out: &mut Vec<Instr>,
     tokens: &'a [Token],
@@ -287,7 +288,7 @@ pub fn push_body<'a>(
     alloc: Global,
     scopes: &Scopes,
     locals: &Ids,
-    labels: &mut Ids,
+    labels: &mut Labels,
     more: usize,
     out: &mut Vec<Instr>,
     tokens: &'a [Token],

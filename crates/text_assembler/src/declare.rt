@@ -19,7 +19,7 @@ fn declare_id(alloc: Global, ids: &mut Ids, tokens: &[Token]) -> Result<(), Read
     ensures { Gives (λ _. ids.new) result (with_id ids.old (id_of tokens.now)) }
 {
     let id = id_of(alloc, tokens)?;
-    ids.declare(id, tokens.len())
+    ids.declare(alloc, id, tokens.len())
 }
 
 // Declares what the field with this keyword does.

@@ -6,7 +6,7 @@ ghost use Rattle.text_assembler.specs.declared.fault.ReadError.TheVariants.{Memo
 use std::alloc::{AllocError, AllocFailed};
 
 /// What is wrong with a text: the first fault from the front.
-#[derive(Clone, Copy, PartialEq, Eq, Debug)]
+#[derive(Clone, Copy)]
 pub enum Fault {
     /// No module is denoted.
     Malformed,
@@ -15,7 +15,7 @@ pub enum Fault {
 }
 
 /// Why reading ended early.
-#[derive(Clone, Copy, PartialEq, Eq, Debug)]
+#[derive(Clone, Copy)]
 pub enum ReadError {
     /// Memory ran out.
     Memory,

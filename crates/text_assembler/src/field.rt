@@ -11,6 +11,7 @@ ghost use Rattle.text_assembler.specs.Modules.{read_type, read_imported, read_im
 use crate::blocks::push_body;
 use crate::fault::ReadError;
 use crate::ids::Ids;
+use crate::labels::Labels;
 use crate::phrases::{
     after_id, begins_group, fault, is_close, push_bindings, push_indices, push_results, read_index,
     read_limits, read_name, read_val_type, skip_close, skip_group, skip_open, skip_word, take_text,
@@ -108,7 +109,7 @@ fn read_func<'a>(
     let rest = push_bindings(alloc, "local", &mut locals, from)?;
     let mut ids = type_use.params;
     declare_bindings(alloc, &mut ids, locals.as_slice(), from.len())?;
-    let mut labels = Ids::new(alloc);
+    let mut labels = Labels::new(alloc);
     let mut body = Vec::new(alloc);
     let rest = push_body(alloc, scopes, &ids, &mut labels, nesting, &mut body, rest)?;
     let locals = Sequence::new(types_of(alloc, locals.as_slice())?);
@@ -164,7 +165,7 @@ fn read_expression<'a>(
         (read_expression nesting scopes.now tokens.now) }
 {
     let locals = Ids::new(alloc);
-    let mut labels = Ids::new(alloc);
+    let mut labels = Labels::new(alloc);
     let mut body = Vec::new(alloc);
     let rest = push_body(
         alloc,

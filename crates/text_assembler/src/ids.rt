@@ -1,12 +1,14 @@
 //! Identifiers and index spaces (6.3.5, 6.6.1).
 
-ghost use Rattle.std.specs.Prelude.{◌≡◌, [], ◌∷◌, drop, Ok};
+ghost use Rattle.std.specs.Prelude.{◌≡◌, [], ◌+◌, ◌^◌, nat_lt, None, Some, Ok, replicate};
 ghost use Rattle.text_assembler.specs.Inside.Answers.{Gives, Finds};
+ghost use Rattle.text_assembler.specs.Reading.{need};
 ghost use Rattle.text_assembler.specs.Instructions.{are_nameless};
-ghost use Rattle.text_assembler.specs.Names.{is_id, is_index, is_named, is_declared, with_id, position, index_of};
+ghost use Rattle.text_assembler.specs.Names.{is_id, is_index, is_named, with_id, index_of};
 
 use crate::fault::ReadError;
 use crate::numbers::small_number;
+use crate::places::Places;
 use std::alloc::Global;
 use std::marker::Model;
 use wasm_ast::Bytes;
@@ -43,106 +45,88 @@ pub fn is_named(name: &[u8], id: &Option<Bytes>) -> bool
     }
 }
 
-/// The entries of an index space in order, each with its identifier if it has one.
+/// What identifiers and numbers name entries of (6.6.1).
+pub trait Space {
+    ghost use Rattle.text_assembler.specs.Names.{Ids};
+
+    /// The entries in order, each with its identifier if it has one.
+    ghost entries: { Self → Ids };
+
+    /// The index that a word is in this space.
+    fn index_of(&self, word: &[u8]) -> Option<u32>
+        ensures { Finds (λ n. n) result (index_of (entries self.now) word.now) };
+}
+
+/// The entries of an index space in order, each with its identifier if it has one. No identifier is
+/// that of two entries. Names are found by a map.
 #[derive(Drop)]
 pub struct Ids {
+    // That many entries without identifiers come before the others.
+    nameless: usize,
     ids: Vec<Option<Bytes>>,
+    // Where in `ids` each name is.
+    places: Places,
 }
 
 impl Model for Ids {
-    ghost use Rattle.std.specs.Prelude.{List, Option, ℕ};
+    ghost use Rattle.std.specs.Prelude.{List, Option, ℕ, None, ◌++◌, replicate};
+    ghost use Rattle.text_assembler.specs.Inside.Spaces.{IsIndex};
 
     ghost Value = { List (Option (List ℕ)) };
 
-    ghost view = { λ s. s.ids.items };
-}
+    ghost view = { λ s. replicate s.nameless None ++ s.ids.items };
 
-// Whether one of these entries has this name.
-#[tactic(auto, unfolding(crate::specs::Names::is_declared))]
-fn is_declared(name: &[u8], ids: &[Option<Bytes>]) -> bool
-    ensures { result ≡ is_declared name.now ids.now }
-{
-    let mut rest = ids;
-    while let [first, tail @ ..] = rest {
-        if is_named(name, first) {
-            return true;
-        }
-        rest = tail;
-    }
-    false
-}
-
-// The place of the first entry with this name.
-#[tactic(auto, unfolding(crate::specs::Names::position))]
-fn position(name: &[u8], ids: &[Option<Bytes>]) -> Option<usize>
-    ensures { Finds (λ n. n) result (position 0 name.now ids.now) }
-{
-    let mut before = 0usize;
-    let mut rest = ids;
-    while let [first, tail @ ..] = rest {
-        if is_named(name, first) {
-            return Some(before);
-        }
-        before += 1;
-        rest = tail;
-    }
-    None
+    ghost invariant = { λ s. IsIndex s.places s.ids.items };
 }
 
 impl Ids {
+    /// That number of entries without identifiers. No memory is taken.
+    pub fn nameless(alloc: Global, count: usize) -> Ids
+        ensures { result ≡ replicate count None }
+    {
+        Ids {
+            nameless: count,
+            ids: Vec::new(alloc),
+            places: Places::new(alloc),
+        }
+    }
+
     /// An empty space. No memory is taken.
     pub fn new(alloc: Global) -> Ids
         ensures { result ≡ [] }
     {
-        Ids {
-            ids: Vec::new(alloc),
+        Ids::nameless(alloc, 0)
+    }
+
+    // One more entry at the end, with a name, unless it is declared.
+    fn declare_name(&mut self, alloc: Global, name: Bytes, left: usize) -> Result<(), ReadError>
+        ensures { Gives (λ _. self.new) result (with_id self.old (Some name)) }
+    {
+        if self.places.get(name.as_slice()).is_some() {
+            return Err(ReadError::Malformed { left });
         }
+        self.ids.reserve(1)?;
+        self.places.insert(alloc, name.as_slice(), self.ids.len())?;
+        self.ids.push_reserved(Some(name));
+        Ok(())
     }
 
     /// One more entry at the end, unless its name is declared.
     #[tactic(auto, unfolding(crate::specs::Names::with_id))]
-    pub fn declare(&mut self, id: Option<Bytes>, left: usize) -> Result<(), ReadError>
+    pub fn declare(
+        &mut self,
+        alloc: Global,
+        id: Option<Bytes>,
+        left: usize,
+    ) -> Result<(), ReadError>
         ensures { Gives (λ _. self.new) result (with_id self.old id) }
     {
-        if let Some(name) = &id {
-            if is_declared(name.as_slice(), self.ids.as_slice()) {
-                return Err(ReadError::Malformed { left });
+        match id {
+            Some(name) => self.declare_name(alloc, name, left),
+            None => {
+                self.ids.push(None)?;
+                Ok(())
             }
-        }
-        self.ids.push(id)?;
-        Ok(())
-    }
-
-    /// One more entry at the front: the label of a block that is entered.
-    pub fn enter(&mut self, id: Option<Bytes>) -> Result<(), ReadError>
-        ensures { Gives (λ _. self.new) result (Ok (id ∷ self.old)) }
-    {
-        self.ids.insert(0, id)?;
-        Ok(())
-    }
-
-    /// Takes the entry at the front away, if there is one.
-    pub fn leave(&mut self)
-        ensures { self.new ≡ drop 1 self.old }
-    {
-        if !self.ids.is_empty() {
-            self.ids.remove(0);
-        }
-    }
-
-    /// The index that a word is in this space.
-    #[tactic(auto, unfolding(crate::specs::Names::index_of))]
-    pub fn index_of(&self, word: &[u8]) -> Option<u32>
-        ensures { Finds (λ n. n) result (index_of self.now word.now) }
-    {
-        if !is_id(word) {
-            return small_number(word);
-        }
-        let place = position(word, self.ids.as_slice())?;
-        if place < 1 << 32 {
-            Some(place as u32)
-        } else {
-            None
         }
     }
 
@@ -159,5 +143,33 @@ impl Ids {
             rest = tail;
         }
         true
+    }
+}
+
+impl Space for Ids {
+    ghost entries = { λ ids. ids };
+
+    #[tactic(auto, unfolding(crate::specs::Names::index_of))]
+    fn index_of(&self, word: &[u8]) -> Option<u32> {
+        if !is_id(word) {
+            return small_number(word);
+        }
+        match self.places.get(word) {
+            Some(place) => small_index(self.nameless, place),
+            None => None,
+        }
+    }
+}
+
+/// The sum of both, if it has 32 bits.
+pub fn small_index(before: usize, place: usize) -> Option<u32>
+    ensures { Finds (λ n. n) result
+        (need (nat_lt (before + place) (2 ^ 32)) (Ok (before + place))) }
+{
+    let index = before.checked_add(place)?;
+    if index < 1 << 32 {
+        Some(index as u32)
+    } else {
+        None
     }
 }

@@ -9,7 +9,7 @@ use wasm_ast::{
 };
 
 /// The first word of an instruction without a body: what it is, but for its numbers.
-#[derive(Clone, Copy, PartialEq, Eq, Debug)]
+#[derive(Clone, Copy)]
 pub enum Keyword {
     Unreachable,
     Nop,

@@ -1,6 +1,6 @@
 //! What is proved of the definitions themselves.
 
-ghost use Rattle.std.specs.Prelude.{◌≡◌, ℕ, List, [], ◌∷◌, ◌++◌, Ok, Err, Some, None, codes};
+ghost use Rattle.std.specs.Prelude.{◌≡◌, ℕ, List, [], ◌∷◌, ◌++◌, Result, Ok, Err, Some, None, codes};
 ghost use Rattle.wasm_ast.specs.declared.module.Module.{Module};
 ghost use Rattle.wasm_ast.specs.Limits.{Within};
 ghost use Rattle.wasm_ast.specs.declared.values.ValType.TheVariants as type;
@@ -9,6 +9,15 @@ ghost use Rattle.wasm_ast.specs.declared.operators.LoadOp.TheVariants as load;
 ghost use Rattle.text_assembler.specs.declared.fault.Fault.TheVariants.{Malformed, TooDeep};
 ghost use Rattle.text_assembler.specs.declared.keyword.Keyword.TheVariants as keyword;
 ghost use Rattle.text_assembler.specs.declared.token.Lexeme.TheVariants as lexeme;
+ghost use Rattle.wasm_ast.specs.declared.instr.Simple.{Simple};
+ghost use Rattle.wasm_ast.specs.declared.instr.BlockType.{BlockType};
+ghost use Rattle.wasm_ast.specs.Syntax.{Ops, simple, block, loop, if', stop};
+ghost use Rattle.wasm_ast.specs.Ranged.{RangedSimple};
+ghost use Rattle.text_assembler.specs.declared.fault.Fault.{Fault};
+ghost use Rattle.text_assembler.specs.declared.scopes.Scopes.{Scopes};
+ghost use Rattle.text_assembler.specs.Lines.{line_of, HasAlignment, IsWritten, read_instr_line};
+ghost use Rattle.text_assembler.specs.Names.{Ids};
+ghost use Rattle.text_assembler.specs.Instructions.{Bodies, read_body};
 ghost use Rattle.text_assembler.specs.Numbers.{number, small_number, constant};
 ghost use Rattle.text_assembler.specs.Names.{with_id, index_of};
 ghost use Rattle.text_assembler.specs.Tokens.{tokens_of};
@@ -25,6 +34,31 @@ pub fn denotes_one()
 pub fn too_deep_denotes_none_within()
     ensures { (text : List ℕ) → IsTooDeep text
         → (m : Module) → Denotes text m → Within m → ⊥ }
+{}
+
+/// The line of an instruction without a body is read back as that instruction, in any scopes where the
+/// type that it names is written, with nothing left.
+pub fn lines_denote()
+    ensures { (i : Simple) (s : Scopes) (locals : Ids) (inner : Result Bodies Fault) (labels : Ids)
+        → RangedSimple i → HasAlignment i → IsWritten s i
+        → read_instr_line s locals inner labels (line_of (simple i)) ≡ Ok (simple i, []) }
+{}
+
+/// The opening line of a block, a loop or an if, with `end` added, is read back as that one with empty
+/// bodies, where one more block may be open.
+pub fn opening_lines_denote()
+    ensures opening_block { (t : BlockType) (body : Ops)
+        → (s : Scopes) (locals labels : Ids) (more : ℕ)
+        → read_instr_line s locals (Ok (read_body s locals more)) labels
+        (line_of (block t body) ++ codes " end") ≡ Ok (block t stop, []) }
+    ensures opening_loop { (t : BlockType) (body : Ops)
+        → (s : Scopes) (locals labels : Ids) (more : ℕ)
+        → read_instr_line s locals (Ok (read_body s locals more)) labels
+        (line_of (loop t body) ++ codes " end") ≡ Ok (loop t stop, []) }
+    ensures opening_if { (t : BlockType) (first second : Ops)
+        → (s : Scopes) (locals labels : Ids) (more : ℕ)
+        → read_instr_line s locals (Ok (read_body s locals more)) labels
+        (line_of (if' t first second) ++ codes " end") ≡ Ok (if' t stop stop, []) }
 {}
 
 /// Numbers with `_` between digits, in both bases, and words that are none (6.3.1).

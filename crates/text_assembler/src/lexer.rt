@@ -2,7 +2,8 @@
 
 ghost use Rattle.std.specs.Prelude.{◌≡◌, [], ◌∷◌, true, false, length};
 ghost use Rattle.text_assembler.specs.Inside.Answers.{Gives, Finds, with_front};
-ghost use Rattle.text_assembler.specs.Tokens.{after_line, opens_comment, closes_comment, after_comment, is_apart, word_of, after_word, read_string, read_word, read_open, read_line, read_token, is_empty, tokens_of};
+ghost use Rattle.text_assembler.specs.Characters.{quote};
+ghost use Rattle.text_assembler.specs.Tokens.{begins_with, read_element, after_line, opens_comment, closes_comment, after_comment, is_apart, word_of, after_word, read_string, read_word, read_open, read_line, read_token, is_empty, tokens_of};
 ghost use Rattle.text_assembler.specs.Reading.{read_parts};
 
 use crate::characters::{is_space, is_word_char};
@@ -107,6 +108,17 @@ fn push_word<'a>(
     Ok(rest)
 }
 
+// The bytes of a string after its opening quote, where this many bytes are left, and its closing quote.
+fn quoted(alloc: Global, left: usize, bytes: &[u8]) -> Result<(Vec<u8>, &[u8]), ReadError>
+    ensures { Gives (λ x. (x.0.items, x.1.now)) result
+        (read_parts (begins_with quote) read_element bytes.now) }
+{
+    match read_bytes(alloc, bytes) {
+        Err(ReadError::Malformed { left: _ }) => Err(ReadError::Malformed { left }),
+        read => read,
+    }
+}
+
 // Pushes the string after its opening quote, and gives what follows it.
 #[tactic(auto, unfolding(crate::specs::Tokens::read_string, crate::specs::Tokens::read_closing))]
 fn push_string<'a>(
@@ -118,7 +130,7 @@ fn push_string<'a>(
     ensures { Gives (λ rest. (out.new.items, rest.now)) result
         (with_front out.old.items (read_string bytes.now)) }
 {
-    let (text, closing) = read_bytes(alloc, bytes)?;
+    let (text, closing) = quoted(alloc, left, bytes)?;
     let Some((_, rest)) = closing.split_first() else {
         return Err(ReadError::Malformed { left });
     };

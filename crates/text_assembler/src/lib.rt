@@ -5,6 +5,7 @@ ghost use Rattle.std.specs.Prelude.{◌≡◌, ◌⊎◌, IfOk, IfErr, string_by
 ghost use Rattle.wasm_ast.specs.declared.module.Module.{Module};
 ghost use Rattle.wasm_ast.specs.declared.refusal.Refusal.TheVariants as Refusals;
 ghost use Rattle.wasm_binary.specs.Canonical.{canon, FitsLimits};
+ghost use Rattle.wasm_binary.specs.Grammar.{Spells};
 ghost use Rattle.wasm_ast.specs.View.{op_of};
 ghost use Rattle.text_assembler.specs.Modules.{Denotes, IsTooDeep, IsBadText};
 ghost use Rattle.text_assembler.specs.Lines.{line_of, IsAligned};
@@ -20,6 +21,7 @@ mod fault;
 mod field;
 mod ids;
 mod keyword;
+mod labels;
 pub mod laws;
 mod lexer;
 mod line;
@@ -28,6 +30,7 @@ mod parser;
 mod parts;
 mod phrases;
 mod place;
+mod places;
 mod plain;
 mod scopes;
 mod strings;
@@ -45,6 +48,9 @@ pub fn assemble(alloc: Global, text: &str) -> Result<Vec<u8>, Refusal>
     // The bytes are those of a module that the text denotes and that fits.
     ensures denoted { IfOk result (λ v.
         (m : Module) × Denotes text.now m × FitsLimits m × (v.items ≡ canon m)) }
+    // They encode that module, so `wasm_binary::decode` gives it.
+    ensures encoded { IfOk result (λ v.
+        (m : Module) × Denotes text.now m × Spells v.items m) }
     // A module that is denoted and fits is assembled, unless memory runs out.
     ensures assembled { IfErr result (λ e.
         (m : Module) → Denotes text.now m → FitsLimits m → e ≡ Refusals.NoMemory) }

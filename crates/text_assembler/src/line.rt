@@ -82,7 +82,7 @@ fn push_offset(out: &mut String, at: MemArg) -> Result<(), AllocError>
 }
 
 // The alignment in bytes.
-#[tactic(auto, using(crate::proofs::Labels::shifted))]
+#[tactic(auto, using(crate::proofs::Immediates::shifted))]
 fn alignment(exponent: u32) -> u32
     requires { exponent < 32 }
     ensures { result ≡ 2 ^ exponent }

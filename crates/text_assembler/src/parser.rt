@@ -4,7 +4,7 @@ ghost use Rattle.std.specs.Prelude.{◌≡◌, ◌≤◌, List, ℕ, Result};
 ghost use Rattle.wasm_ast.specs.declared.module.Module.{Module};
 ghost use Rattle.wasm_ast.specs.Limits.{max_nesting};
 ghost use Rattle.text_assembler.specs.declared.fault.Fault.{Fault};
-ghost use Rattle.text_assembler.specs.Inside.Answers.{Gives, Fails};
+ghost use Rattle.text_assembler.specs.Inside.Answers.{Gives, Fails, IsMalformed};
 ghost use Rattle.text_assembler.specs.Modules.{read_text, read_tokens};
 
 use crate::declare::declare_fields;
@@ -24,25 +24,24 @@ fn read_tokens(alloc: Global, tokens: &[Token]) -> Result<Module, ReadError>
     read_module(alloc, MAX_NESTING, &scopes, tokens)
 }
 
-// How many bytes are left where this many tokens are left.
-fn bytes_left(tokens: &[Token], left: usize) -> usize {
-    if left == 0 || left > tokens.len() {
-        return 0;
-    }
-    match tokens.get(tokens.len() - left) {
-        Some(token) => token.left(),
-        None => 0,
+// The fault at the first of this many tokens, which are the last of the text's, or after the text.
+fn fault_at(tokens: &[Token], left: usize) -> ReadError
+    ensures { IsMalformed result }
+{
+    let before = tokens.len().saturating_sub(left);
+    match tokens.get(before) {
+        Some(token) => token.fault(),
+        None => ReadError::Malformed { left: 0 },
     }
 }
 
 // The same fault, placed by the bytes that are left and not by the tokens.
+#[tactic(auto, using(crate::proofs::PartLoops::moved))]
 fn placed(tokens: &[Token], error: ReadError) -> ReadError
     ensures { (read : Result Module Fault) → Fails error read → Fails result read }
 {
     match error {
-        ReadError::Malformed { left } => ReadError::Malformed {
-            left: bytes_left(tokens, left),
-        },
+        ReadError::Malformed { left } => fault_at(tokens, left),
         other => other,
     }
 }

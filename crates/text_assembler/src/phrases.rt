@@ -8,7 +8,7 @@ ghost use Rattle.text_assembler.specs.Reading.{read_parts};
 ghost use Rattle.text_assembler.specs.Phrases.{is_close, skip_close, skip_open, take_word, take_text, begins_word, skip_word, begins_group, is_past_groups, skip_group, read_name, begins_id, id_of, after_id, read_number, begins_index, is_past_indices, read_index, one_index, read_indices, val_type_of, read_val_type, one_type, read_result, read_results, one_nameless, read_bound, read_group, read_bindings, names_of, types_of, same_types, read_limits};
 
 use crate::fault::ReadError;
-use crate::ids::{Ids, is_id, is_index};
+use crate::ids::{Space, is_id, is_index};
 use crate::numbers::small_number;
 use crate::token::{Lexeme, Token};
 use std::alloc::Global;
@@ -244,46 +244,49 @@ fn is_past_indices(tokens: &[Token]) -> bool
 
 /// An index of this space, and what follows it.
 #[tactic(auto, unfolding(crate::specs::Phrases::read_index))]
-pub fn read_index<'a>(ids: &Ids, tokens: &'a [Token]) -> Result<(u32, &'a [Token]), ReadError>
-    ensures { Gives (λ x. (x.0, x.1.now)) result (read_index ids.now tokens.now) }
+pub fn read_index<'a, S: Space>(
+    space: &S,
+    tokens: &'a [Token],
+) -> Result<(u32, &'a [Token]), ReadError>
+    ensures { Gives (λ x. (x.0, x.1.now)) result (read_index (S.entries space.now) tokens.now) }
 {
     let (word, rest) = take_word(tokens)?;
-    match ids.index_of(word) {
+    match space.index_of(word) {
         Some(index) => Ok((index, rest)),
         None => Err(fault(tokens)),
     }
 }
 
 #[tactic(auto, unfolding(crate::specs::Phrases::one_index))]
-fn push_index<'a>(
-    ids: &Ids,
+fn push_index<'a, S: Space>(
+    space: &S,
     out: &mut Vec<u32>,
     tokens: &'a [Token],
 ) -> Result<&'a [Token], ReadError>
     ensures { Gives (λ rest. (out.new.items, rest.now)) result
-        (with_front out.old.items (one_index ids.now tokens.now)) }
+        (with_front out.old.items (one_index (S.entries space.now) tokens.now)) }
 {
-    let (index, rest) = read_index(ids, tokens)?;
+    let (index, rest) = read_index(space, tokens)?;
     out.push(index)?;
     Ok(rest)
 }
 
 /// Pushes the indices that are next, and gives what follows them.
 #[tactic(auto, unfolding(crate::specs::Phrases::read_indices))]
-pub fn push_indices<'a>(
-    ids: &Ids,
+pub fn push_indices<'a, S: Space>(
+    space: &S,
     out: &mut Vec<u32>,
     tokens: &'a [Token],
 ) -> Result<&'a [Token], ReadError>
     ensures { Gives (λ rest. (out.new.items, rest.now)) result
-        (with_front out.old.items (read_indices ids.now tokens.now)) }
+        (with_front out.old.items (read_indices (S.entries space.now) tokens.now)) }
 {
     let mut rest = tokens;
     for _ in 0..tokens.len() {
         if is_past_indices(rest) {
             return Ok(rest);
         }
-        rest = push_index(ids, out, rest)?;
+        rest = push_index(space, out, rest)?;
     }
     if is_past_indices(rest) {
         Ok(rest)

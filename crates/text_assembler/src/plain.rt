@@ -8,6 +8,7 @@ ghost use Rattle.text_assembler.specs.Instructions.{are_nameless, read_call_indi
 use crate::fault::ReadError;
 use crate::ids::Ids;
 use crate::keyword::Keyword;
+use crate::labels::Labels;
 use crate::numbers::{constant32, constant64, small_number};
 use crate::phrases::{fault, push_indices, read_index, take_word};
 use crate::scopes::Scopes;
@@ -32,10 +33,10 @@ fn read_call_indirect<'a>(
     Ok((Simple::CallIndirect(type_use.type_index), rest))
 }
 
-#[tactic(auto, unfolding(crate::specs::Instructions::read_br_table, crate::specs::Instructions::last_of), using(crate::proofs::Labels::last_is))]
+#[tactic(auto, unfolding(crate::specs::Instructions::read_br_table, crate::specs::Instructions::last_of), using(crate::proofs::Immediates::last_is))]
 fn read_br_table<'a>(
     alloc: Global,
-    labels: &Ids,
+    labels: &Labels,
     tokens: &'a [Token],
 ) -> Result<(Simple, &'a [Token]), ReadError>
     ensures { Gives (λ x. (x.0, x.1.now)) result (read_br_table labels.now tokens.now) }
@@ -49,7 +50,7 @@ fn read_br_table<'a>(
 }
 
 // The exponent of a power of two.
-#[tactic(auto, using(crate::proofs::Labels::tries_on, crate::proofs::Labels::tries_end))]
+#[tactic(auto, using(crate::proofs::Immediates::tries_on, crate::proofs::Immediates::tries_end))]
 fn exponent(number: u32) -> Option<u32>
     ensures { Finds (λ k. k) result (exponent_from 32 0 number) }
 {
@@ -101,11 +102,11 @@ fn read_option<'a>(
 fn read_mem_arg(natural: u32, tokens: &[Token]) -> Result<(MemArg, &[Token]), ReadError>
     ensures { Gives (λ x. (x.0, x.1.now)) result (read_mem_arg natural tokens.now) }
 {
-    let (offset, rest) = read_option("offset=", 0, tokens)?;
-    let (bytes, rest) = read_option("align=", natural, rest)?;
+    let (offset, after) = read_option("offset=", 0, tokens)?;
+    let (bytes, rest) = read_option("align=", natural, after)?;
     match exponent(bytes) {
         Some(align) => Ok((MemArg { align, offset }, rest)),
-        None => Err(fault(tokens)),
+        None => Err(fault(after)),
     }
 }
 
@@ -154,7 +155,7 @@ pub fn read_immediates<'a>(
     alloc: Global,
     scopes: &Scopes,
     locals: &Ids,
-    labels: &Ids,
+    labels: &Labels,
     keyword: Keyword,
     tokens: &'a [Token],
 ) -> Result<(Simple, &'a [Token]), ReadError>

@@ -1,7 +1,9 @@
 //! Tokens (6.3).
 
 ghost use Rattle.std.specs.Prelude.{◌≡◌};
+ghost use Rattle.text_assembler.specs.Inside.Answers.{IsMalformed};
 
+use crate::fault::ReadError;
 use std::marker::Model;
 use wasm_ast::Bytes;
 
@@ -48,8 +50,10 @@ impl Token {
         &self.lexeme
     }
 
-    /// How many bytes of the text are left where it begins.
-    pub fn left(&self) -> usize {
-        self.left
+    /// That no module is denoted: the fault is where this token begins.
+    pub fn fault(&self) -> ReadError
+        ensures { IsMalformed result }
+    {
+        ReadError::Malformed { left: self.left }
     }
 }

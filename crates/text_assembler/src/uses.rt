@@ -1,6 +1,6 @@
 //! Uses of types (6.6.3).
 
-ghost use Rattle.std.specs.Prelude.{◌≡◌, [], ◌∷◌, ◌++◌, Ok, IfOk, None, replicate};
+ghost use Rattle.std.specs.Prelude.{◌≡◌, [], ◌∷◌, ◌++◌, Ok, IfOk};
 ghost use Rattle.text_assembler.specs.Inside.Answers.{Gives};
 ghost use Rattle.text_assembler.specs.Phrases.{names_of, types_of};
 ghost use Rattle.text_assembler.specs.Instructions.{declare_all, is_unwritten, fits_signature, params_of_use, read_type_index, read_use};
@@ -8,7 +8,7 @@ ghost use Rattle.text_assembler.specs.Instructions.{declare_all, is_unwritten, f
 use crate::fault::ReadError;
 use crate::ids::Ids;
 use crate::phrases::{
-    Binding, fault, push_bindings, push_results, read_index, same_types, skip_close, skip_group,
+    Binding, push_bindings, push_results, read_index, same_types, skip_close, skip_group,
 };
 use crate::scopes::Scopes;
 use crate::token::Token;
@@ -44,22 +44,10 @@ pub fn declare_bindings(
 {
     let mut rest = bindings;
     while let [first, tail @ ..] = rest {
-        ids.declare(copy_name(alloc, &first.name)?, left)?;
+        ids.declare(alloc, copy_name(alloc, &first.name)?, left)?;
         rest = tail;
     }
     Ok(())
-}
-
-// This many entries without identifiers.
-#[tactic(auto, unfolding(crate::specs::Names::with_id))]
-fn nameless(alloc: Global, count: usize) -> Result<Ids, ReadError>
-    ensures { Gives (λ x. x) result (Ok (replicate count None)) }
-{
-    let mut ids = Ids::new(alloc);
-    for _ in 0..count {
-        ids.declare(None, 0)?;
-    }
-    Ok(ids)
 }
 
 /// The types of these parameters or locals, in order.
@@ -100,7 +88,7 @@ fn params_of_use(
     ensures { Gives (λ x. x) result (params_of_use signature.now params.now results.now) }
 {
     if params.is_empty() && results.is_empty() {
-        return nameless(alloc, signature.params.len());
+        return Ok(Ids::nameless(alloc, signature.params.len()));
     }
     if !fits_signature(alloc, signature, params, results)? {
         return Err(ReadError::Malformed { left });
@@ -140,7 +128,10 @@ pub fn read_use<'a>(
     let mut results = Vec::new(alloc);
     let rest = push_results(&mut results, rest)?;
     let Some(signature) = scopes.signatures.as_slice().get(type_index as usize) else {
-        return Err(fault(tokens));
+        // The index is the third token.
+        return Err(ReadError::Malformed {
+            left: tokens.len().saturating_sub(2),
+        });
     };
     let params = params_of_use(
         alloc,

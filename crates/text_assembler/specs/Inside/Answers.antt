@@ -12,6 +12,11 @@ Fails errors.Memory read = Unit {0}
 Fails (errors.Malformed left) read = read ≡ Err Malformed
 Fails errors.TooDeep read = read ≡ Err TooDeep
 
+-- nothing is denoted, wherever the fault is placed
+abbrev pub IsMalformed : ReadError → Type 0
+IsMalformed (errors.Malformed left) = Unit {0}
+IsMalformed other = ⊥
+
 -- what was returned, seen by view, is what reading gives, unless memory ran out
 abbrev pub Gives : {X Y : Type 0} → (X → Y) → Result X ReadError → Result Y Fault → Type 0
 Gives view (Ok x) read = read ≡ Ok (view x)

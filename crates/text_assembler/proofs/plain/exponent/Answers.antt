@@ -1,5 +1,5 @@
 use Rattle.std.proofs.Common.{sym, ◌∙◌}
-use Rattle.text_assembler.proofs.Labels.{found_at, missed_at, shifted}
+use Rattle.text_assembler.proofs.Immediates.{found_at, missed_at, shifted}
 use Rattle.text_assembler.proofs.plain.exponent.Goals as goal
 
 pub returns-then-number-k : goal.returns-then-number-k

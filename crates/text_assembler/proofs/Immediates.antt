@@ -1,4 +1,4 @@
--- The last of a list of labels, and exponents that are tried one after the other.
+-- The last of a list of indices, and exponents that are tried one after the other.
 use Rattle.std.proofs.Common.{◌≡◌, ℕ, suc, ◌+◌, ◌-◌, ◌^◌, ◌<◌, ◌≤◌, List, [], ◌∷◌, ◌++◌, Ok, Err, ◌*◌, ◌%◌, ◌==◌, if◌then◌else◌, refl, ◌∙◌, arith}
 use Rattle.std.proofs.Math.Pow.{pow-lt}
 use Rattle.std.proofs.lemmas.Bool.{eq-eqb, ne_eqb}
