@@ -21,6 +21,7 @@ use wasm_ast::{Trap, Value};
 const EXHAUSTED: Option<End> = Some(End::Trapped(Trap::Exhausted));
 
 /// Pushes the result of a system call, if it has one; or ends the task.
+#[inline(always)]
 fn answer(at: &mut Current, answer: HostEnd) -> Option<End>
     requires cell { at.old.cell + 1 < 2 ^ 64 }
     requires limit { at.old.stack.limit ≡ max_values }
@@ -45,6 +46,7 @@ fn answer(at: &mut Current, answer: HostEnd) -> Option<End>
 }
 
 /// Makes a system call with these arguments, which have been taken from the stack.
+#[inline(always)]
 fn make(at: &mut Current, kept: &mut Kept, call: HostCall, args: &[Value]) -> Option<End>
     requires cell { at.old.cell + 1 < 2 ^ 64 }
     requires limit { at.old.stack.limit ≡ max_values }
@@ -63,6 +65,7 @@ fn make(at: &mut Current, kept: &mut Kept, call: HostCall, args: &[Value]) -> Op
 }
 
 /// A system call with one argument.
+#[inline(always)]
 fn make_with_one(at: &mut Current, kept: &mut Kept, call: HostCall) -> Option<End>
     requires cell { at.old.cell + 1 < 2 ^ 64 }
     requires limit { at.old.stack.limit ≡ max_values }
@@ -80,6 +83,7 @@ fn make_with_one(at: &mut Current, kept: &mut Kept, call: HostCall) -> Option<En
 }
 
 /// A system call with two arguments.
+#[inline(always)]
 fn make_with_two(at: &mut Current, kept: &mut Kept, call: HostCall) -> Option<End>
     requires cell { at.old.cell + 1 < 2 ^ 64 }
     requires limit { at.old.stack.limit ≡ max_values }
@@ -101,6 +105,7 @@ fn make_with_two(at: &mut Current, kept: &mut Kept, call: HostCall) -> Option<En
 }
 
 /// A system call with four arguments.
+#[inline(always)]
 fn make_with_four(at: &mut Current, kept: &mut Kept, call: HostCall) -> Option<End>
     requires cell { at.old.cell + 1 < 2 ^ 64 }
     requires limit { at.old.stack.limit ≡ max_values }
@@ -133,6 +138,7 @@ fn make_with_four(at: &mut Current, kept: &mut Kept, call: HostCall) -> Option<E
 }
 
 /// A system call, with arguments from the stack.
+#[inline(always)]
 pub fn call_system(at: &mut Current, kept: &mut Kept, call: HostCall) -> Option<End>
     requires cell { at.old.cell + 1 < 2 ^ 64 }
     requires limit { at.old.stack.limit ≡ max_values }

@@ -30,6 +30,7 @@ mod settle;
 mod start_up;
 mod store;
 mod turn;
+mod watch;
 pub mod worked;
 pub mod worked_calls;
 pub mod worked_instantiation;
