@@ -25,7 +25,7 @@ use Rattle.task_board.specs.BoardState.{Task, BoardState, used_by, with_store, e
 use Rattle.oci_config.specs.Streams.{stream_of}
 use Rattle.task_board.specs.Tasks.{started, paused, resumed, killed_while, killed_by, state_of, output_of}
 use Rattle.task_board.specs.Refusals.{create_refusals, start_refusals, pause_refusals, resume_refusals, kill_refusals, delete_refusals, state_refusals, wait_refusals, output_refusals, task_refusals}
-use Rattle.task_board.specs.Step.{Answer, DecidedBy, OnStore, OnFound, OnTask, Creates, Answers, output_reply}
+use Rattle.task_board.specs.Step.{Answer, DecidedBy, OnStore, Puts, PutsText, refused, stored, OnFound, OnTask, Creates, Answers, output_reply}
 use Rattle.task_board.specs.Sound.{IsSound, IsBoard}
 use Rattle.task_board.specs.Inside.Changes.{change_call, change_request, change_reply, change_refusals, changed}
 use Rattle.task_board.specs.Inside.Plans.{IsAllowed, RefusesTask, RefusesKill}
@@ -281,9 +281,18 @@ kill_effect s s' id t None at none is =
     absurd (true≢false (none_first true refusal.OutOfRange (first_refusal ((not (allowed call.Kill t.status), refusal.WrongStatus) ∷ [])) a.1).0)
 kill_effect s s' id t (Some x) at none is = changes (change.Kill x) id t at (one_accepted id t call.Kill none) is
 
-pub effect_of : (s : BoardState) (q : Request) (r : Answer) (s' : BoardState) → Answers s q r s' → Effect s s'
-effect_of s (request.Put bytes) r s' a =
+put_effect : (s : BoardState) (bytes : List ℕ) (r : Answer) (s' : BoardState) → Puts s bytes r s' → Effect s s'
+put_effect s bytes r s' a =
     on_store_effect s (put_refusals s.store bytes) (reply.Put (digest_of bytes) (length bytes)) (with_content s.store bytes) r s' a (λ none. puts bytes none refl)
+
+-- a put of a text does nothing, or is one of bytes
+text_effect : (s : BoardState) (text : List ℕ) (r : Answer) (s' : BoardState) → PutsText s text r s' → Effect s s'
+text_effect s text r s' (refused e why is same) = nothing same
+text_effect s text r s' (stored bytes is put) = put_effect s bytes r s' put
+
+pub effect_of : (s : BoardState) (q : Request) (r : Answer) (s' : BoardState) → Answers s q r s' → Effect s s'
+effect_of s (request.Put bytes) r s' a = put_effect s bytes r s' a
+effect_of s (request.PutText text) r s' a = text_effect s text r s' a
 effect_of s (request.Remove digest) r s' a =
     on_store_effect s (remove_refusals (used_by s.tasks) s.store digest) (reply.Remove digest) (without_content s.store digest) r s' a (λ none. removes digest none refl)
 effect_of s (request.LeaseCreate id) r s' a =

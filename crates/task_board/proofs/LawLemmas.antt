@@ -303,9 +303,10 @@ on_store_same : (s : BoardState) (refusals : Refusals) (rep : Reply) (new : Stor
     → OnStore s refusals rep new r s1 → OnStore s refusals rep new r' s2 → Same r s1 r' s2
 on_store_same s refusals rep new r s1 r' s2 a b = decided_same (first_refusal refusals) rep (with_store s new) s r s1 r' s2 a b
 
-answers_same : (s : BoardState) (q : Request) (r : Answer) (s1 : BoardState) (r' : Answer) (s2 : BoardState) → IsDetermined (event.Call q)
+pub answers_same : (s : BoardState) (q : Request) (r : Answer) (s1 : BoardState) (r' : Answer) (s2 : BoardState) → IsDetermined (event.Call q)
     → Answers s q r s1 → Answers s q r' s2 → Same r s1 r' s2
 answers_same s (request.Put bytes) r s1 r' s2 d a b = on_store_same s (put_refusals s.store bytes) (reply.Put (digest_of bytes) (length bytes)) (with_content s.store bytes) r s1 r' s2 a b
+answers_same s (request.PutText text) r s1 r' s2 d a b = absurd d
 answers_same s (request.Remove digest) r s1 r' s2 d a b = on_store_same s (remove_refusals (used_by s.tasks) s.store digest) (reply.Remove digest) (without_content s.store digest) r s1 r' s2 a b
 answers_same s (request.LeaseCreate id) r s1 r' s2 d a b = on_store_same s (lease_create_refusals s.store id) (reply.LeaseCreate id) (with_lease s.store id) r s1 r' s2 a b
 answers_same s (request.LeaseAdd digest id) r s1 r' s2 d a b = on_store_same s (lease_add_refusals s.store digest id) (reply.LeaseAdd digest id) (with_member s.store digest id) r s1 r' s2 a b

@@ -9,6 +9,7 @@ pub mod EffectLemmas
 pub mod OutputLemmas
 pub mod WaitingLemmas
 pub mod StoreChangeLemmas
+pub mod TextLemmas
 pub mod TableLemmas
 pub mod LoanCover
 pub mod InstantiateLemmas

@@ -7,6 +7,8 @@ use Rattle.content_leases.specs.StoreState.{StoreState, with_content, without_co
 use Rattle.content_leases.specs.StoreValue.{StoreValue, UsesRoom}
 use Rattle.content_leases.specs.Refusals.{Refusals, first_refusal, put_refusals, remove_refusals, lease_create_refusals, lease_add_refusals, lease_delete_refusals}
 use Rattle.content_leases.proofs.StoreLemmas.{put_new, create_new, add_takes}
+use Rattle.task_board.specs.declared.request.Request.{Request}
+use Rattle.task_board.specs.declared.request.Request.TheVariants as request
 use Rattle.task_board.specs.declared.request.Reply.{Reply}
 use Rattle.task_board.specs.declared.request.Reply.TheVariants as reply
 use Rattle.task_board.specs.declared.store_change.StoreChange.{StoreChange}
@@ -14,8 +16,9 @@ use Rattle.task_board.specs.declared.store_change.StoreChange.TheVariants as cha
 use Rattle.task_board.specs.declared.tables.Tables.TheInside as tables
 use Rattle.task_board.specs.BoardState.{BoardState, used_by, with_store}
 use Rattle.task_board.specs.BoardValue.{Room, KeepsRoom}
-use Rattle.task_board.specs.Step.{Answer, DecidedBy, OnStore, Answers}
-use Rattle.task_board.specs.Inside.StoreChanges.{store_request, store_reply, store_after, StorePrepared, CanTake, contents_added, leases_added}
+use Rattle.task_board.specs.Texts.{IsAssembled}
+use Rattle.task_board.specs.Step.{Answer, DecidedBy, OnStore, Puts, stored, Answers}
+use Rattle.task_board.specs.Inside.StoreChanges.{store_request, IsMadeFor, store_reply, store_after, StorePrepared, CanTake, contents_added, leases_added}
 use Rattle.task_board.specs.Inside.OpenedModules.{OpenedModule}
 use Rattle.task_board.specs.Inside.Shown.{board_state_of, board_of}
 use Rattle.task_board.proofs.SoundLemmas.{length_append}
@@ -43,6 +46,49 @@ store_answers s room (change.Gc used removed) p =
     let done = accepted_store s [] (reply.Gc gone) (new (used_by s.tasks)) refl in
     let P : List (List ℕ) → List (List ℕ) → Type 0 = λ u r. OnStore s [] (reply.Gc gone) (new (used_by s.tasks)) (Ok (reply.Gc r)) (with_store s (new u)) in
     subst (λ (u : List (List ℕ)). P u removed) (sym p.fitted.0) (subst (λ (r : List (List ℕ)). P (used_by s.tasks) r) (sym p.fitted.1) done)
+
+-- ---- the request for which a change is made
+
+-- the change is the request's own, or it stores the bytes of a text
+pub data MadeFor (r : Request) (c : StoreChange) : Type 0 where
+  own : r ≡ store_request c → MadeFor r c
+  of_text : (text bytes : List ℕ) → IsAssembled text bytes → store_request c ≡ request.Put bytes → r ≡ request.PutText text → MadeFor r c
+
+made_for_text : (text : List ℕ) (c : StoreChange) → IsMadeFor (request.PutText text) c → MadeFor (request.PutText text) c
+made_for_text text (change.Put key bytes digest) is = of_text text (arc_value bytes) is refl refl
+made_for_text text (change.Remove digest) is = absurd is
+made_for_text text (change.LeaseCreate key members id) is = absurd is
+made_for_text text (change.LeaseAdd key digest id) is = absurd is
+made_for_text text (change.LeaseDelete id) is = absurd is
+made_for_text text (change.Gc used removed) is = absurd is
+
+pub made_for : (r : Request) (c : StoreChange) → IsMadeFor r c → MadeFor r c
+made_for (request.PutText text) c is = made_for_text text c is
+made_for (request.Put given) c is = own is
+made_for (request.Remove digest) c is = own is
+made_for (request.LeaseCreate id) c is = own is
+made_for (request.LeaseAdd digest id) c is = own is
+made_for (request.LeaseDelete id) c is = own is
+made_for request.Gc c is = own is
+made_for (request.Create config id) c is = own is
+made_for (request.Start id) c is = own is
+made_for (request.Pause id) c is = own is
+made_for (request.Resume id) c is = own is
+made_for (request.Kill id signal) c is = own is
+made_for (request.Delete id) c is = own is
+made_for (request.State id) c is = own is
+made_for (request.Wait id) c is = own is
+made_for (request.Output id stream) c is = own is
+
+answers_made_for : (s : BoardState) (r : Request) (c : StoreChange) (a : Answer) (s' : BoardState) → MadeFor r c → Answers s (store_request c) a s' → Answers s r a s'
+answers_made_for s r c a s' (own is) done = subst (λ (q : Request). Answers s q a s') (sym is) done
+answers_made_for s r c a s' (of_text text bytes is put asked) done =
+    let puts : Puts s bytes a s' = subst (λ (q : Request). Answers s q a s') put done in
+    subst (λ (q : Request). Answers s q a s') (sym asked) (stored bytes is puts)
+
+-- what answers the change's own request answers each for which it is made
+pub made_answers : (s : BoardState) (r : Request) (c : StoreChange) (a : Answer) (s' : BoardState) → IsMadeFor r c → Answers s (store_request c) a s' → Answers s r a s'
+made_answers s r c a s' is done = answers_made_for s r c a s' (made_for r c is) done
 
 pub can_take : (b : tables.Inside) (c : StoreChange) → StorePrepared (board_state_of b) (board_of b).room c → CanTake b.store c
 can_take b (change.Put key bytes digest) p = (p.fitted.2, p.fitted.0, put_new b.store.state (arc_value bytes) p.accepted)

@@ -14,8 +14,9 @@ use Rattle.task_board.specs.Sound.{Each, AreDistinct, IsBoard}
 use Rattle.task_board.specs.Tickets.{ticket_if_running, ticket_in}
 use Rattle.task_board.specs.Waiting.{is_ticket, is_waiting, has_incarnation, is_present, enter, enter_if, running_ticket, waiting_after_call, AreWaiting}
 use Rattle.task_board.specs.Inside.Changes.{change_request, enters}
-use Rattle.task_board.specs.Inside.StoreChanges.{store_request}
+use Rattle.task_board.specs.Inside.StoreChanges.{store_request, IsMadeFor}
 use Rattle.task_board.specs.Inside.Plans.{IsQuestion}
+use Rattle.task_board.proofs.StoreChangeLemmas.{MadeFor, own, of_text, made_for}
 use Rattle.task_board.proofs.EntryLemmas.{none_is_not, some_is, by_slot, by_id, cond_true, cond_false, cond_is_true, cond_is_false, same_slot, other_slot, same_id, other_id, in_slot, changed_from_old, IsChangedFrom, put_in}
 use Rattle.task_board.proofs.SoundLemmas.{each_imp, each_append, distinct_append}
 
@@ -245,11 +246,20 @@ store_waits (store.LeaseAdd key digest id) ts ws = refl
 store_waits (store.LeaseDelete id) ts ws = refl
 store_waits (store.Gc used removed) ts ws = refl
 
+waits_made_for : (r : Request) (c : StoreChange) (ts : Entries) (ws : List Ticket) → MadeFor r c → waiting_after_call r ts ws ≡ ws
+waits_made_for r c ts ws (own is) = ap (λ (q : Request). waiting_after_call q ts ws) is ∙ store_waits c ts ws
+waits_made_for r c ts ws (of_text text bytes is put asked) = ap (λ (q : Request). waiting_after_call q ts ws) asked
+
+-- a request for which the store is changed lets no task wait
+pub made_waits : (r : Request) (c : StoreChange) (ts : Entries) (ws : List Ticket) → IsMadeFor r c → waiting_after_call r ts ws ≡ ws
+made_waits r c ts ws is = waits_made_for r c ts ws (made_for r c is)
+
 pub question_waits : (r : Request) (ts : Entries) (ws : List Ticket) → IsQuestion r → waiting_after_call r ts ws ≡ ws
 question_waits (request.State id) ts ws is = refl
 question_waits (request.Wait id) ts ws is = refl
 question_waits (request.Output id stream) ts ws is = refl
 question_waits (request.Put bytes) ts ws is = refl
+question_waits (request.PutText text) ts ws is = refl
 question_waits (request.Remove digest) ts ws is = refl
 question_waits (request.LeaseCreate id) ts ws is = refl
 question_waits (request.LeaseAdd digest id) ts ws is = refl

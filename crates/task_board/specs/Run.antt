@@ -13,6 +13,7 @@ use Rattle.task_board.specs.Step.{Answer, Step}
 -- the request allocates, and so may be answered NoMemory
 abbrev pub takes_memory : Request → Bool
 takes_memory (request.Put bytes) = true
+takes_memory (request.PutText text) = true
 takes_memory (request.LeaseCreate id) = true
 takes_memory (request.LeaseAdd digest id) = true
 takes_memory request.Gc = true

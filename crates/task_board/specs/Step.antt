@@ -22,6 +22,7 @@ use Rattle.oci_config.specs.Config.{process_read}
 use Rattle.oci_config.specs.Streams.{stream_of}
 use Rattle.task_board.specs.BoardState.{Task, created_task, BoardState, used_by, with_store, task_in, task_of, with_task, without_task, with_new_task}
 use Rattle.task_board.specs.Tasks.{state_of, output_of, started, paused, resumed, killed_by, can_lend, lent, HasReturned}
+use Rattle.task_board.specs.Texts.{IsAssembled, CannotAssemble}
 use Rattle.task_board.specs.Refusals.{create_refusals, CannotOpen, Openable, start_refusals, pause_refusals, resume_refusals, kill_refusals, delete_refusals, state_refusals, wait_refusals, output_refusals, task_refusals}
 
 -- ---- requests
@@ -41,6 +42,17 @@ Decided refusals Effect s r s' = DecidedBy (first_refusal refusals) Effect s r s
 -- a request to the store: its refusals, what it is answered, and the store that it leaves
 abbrev pub OnStore : BoardState → Refusals → Reply → StoreState → Answer → BoardState → Type 0
 OnStore s refusals reply new r s' = Decided refusals ((r ≡ Ok reply) × (s' ≡ with_store s new)) s r s'
+
+-- a put of bytes
+abbrev pub Puts : BoardState → (bytes : List ℕ) → Answer → BoardState → Type 0
+Puts s bytes r s' =
+    OnStore s (put_refusals s.store bytes) (reply.Put (digest_of bytes) (length bytes)) (with_content s.store bytes)
+    r s'
+
+-- a put of a text is refused if no bytes are stored of it, and else is a put of those bytes
+pub data PutsText (s : BoardState) (text : List ℕ) (r : Answer) (s' : BoardState) : Type 0 where
+  refused : (e : Refusal) → CannotAssemble text e → r ≡ Err e → s' ≡ s → PutsText s text r s'
+  stored : (bytes : List ℕ) → IsAssembled text bytes → Puts s bytes r s' → PutsText s text r s'
 
 -- a request to the task with an id, if there is one: the request's own refusals, what it is answered,
 -- and the board that it leaves
@@ -78,9 +90,8 @@ output_reply id bytes = reply.Output bytes id (length bytes)
 -- What a request may be answered on a board, and the board that it leaves. A refusal leaves the board. What
 -- a task names is held until the task is deleted.
 abbrev pub Answers : BoardState → Request → Answer → BoardState → Type 0
-Answers s (request.Put bytes) r s' =
-    OnStore s (put_refusals s.store bytes) (reply.Put (digest_of bytes) (length bytes)) (with_content s.store bytes)
-    r s'
+Answers s (request.Put bytes) r s' = Puts s bytes r s'
+Answers s (request.PutText text) r s' = PutsText s text r s'
 Answers s (request.Remove digest) r s' =
     OnStore s (remove_refusals (used_by s.tasks) s.store digest) (reply.Remove digest)
     (without_content s.store digest) r s'

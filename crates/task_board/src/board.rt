@@ -40,7 +40,8 @@ use std::alloc::{AllocError, Global};
 use std::marker::Model;
 use std::sync::Arc;
 use step_machine::{FlatModule, Machine};
-use wasm_ast::{Bytes, Refusal, Text};
+use text_assembler::assemble;
+use wasm_ast::{Bytes, Refusal, Sequence, Text};
 
 /// The board. Contracts see the abstract board, the tasks that wait for a worker, and how much fits with
 /// no memory taken.
@@ -101,6 +102,19 @@ impl Board {
         let key = String::from_str(self.alloc, digest.as_str())?;
         let bytes = Arc::new(self.alloc, bytes)?;
         Ok(Plan::Store(StoreChange::Put { key, bytes, digest }))
+    }
+
+    // What a put of a text is prepared as: a put of the bytes that it is assembled to.
+    fn prepare_put_text(&mut self, text: Text) -> Result<Plan, AllocError>
+        ensures same { (self.new.state ≡ self.old.state) × (self.new.waiting ≡ self.old.waiting) }
+        ensures ok { IfOk result
+            (λ p. Plans self.new.state self.new.room (request.PutText text) p) }
+    {
+        match assemble(self.alloc, text.as_str()) {
+            Ok(bytes) => self.prepare_put(Sequence::new(bytes)),
+            Err(Refusal::NoMemory) => Err(AllocError),
+            Err(refusal) => Ok(Plan::Refused(refusal)),
+        }
     }
 
     // What a lease's creation is prepared as.
@@ -252,6 +266,7 @@ impl Board {
     {
         let plan = match request {
             Request::Put { bytes } => self.prepare_put(bytes)?,
+            Request::PutText { text } => self.prepare_put_text(text)?,
             Request::Remove { digest } => self.tables.plan_remove(digest),
             Request::LeaseCreate { id } => self.prepare_lease_create(id)?,
             Request::LeaseAdd { digest, id } => self.prepare_lease_add(digest, id)?,
@@ -286,8 +301,8 @@ impl Board {
     }
 
     /// Answers a request, by preparing and applying it. `NoMemory` if an allocation failed, and then
-    /// nothing has changed; of the requests only put, lease_create, lease_add, gc, create and output allocate,
-    /// and no other is ever answered so.
+    /// nothing has changed; of the requests only put, put_text, lease_create, lease_add, gc, create and output
+    /// allocate, and no other is ever answered so.
     pub fn call(&mut self, request: Request) -> Result<Reply, Refusal>
         ensures answers { result ≢ Err Refusal.NoMemory
             → Answers self.old.state request result self.new.state }

@@ -1,18 +1,19 @@
 //! Laws of the abstract board. Each function is nothing but its contract.
 
-ghost use Rattle.std.specs.Prelude.{◌≡◌, ℕ, List, Some, is_some, true, false};
+ghost use Rattle.std.specs.Prelude.{◌≡◌, ℕ, List, Some, is_some, true, false, Err};
 ghost use Rattle.wasm_ast.specs.declared.module.Module.{Module};
 ghost use Rattle.oci_config.specs.declared.process.ProcessConfig.{ProcessConfig};
 ghost use Rattle.step_machine.specs.declared.ends.End.{End as EndValue};
 ghost use Rattle.step_machine.specs.Instantiation.{ended};
 ghost use Rattle.validator.specs.Typing.{ValidModule};
+ghost use Rattle.wasm_ast.specs.declared.refusal.Refusal.{Refusal as Reason};
 ghost use Rattle.task_board.specs.declared.event.Event.{Event};
 ghost use Rattle.task_board.specs.declared.event.Event.TheVariants as event;
 ghost use Rattle.task_board.specs.declared.event.EventReply.{EventReply};
 ghost use Rattle.task_board.specs.declared.request.Request.TheVariants as request;
 ghost use Rattle.content_leases.specs.StoreState.{content_in, is_leased, is_held};
 ghost use Rattle.task_board.specs.BoardState.{Task, BoardState, empty, used_by, task_in};
-ghost use Rattle.task_board.specs.Choices.{IsDetermined, AgreeOnCreate};
+ghost use Rattle.task_board.specs.Choices.{IsDetermined, AgreeOnCreate, AgreeOnText};
 ghost use Rattle.task_lifecycle.specs.declared.status.Signal.{Signal as SignalValue};
 ghost use Rattle.task_lifecycle.specs.Lifecycle.{after, takes_turns};
 ghost use Rattle.task_board.specs.Moves.{Becomes};
@@ -20,10 +21,14 @@ ghost use Rattle.task_board.specs.Refusals.{IsSpelled, CannotOpen};
 ghost use Rattle.task_board.specs.Run.{takes_memory, met_no_memory, Happens, Run};
 ghost use Rattle.task_board.specs.Sound.{AreRising, slots_of, IsSound, IsBoard};
 ghost use Rattle.task_board.specs.Step.{Answer, Answers};
+ghost use Rattle.text_assembler.specs.Modules.{Denotes, IsTooDeep, IsBadText};
+ghost use Rattle.wasm_binary.specs.Canonical.{canon, FitsLimits};
+ghost use Rattle.task_board.specs.Texts.{DenotesNone};
 ghost use Rattle.task_board.specs.Tasks.{execution_at, exit_of, situation_of, started, paused, resumed, killed, slice_turns, MayAdvance, HasReturned};
 
 use step_machine::laws::{slices_go_forward, slices_stop_first};
 use task_lifecycle::{ExitRecord, Status, TaskCall};
+use text_assembler::laws::{denotes_one, too_deep_denotes_none_within};
 use wasm_ast::Refusal;
 use wasm_binary::laws::spells_one;
 
@@ -109,7 +114,7 @@ pub fn held_contents_stay()
 {}
 
 /// The answer to an event, and the board that it leaves, are determined by the board and the event, unless
-/// it is a create or runs out of memory.
+/// it is a create or a put of a text, or runs out of memory.
 pub fn events_are_determined()
     ensures { (s : BoardState) (e : Event)
         (r : EventReply) (s1 : BoardState) (r' : EventReply) (s2 : BoardState)
@@ -128,7 +133,46 @@ pub fn creates_are_determined()
     spells_one();
 }
 
-/// Only put, lease_create, lease_add, gc, create and output allocate: no other request, no take and no
+/// A text that denotes a module within the limits is answered as a put of the canonical encoding of that module.
+pub fn texts_are_put()
+    ensures { (s : BoardState) (text : List ℕ) (m : Module) (r : Answer) (s' : BoardState)
+        → Denotes text m → FitsLimits m
+        → Answers s (request.PutText text) r s' → Answers s (request.Put (canon m)) r s' }
+{
+    denotes_one();
+    too_deep_denotes_none_within();
+}
+
+/// A text that denotes no module within the limits leaves the board. It is refused as `Limit` if it denotes a
+/// module, and as `BadText` if it denotes none and no more than 256 blocks are open in it.
+pub fn bad_texts_are_refused()
+    ensures stays { (s : BoardState) (text : List ℕ) (r : Answer) (s' : BoardState)
+        → ((m : Module) → Denotes text m → FitsLimits m → ⊥)
+        → Answers s (request.PutText text) r s' → s' ≡ s }
+    ensures limit { (s : BoardState) (text : List ℕ) (m : Module) (r : Answer) (s' : BoardState)
+        → Denotes text m → (FitsLimits m → ⊥)
+        → Answers s (request.PutText text) r s' → r ≡ Err Refusal.Limit }
+    ensures bad { (s : BoardState) (text : List ℕ) (r : Answer) (s' : BoardState)
+        → DenotesNone text → (IsTooDeep text → ⊥)
+        → Answers s (request.PutText text) r s' → (e : Reason) × (r ≡ Err e) × IsBadText e }
+{
+    denotes_one();
+}
+
+/// The answer to a put of a text is determined but for the choices that are open: the line and the column of a
+/// fault, and whether a text that denotes no module, with more than 256 blocks open, is refused as `BadText` or
+/// as `Limit`. The board that it leaves is determined.
+pub fn texts_are_determined()
+    ensures { (s : BoardState) (text : List ℕ)
+        (r : Answer) (s1 : BoardState) (r' : Answer) (s2 : BoardState)
+        → Answers s (request.PutText text) r s1 → Answers s (request.PutText text) r' s2
+        → AgreeOnText text r r' × (s1 ≡ s2) }
+{
+    denotes_one();
+    too_deep_denotes_none_within();
+}
+
+/// Only put, put_text, lease_create, lease_add, gc, create and output allocate: no other request, no take and no
 /// return may be left out for lack of memory.
 pub fn few_requests_allocate()
     ensures remove { (digest : List ℕ) → takes_memory (request.Remove digest) ≡ false }

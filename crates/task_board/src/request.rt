@@ -8,6 +8,8 @@ use wasm_ast::{Bytes, Sequence, Text};
 pub enum Request {
     /// Stores bytes as a content, under their digest.
     Put { bytes: Bytes },
+    /// Stores the canonical encoding of the module that a text denotes, as a put of those bytes does.
+    PutText { text: Text },
     /// Removes the content under a digest.
     Remove { digest: Text },
     /// Creates a lease with an id.
@@ -51,7 +53,8 @@ pub struct TaskState {
 /// The answer to a request that was accepted.
 #[derive(Drop)]
 pub enum Reply {
-    /// The digest of the bytes, and how many bytes they are.
+    /// The digest of the bytes that are stored, and how many bytes they are: of a put of a text, the bytes of
+    /// its module.
     Put { digest: Text, size: u64 },
     Remove { digest: Text },
     LeaseCreate { id: Text },

@@ -25,7 +25,7 @@ ghost use Rattle.task_board.specs.Tickets.{ticket_of, CanLend, Lends, ticket_in}
 ghost use Rattle.task_board.specs.Waiting.{enter_if, enter_again, running_ticket, waiting_after_call, waiting_after, AreWaiting};
 ghost use Rattle.task_board.specs.Inside.Plans.{id_refusals, IsAllowed, RefusesTask, RefusesKill, RefusesOutput, TellsOutput, CreatePrepared, CallPrepared, Plans};
 ghost use Rattle.task_board.specs.Inside.Changes.{change_request, change_refusals};
-ghost use Rattle.task_board.specs.Inside.StoreChanges.{store_request, StorePrepared};
+ghost use Rattle.task_board.specs.Inside.StoreChanges.{IsMadeFor, StorePrepared};
 
 use crate::change::Change;
 use crate::loan::Loan;
@@ -380,8 +380,8 @@ impl Tables {
     // Changes the store.
     fn change_store(&mut self, change: StoreChange) -> Reply
         requires { StorePrepared self.old.state self.old.room change }
-        ensures answers { Answers self.old.state
-            (store_request change) (Ok result) self.new.state }
+        ensures answers { (r : RequestValue) → IsMadeFor r change
+            → Answers self.old.state r (Ok result) self.new.state }
         ensures waiting { self.new.waiting ≡ self.old.waiting }
         ensures room { KeepsRoom self.old self.new }
     {

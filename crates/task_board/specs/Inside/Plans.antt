@@ -21,7 +21,7 @@ use Rattle.task_board.specs.Refusals.{is_full, create_refusals, kill_refusals, d
 use Rattle.task_board.specs.Step.{Answers}
 use Rattle.task_board.specs.Tasks.{output_of}
 use Rattle.task_board.specs.Inside.Changes.{change_request, change_refusals}
-use Rattle.task_board.specs.Inside.StoreChanges.{store_request, StorePrepared}
+use Rattle.task_board.specs.Inside.StoreChanges.{IsMadeFor, StorePrepared}
 
 -- those of a create that concern its id alone
 abbrev pub id_refusals : BoardState → (id : List ℕ) → Refusals
@@ -93,7 +93,7 @@ IsQuestion other = ⊥
 abbrev pub Plans : BoardState → Room → Request → Plan → Type 0
 Plans s room r (plan.Refused e) = (e ≢ refusal.NoMemory) × Answers s r (Err e) s
 Plans s room r (plan.Answered reply) = IsQuestion r × Answers s r (Ok reply) s
-Plans s room r (plan.Store c) = (r ≡ store_request c) × StorePrepared s room c
+Plans s room r (plan.Store c) = IsMadeFor r c × StorePrepared s room c
 Plans s room r (plan.Create task id) = CreatePrepared s r task id
 Plans s room r (plan.Change c slot id) = (r ≡ change_request c id) × CallPrepared s (change_refusals c) slot id
 Plans s room r (plan.Delete slot id) = (r ≡ request.Delete id) × CallPrepared s delete_refusals slot id

@@ -14,6 +14,7 @@ use Rattle.task_board.specs.declared.request.Reply.{Reply}
 use Rattle.task_board.specs.declared.request.Reply.TheVariants as reply
 use Rattle.task_board.specs.BoardState.{BoardState, used_by}
 use Rattle.task_board.specs.BoardValue.{Room}
+use Rattle.task_board.specs.Texts.{IsAssembled}
 
 abbrev pub store_request : StoreChange → Request
 store_request (change.Put key bytes digest) = request.Put (arc_value bytes)
@@ -22,6 +23,12 @@ store_request (change.LeaseCreate key members id) = request.LeaseCreate id
 store_request (change.LeaseAdd key digest id) = request.LeaseAdd digest id
 store_request (change.LeaseDelete id) = request.LeaseDelete id
 store_request (change.Gc used removed) = request.Gc
+
+-- the change is made for this request: it is the request's own, or stores the bytes of a text
+abbrev pub IsMadeFor : Request → StoreChange → Type 0
+IsMadeFor (request.PutText text) (change.Put key bytes digest) = IsAssembled text (arc_value bytes)
+IsMadeFor (request.PutText text) other = ⊥
+IsMadeFor r c = r ≡ store_request c
 
 abbrev pub store_reply : StoreChange → Reply
 store_reply (change.Put key bytes digest) = reply.Put digest (length (arc_value bytes))

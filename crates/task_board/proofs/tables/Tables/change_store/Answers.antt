@@ -7,7 +7,7 @@ use Rattle.task_board.specs.Step.{Answers}
 use Rattle.task_board.specs.Inside.StoreChanges.{store_request, store_reply, StorePrepared}
 use Rattle.task_board.specs.Inside.Shown.{board_state_of, board_of}
 use Rattle.task_board.proofs.EffectLemmas.{answers_sound}
-use Rattle.task_board.proofs.StoreChangeLemmas.{with_shelf, store_answers, can_take, store_keeps}
+use Rattle.task_board.proofs.StoreChangeLemmas.{with_shelf, store_answers, made_answers, can_take, store_keeps}
 use Rattle.task_board.proofs.tables.Tables.change_store.Goals as goal
 
 pub make_and_drop-requires-clause-can : goal.make_and_drop-requires-clause-can
@@ -30,7 +30,7 @@ invariant_of-self c =
     }
 
 pub returns-clause-answers : goal.returns-clause-answers
-returns-clause-answers c =
+returns-clause-answers c r made =
     let b = c.self.inside in
     let P : BoardValue → Type 0 = λ v. StorePrepared v.state v.room c.args.change in
     let s = board_state_of b in
@@ -38,7 +38,8 @@ returns-clause-answers c =
     let after = subst (λ (x : StoreState). Answers s (store_request c.args.change) (Ok (store_reply c.args.change)) (with_store s x)) (sym c.make_and_drop.ensures.leaves) done in
     let Q : BoardValue → Type 0 = λ v. Answers v.state (store_request c.args.change) (Ok (store_reply c.args.change)) (with_store s c.make_and_drop.new.store.state) in
     let R : Reply → Type 0 = λ x. Answers c.args.self.now.state (store_request c.args.change) (Ok x) (with_store s c.make_and_drop.new.store.state) in
-    subst R (sym c.make_and_drop.ensures.reply) (subst Q c.self.view_is after)
+    let own = subst R (sym c.make_and_drop.ensures.reply) (subst Q c.self.view_is after) in
+    made_answers c.args.self.now.state r c.args.change (Ok c.make_and_drop.result) (with_store s c.make_and_drop.new.store.state) made own
 
 pub returns-clause-room : goal.returns-clause-room
 returns-clause-room c =
