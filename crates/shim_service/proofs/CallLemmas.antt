@@ -27,6 +27,7 @@ call_happens s r a s' answers same quiet = call_happens_by s r a s' (takes_memor
 nothing_before : (s : BoardState) (r : Request) → ((id : List ℕ) → r ≡ request.Wait id → ⊥) → Before s r s
 nothing_before s (request.Wait id) other = absurd (other id refl)
 nothing_before s (request.Put bytes) other = refl
+nothing_before s (request.PutText text) other = refl
 nothing_before s (request.Remove digest) other = refl
 nothing_before s (request.LeaseCreate id) other = refl
 nothing_before s (request.LeaseAdd digest id) other = refl

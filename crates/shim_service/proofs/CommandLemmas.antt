@@ -1,16 +1,16 @@
 -- The program's command line, and what was found of its arguments.
-use Rattle.std.proofs.Common.{◌≡◌, ◌⊎◌, List, [], Option, true, refl, sym, ◌∙◌, subst, inl, inr}
+use Rattle.std.proofs.Common.{◌≡◌, ◌⊎◌, List, [], Option, true, refl, subst, inl, inr}
 use Rattle.clap.specs.Faults.{is_simple_and_free}
 use Rattle.clap.specs.Kinds.{IsAmong}
 use Rattle.clap.specs.Simple.{is_simple}
-use Rattle.clap.specs.Walk.{Text}
+use Rattle.clap.specs.Walk.{Row, Text}
 use Rattle.clap.specs.declared.error.kind.ErrorKind.{ErrorKind}
 use Rattle.clap.specs.declared.error.kind.ErrorKind.TheVariants.{OutOfMemory}
 use Rattle.clap.proofs.OnLiterals.{clap_on_literals}
-use Rattle.shim_service.specs.Command.{program, command_in, faults_in, Name, AreFaulty}
-use Rattle.shim_service.specs.Inside.Chosen.{IsChosen, IsShown, IsOfArguments}
+use Rattle.shim_service.specs.Command.{program, command_in, faults_in, IsCommand, Name, AreFaulty}
+use Rattle.shim_service.specs.Inside.Chosen.{IsShown, IsOfArguments}
 use Rattle.shim_service.specs.declared.command.Command.{Command}
-use Rattle.shim_service.specs.declared.command.Command.TheVariants.{Serve, Replay, Show}
+use Rattle.shim_service.specs.declared.command.Command.TheVariants.{Serve, Replay, Asm, Check, Run, Show}
 use Rattle.shim_service.specs.declared.command.CommandError.{CommandError}
 use Rattle.shim_service.specs.declared.command.CommandError.TheVariants as failed
 
@@ -22,14 +22,20 @@ pub program_is_free : is_simple_and_free program ≡ true
 unfolding clap_on_literals
 program_is_free = refl
 
-pub named_from_chosen : (arguments : List Text) (found : Option (Text × Option Text)) → found ≡ command_in arguments → faults_in arguments ≡ [] → (c : Command) → IsChosen found c → Name arguments c
-named_from_chosen arguments found e none Serve h = (none, rw (← e) h)
-named_from_chosen arguments found e none (Replay file) h = (none, sym e ∙ h)
+pub named_from_chosen : (arguments : List Text) (found : Option (Text × List Row)) → found ≡ command_in arguments → faults_in arguments ≡ [] → (c : Command) → IsCommand found c → Name arguments c
+named_from_chosen arguments found e none Serve h = (none, subst (λ f. IsCommand f Serve) e h)
+named_from_chosen arguments found e none (Replay file) h = (none, subst (λ f. IsCommand f (Replay file)) e h)
+named_from_chosen arguments found e none (Asm file) h = (none, subst (λ f. IsCommand f (Asm file)) e h)
+named_from_chosen arguments found e none (Check file list) h = (none, subst (λ f. IsCommand f (Check file list)) e h)
+named_from_chosen arguments found e none (Run name args) h = (none, subst (λ f. IsCommand f (Run name args)) e h)
 named_from_chosen arguments found e none (Show text) h = absurd h
 
 pub named_from_shown : (arguments : List Text) (kind : ErrorKind) → (kind ≡ OutOfMemory) ⊎ IsAmong kind (faults_in arguments) → (c : Command) → IsShown kind c → Name arguments c
 named_from_shown arguments kind h Serve shown = absurd shown
 named_from_shown arguments kind h (Replay file) shown = absurd shown
+named_from_shown arguments kind h (Asm file) shown = absurd shown
+named_from_shown arguments kind h (Check file list) shown = absurd shown
+named_from_shown arguments kind h (Run name args) shown = absurd shown
 named_from_shown arguments kind (inl memory) (Show text) (inl help) = cc
 named_from_shown arguments kind (inl memory) (Show text) (inr version) = cc
 named_from_shown arguments kind (inr among) (Show text) (inl help) = inl (subst (λ k. IsAmong k (faults_in arguments)) help among)

@@ -117,6 +117,7 @@ same_slices law id (suc n) (suc m) s s1 s2 a b idle idle' =
 
 same_before : EventsAreDetermined → (s : BoardState) (q : Request) (s1 s2 : BoardState) → Before s q s1 → Before s q s2 → s1 ≡ s2
 same_before law s (request.Put bytes) s1 s2 a b = a ∙ sym b
+same_before law s (request.PutText text) s1 s2 a b = a ∙ sym b
 same_before law s (request.Remove digest) s1 s2 a b = a ∙ sym b
 same_before law s (request.LeaseCreate id) s1 s2 a b = a ∙ sym b
 same_before law s (request.LeaseAdd digest id) s1 s2 a b = a ∙ sym b

@@ -10,3 +10,8 @@ pub mod SliceLemmas
 pub mod CallLemmas
 pub mod DeterminedLemmas
 pub mod FloatLemmas
+pub mod SourceLemmas
+pub mod ListLemmas
+pub mod RanLemmas
+pub mod RunLemmas
+pub mod FileLaws

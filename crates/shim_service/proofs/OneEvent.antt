@@ -6,7 +6,7 @@ use Rattle.serde_json.specs.Data.{Data, number, string, object, Members, unsigne
 use Rattle.serde_json.specs.Find.{get_member}
 use Rattle.task_board.specs.declared.event.Event.{Event}
 use Rattle.task_board.specs.declared.event.Event.TheVariants.{Call, Take, Return}
-use Rattle.task_board.specs.declared.request.Request.TheVariants.{Put, Remove, LeaseCreate, LeaseAdd, LeaseDelete, Gc, Create, Start, Pause, Resume, Kill, Delete, State, Wait, Output}
+use Rattle.task_board.specs.declared.request.Request.TheVariants.{Put, PutText, Remove, LeaseCreate, LeaseAdd, LeaseDelete, Gc, Create, Start, Pause, Resume, Kill, Delete, State, Wait, Output}
 use Rattle.shim_service.specs.Request.{AsksEvent, IsEvent}
 
 abbrev put_read : Result (List ℕ) FromHexError → Option Event
@@ -26,6 +26,7 @@ number_of other then' = None
 abbrev of_op : Members → List ℕ → Option Event
 of_op ms op =
     cond (bytes_eq op (codes "put")) (text_of (get_member (codes "hex") ms) (λ hex. put_read (decode_of hex)))
+    (cond (bytes_eq op (codes "put_text")) (text_of (get_member (codes "text") ms) (λ text. Some (Call (PutText text))))
     (cond (bytes_eq op (codes "remove")) (text_of (get_member (codes "digest") ms) (λ digest. Some (Call (Remove digest))))
     (cond (bytes_eq op (codes "lease_create")) (text_of (get_member (codes "id") ms) (λ id. Some (Call (LeaseCreate id))))
     (cond (bytes_eq op (codes "lease_add")) (text_of (get_member (codes "digest") ms) (λ digest. text_of (get_member (codes "id") ms) (λ id. Some (Call (LeaseAdd digest id)))))
@@ -41,7 +42,7 @@ of_op ms op =
     (cond (bytes_eq op (codes "wait")) (text_of (get_member (codes "id") ms) (λ id. Some (Call (Wait id))))
     (cond (bytes_eq op (codes "output")) (text_of (get_member (codes "id") ms) (λ id. number_of (get_member (codes "stream") ms) (λ stream. Some (Call (Output id stream)))))
     (cond (bytes_eq op (codes "return")) (text_of (get_member (codes "id") ms) (λ id. Some (Return id)))
-    (text_of (get_member (codes "id") ms) (λ id. number_of (get_member (codes "budget") ms) (λ budget. Some (Take id budget)))))))))))))))))))
+    (text_of (get_member (codes "id") ms) (λ id. number_of (get_member (codes "budget") ms) (λ budget. Some (Take id budget))))))))))))))))))))
 
 -- the event of a value that is one
 abbrev of_data : Data → Option Event
@@ -50,6 +51,7 @@ of_data other = None
 
 recovered : (d : Data) (e : Event) → AsksEvent d e → of_data d ≡ Some e
 recovered d (Call (Put bytes)) (ms, whole, (hex, keys, decodes)) = rw (whole, keys, decodes) refl
+recovered d (Call (PutText text)) (ms, whole, keys) = rw (whole, keys) refl
 recovered d (Call (Remove digest)) (ms, whole, keys) = rw (whole, keys) refl
 recovered d (Call (LeaseCreate id)) (ms, whole, keys) = rw (whole, keys) refl
 recovered d (Call (LeaseAdd digest id)) (ms, whole, keys) = rw (whole, keys) refl

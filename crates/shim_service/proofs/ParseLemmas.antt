@@ -7,7 +7,7 @@ use Rattle.serde_json.proofs.Views.{get_member-put}
 use Rattle.task_board.specs.declared.event.Event.{Event}
 use Rattle.task_board.specs.declared.event.Event.TheVariants.{Call, Take, Return}
 use Rattle.task_board.specs.declared.request.Request.{Request}
-use Rattle.task_board.specs.declared.request.Request.TheVariants.{Put, Remove, LeaseCreate, LeaseAdd, LeaseDelete, Gc, Create, Start, Pause, Resume, Kill, Delete, State, Wait, Output}
+use Rattle.task_board.specs.declared.request.Request.TheVariants.{Put, PutText, Remove, LeaseCreate, LeaseAdd, LeaseDelete, Gc, Create, Start, Pause, Resume, Kill, Delete, State, Wait, Output}
 use Rattle.shim_service.specs.declared.line_error.LineError.{LineError}
 use Rattle.shim_service.specs.Request.{only_id, HasKeys, event_op, HasEventKeys, AsksEvent}
 use Rattle.shim_service.specs.Inside.Parse.{Parses, without, IsAsked, IsEventAsked, HasOnlyId, IsSimple}
@@ -15,6 +15,7 @@ use Rattle.shim_service.specs.Inside.Parse.{Parses, without, IsAsked, IsEventAsk
 -- no put with these keys, no request at all
 pub only_put : (op : List ℕ) (ms : Members) → op ≡ codes "put" → ((bytes : List ℕ) → HasKeys ms (Put bytes) → ⊥) → (r : Request) → IsAsked op ms r → ⊥
 only_put op ms is none (Put bytes) a = none bytes a.keys
+only_put op ms is none (PutText text) a = let same = a.same in cc
 only_put op ms is none (Remove digest) a = let same = a.same in cc
 only_put op ms is none (LeaseCreate id) a = let same = a.same in cc
 only_put op ms is none (LeaseAdd digest id) a = let same = a.same in cc
@@ -34,6 +35,7 @@ only_put op ms is none (Output id stream) a = let same = a.same in cc
 pub none_left : (op : List ℕ) (ms : Members) → op ≢ codes "put" → op ≢ codes "create" → op ≢ codes "kill" → ((r : Request) → IsSimple r → IsAsked op ms r → ⊥)
     → (r : Request) → IsAsked op ms r → ⊥
 none_left op ms put create kill none (Put bytes) a = put a.same
+none_left op ms put create kill none (PutText text) a = none (PutText text) tt a
 none_left op ms put create kill none (Create config id) a = create a.same
 none_left op ms put create kill none (Kill id signal) a = kill a.same
 none_left op ms put create kill none (Remove digest) a = none (Remove digest) tt a
@@ -53,10 +55,30 @@ none_left op ms put create kill none (Output id stream) a = none (Output id stre
 differ : (x y op : List ℕ) → bytes_eq x y ≡ false → op ≡ x → op ≡ y → ⊥
 differ x y op other is at = true≢false (sym ((bytes_eq-Decides x y).1 (sym is ∙ at)) ∙ other)
 
+-- no put of a text with these keys, no simple request at all
+pub only_put_text : (op : List ℕ) (ms : Members) → op ≡ codes "put_text" → ((text : List ℕ) → HasKeys ms (PutText text) → ⊥) → (r : Request) → IsSimple r → IsAsked op ms r → ⊥
+only_put_text op ms is none (PutText text) own a = none text a.keys
+only_put_text op ms is none (Put bytes) own a = own
+only_put_text op ms is none (Create config id) own a = own
+only_put_text op ms is none (Kill id signal) own a = own
+only_put_text op ms is none (Remove digest) own a = differ (codes "put_text") (codes "remove") op refl is a.same
+only_put_text op ms is none (LeaseCreate id) own a = differ (codes "put_text") (codes "lease_create") op refl is a.same
+only_put_text op ms is none (LeaseAdd digest id) own a = differ (codes "put_text") (codes "lease_add") op refl is a.same
+only_put_text op ms is none (LeaseDelete id) own a = differ (codes "put_text") (codes "lease_delete") op refl is a.same
+only_put_text op ms is none Gc own a = differ (codes "put_text") (codes "gc") op refl is a.same
+only_put_text op ms is none (Start id) own a = differ (codes "put_text") (codes "start") op refl is a.same
+only_put_text op ms is none (Pause id) own a = differ (codes "put_text") (codes "pause") op refl is a.same
+only_put_text op ms is none (Resume id) own a = differ (codes "put_text") (codes "resume") op refl is a.same
+only_put_text op ms is none (Delete id) own a = differ (codes "put_text") (codes "delete") op refl is a.same
+only_put_text op ms is none (State id) own a = differ (codes "put_text") (codes "state") op refl is a.same
+only_put_text op ms is none (Wait id) own a = differ (codes "put_text") (codes "wait") op refl is a.same
+only_put_text op ms is none (Output id stream) own a = differ (codes "put_text") (codes "output") op refl is a.same
+
 -- no removal with these keys, no simple request at all
 pub only_remove : (op : List ℕ) (ms : Members) → op ≡ codes "remove" → ((digest : List ℕ) → HasKeys ms (Remove digest) → ⊥) → (r : Request) → IsSimple r → IsAsked op ms r → ⊥
 only_remove op ms is none (Remove digest) own a = none digest a.keys
 only_remove op ms is none (Put bytes) own a = own
+only_remove op ms is none (PutText text) own a = differ (codes "remove") (codes "put_text") op refl is a.same
 only_remove op ms is none (Create config id) own a = own
 only_remove op ms is none (Kill id signal) own a = own
 only_remove op ms is none (LeaseCreate id) own a = differ (codes "remove") (codes "lease_create") op refl is a.same
@@ -74,6 +96,7 @@ only_remove op ms is none (Output id stream) own a = differ (codes "remove") (co
 pub only_lease_add : (op : List ℕ) (ms : Members) → op ≡ codes "lease_add" → ((digest id : List ℕ) → HasKeys ms (LeaseAdd digest id) → ⊥) → (r : Request) → IsSimple r → IsAsked op ms r → ⊥
 only_lease_add op ms is none (LeaseAdd digest id) own a = none digest id a.keys
 only_lease_add op ms is none (Put bytes) own a = own
+only_lease_add op ms is none (PutText text) own a = differ (codes "lease_add") (codes "put_text") op refl is a.same
 only_lease_add op ms is none (Create config id) own a = own
 only_lease_add op ms is none (Kill id signal) own a = own
 only_lease_add op ms is none (Remove digest) own a = differ (codes "lease_add") (codes "remove") op refl is a.same
@@ -91,6 +114,7 @@ only_lease_add op ms is none (Output id stream) own a = differ (codes "lease_add
 pub only_output : (op : List ℕ) (ms : Members) → op ≡ codes "output" → ((id : List ℕ) (stream : ℕ) → HasKeys ms (Output id stream) → ⊥) → (r : Request) → IsSimple r → IsAsked op ms r → ⊥
 only_output op ms is none (Output id stream) own a = none id stream a.keys
 only_output op ms is none (Put bytes) own a = own
+only_output op ms is none (PutText text) own a = differ (codes "output") (codes "put_text") op refl is a.same
 only_output op ms is none (Create config id) own a = own
 only_output op ms is none (Kill id signal) own a = own
 only_output op ms is none (Remove digest) own a = differ (codes "output") (codes "remove") op refl is a.same
@@ -108,6 +132,7 @@ only_output op ms is none (Wait id) own a = differ (codes "output") (codes "wait
 pub only_gc : (op : List ℕ) (ms : Members) → op ≡ codes "gc" → (ms ≡ no_members → ⊥) → (r : Request) → IsSimple r → IsAsked op ms r → ⊥
 only_gc op ms is none Gc own a = none a.keys
 only_gc op ms is none (Put bytes) own a = own
+only_gc op ms is none (PutText text) own a = differ (codes "gc") (codes "put_text") op refl is a.same
 only_gc op ms is none (Create config id) own a = own
 only_gc op ms is none (Kill id signal) own a = own
 only_gc op ms is none (Remove digest) own a = differ (codes "gc") (codes "remove") op refl is a.same
@@ -123,23 +148,24 @@ only_gc op ms is none (Wait id) own a = differ (codes "gc") (codes "wait") op re
 only_gc op ms is none (Output id stream) own a = differ (codes "gc") (codes "output") op refl is a.same
 
 -- no simple request with these keys, and none that has the key `id` alone
-pub none_simple : (op : List ℕ) (ms : Members) → op ≢ codes "remove" → op ≢ codes "lease_add" → op ≢ codes "output" → op ≢ codes "gc" → ((r : Request) → HasOnlyId r → IsAsked op ms r → ⊥)
+pub none_simple : (op : List ℕ) (ms : Members) → op ≢ codes "put_text" → op ≢ codes "remove" → op ≢ codes "lease_add" → op ≢ codes "output" → op ≢ codes "gc" → ((r : Request) → HasOnlyId r → IsAsked op ms r → ⊥)
     → (r : Request) → IsSimple r → IsAsked op ms r → ⊥
-none_simple op ms remove add output gc none (Put bytes) own a = own
-none_simple op ms remove add output gc none (Create config id) own a = own
-none_simple op ms remove add output gc none (Kill id signal) own a = own
-none_simple op ms remove add output gc none (Remove digest) own a = remove a.same
-none_simple op ms remove add output gc none (LeaseAdd digest id) own a = add a.same
-none_simple op ms remove add output gc none Gc own a = gc a.same
-none_simple op ms remove add output gc none (LeaseCreate id) own a = none (LeaseCreate id) tt a
-none_simple op ms remove add output gc none (LeaseDelete id) own a = none (LeaseDelete id) tt a
-none_simple op ms remove add output gc none (Start id) own a = none (Start id) tt a
-none_simple op ms remove add output gc none (Pause id) own a = none (Pause id) tt a
-none_simple op ms remove add output gc none (Resume id) own a = none (Resume id) tt a
-none_simple op ms remove add output gc none (Delete id) own a = none (Delete id) tt a
-none_simple op ms remove add output gc none (State id) own a = none (State id) tt a
-none_simple op ms remove add output gc none (Wait id) own a = none (Wait id) tt a
-none_simple op ms remove add output gc none (Output id stream) own a = output a.same
+none_simple op ms put_text remove add output gc none (Put bytes) own a = own
+none_simple op ms put_text remove add output gc none (PutText text) own a = put_text a.same
+none_simple op ms put_text remove add output gc none (Create config id) own a = own
+none_simple op ms put_text remove add output gc none (Kill id signal) own a = own
+none_simple op ms put_text remove add output gc none (Remove digest) own a = remove a.same
+none_simple op ms put_text remove add output gc none (LeaseAdd digest id) own a = add a.same
+none_simple op ms put_text remove add output gc none Gc own a = gc a.same
+none_simple op ms put_text remove add output gc none (LeaseCreate id) own a = none (LeaseCreate id) tt a
+none_simple op ms put_text remove add output gc none (LeaseDelete id) own a = none (LeaseDelete id) tt a
+none_simple op ms put_text remove add output gc none (Start id) own a = none (Start id) tt a
+none_simple op ms put_text remove add output gc none (Pause id) own a = none (Pause id) tt a
+none_simple op ms put_text remove add output gc none (Resume id) own a = none (Resume id) tt a
+none_simple op ms put_text remove add output gc none (Delete id) own a = none (Delete id) tt a
+none_simple op ms put_text remove add output gc none (State id) own a = none (State id) tt a
+none_simple op ms put_text remove add output gc none (Wait id) own a = none (Wait id) tt a
+none_simple op ms put_text remove add output gc none (Output id stream) own a = output a.same
 
 -- a request of the key `id` alone has these members
 pub only_its_id : (op : List ℕ) (ms : Members) → ((id : List ℕ) → ms ≢ only_id id) → (r : Request) → HasOnlyId r → IsAsked op ms r → ⊥
@@ -152,6 +178,7 @@ only_its_id op ms none (Delete id) own a = none id a.keys
 only_its_id op ms none (State id) own a = none id a.keys
 only_its_id op ms none (Wait id) own a = none id a.keys
 only_its_id op ms none (Put bytes) own a = own
+only_its_id op ms none (PutText text) own a = own
 only_its_id op ms none (Remove digest) own a = own
 only_its_id op ms none (LeaseAdd digest id) own a = own
 only_its_id op ms none Gc own a = own
@@ -171,6 +198,7 @@ no_such_op op ms g h a b c d e f (Delete id) own is = d is.same
 no_such_op op ms g h a b c d e f (State id) own is = e is.same
 no_such_op op ms g h a b c d e f (Wait id) own is = f is.same
 no_such_op op ms g h a b c d e f (Put bytes) own is = own
+no_such_op op ms g h a b c d e f (PutText text) own is = own
 no_such_op op ms g h a b c d e f (Remove digest) own is = own
 no_such_op op ms g h a b c d e f (LeaseAdd digest id) own is = own
 no_such_op op ms g h a b c d e f Gc own is = own
@@ -181,6 +209,7 @@ no_such_op op ms g h a b c d e f (Output id stream) own is = own
 -- the keys of an event do not have `op` among them
 rest_of : (e : Event) (d : Data) (ms : Members) → HasEventKeys ms e → without (codes "op") (put (codes "op") d ms) ≡ ms
 rest_of (Call (Put bytes)) d ms h = rw (h.1) refl
+rest_of (Call (PutText text)) d ms h = rw h refl
 rest_of (Call (Remove digest)) d ms h = rw h refl
 rest_of (Call (LeaseCreate id)) d ms h = rw h refl
 rest_of (Call (LeaseAdd digest id)) d ms h = rw h refl

@@ -1,6 +1,7 @@
 -- Lines that are read and written so.
-use Rattle.std.specs.Prelude.{◌≡◌, [], ◌∷◌, Some, Ok, codes}
+use Rattle.std.specs.Prelude.{◌≡◌, [], ◌∷◌, Some, Ok, Err, codes}
 use Rattle.task_board.specs.declared.event.Event.TheVariants.{Call, Take}
+use Rattle.wasm_ast.specs.declared.refusal.Refusal.TheVariants as refusal
 use Rattle.task_board.specs.declared.request.Request.TheVariants as request
 use Rattle.task_board.specs.declared.request.Reply.TheVariants as reply
 use Rattle.task_lifecycle.specs.declared.status.ExitRecord.TheVariants.{Exit}
@@ -11,6 +12,16 @@ use Rattle.shim_service.specs.Reply.{json_of, line_text}
 -- digits of either case
 abbrev pub PutExample : Type 0
 PutExample = IsEvent (codes "{\"op\":\"put\",\"hex\":\"00fF\"}") (Call (request.Put (0 ∷ 255 ∷ [])))
+
+-- a line feed that is escaped in JSON is one in the text
+abbrev pub TextExample : Type 0
+TextExample = IsEvent (codes "{\"op\":\"put_text\",\"text\":\"(module\\n)\"}") (Call (request.PutText (codes "(module\n)")))
+
+-- the place of a fault
+abbrev pub FaultExample : Type 0
+FaultExample =
+    line_text (json_of (Err (refusal.BadText 1 38)))
+    ≡ codes "{\"column\":38,\"error\":\"BadText\",\"line\":1,\"number\":18,\"ok\":false}\n"
 
 -- of a key that stands twice the last value counts
 abbrev pub TwiceExample : Type 0

@@ -6,3 +6,4 @@ pub mod Script
 pub mod Chosen
 pub mod Calls
 pub mod Turns
+pub mod Written

@@ -6,5 +6,10 @@ pub mod Session
 pub mod Replay
 pub mod Serving
 pub mod Command
+pub mod Source
+pub mod Ran
+pub mod Assembled
+pub mod Checked
+pub mod TaskRun
 pub mod Examples
 pub mod Inside

@@ -3,7 +3,7 @@ use Rattle.std.specs.Prelude.{◌≡◌, ◌≤◌, ℕ, List, [], ◌∷◌, Ok
 use Rattle.hex.specs.Hex.{decode_of}
 use Rattle.serde_json.specs.Data.{Data, string, number, unsigned, object, Members, put}
 use Rattle.task_board.specs.declared.request.Request.{Request}
-use Rattle.task_board.specs.declared.request.Request.TheVariants.{Put, Remove, LeaseCreate, LeaseAdd, LeaseDelete, Gc, Create, Start, Pause, Resume, Kill, Delete, State, Wait, Output}
+use Rattle.task_board.specs.declared.request.Request.TheVariants.{Put, PutText, Remove, LeaseCreate, LeaseAdd, LeaseDelete, Gc, Create, Start, Pause, Resume, Kill, Delete, State, Wait, Output}
 use Rattle.task_board.specs.declared.event.Event.{Event}
 use Rattle.task_board.specs.declared.event.Event.TheVariants.{Call, Take, Return}
 use Rattle.shim_service.specs.Shape.{IsJson, members}
@@ -13,6 +13,7 @@ use Rattle.shim_service.specs.Shape.{IsJson, members}
 -- the value of the key `op`
 abbrev pub op_of : Request → List ℕ
 op_of (Put bytes) = codes "put"
+op_of (PutText text) = codes "put_text"
 op_of (Remove digest) = codes "remove"
 op_of (LeaseCreate id) = codes "lease_create"
 op_of (LeaseAdd digest id) = codes "lease_add"
@@ -35,6 +36,7 @@ only_id id = members ((codes "id", string id) ∷ [])
 -- the other members, by their keys: `hex` is an even number of hexadecimal digits of either case
 abbrev pub HasKeys : Members → Request → Type 0
 HasKeys ms (Put bytes) = (hex : List ℕ) × (ms ≡ members ((codes "hex", string hex) ∷ [])) × (decode_of hex ≡ Ok bytes)
+HasKeys ms (PutText text) = ms ≡ members ((codes "text", string text) ∷ [])
 HasKeys ms (Remove digest) = ms ≡ members ((codes "digest", string digest) ∷ [])
 HasKeys ms (LeaseCreate id) = ms ≡ only_id id
 HasKeys ms (LeaseAdd digest id) = ms ≡ members ((codes "digest", string digest) ∷ (codes "id", string id) ∷ [])

@@ -8,7 +8,7 @@ ghost use Rattle.task_board.specs.declared.request.Request.{Request};
 ghost use Rattle.task_board.specs.BoardState.{BoardState};
 ghost use Rattle.task_board.specs.Choices.{IsDetermined};
 ghost use Rattle.task_board.specs.Step.{Answer};
-ghost use Rattle.shim_service.specs.Examples.{PutExample, LeaseExample, TwiceExample, TakeExample, RemovedExample, StoppedExample, OutputExample, WrittenExample};
+ghost use Rattle.shim_service.specs.Examples.{PutExample, TextExample, FaultExample, LeaseExample, TwiceExample, TakeExample, RemovedExample, StoppedExample, OutputExample, WrittenExample};
 ghost use Rattle.shim_service.specs.Replay.{IsReplied};
 ghost use Rattle.shim_service.specs.Reply.{json_of, line_text};
 ghost use Rattle.shim_service.specs.Request.{IsRequest, IsEvent};
@@ -28,7 +28,7 @@ pub fn requests_are_events()
 {}
 
 /// What a line of a script is answered, and the board that it leaves, are determined by the line and the
-/// board, unless the line is a create or memory ran out.
+/// board, unless the line is a create or a put of a text, or memory ran out.
 pub fn script_lines_are_determined()
     ensures { (s : BoardState) (line : List ℕ)
         (text : List ℕ) (s1 : BoardState) (text' : List ℕ) (s2 : BoardState)
@@ -41,7 +41,7 @@ pub fn script_lines_are_determined()
 }
 
 /// What a line of a stream is answered, and the board that it leaves, are determined by the line and the
-/// board, unless the line is a create or memory ran out. A wait runs its task to one board alone.
+/// board, unless the line is a create or a put of a text, or memory ran out. A wait runs its task to one board alone.
 pub fn stream_lines_are_determined()
     ensures { (s : BoardState) (line : List ℕ)
         (text : List ℕ) (s1 : BoardState) (text' : List ℕ) (s2 : BoardState)
@@ -63,6 +63,8 @@ pub fn long_lines_are_no_requests()
 /// Lines that are read so, and some that are written so.
 pub fn examples()
     ensures put { PutExample }
+    ensures text { TextExample }
+    ensures fault { FaultExample }
     ensures lease { LeaseExample }
     ensures twice { TwiceExample }
     ensures take { TakeExample }

@@ -88,6 +88,20 @@ fn read_remove(members: Members) -> Option<Text>
     if is_done(&left) { Some(digest) } else { None }
 }
 
+/// Reads the members beside `op` of a put of a text: the text.
+fn read_put_text(members: Members) -> Option<Text>
+    ensures some { IfSome result (λ text.
+        HasKeys (members_view members.entries) (Asked.PutText text)) }
+    ensures none { IfNone result ((text : List ℕ) →
+        HasKeys (members_view members.entries) (Asked.PutText text) → ⊥) }
+{
+    let mut left = members;
+    let Some(text) = take_text(&mut left, "text") else {
+        return None;
+    };
+    if is_done(&left) { Some(text) } else { None }
+}
+
 /// Reads the members beside `op` of an addition to a lease: the digest and the id.
 fn read_lease_add(members: Members) -> Option<(Text, Text)>
     ensures some { IfSome result (λ r.
@@ -153,6 +167,10 @@ fn read_simple(op: &str, members: Members) -> Option<Request>
         ((r : Request) → IsSimple r → IsAsked op.now (members_view members.entries) r → ⊥) }
 {
     match op {
+        "put_text" => {
+            let text = read_put_text(members)?;
+            Some(Request::PutText { text })
+        }
         "remove" => {
             let digest = read_remove(members)?;
             Some(Request::Remove { digest })

@@ -1,11 +1,15 @@
 //! The program `wasm-shim`: WebAssembly modules, run as container tasks.
 #![tactic(auto)]
 
-use shim_service::{Command, CommandError, command_of, replay_lines, serve_lines};
+use shim_service::{
+    Command, CommandError, Ran, asm_file, check_file, command_of, replay_lines, run_file,
+    serve_lines,
+};
 use std::io::Write;
 use std::process::ExitCode;
 use std::{env, fs, io};
 use task_board::Board;
+use wasm_ast::Refusal;
 
 // The exit status if the arguments are those of no command.
 const EXIT_USAGE: u8 = 2;
@@ -48,15 +52,66 @@ fn serve(rt: &HostRuntime) -> ExitCode {
     }
 }
 
+// The bytes of a file, or the status of the program that cannot read it.
+fn read(rt: &HostRuntime, file: &str) -> Result<Vec<u8>, ExitCode> {
+    match fs::read(rt, file) {
+        Ok(bytes) => Ok(bytes),
+        Err(error) => Err(stream_failed(rt, file, &error)),
+    }
+}
+
 // Runs the lines of a file.
 fn replay(rt: &HostRuntime, file: &str) -> ExitCode {
-    let bytes = match fs::read(rt, file) {
+    let bytes = match read(rt, file) {
         Ok(bytes) => bytes,
-        Err(error) => return stream_failed(rt, file, &error),
+        Err(status) => return status,
     };
     match replay_lines(rt.alloc(), bytes.as_slice()) {
         Ok(answers) => write_out(rt, answers.as_slice()),
         Err(_) => failed(rt, "out of memory"),
+    }
+}
+
+// Writes what a command writes, and ends with its status.
+fn write_ran(rt: &HostRuntime, ran: &Ran) -> ExitCode {
+    if let Err(error) = rt.stdout().write_all(ran.out.as_slice()) {
+        return stream_failed(rt, "standard output", &error);
+    }
+    match rt.stderr().write_all(ran.err.as_slice()) {
+        Ok(()) => ExitCode::from(ran.status),
+        Err(_) => ExitCode::FAILURE,
+    }
+}
+
+// Ends with what a command came to.
+fn finish(rt: &HostRuntime, ran: Result<Ran, Refusal>) -> ExitCode {
+    match ran {
+        Ok(ran) => write_ran(rt, &ran),
+        Err(_) => failed(rt, "out of memory"),
+    }
+}
+
+// Writes the encoding of the module in a file.
+fn asm(rt: &HostRuntime, file: &str) -> ExitCode {
+    match read(rt, file) {
+        Ok(bytes) => finish(rt, asm_file(rt.alloc(), bytes.as_slice())),
+        Err(status) => status,
+    }
+}
+
+// Says whether the module in a file is valid.
+fn check(rt: &HostRuntime, file: &str, list: bool) -> ExitCode {
+    match read(rt, file) {
+        Ok(bytes) => finish(rt, check_file(rt.alloc(), bytes.as_slice(), list)),
+        Err(status) => status,
+    }
+}
+
+// Runs the module in a file.
+fn run(rt: &HostRuntime, file: &str, args: &[String]) -> ExitCode {
+    match read(rt, file) {
+        Ok(bytes) => finish(rt, run_file(rt.alloc(), file, bytes.as_slice(), args)),
+        Err(status) => status,
     }
 }
 
@@ -83,6 +138,9 @@ fn main(rt: HostRuntime) -> ExitCode {
     match command_of(rt.alloc(), given.as_slice()) {
         Ok(Command::Serve) => serve(&rt),
         Ok(Command::Replay { file }) => replay(&rt, file.as_str()),
+        Ok(Command::Asm { file }) => asm(&rt, file.as_str()),
+        Ok(Command::Check { file, list }) => check(&rt, file.as_str(), list),
+        Ok(Command::Run { module, args }) => run(&rt, module.as_str(), args.as_slice()),
         Ok(Command::Show { text }) => write_out(&rt, text.as_bytes()),
         Err(error) => refuse(&rt, &error),
     }

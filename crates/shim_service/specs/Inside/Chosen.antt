@@ -1,18 +1,11 @@
 -- What the parts of the command line's reader promise.
-use Rattle.std.specs.Prelude.{◌≡◌, ◌≢◌, ◌⊎◌, Option, Some, option_map, codes, string_bytes}
-use Rattle.clap.specs.Walk.{Text}
+use Rattle.std.specs.Prelude.{◌≡◌, ◌≢◌, ◌⊎◌}
 use Rattle.clap.specs.declared.error.kind.ErrorKind.{ErrorKind}
 use Rattle.clap.specs.declared.error.kind.ErrorKind.TheVariants as kind
 use Rattle.shim_service.specs.declared.command.Command.{Command}
-use Rattle.shim_service.specs.declared.command.Command.TheVariants.{Serve, Replay, Show}
+use Rattle.shim_service.specs.declared.command.Command.TheVariants.{Show}
 use Rattle.shim_service.specs.declared.command.CommandError.{CommandError}
 use Rattle.shim_service.specs.declared.command.CommandError.TheVariants.{OutOfMemory, Arguments}
-
--- what was found of the arguments is this command
-abbrev pub IsChosen : Option (Text × Option Text) → Command → Type 0
-IsChosen found Serve = option_map (λ p. p.0) found ≡ Some (codes "serve")
-IsChosen found (Replay file) = found ≡ Some (codes "replay", Some (string_bytes file))
-IsChosen found (Show text) = ⊥
 
 -- an error of this kind is shown
 abbrev pub IsShown : ErrorKind → Command → Type 0

@@ -21,6 +21,7 @@ pub record Parses {X : Type 0} (Is : X → Type 0) (r : Result X LineError) : Ty
 -- a request whose only key beside `op` is `id`
 abbrev pub HasOnlyId : Request → Type 0
 HasOnlyId (request.Put bytes) = ⊥
+HasOnlyId (request.PutText text) = ⊥
 HasOnlyId (request.Remove digest) = ⊥
 HasOnlyId (request.LeaseAdd digest id) = ⊥
 HasOnlyId request.Gc = ⊥

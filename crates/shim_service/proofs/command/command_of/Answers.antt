@@ -1,10 +1,9 @@
-use Rattle.std.proofs.Common.{◌≡◌, ap, sym, ◌∙◌, subst, codes, option_map, map, string_bytes}
+use Rattle.std.proofs.Common.{◌≡◌, ap, sym, ◌∙◌, subst, map, string_bytes}
 use Rattle.std.proofs.lemmas.Result.{IfErr-weaker, IfOk-weaker}
 use Rattle.clap.specs.Faults.{is_simple_and_free, fault_of}
 use Rattle.clap.specs.Kinds.{HasKind}
 use Rattle.clap.specs.Simple.{app_of, is_simple, subcommand_of}
 use Rattle.clap.specs.Values.{kind_of}
-use Rattle.clap.specs.Walk.{first_of}
 use Rattle.shim_service.specs.Command.{program}
 use Rattle.shim_service.proofs.CommandLemmas.{program_is_simple, program_is_free, named_from_chosen, named_from_shown, faulty_from_kind}
 use Rattle.shim_service.proofs.command.command_of.Goals as goal
@@ -15,7 +14,7 @@ returns-in-Ok-try_get_matches_from-clause-ok c =
     let read : app_of c.in-Ok.parser ≡ program = c.in-Ok.ensures in
     let found = c.in-Ok-try_get_matches_from.ensures.matches (ap is_simple read ∙ program_is_simple) in
     let faults = c.in-Ok-try_get_matches_from.ensures.kinds (ap is_simple_and_free read ∙ program_is_free) in
-    IfOk-weaker c.chosen.result _ _ (λ d h. named_from_chosen arguments _ (ap (option_map (λ p. (p.0, first_of (codes "FILE") p.1))) (found.1 ∙ ap (λ a. subcommand_of a arguments) read)) (ap (λ a. fault_of a arguments) (sym read) ∙ faults) d h) c.chosen.ensures.ok
+    IfOk-weaker c.chosen.result _ _ (λ d h. named_from_chosen arguments _ (found.1 ∙ ap (λ a. subcommand_of a arguments) read) (ap (λ a. fault_of a arguments) (sym read) ∙ faults) d h) c.chosen.ensures.ok
 
 pub returns-in-Err-clause-ok : goal.returns-in-Err-clause-ok
 returns-in-Err-clause-ok c =

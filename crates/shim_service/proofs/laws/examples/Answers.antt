@@ -57,3 +57,15 @@ returns-clause-output c = record {
 pub returns-clause-written : goal.returns-clause-written
 unfolding serde_json_on_literals hex_on_literals digits
 returns-clause-written c = refl
+
+pub returns-clause-text : goal.returns-clause-text
+unfolding serde_json_on_literals is_utf8 chars
+returns-clause-text c = record {
+  value = _;
+  reads = record { short = omega arith; utf8 = IsUtf8-from_is_utf8 (codes "{\"op\":\"put_text\",\"text\":\"(module\\n)\"}") refl; value = refl };
+  asks = (_, refl, refl);
+}
+
+pub returns-clause-fault : goal.returns-clause-fault
+unfolding serde_json_on_literals digits
+returns-clause-fault c = refl

@@ -1,0 +1,9 @@
+use Rattle.std.proofs.Common.{List, All, sym, subst}
+use Rattle.wasm_ast.specs.declared.module.Func.{Func}
+use Rattle.shim_service.specs.Inside.Written.{OpsAligned}
+use Rattle.shim_service.proofs.ListLemmas.{funcs_aligned}
+use Rattle.shim_service.proofs.check.push_listing.Goals as goal
+
+pub push_funcs-requires : goal.push_funcs-requires
+push_funcs-requires c =
+    subst (λ (fs : List Func). All (λ f. OpsAligned f.body) fs) (sym c.as_slice.ensures) (funcs_aligned c.args.module.now c.requires)

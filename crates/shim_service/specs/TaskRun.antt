@@ -1,0 +1,61 @@
+-- What `run` writes: one task, from its first turn to its end.
+use Rattle.std.specs.Prelude.{◌≡◌, ℕ, ◌%◌, List, [], ◌∷◌, ◌++◌, true, false, codes, None, Some}
+use Rattle.wasm_ast.specs.declared.module.Module.{Module}
+use Rattle.wasm_ast.specs.declared.refusal.Refusal.{Refusal}
+use Rattle.wasm_ast.specs.declared.refusal.Refusal.TheVariants as refusal
+use Rattle.wasm_ast.specs.Names.{trap_name}
+use Rattle.oci_config.specs.Config.{are_arguments_alone, process_with}
+use Rattle.validator.specs.Typing.{ValidModule}
+use Rattle.step_machine.specs.declared.ends.End.{End}
+use Rattle.step_machine.specs.declared.ends.End.TheVariants as ends
+use Rattle.step_machine.specs.Configuration.{Store}
+use Rattle.step_machine.specs.Instantiation.{instantiation_refusal, after, ended}
+use Rattle.task_lifecycle.specs.Names.{exit_status}
+use Rattle.task_board.specs.Tasks.{exit_of}
+use Rattle.shim_service.specs.declared.ran.Ran.{Ran}
+use Rattle.shim_service.specs.Source.{IsSource, IsNoSource}
+use Rattle.shim_service.specs.Ran.{line, refused_run}
+
+-- why a file cannot be run with these arguments: the first reason that holds
+pub data CannotRun (bytes : List ℕ) (args : List (List ℕ)) : Refusal → Type 0 where
+  no_module : (e : Refusal) → IsNoSource bytes e → CannotRun bytes args e
+  -- a process cannot have the arguments
+  bad_arguments :
+      (m : Module) → IsSource bytes m → are_arguments_alone args ≡ false → CannotRun bytes args refusal.BadConfig
+  invalid :
+      (m : Module) → IsSource bytes m → are_arguments_alone args ≡ true → (ValidModule m → ⊥)
+      → CannotRun bytes args refusal.Invalid
+  not_instantiated :
+      (m : Module) (e : Refusal) → IsSource bytes m → are_arguments_alone args ≡ true → ValidModule m
+      → instantiation_refusal m (process_with args) ≡ Some e → CannotRun bytes args e
+
+-- a trap adds a line to standard error
+abbrev pub trap_line : End → List ℕ
+trap_line ends.Returned = []
+trap_line (ends.Exited code) = []
+trap_line (ends.Trapped trap) = line (codes "trap: " ++ trap_name trap)
+
+-- what a task has written and its exit status, of which a program's status has the lowest 8 bits
+abbrev pub ran_to : Store → End → Ran
+ran_to store end = record {
+  out = store.out;
+  err = store.err ++ trap_line end;
+  status = exit_status (exit_of end) % 256;
+}
+
+-- the file's valid module, run with these arguments, has this end after some number of turns
+pub record IsEnd (bytes : List ℕ) (args : List (List ℕ)) (ran : Ran) : Type 0 where
+  pub «module» : Module
+  pub turns : ℕ
+  pub end : End
+  pub source : IsSource bytes «module»
+  pub arguments : are_arguments_alone args ≡ true
+  pub valid : ValidModule «module»
+  pub opens : instantiation_refusal «module» (process_with args) ≡ None
+  pub ends : ended (after «module» (process_with args) turns).state ≡ Some end
+  pub is : ran ≡ ran_to (after «module» (process_with args) turns).store end
+
+-- the arguments of the task are the name of the file and the words that follow it
+pub data IsRun (name bytes : List ℕ) (args : List (List ℕ)) : Ran → Type 0 where
+  ran : (r : Ran) → IsEnd bytes (name ∷ args) r → IsRun name bytes args r
+  no_task : (e : Refusal) → CannotRun bytes (name ∷ args) e → IsRun name bytes args (refused_run e)

@@ -1,0 +1,117 @@
+//! What a command writes, and the status that it ends with.
+
+ghost use Rattle.std.specs.Prelude.{◌≡◌, ◌≢◌, ◌++◌, ◌∷◌, [], IfOk, IfErr, OnOk, decimal, string_bytes};
+ghost use Rattle.wasm_ast.specs.declared.refusal.Refusal.TheVariants as refusals;
+ghost use Rattle.shim_service.specs.Ran.{line, succeeded, refusal_text, fault_text, refused, refused_run};
+
+use itoa::Buffer;
+use std::alloc::{AllocError, Global};
+use wasm_ast::{Bytes, Refusal, Sequence};
+
+/// The status of `asm` and `check` if they are refused.
+const REFUSED: u8 = 3;
+
+/// The status of `run` if there is no task.
+const NO_TASK: u8 = 125;
+
+/// What a command writes to standard output and to standard error, and the status that it ends with.
+#[derive(Drop)]
+pub struct Ran {
+    pub out: Bytes,
+    pub err: Bytes,
+    pub status: u8,
+}
+
+impl Ran {
+    // Of a command that has done what it was asked to.
+    pub(crate) fn succeeded(alloc: Global, out: String) -> Ran
+        ensures { result ≡ succeeded (string_bytes out) }
+    {
+        Ran {
+            out: Sequence::new(out.into_bytes()),
+            err: Sequence::new(Vec::new(alloc)),
+            status: 0,
+        }
+    }
+
+    // Of `asm` or `check`. `NoMemory` is handed on.
+    pub(crate) fn refused(alloc: Global, refusal: Refusal) -> Result<Ran, Refusal>
+        ensures ran { IfOk result (λ r. r ≡ refused refusal) }
+        ensures told { OnOk result (refusal ≢ refusals.NoMemory) }
+        ensures errors { IfErr result (λ e. e ≡ refusals.NoMemory) }
+    {
+        if refusal == Refusal::NoMemory {
+            return Err(Refusal::NoMemory);
+        }
+        let mut text = String::new(alloc);
+        push_refusal(&mut text, refusal)?;
+        push_fault(&mut text, refusal)?;
+        text.push_str("\n")?;
+        Ok(without_out(alloc, text, REFUSED))
+    }
+
+    // Of `run`, if there is no task. `NoMemory` is handed on.
+    pub(crate) fn refused_run(alloc: Global, refusal: Refusal) -> Result<Ran, Refusal>
+        ensures ran { IfOk result (λ r. r ≡ refused_run refusal) }
+        ensures told { OnOk result (refusal ≢ refusals.NoMemory) }
+        ensures errors { IfErr result (λ e. e ≡ refusals.NoMemory) }
+    {
+        if refusal == Refusal::NoMemory {
+            return Err(Refusal::NoMemory);
+        }
+        let mut text = String::new(alloc);
+        push_refusal(&mut text, refusal)?;
+        text.push_str("\n")?;
+        Ok(without_out(alloc, text, NO_TASK))
+    }
+}
+
+// Of a command that writes to standard error alone.
+fn without_out(alloc: Global, err: String, status: u8) -> Ran
+    ensures { result ≡ record { out = []; err = string_bytes err; status = status } }
+{
+    Ran {
+        out: Sequence::new(Vec::new(alloc)),
+        err: Sequence::new(err.into_bytes()),
+        status,
+    }
+}
+
+/// Pushes a number in decimal digits.
+pub(crate) fn push_decimal(text: &mut String, number: u64) -> Result<(), AllocError>
+    ensures { OnOk result (string_bytes text.new ≡ string_bytes text.old ++ decimal number) }
+{
+    let mut buffer = Buffer::new();
+    text.push_str(buffer.format(number))
+}
+
+// Pushes `refused NUMBER NAME`.
+fn push_refusal(text: &mut String, refusal: Refusal) -> Result<(), AllocError>
+    ensures { OnOk result (string_bytes text.new ≡ string_bytes text.old ++ refusal_text refusal) }
+{
+    text.push_str("refused ")?;
+    push_decimal(text, refusal.number())?;
+    text.push_str(" ")?;
+    text.push_str(refusal.name())
+}
+
+// Pushes where the fault of a text is.
+fn push_fault(text: &mut String, refusal: Refusal) -> Result<(), AllocError>
+    ensures { OnOk result (string_bytes text.new ≡ string_bytes text.old ++ fault_text refusal) }
+{
+    match refusal {
+        Refusal::BadText { line, column } => push_place(text, line, column),
+        _ => Ok(()),
+    }
+}
+
+// Pushes a line and a column.
+fn push_place(text: &mut String, line: u64, column: u64) -> Result<(), AllocError>
+    ensures { OnOk result (string_bytes text.new
+        ≡ string_bytes text.old ++ fault_text (Refusal.BadText line column)) }
+{
+    text.push_str(" line ")?;
+    push_decimal(text, line)?;
+    text.push_str(" column ")?;
+    push_decimal(text, column)
+}
