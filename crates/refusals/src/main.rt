@@ -83,6 +83,17 @@ const LEASE_ADD_NO_ENTRY: &str =
 
 const LEASE_DELETE_L: &str = r#"{"op":"lease_delete","id":"l"}"#;
 
+/// Stores the text of a module with names, locals, a block and a call.
+const PUT_TEXT: &str =
+    r#"{"op":"put_text","text":"(module (type $p (func (param i32))) (type $v (func)) (import \"wasi_snapshot_preview1\" \"proc_exit\" (func $exit (type $p))) (func $s (type $v) (local i32 i64) i64.const -1 local.set 1 i32.const 5 block (result i32) i32.const 6 call $f end drop drop) (func $f (type $v) nop) (export \"_start\" (func $s)))"}"#;
+
+/// A text with a word that is no instruction.
+const PUT_TEXT_FAULT: &str =
+    r#"{"op":"put_text","text":"(module (type (func)) (func (type 0) i32.cons 1))"}"#;
+
+/// A text of a memory that is too large.
+const PUT_TEXT_TOO_LARGE: &str = r#"{"op":"put_text","text":"(module (memory 257))"}"#;
+
 const GC: &str = r#"{"op":"gc"}"#;
 
 /// What is asked before the first slice.
@@ -136,6 +147,9 @@ const HOLD: [&str; 17] = [
     REMOVE_EXIT_SEVEN,
     PUT_EXIT_SEVEN,
 ];
+
+/// What is asked with texts: one that is stored, the same again, and two that are refused.
+const TEXTS: [&str; 4] = [PUT_TEXT, PUT_TEXT, PUT_TEXT_FAULT, PUT_TEXT_TOO_LARGE];
 
 /// The board, and how often memory was refused so far.
 #[derive(Drop)]
@@ -274,6 +288,7 @@ fn main(rt: HostRuntime) -> ExitCode {
     session.tell("b");
     session.tell_waiting();
     session.ask(&HOLD);
+    session.ask(&TEXTS);
     session.tell_waiting();
     let refused = session.refused;
     let _told = eprintln!(rt; "refused for memory: {refused}");

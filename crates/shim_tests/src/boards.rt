@@ -2,15 +2,16 @@
 
 use crate::checks::check_text;
 use crate::fixtures::{
-    BUSY_LINE, CREATED_LINE, EXIT_SEVEN_CONFIG, EXIT_SEVEN_HEX, EXITED_LINE, NO_OUTPUT_LINE,
-    NOT_RETURNED_LINE, NOT_TAKEN_LINE, ONE_TURN_LINE, OUT_OF_RANGE_LINE, PUT_LINE, RETURNED_LINE,
-    STARTED_LINE, TAKEN_LINE,
+    BUSY_LINE, CREATED_LINE, EXISTS_LINE, EXIT_SEVEN_CONFIG, EXIT_SEVEN_HEX, EXIT_SEVEN_TEXT,
+    EXITED_LINE, LIMIT_LINE, LOOP_CONFIG, LOOP_TEXT, NO_OUTPUT_LINE, NOT_RETURNED_LINE,
+    NOT_TAKEN_LINE, ONE_TURN_LINE, OUT_OF_RANGE_LINE, PUT_LINE, RETURNED_LINE, STARTED_LINE,
+    TAKEN_LINE,
 };
 use shim_service::{event_line_of, line_of};
 use std::alloc::{AllocError, Global};
 use std::process::Abort;
 use std::test::Fail;
-use task_board::{Board, Event, EventReply, Reply, Request, Ticket, run_events};
+use task_board::{Board, Event, EventReply, Loan, Reply, Request, Ticket, run_events};
 use wasm_ast::{Refusal, Sequence, Text};
 
 fn put(alloc: Global) -> Result<Request, Fail> {
@@ -22,10 +23,14 @@ fn id(alloc: Global) -> Result<Text, AllocError> {
     Text::from_str(alloc, "a")
 }
 
-fn create(alloc: Global) -> Result<Request, AllocError> {
-    let config = Text::from_str(alloc, EXIT_SEVEN_CONFIG)?;
+fn create_by(alloc: Global, config: &str) -> Result<Request, AllocError> {
+    let config = Text::from_str(alloc, config)?;
     let id = id(alloc)?;
     Ok(Request::Create { config, id })
+}
+
+fn create(alloc: Global) -> Result<Request, AllocError> {
+    create_by(alloc, EXIT_SEVEN_CONFIG)
 }
 
 fn start(alloc: Global) -> Result<Request, AllocError> {
@@ -92,6 +97,49 @@ fn requests_are_prepared_and_applied(rt: HostRuntime) -> Result<(), Fail> {
     start_is_called(&rt, alloc, &mut board)
 }
 
+/// A text, and the line that a put of it is answered.
+struct TextRow {
+    text: &'static str,
+    line: &'static str,
+}
+
+/// A text that is stored, the same again, and two of which nothing is.
+const TEXTS: &[TextRow] = &[
+    TextRow {
+        text: EXIT_SEVEN_TEXT,
+        line: PUT_LINE,
+    },
+    TextRow {
+        text: EXIT_SEVEN_TEXT,
+        line: EXISTS_LINE,
+    },
+    TextRow {
+        text: "(module (type (func)) (func (type 0) i32.cons 1))",
+        line: "{\"column\":38,\"error\":\"BadText\",\"line\":1,\"number\":18,\"ok\":false}\n",
+    },
+    TextRow {
+        text: "(module (memory 257))",
+        line: LIMIT_LINE,
+    },
+];
+
+fn put_text(alloc: Global, text: &str) -> Result<Request, AllocError> {
+    let text = Text::from_str(alloc, text)?;
+    Ok(Request::PutText { text })
+}
+
+// A text is stored as the bytes of its module; a fault in it has its place.
+#[test]
+fn texts_are_put(rt: HostRuntime) -> Result<(), Fail> {
+    let alloc = rt.alloc();
+    let mut board = new_board(alloc)?;
+    for row in TEXTS {
+        let answer = board.call(put_text(alloc, row.text)?);
+        check_answer(&rt, alloc, &answer, row.line)?;
+    }
+    Ok(())
+}
+
 fn ended(alloc: Global, board: &mut Board) -> Result<(), Fail> {
     let kill = Request::Kill {
         id: id(alloc)?,
@@ -103,10 +151,49 @@ fn ended(alloc: Global, board: &mut Board) -> Result<(), Fail> {
     Ok(())
 }
 
-fn started(alloc: Global, board: &mut Board) -> Result<Option<Ticket>, Fail> {
-    board.call(create(alloc)?)?;
+fn started_by(alloc: Global, board: &mut Board, config: &str) -> Result<Option<Ticket>, Fail> {
+    board.call(create_by(alloc, config)?)?;
     board.call(start(alloc)?)?;
     Ok(board.ticket("a"))
+}
+
+fn started(alloc: Global, board: &mut Board) -> Result<Option<Ticket>, Fail> {
+    started_by(alloc, board, EXIT_SEVEN_CONFIG)
+}
+
+fn lend(board: &mut Board, ticket: Option<Ticket>) -> Option<Loan> {
+    board.take(ticket?, 1)
+}
+
+// Whether the loan fits; it is run and given back.
+fn is_fitting(board: &mut Board, loan: Option<Loan>) -> bool {
+    let Some(mut loan) = loan else {
+        return false;
+    };
+    let fits = board.fits(&loan);
+    loan.run();
+    let _again = board.give_back(loan);
+    fits
+}
+
+// A loan of a task with another module does not fit, though slot, incarnation, id, turns and budget are the same.
+#[test]
+fn loans_of_other_modules_do_not_fit(rt: HostRuntime) -> Result<(), Fail> {
+    let alloc = rt.alloc();
+    let mut board = new_board(alloc)?;
+    board.call(put(alloc)?)?;
+    let ticket = started(alloc, &mut board)?;
+    let mut other = new_board(alloc)?;
+    other.call(put_text(alloc, LOOP_TEXT)?)?;
+    let same = started_by(alloc, &mut other, LOOP_CONFIG)?;
+    assert!(rt; ticket == same);
+    let own = lend(&mut board, ticket);
+    let foreign = lend(&mut other, same);
+    let foreign_fits = is_fitting(&mut board, foreign);
+    let own_fits = is_fitting(&mut board, own);
+    assert!(rt; !foreign_fits);
+    assert!(rt; own_fits);
+    Ok(())
 }
 
 // Whether a slice is taken by the ticket.

@@ -13,6 +13,9 @@ Usage: wasm-shim <COMMAND>
 Commands:
   serve   Answer the requests of standard input, a line each, on standard output
   replay  Run a file of requests, takes and returns on one thread
+  asm     Write the binary format of the module of a file, in hexadecimal
+  check   Check whether the module of a file is valid
+  run     Run the module of a file as one task, and end with its status
   help    Print this message or the help of the given subcommand(s)
 
 Options:
@@ -21,18 +24,32 @@ Options:
 ";
 
 const NO_COMMAND: &str = "error: 'wasm-shim' requires a subcommand but one was not provided
-  [subcommands: serve, replay, help]
+  [subcommands: serve, replay, asm, check, run, help]
 
 Usage: wasm-shim <COMMAND>
 
 For more information, try '--help'.
 ";
 
-const NO_SUCH_COMMAND: &str = "error: unrecognized subcommand 'asm'
+const NO_SUCH_COMMAND: &str = "error: unrecognized subcommand 'dump'
 
 Usage: wasm-shim <COMMAND>
 
 For more information, try '--help'.
+";
+
+const ASM_HELP: &str = "Write the binary format of the module of a file, in hexadecimal
+
+Usage: wasm-shim asm <FILE>
+
+Arguments:
+  <FILE>  The file, in the format that the command reads
+
+Options:
+  -h, --help     Print help
+  -V, --version  Print version
+
+Example: wasm-shim asm examples/hello.wat
 ";
 
 const NO_FILE: &str = "error: the following required arguments were not provided:
@@ -71,6 +88,51 @@ const ROWS: &[Row] = &[
         text: "script",
     },
     Row {
+        arguments: "asm a",
+        does: "assembles",
+        text: "a",
+    },
+    Row {
+        arguments: "asm --help",
+        does: "shows",
+        text: ASM_HELP,
+    },
+    Row {
+        arguments: "check a",
+        does: "checks",
+        text: "a",
+    },
+    Row {
+        arguments: "check --list a",
+        does: "lists",
+        text: "a",
+    },
+    Row {
+        arguments: "check a --list",
+        does: "lists",
+        text: "a",
+    },
+    Row {
+        arguments: "run m",
+        does: "runs",
+        text: "m",
+    },
+    Row {
+        arguments: "run m a -x --help",
+        does: "runs",
+        text: "m a -x --help",
+    },
+    Row {
+        arguments: "run m -x -- a",
+        does: "runs",
+        text: "m -x -- a",
+    },
+    Row {
+        arguments: "run -- -m -x",
+        does: "runs",
+        text: "-m -x",
+    },
+    Row {
         arguments: "--version",
         does: "shows",
         text: "wasm-shim 0.1.0\n",
@@ -96,7 +158,7 @@ const ROWS: &[Row] = &[
         text: NO_COMMAND,
     },
     Row {
-        arguments: "asm a",
+        arguments: "dump a",
         does: "refuses",
         text: NO_SUCH_COMMAND,
     },
@@ -121,11 +183,24 @@ fn arguments(alloc: Global, line: &str) -> Result<Vec<String>, AllocError> {
     Ok(arguments)
 }
 
+// The words of `run`, with a space between.
+fn joined(mut text: String, args: &[String]) -> Result<String, AllocError> {
+    for arg in args {
+        text.push_str(" ")?;
+        text.push_str(arg.as_str())?;
+    }
+    Ok(text)
+}
+
 // What a command line does, and the file or the text with it.
 fn found(alloc: Global, line: &str) -> Result<(&'static str, String), Fail> {
     match command_of(alloc, arguments(alloc, line)?.as_slice()) {
         Ok(Command::Serve) => Ok(("serves", String::new(alloc))),
         Ok(Command::Replay { file }) => Ok(("replays", file)),
+        Ok(Command::Asm { file }) => Ok(("assembles", file)),
+        Ok(Command::Check { file, list: false }) => Ok(("checks", file)),
+        Ok(Command::Check { file, list: true }) => Ok(("lists", file)),
+        Ok(Command::Run { module, args }) => Ok(("runs", joined(module, args.as_slice())?)),
         Ok(Command::Show { text }) => Ok(("shows", text)),
         Err(error) => Ok(("refuses", error.to_string(alloc)?)),
     }

@@ -11,6 +11,8 @@ mod commands;
 #[cfg(test)]
 mod configs;
 #[cfg(test)]
+mod files;
+#[cfg(test)]
 mod fixtures;
 #[cfg(test)]
 mod lines;
@@ -20,3 +22,5 @@ mod modules;
 mod stores;
 #[cfg(test)]
 mod streams;
+#[cfg(test)]
+mod text_faults;

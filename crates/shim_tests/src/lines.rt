@@ -71,6 +71,8 @@ const LINES: &[(&[u8], &str)] = &[
     (b"{\"op\":\"put\",\"hex\":\"0g\"}", BAD_REQUEST_LINE),
     (b"{\"op\":\"put\",\"hex\":\" 00\"}", BAD_REQUEST_LINE),
     (b"{\"op\":\"put\",\"hex\":0}", BAD_REQUEST_LINE),
+    (b"{\"op\":\"put_text\",\"text\":0}", BAD_REQUEST_LINE),
+    (b"{\"op\":\"put_text\",\"hex\":\"\"}", BAD_REQUEST_LINE),
     // No JSON.
     (b"{\"op\":\"state\",\"id\":\"zz\",}", BAD_REQUEST_LINE),
     (b"{\"op\":\"state\",\"id\":\"zz\"}{}", BAD_REQUEST_LINE),

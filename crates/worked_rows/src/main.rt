@@ -1,8 +1,8 @@
 //! Scripts of lines, and what they are answered.
 //!
 //! Standard input names the scripts, one a line. The lines of `NAME.jsonl` are replayed, and `ok NAME`
-//! is printed where their answers are `NAME.expected`; else the first line that differs is printed. In a
-//! script `<COUNT*TEXT>` stands for the text so many times.
+//! is printed if their answers are `NAME.expected`; else the first line that differs is printed. In both
+//! files `<COUNT*TEXT>` is the text repeated that number of times.
 #![tactic(auto)]
 
 use anyhow::{Context, Result, bail};
@@ -10,7 +10,7 @@ use shim_service::replay_lines;
 use std::alloc::Global;
 use std::fs;
 
-// Adds a part of a script that begins with a run, `COUNT*TEXT>`.
+// Adds a part of a file that begins with a run, `COUNT*TEXT>`.
 fn add_run(alloc: Global, lines: &mut String, part: &str) -> Result<()> {
     let (run, rest) = part.split_once('>').context("a run without an end")?;
     let (count, text) = run.split_once('*').context("a run without a count")?;
@@ -20,7 +20,7 @@ fn add_run(alloc: Global, lines: &mut String, part: &str) -> Result<()> {
     Ok(())
 }
 
-// The lines that a script stands for.
+// The lines that a file spells.
 fn lines_of(alloc: Global, script: &str) -> Result<String> {
     let Some((before, runs)) = script.split_once('<') else {
         return Ok(String::from_str(alloc, script)?);
@@ -52,6 +52,7 @@ fn replay(rt: &HostRuntime, name: &str) -> Result<()> {
     let script = fs::read_to_string(rt, format!(in alloc; "{name}.jsonl")?)?;
     let wanted = fs::read_to_string(rt, format!(in alloc; "{name}.expected")?)?;
     let lines = lines_of(alloc, script.as_str())?;
+    let wanted = lines_of(alloc, wanted.as_str())?;
     let Ok(answers) = replay_lines(alloc, lines.as_bytes()) else {
         bail!("out of memory");
     };

@@ -1,0 +1,252 @@
+//! What `asm`, `check` and `run` write for a file, by rows that were worked out by hand.
+
+use crate::checks::{check_bytes, check_text};
+use shim_service::{Ran, asm_file, check_file, run_file};
+use std::alloc::{AllocError, Global};
+use std::process::Abort;
+use std::str::from_utf8;
+use std::test::Fail;
+
+/// What is before the fields of a module and the body of its entry, between them, and after them.
+const BEFORE: &str =
+    "(module (type $p (func (param i32))) (type $v (func)) (import \"wasi_snapshot_preview1\" \"proc_exit\" (func $exit (type $p))) ";
+
+const BETWEEN: &str = " (func $s (type $v) ";
+
+const AFTER: &str = ") (export \"_start\" (func $s)))";
+
+/// The encoding of the module without other fields whose body is `i32.const 7 call $exit`.
+const EXIT_SEVEN: &str =
+    "0061736d0100000001080260017f0060000002240116776173695f736e617073686f745f70726576696577310970726f635f65786974000003020101070a01065f737461727400010a08010600410710000b\n";
+
+/// That of the module whose body is empty.
+const NOTHING: &str =
+    "0061736d0100000001080260017f0060000002240116776173695f736e617073686f745f70726576696577310970726f635f65786974000003020101070a01065f737461727400010a040102000b\n";
+
+/// A module that writes `x` to standard error and traps.
+const WRITE_AND_TRAP: &str =
+    "(module (type $w (func (param i32 i32 i32 i32) (result i32))) (type $v (func)) (import \"wasi_snapshot_preview1\" \"fd_write\" (func $write (type $w))) (memory 1) (data (offset i32.const 0) \"\\08\\00\\00\\00\\01\\00\\00\\00x\") (func $s (type $v) i32.const 2 i32.const 0 i32.const 1 i32.const 32 call $write drop unreachable) (export \"_start\" (func $s)) (export \"memory\" (memory 0)))";
+
+/// A module that exits with ten times the number of its arguments, and the bytes of all with one more for each.
+const COUNT_ARGUMENTS: &str =
+    "(module (type $g (func (param i32 i32) (result i32))) (type $p (func (param i32))) (type $v (func)) (import \"wasi_snapshot_preview1\" \"args_sizes_get\" (func $sizes (type $g))) (import \"wasi_snapshot_preview1\" \"proc_exit\" (func $exit (type $p))) (memory 1) (func $s (type $v) i32.const 0 i32.const 4 call $sizes drop i32.const 0 i32.load i32.const 10 i32.mul i32.const 4 i32.load i32.add call $exit) (export \"_start\" (func $s)) (export \"memory\" (memory 0)))";
+
+/// A file, a command, and what it writes.
+struct Row {
+    command: &'static str,
+    /// The body of an entry in the module above, or a whole file.
+    file: &'static str,
+    out: &'static str,
+    err: &'static str,
+    status: u8,
+}
+
+const BODIES: &[Row] = &[
+    Row {
+        command: "asm",
+        file: "i32.const 7 call $exit",
+        out: EXIT_SEVEN,
+        err: "",
+        status: 0,
+    },
+    Row {
+        command: "asm",
+        file: "",
+        out: NOTHING,
+        err: "",
+        status: 0,
+    },
+    Row {
+        command: "check",
+        file: "block (result i32) i32.const 1 end drop",
+        out: "ok\n",
+        err: "",
+        status: 0,
+    },
+    Row {
+        command: "list",
+        file: "block (result i32) i32.const 1 end drop",
+        out: "ok\n1 0 block (result i32)\n1 1 i32.const 1\n1 2 drop\n",
+        err: "",
+        status: 0,
+    },
+    Row {
+        command: "list",
+        file: "i32.const 0 if nop else br 0 end nop",
+        out: "ok\n1 0 i32.const 0\n1 1 if\n1 2 nop\n1 3 br 0\n1 4 nop\n",
+        err: "",
+        status: 0,
+    },
+    Row {
+        command: "check",
+        file: "call 9",
+        out: "",
+        err: "refused 8 Invalid\n",
+        status: 3,
+    },
+    Row {
+        command: "run",
+        file: "i32.const 263 call $exit",
+        out: "",
+        err: "",
+        status: 7,
+    },
+    Row {
+        command: "run",
+        file: "call 9",
+        out: "",
+        err: "refused 8 Invalid\n",
+        status: 125,
+    },
+    Row {
+        command: "run",
+        file: "",
+        out: "",
+        err: "",
+        status: 0,
+    },
+];
+
+const FILES: &[Row] = &[
+    Row {
+        command: "asm",
+        file: "(module (type (func)) (func (type 0) i32.cons 1))",
+        out: "",
+        err: "refused 18 BadText line 1 column 38\n",
+        status: 3,
+    },
+    Row {
+        command: "check",
+        file: "(module\n(type (func)) (func (type 0) i32.cons 1))",
+        out: "",
+        err: "refused 18 BadText line 2 column 30\n",
+        status: 3,
+    },
+    Row {
+        command: "asm",
+        file: "(module (memory 257))",
+        out: "",
+        err: "refused 9 Limit\n",
+        status: 3,
+    },
+    Row {
+        command: "check",
+        file: "\0asm\x01\0\0\0",
+        out: "ok\n",
+        err: "",
+        status: 0,
+    },
+    Row {
+        command: "asm",
+        file: "\0asm\x01\0\0",
+        out: "",
+        err: "refused 7 BadModule\n",
+        status: 3,
+    },
+    Row {
+        command: "run",
+        file: "\0asm\x01\0\0\0",
+        out: "",
+        err: "refused 21 NoEntry\n",
+        status: 125,
+    },
+    Row {
+        command: "run",
+        file: "(module",
+        out: "",
+        err: "refused 18 BadText\n",
+        status: 125,
+    },
+    Row {
+        command: "run",
+        file: WRITE_AND_TRAP,
+        out: "",
+        err: "xtrap: unreachable\n",
+        status: 134,
+    },
+    // the arguments m, a and bc: 30, and 7 bytes
+    Row {
+        command: "run with a bc",
+        file: COUNT_ARGUMENTS,
+        out: "",
+        err: "",
+        status: 37,
+    },
+];
+
+fn words(alloc: Global, line: &str) -> Result<Vec<String>, AllocError> {
+    let mut words = Vec::new(alloc);
+    for word in line.split_whitespace() {
+        words.push(String::from_str(alloc, word)?)?;
+    }
+    Ok(words)
+}
+
+fn run_with(alloc: Global, bytes: &[u8], line: &str) -> Result<Ran, Fail> {
+    let args = words(alloc, line)?;
+    Ok(run_file(alloc, "m", bytes, args.as_slice())?)
+}
+
+fn ran(alloc: Global, command: &str, bytes: &[u8]) -> Result<Ran, Fail> {
+    match command {
+        "asm" => Ok(asm_file(alloc, bytes)?),
+        "check" => Ok(check_file(alloc, bytes, false)?),
+        "list" => Ok(check_file(alloc, bytes, true)?),
+        "run" => run_with(alloc, bytes, ""),
+        _ => run_with(alloc, bytes, "a bc"),
+    }
+}
+
+fn check_ran(rt: &impl Abort, row: &Row, found: &Ran) -> Result<(), Fail> {
+    check_text(rt, row.file, from_utf8(found.out.as_slice())?, row.out);
+    check_text(rt, row.file, from_utf8(found.err.as_slice())?, row.err);
+    assert_eq!(rt; found.status, row.status, "{}", row.file);
+    Ok(())
+}
+
+fn framed(alloc: Global, body: &str) -> Result<String, AllocError> {
+    let mut text = String::from_str(alloc, BEFORE)?;
+    text.push_str(BETWEEN)?;
+    text.push_str(body)?;
+    text.push_str(AFTER)?;
+    Ok(text)
+}
+
+fn check_body(rt: &impl Abort, alloc: Global, row: &Row) -> Result<(), Fail> {
+    let text = framed(alloc, row.file)?;
+    let found = ran(alloc, row.command, text.as_bytes())?;
+    check_ran(rt, row, &found)
+}
+
+fn check_file_row(rt: &impl Abort, alloc: Global, row: &Row) -> Result<(), Fail> {
+    let found = ran(alloc, row.command, row.file.as_bytes())?;
+    check_ran(rt, row, &found)
+}
+
+#[test]
+fn bodies_are_assembled_checked_and_run(rt: HostRuntime) -> Result<(), Fail> {
+    for row in BODIES {
+        check_body(&rt, rt.alloc(), row)?;
+    }
+    Ok(())
+}
+
+#[test]
+fn files_are_assembled_checked_and_run(rt: HostRuntime) -> Result<(), Fail> {
+    for row in FILES {
+        check_file_row(&rt, rt.alloc(), row)?;
+    }
+    Ok(())
+}
+
+#[test]
+fn bytes_are_no_text(rt: HostRuntime) -> Result<(), Fail> {
+    let found = asm_file(rt.alloc(), &[0x28, 0xff])?;
+    check_bytes(
+        &rt,
+        0,
+        found.err.as_slice(),
+        b"refused 18 BadText line 1 column 1\n",
+    );
+    Ok(())
+}
