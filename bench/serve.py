@@ -6,13 +6,15 @@
 Scripts: 64 tasks, each created, started, waited for and asked for its state, over one content; 10,000 tasks one after
 another, each created, started, waited for and deleted; 64 creates over one content of 82 bytes and over one of 196 KB;
 200 puts of 262,144 bytes; and 5,000 times a put and its removal, with no other content and with 255 others. Each runs
-seven times in turn with its comparison; the best time counts.
+seven times in turn with its comparison; the best time counts. For the tasks one after another there is also what it costs to
+start `wasm-interp` (Debian's wabt) on the same module, once for each of 200.
 """
 import hashlib
 import json
 import os
 import subprocess
 import sys
+import tempfile
 import time
 
 TOP = os.path.dirname(os.path.dirname(os.path.abspath(__file__)))
@@ -104,3 +106,11 @@ for title, lines in SCRIPTS:
     reader = best([sys.executable, "-c", READ], data)
     print("%-28s serve %8.1f ms  %9.0f lines/s  %7.1f MB/s   json module %8.1f ms" % (
         title, shim * 1e3, len(lines) / shim, len(data) / shim / 1e6, reader * 1e3))
+
+with tempfile.NamedTemporaryFile(suffix=".wasm") as file:
+    file.write(bytes.fromhex(FIRST[0]["hex"]))
+    file.flush()
+    start = time.perf_counter()
+    for _ in range(200):
+        subprocess.run(["wasm-interp", "--dummy-import-func", "--run-all-exports", file.name], stdout=subprocess.PIPE)
+    print("wasm-interp started %8.3f ms a time" % ((time.perf_counter() - start) * 1e3 / 200))

@@ -1,0 +1,66 @@
+#!/usr/bin/env python3
+"""Measures how fast a module is decoded and validated, beside `wasm-validate` (Debian's wabt) in the same run.
+
+    bench/modules.py [PROGRAM] [--rounds N]
+
+The module has 250 KB of straight-line numeric code in one function. `check` reads it 20 times, each in a process of its
+own, and so does `wasm-validate`; from both the time of as many runs over a module with an empty entry is taken away. All
+are processor times; the two take turns, N rounds (5), and the least time of each counts. Decoding and validation are one
+number here, since neither program does one without the other.
+"""
+import os
+import resource
+import subprocess
+import sys
+import tempfile
+
+from creates import EXPORTS, FUNCS, HEADER, TOP, TYPES, leb, sized
+
+RUNS = 20
+# local.get 0, i32.const, an operator, local.set 0
+OPERATORS = (0x6A, 0x6B, 0x6C, 0x71, 0x72, 0x73, 0x74, 0x76, 0x77)
+
+
+def numeric(size):
+    number, parts = 1, []
+    while size > 0:
+        number = (number * 69069 + 1) % (1 << 25)
+        part = b"\x20\0\x41" + leb(number) + bytes([OPERATORS[number % len(OPERATORS)]]) + b"\x21\0"
+        parts.append(part)
+        size -= len(part)
+    body = b"\x01\x01\x7f" + b"".join(parts) + b"\x0b"
+    return HEADER + TYPES + FUNCS + EXPORTS + b"\x0a" + sized(b"\x01" + sized(body))
+
+
+def timed(command):
+    before = resource.getrusage(resource.RUSAGE_CHILDREN)
+    for _ in range(RUNS):
+        subprocess.run(command, stdout=subprocess.DEVNULL, check=True)
+    after = resource.getrusage(resource.RUSAGE_CHILDREN)
+    return after.ru_utime + after.ru_stime - before.ru_utime - before.ru_stime
+
+
+def main():
+    words = [word for word in sys.argv[1:] if not word.startswith("--")]
+    rounds = 5
+    if "--rounds" in sys.argv:
+        rounds = int(sys.argv[sys.argv.index("--rounds") + 1])
+        words.remove(str(rounds))
+    program = words[0] if words else os.path.join(TOP, "crates/wasm_shim/out/wasm_shim")
+    with tempfile.TemporaryDirectory() as folder:
+        full, empty = os.path.join(folder, "full.wasm"), os.path.join(folder, "empty.wasm")
+        with open(full, "wb") as file:
+            size = file.write(numeric(250_000))
+        with open(empty, "wb") as file:
+            file.write(numeric(0))
+        shim, wabt = [], []
+        for _ in range(rounds):
+            shim.append(timed([program, "check", full]) - timed([program, "check", empty]))
+            wabt.append(timed(["wasm-validate", full]) - timed(["wasm-validate", empty]))
+    for name, times in (("check", shim), ("wasm-validate", wabt)):
+        spent = min(times) / RUNS
+        print("%-14s %7.2f ms for %d bytes   %7.1f MB/s" % (name, spent * 1e3, size, size / spent / 1e6))
+
+
+if __name__ == "__main__":
+    main()
