@@ -10,29 +10,17 @@ after all creates, with no task started (VmRSS of Linux).
 """
 import hashlib
 import json
-import os
 import subprocess
-import sys
 import time
 
-TOP = os.path.dirname(os.path.dirname(os.path.abspath(__file__)))
-PROGRAM = sys.argv[1] if len(sys.argv) > 1 else os.path.join(TOP, "crates/wasm_shim/out/wasm_shim")
+from shared import arguments, sized
+
+PROGRAM, _ = arguments(9)
 HEADER = b"\0asm\1\0\0\0"
 TYPES = b"\x01\x04\x01\x60\0\0"  # () -> ()
 FUNCS = b"\x03\x02\x01\0"
 MEMORY = b"\x05\x03\x01\0\x01"  # one page
 EXPORTS = b"\x07\x0a\x01\x06_start\0\0"
-
-
-def leb(number):
-    groups = [number & 0x7F]
-    while number := number >> 7:
-        groups.append(number & 0x7F)
-    return bytes(group | 0x80 for group in groups[:-1]) + bytes(groups[-1:])
-
-
-def sized(part):
-    return leb(len(part)) + part
 
 
 def module(pairs, sections):

@@ -11,10 +11,10 @@ number here, since neither program does one without the other.
 import os
 import resource
 import subprocess
-import sys
 import tempfile
 
-from creates import EXPORTS, FUNCS, HEADER, TOP, TYPES, leb, sized
+from creates import EXPORTS, FUNCS, HEADER, TYPES
+from shared import arguments, leb, sized
 
 RUNS = 20
 # local.get 0, i32.const, an operator, local.set 0
@@ -41,12 +41,7 @@ def timed(command):
 
 
 def main():
-    words = [word for word in sys.argv[1:] if not word.startswith("--")]
-    rounds = 5
-    if "--rounds" in sys.argv:
-        rounds = int(sys.argv[sys.argv.index("--rounds") + 1])
-        words.remove(str(rounds))
-    program = words[0] if words else os.path.join(TOP, "crates/wasm_shim/out/wasm_shim")
+    program, rounds = arguments(5)
     with tempfile.TemporaryDirectory() as folder:
         full, empty = os.path.join(folder, "full.wasm"), os.path.join(folder, "empty.wasm")
         with open(full, "wb") as file:

@@ -14,10 +14,10 @@ import json
 import os
 import resource
 import subprocess
-import sys
 import tempfile
 
-TOP = os.path.dirname(os.path.dirname(os.path.abspath(__file__)))
+from shared import arguments
+
 TASKS = 32
 TEXT = """(module
   (import "wasi_snapshot_preview1" "fd_write" (func $write (param i32 i32 i32 i32) (result i32)))
@@ -88,12 +88,7 @@ def check(program, module, size):
 
 
 def main():
-    words = [word for word in sys.argv[1:] if not word.startswith("--")]
-    rounds = 5
-    if "--rounds" in sys.argv:
-        rounds = int(sys.argv[sys.argv.index("--rounds") + 1])
-        words.remove(str(rounds))
-    program = words[0] if words else os.path.join(TOP, "crates/wasm_shim/out/wasm_shim")
+    program, rounds = arguments(5)
     with tempfile.TemporaryDirectory() as folder:
         for size in (1, 64, 65536):
             module, still = assembled(folder, size, 65536 // size), assembled(folder, size, 0)

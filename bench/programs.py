@@ -16,10 +16,10 @@ import os
 import re
 import resource
 import subprocess
-import sys
 import tempfile
 
-TOP = os.path.dirname(os.path.dirname(os.path.abspath(__file__)))
+from shared import TOP, arguments
+
 SOURCES = os.path.join(TOP, "bench/programs")
 WASM = ["clang-14", "--target=wasm32", "-mcpu=mvp", "-O2", "-nostdlib", "-ffreestanding", "-Wl,--no-entry",
         "-Wl,-z,stack-size=16384", "-Wl,--strip-all"]
@@ -65,12 +65,7 @@ def by_wabt(module, checksum):
 
 
 def main():
-    words = [word for word in sys.argv[1:] if not word.startswith("--")]
-    rounds = 3
-    if "--rounds" in sys.argv:
-        rounds = int(sys.argv[sys.argv.index("--rounds") + 1])
-        words.remove(str(rounds))
-    program = words[0] if words else os.path.join(TOP, "crates/wasm_shim/out/wasm_shim")
+    program, rounds = arguments(3)
     names = sorted(name[:-2] for name in os.listdir(SOURCES) if name.endswith(".c"))
     ratios = []
     print("%-10s %12s %8s %12s %8s %14s" % ("program", "turns", "shim", "wasm-interp", "ratio", "turns a second"))

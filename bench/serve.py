@@ -17,8 +17,9 @@ import sys
 import tempfile
 import time
 
-TOP = os.path.dirname(os.path.dirname(os.path.abspath(__file__)))
-PROGRAM = sys.argv[1] if len(sys.argv) > 1 else os.path.join(TOP, "crates/wasm_shim/out/wasm_shim")
+from shared import TOP, arguments, sized
+
+PROGRAM, _ = arguments(7)
 FIRST = [json.loads(line) for line in open(os.path.join(TOP, "examples/first_run.jsonl"))]
 READ = "import json,sys\nfor line in sys.stdin.buffer: json.loads(line)"
 
@@ -30,17 +31,6 @@ def tasks():
         lines.append(dict(FIRST[1], id=name))
         lines += [{"op": op, "id": name} for op in ("start", "wait", "state")]
     return lines
-
-
-def leb(number):
-    groups = [number & 0x7F]
-    while number := number >> 7:
-        groups.append(number & 0x7F)
-    return bytes(group | 0x80 for group in groups[:-1]) + bytes(groups[-1:])
-
-
-def sized(part):
-    return leb(len(part)) + part
 
 
 def padded(data, pairs):
