@@ -2,6 +2,7 @@ pub mod ListLemmas
 pub mod ResultLemmas
 pub mod TurnLemmas
 pub mod LastTurn
+pub mod OutputLemmas
 pub mod SettleTerminates
 pub mod TreeLimits
 pub mod EvaluationContexts

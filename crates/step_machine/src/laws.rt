@@ -1,10 +1,11 @@
 //! Laws of execution. Each function has a contract and no body.
 
-ghost use Rattle.std.specs.Prelude.{◌≡◌, ◌≢◌, ℕ, sum, ◌+◌, ◌<◌, ◌≤◌, List, [], true, false, Some, None, slice_get};
+ghost use Rattle.std.specs.Prelude.{◌≡◌, ◌≢◌, ℕ, sum, ◌+◌, ◌<◌, ◌≤◌, List, [], ◌++◌, true, false, Some, None, slice_get};
 ghost use Rattle.wasm_ast.specs.declared.values.Value.{Value};
 ghost use Rattle.wasm_ast.specs.declared.module.Module.{Module};
 ghost use Rattle.wasm_ast.specs.declared.place.Place.{Place};
 ghost use Rattle.oci_config.specs.declared.process.ProcessConfig.{ProcessConfig};
+ghost use Rattle.oci_config.specs.declared.stream.Stream.{Stream};
 ghost use Rattle.step_machine.specs.declared.ends.SliceEnd.TheVariants as slice;
 ghost use Rattle.step_machine.specs.Limits.{last_turn};
 ghost use Rattle.step_machine.specs.Program.{Program, functions};
@@ -15,6 +16,7 @@ ghost use Rattle.step_machine.specs.Reduction.{inside, reduce};
 ghost use Rattle.step_machine.specs.Turns.{from, numbered, turn};
 ghost use Rattle.step_machine.specs.Instantiation.{initial, after, ended};
 ghost use Rattle.step_machine.specs.Slices.{ends_slice, turns_made, slices_made, slice_end};
+ghost use Rattle.step_machine.specs.MachineView.{written_to};
 ghost use Rattle.step_machine.specs.Worked.{in_label, in_frame};
 
 /// Turns may be cut anywhere: a turns and then b turns are a + b turns.
@@ -46,6 +48,13 @@ pub fn turns_settle()
 pub fn turns_are_limited()
     ensures { (m : Module) (p : ProcessConfig) (n : ℕ) → ended (after m p n).state ≡ None
         → n < last_turn }
+{}
+
+/// What a task has written to a stream stays there, and all that it writes later comes after it.
+pub fn outputs_grow()
+    ensures { (m : Module) (p : ProcessConfig) (n k : ℕ) (s : Stream)
+        → (later : List ℕ)
+        × (written_to s (after m p (n + k)).store ≡ written_to s (after m p n).store ++ later) }
 {}
 
 /// The reduction of a tree inside a label or a frame is one of the whole (4.2.13): all but that tree
