@@ -9,7 +9,7 @@ ghost use Rattle.text_assembler.specs.Modules.{declare_as, declare_field, declar
 use crate::fault::ReadError;
 use crate::field::{read_imported, read_type};
 use crate::ids::Ids;
-use crate::phrases::{id_of, take_word};
+use crate::phrases::{id_of, skip_group, take_word};
 use crate::scopes::{Scopes, Signatures};
 use crate::token::{Lexeme, Token};
 use std::alloc::Global;
@@ -60,6 +60,32 @@ fn declare_field(alloc: Global, scopes: &mut Scopes, tokens: &[Token]) -> Result
     declare_as(alloc, scopes, word, rest)
 }
 
+// The declarations of a field. If a token before it is outside of the module, where this many are left
+// (0 if none is), a fault is placed there.
+fn declare_inside(
+    alloc: Global,
+    scopes: &mut Scopes,
+    outside: usize,
+    tokens: &[Token],
+) -> Result<(), ReadError>
+    ensures { Gives (λ _. scopes.new) result (declare_field scopes.old tokens.now) }
+{
+    match declare_field(alloc, scopes, tokens) {
+        Err(ReadError::Malformed { left }) if left < outside => {
+            Err(ReadError::Malformed { left: outside })
+        }
+        declared => declared,
+    }
+}
+
+// How many tokens are left at the first one if they do not begin with `( module`, else 0.
+fn before_module(tokens: &[Token]) -> usize {
+    match skip_group("module", tokens) {
+        Err(ReadError::Malformed { left }) => left,
+        _ => 0,
+    }
+}
+
 // No declarations. No memory is taken.
 fn no_scopes(alloc: Global) -> Scopes
     ensures { result ≡ no_scopes }
@@ -80,17 +106,24 @@ pub fn declare_fields(alloc: Global, tokens: &[Token]) -> Result<Scopes, ReadErr
     ensures { Gives (λ x. x) result (declare_fields 0 no_scopes tokens.now) }
 {
     let mut scopes = no_scopes(alloc);
+    // How many tokens are left at the first one outside of the module, of those passed; 0 if none is.
+    let mut outside = before_module(tokens);
     let mut depth = 0usize;
     let mut rest = tokens;
     while let [first, tail @ ..] = rest {
         match first.lexeme() {
             Lexeme::Open => {
                 if depth == 1 {
-                    declare_field(alloc, &mut scopes, tail)?;
+                    declare_inside(alloc, &mut scopes, outside, tail)?;
                 }
                 depth += 1;
             }
-            Lexeme::Close => depth = depth.saturating_sub(1),
+            Lexeme::Close => {
+                depth = depth.saturating_sub(1);
+                if depth == 0 && outside == 0 {
+                    outside = tail.len();
+                }
+            }
             Lexeme::Word(_) | Lexeme::Text(_) => {}
         }
         rest = tail;

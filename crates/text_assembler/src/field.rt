@@ -19,7 +19,7 @@ use crate::phrases::{
 };
 use crate::scopes::Scopes;
 use crate::token::Token;
-use crate::uses::{declare_bindings, read_use, types_of};
+use crate::uses::{declare_bindings, read_use, types_of, without_places};
 use std::alloc::Global;
 use wasm_ast;
 use wasm_ast::{
@@ -53,8 +53,9 @@ pub fn read_type(alloc: Global, tokens: &[Token]) -> Result<(FuncType, &[Token])
     let mut results = Vec::new(alloc);
     let rest = push_results(&mut results, rest)?;
     let rest = skip_close(rest)?;
-    let params = Sequence::new(types_of(alloc, params.as_slice())?);
-    let results = Sequence::new(results);
+    let types = types_of(alloc, params.as_slice())?;
+    let params = without_places(alloc, types.as_slice())?;
+    let results = without_places(alloc, results.as_slice())?;
     Ok((FuncType { params, results }, rest))
 }
 
@@ -104,15 +105,16 @@ fn read_func<'a>(
     ensures { Gives (λ x. (x.0, x.1.now)) result
         (read_func nesting scopes.now tokens.now) }
 {
-    let (type_use, from) = read_use(alloc, scopes, after_id(tokens))?;
+    let (type_use, rest) = read_use(alloc, scopes, after_id(tokens))?;
     let mut locals = Vec::new(alloc);
-    let rest = push_bindings(alloc, "local", &mut locals, from)?;
+    let rest = push_bindings(alloc, "local", &mut locals, rest)?;
     let mut ids = type_use.params;
-    declare_bindings(alloc, &mut ids, locals.as_slice(), from.len())?;
+    declare_bindings(alloc, &mut ids, locals.as_slice())?;
     let mut labels = Labels::new(alloc);
     let mut body = Vec::new(alloc);
     let rest = push_body(alloc, scopes, &ids, &mut labels, nesting, &mut body, rest)?;
-    let locals = Sequence::new(types_of(alloc, locals.as_slice())?);
+    let types = types_of(alloc, locals.as_slice())?;
+    let locals = without_places(alloc, types.as_slice())?;
     Ok((
         Func {
             type_index: type_use.type_index,

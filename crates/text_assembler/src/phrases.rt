@@ -1,6 +1,6 @@
 //! The phrases that all fields share (6.4, 6.5.1, 6.6.3).
 
-ghost use Rattle.std.specs.Prelude.{◌≡◌, [], ◌∷◌, not, codes, length, Ok};
+ghost use Rattle.std.specs.Prelude.{◌≡◌, [], ◌∷◌, not, is_none, codes, length, Ok};
 ghost use Rattle.text_assembler.specs.declared.fault.ReadError.TheVariants as errors;
 ghost use Rattle.text_assembler.specs.Inside.Answers.{Gives, Finds, with_front};
 ghost use Rattle.wasm_binary.specs.Canonical.{same_type};
@@ -10,7 +10,7 @@ ghost use Rattle.text_assembler.specs.Phrases.{is_close, skip_close, skip_open, 
 use crate::fault::ReadError;
 use crate::ids::{Space, is_id, is_index};
 use crate::numbers::small_number;
-use crate::token::{Lexeme, Token};
+use crate::token::{Lexeme, Token, WrittenType};
 use std::alloc::Global;
 use wasm_ast::{Bytes, Limits, Sequence, ValType};
 
@@ -18,7 +18,14 @@ use wasm_ast::{Bytes, Limits, Sequence, ValType};
 #[derive(Drop)]
 pub struct Binding {
     pub name: Option<Bytes>,
-    pub val_type: ValType,
+    pub val_type: WrittenType,
+}
+
+impl Binding {
+    /// How many tokens are left at its identifier, if it has one: the token before its type.
+    pub fn name_left(&self) -> usize {
+        self.val_type.left().saturating_add(1)
+    }
 }
 
 /// That nothing is denoted: the fault is at the first of these tokens.
@@ -312,18 +319,26 @@ pub fn read_val_type(tokens: &[Token]) -> Result<(ValType, &[Token]), ReadError>
     }
 }
 
+// The type of a value with its place, and what follows it.
+fn read_written_type(tokens: &[Token]) -> Result<(WrittenType, &[Token]), ReadError>
+    ensures { Gives (λ x. (x.0, x.1.now)) result (read_val_type tokens.now) }
+{
+    let (val_type, rest) = read_val_type(tokens)?;
+    Ok((WrittenType::new(val_type, tokens.len()), rest))
+}
+
 #[tactic(auto, unfolding(crate::specs::Phrases::one_type))]
-fn push_type<'a>(out: &mut Vec<ValType>, tokens: &'a [Token]) -> Result<&'a [Token], ReadError>
+fn push_type<'a>(out: &mut Vec<WrittenType>, tokens: &'a [Token]) -> Result<&'a [Token], ReadError>
     ensures { Gives (λ rest. (out.new.items, rest.now)) result
         (with_front out.old.items (one_type tokens.now)) }
 {
-    let (val_type, rest) = read_val_type(tokens)?;
+    let (val_type, rest) = read_written_type(tokens)?;
     out.push(val_type)?;
     Ok(rest)
 }
 
 // Pushes the types up to a `)`, and gives what follows them.
-fn push_types<'a>(out: &mut Vec<ValType>, tokens: &'a [Token]) -> Result<&'a [Token], ReadError>
+fn push_types<'a>(out: &mut Vec<WrittenType>, tokens: &'a [Token]) -> Result<&'a [Token], ReadError>
     ensures { Gives (λ rest. (out.new.items, rest.now)) result
         (with_front out.old.items (read_parts is_close one_type tokens.now)) }
 {
@@ -342,7 +357,10 @@ fn push_types<'a>(out: &mut Vec<ValType>, tokens: &'a [Token]) -> Result<&'a [To
 }
 
 #[tactic(auto, unfolding(crate::specs::Phrases::read_result))]
-fn push_result<'a>(out: &mut Vec<ValType>, tokens: &'a [Token]) -> Result<&'a [Token], ReadError>
+fn push_result<'a>(
+    out: &mut Vec<WrittenType>,
+    tokens: &'a [Token],
+) -> Result<&'a [Token], ReadError>
     ensures { Gives (λ rest. (out.new.items, rest.now)) result
         (with_front out.old.items (read_result tokens.now)) }
 {
@@ -354,7 +372,7 @@ fn push_result<'a>(out: &mut Vec<ValType>, tokens: &'a [Token]) -> Result<&'a [T
 /// Pushes the types of the results that are next, and gives what follows them.
 #[tactic(auto, unfolding(crate::specs::Phrases::read_results))]
 pub fn push_results<'a>(
-    out: &mut Vec<ValType>,
+    out: &mut Vec<WrittenType>,
     tokens: &'a [Token],
 ) -> Result<&'a [Token], ReadError>
     ensures { Gives (λ rest. (out.new.items, rest.now)) result
@@ -379,7 +397,7 @@ fn push_nameless<'a>(out: &mut Vec<Binding>, tokens: &'a [Token]) -> Result<&'a 
     ensures { Gives (λ rest. (out.new.items, rest.now)) result
         (with_front out.old.items (one_nameless tokens.now)) }
 {
-    let (val_type, rest) = read_val_type(tokens)?;
+    let (val_type, rest) = read_written_type(tokens)?;
     out.push(Binding {
         name: None,
         val_type,
@@ -422,7 +440,7 @@ fn push_bound<'a>(
     if !begins_id(tokens) {
         return push_all_nameless(out, tokens);
     }
-    let (val_type, rest) = read_val_type(after_id(tokens))?;
+    let (val_type, rest) = read_written_type(after_id(tokens))?;
     let name = id_of(alloc, tokens)?;
     out.push(Binding { name, val_type })?;
     Ok(rest)
@@ -477,24 +495,28 @@ fn same_type(first: ValType, second: ValType) -> bool
     )
 }
 
-/// Whether both are the same types in the same order.
+/// How many tokens are left at the first of these types that is not the wanted one, or after all of
+/// them if one is missing. `None` if they are the wanted ones.
 #[tactic(auto, unfolding(crate::specs::Phrases::same_types))]
-pub fn same_types(first: &[ValType], second: &[ValType]) -> bool
-    ensures { result ≡ same_types first.now second.now }
+pub fn first_other(wanted: &[ValType], written: &[WrittenType], after: usize) -> Option<usize>
+    ensures { is_none result ≡ same_types wanted.now written.now }
 {
-    let mut left = first;
-    let mut right = second;
-    while let [first, tail @ ..] = left {
-        let Some((second, rest)) = right.split_first() else {
-            return false;
+    let mut due = wanted;
+    let mut rest = written;
+    while let [first, tail @ ..] = due {
+        let Some((second, others)) = rest.split_first() else {
+            return Some(after);
         };
-        if !same_type(*first, *second) {
-            return false;
+        if !same_type(*first, second.val_type()) {
+            return Some(second.left());
         }
-        left = tail;
-        right = rest;
+        due = tail;
+        rest = others;
     }
-    right.is_empty()
+    match rest.first() {
+        Some(other) => Some(other.left()),
+        None => None,
+    }
 }
 
 /// A first size and a largest one, if it is written, and what follows them.

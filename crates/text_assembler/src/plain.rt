@@ -28,7 +28,9 @@ fn read_call_indirect<'a>(
 {
     let (type_use, rest) = read_use(alloc, scopes, tokens)?;
     if !type_use.params.are_nameless() {
-        return Err(fault(tokens));
+        return Err(ReadError::Malformed {
+            left: type_use.first_name,
+        });
     }
     Ok((Simple::CallIndirect(type_use.type_index), rest))
 }

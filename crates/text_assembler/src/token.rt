@@ -5,7 +5,7 @@ ghost use Rattle.text_assembler.specs.Inside.Answers.{IsMalformed};
 
 use crate::fault::ReadError;
 use std::marker::Model;
-use wasm_ast::Bytes;
+use wasm_ast::{Bytes, ValType};
 
 /// What a token is.
 #[derive(Drop)]
@@ -55,5 +55,48 @@ impl Token {
         ensures { IsMalformed result }
     {
         ReadError::Malformed { left: self.left }
+    }
+}
+
+/// A value type as it is written. Contracts do not see where it is.
+#[derive(Drop)]
+pub struct WrittenType {
+    val_type: ValType,
+    left: usize,
+}
+
+impl Model for WrittenType {
+    ghost use Rattle.wasm_ast.specs.declared.values.ValType.{ValType};
+
+    ghost Value = { ValType };
+
+    ghost view = { λ w. w.val_type };
+}
+
+impl WrittenType {
+    /// A type, and how many tokens are left where it is.
+    pub fn new(val_type: ValType, left: usize) -> WrittenType
+        ensures { result ≡ val_type }
+    {
+        WrittenType { val_type, left }
+    }
+
+    /// Which type it is.
+    pub fn val_type(&self) -> ValType
+        ensures { result ≡ self.now }
+    {
+        self.val_type
+    }
+
+    /// How many tokens are left where it is.
+    pub fn left(&self) -> usize {
+        self.left
+    }
+
+    /// The same type at the same place.
+    pub fn copy(&self) -> WrittenType
+        ensures { result ≡ self.now }
+    {
+        WrittenType::new(self.val_type, self.left)
     }
 }

@@ -1,6 +1,6 @@
 //! Uses of types (6.6.3).
 
-ghost use Rattle.std.specs.Prelude.{◌≡◌, [], ◌∷◌, ◌++◌, Ok, IfOk};
+ghost use Rattle.std.specs.Prelude.{◌≡◌, [], ◌∷◌, ◌++◌, is_none, Ok, IfOk};
 ghost use Rattle.text_assembler.specs.Inside.Answers.{Gives};
 ghost use Rattle.text_assembler.specs.Phrases.{names_of, types_of};
 ghost use Rattle.text_assembler.specs.Instructions.{declare_all, is_unwritten, fits_signature, params_of_use, read_type_index, read_use};
@@ -8,18 +8,27 @@ ghost use Rattle.text_assembler.specs.Instructions.{declare_all, is_unwritten, f
 use crate::fault::ReadError;
 use crate::ids::Ids;
 use crate::phrases::{
-    Binding, push_bindings, push_results, read_index, same_types, skip_close, skip_group,
+    Binding, first_other, push_bindings, push_results, read_index, skip_close, skip_group,
 };
 use crate::scopes::Scopes;
-use crate::token::Token;
+use crate::token::{Token, WrittenType};
 use std::alloc::{AllocError, Global};
-use wasm_ast::{Bytes, FuncType, ValType};
+use wasm_ast::{Bytes, FuncType, Sequence, ValType};
 
 /// A use of a type: its index, and the parameters as locals.
 #[derive(Drop)]
 pub struct TypeUse {
     pub type_index: u32,
     pub params: Ids,
+    /// How many tokens are left at the first identifier of a parameter, if there is one.
+    pub first_name: usize,
+}
+
+// How many tokens are left after the parameters of a use, and after its results.
+#[derive(Clone, Copy)]
+struct Ends {
+    params: usize,
+    results: usize,
 }
 
 /// The same name, in memory of its own.
@@ -34,46 +43,68 @@ pub fn copy_name(alloc: Global, name: &Option<Bytes>) -> Result<Option<Bytes>, A
 
 /// Declares the identifiers of these parameters or locals, in order.
 #[tactic(auto, unfolding(crate::specs::Instructions::declare_all))]
-pub fn declare_bindings(
-    alloc: Global,
-    ids: &mut Ids,
-    bindings: &[Binding],
-    left: usize,
-) -> Result<(), ReadError>
+pub fn declare_bindings(alloc: Global, ids: &mut Ids, bindings: &[Binding]) -> Result<(), ReadError>
     ensures { Gives (λ _. ids.new) result (declare_all ids.old (names_of bindings.now)) }
 {
     let mut rest = bindings;
     while let [first, tail @ ..] = rest {
-        ids.declare(alloc, copy_name(alloc, &first.name)?, left)?;
+        ids.declare(alloc, copy_name(alloc, &first.name)?, first.name_left())?;
         rest = tail;
     }
     Ok(())
 }
 
+// How many tokens are left at the first identifier of these parameters. 0 if they have none.
+fn first_name(params: &[Binding]) -> usize {
+    let mut rest = params;
+    while let [first, tail @ ..] = rest {
+        if first.name.is_some() {
+            return first.name_left();
+        }
+        rest = tail;
+    }
+    0
+}
+
 /// The types of these parameters or locals, in order.
-pub fn types_of(alloc: Global, bindings: &[Binding]) -> Result<Vec<ValType>, AllocError>
+pub fn types_of(alloc: Global, bindings: &[Binding]) -> Result<Vec<WrittenType>, AllocError>
     ensures { IfOk result (λ types. types.items ≡ types_of bindings.now) }
 {
     bindings
         .iter()
-        .map(|binding| binding.val_type)
+        .map(|binding| binding.val_type.copy())
         .collect(alloc)
 }
 
+/// These types, without their places.
+pub fn without_places(alloc: Global, types: &[WrittenType]) -> Result<Sequence<ValType>, AllocError>
+    ensures { IfOk result (λ all. all ≡ types.now) }
+{
+    let types = types
+        .iter()
+        .map(|written| written.val_type())
+        .collect(alloc)?;
+    Ok(Sequence::new(types))
+}
+
+// How many tokens are left where these parameters and results are first not those of the type.
 #[tactic(auto, unfolding(crate::specs::Instructions::fits_signature))]
-fn fits_signature(
+fn misfit(
     alloc: Global,
     signature: &FuncType,
     params: &[Binding],
-    results: &[ValType],
-) -> Result<bool, AllocError>
-    ensures { IfOk result (λ fits. fits ≡ fits_signature signature.now params.now results.now) }
+    results: &[WrittenType],
+    ends: Ends,
+) -> Result<Option<usize>, AllocError>
+    ensures { IfOk result (λ place.
+        is_none place ≡ fits_signature signature.now params.now results.now) }
 {
     let types = types_of(alloc, params)?;
-    Ok(
-        same_types(signature.params.as_slice(), types.as_slice())
-            && same_types(signature.results.as_slice(), results),
-    )
+    let place = first_other(signature.params.as_slice(), types.as_slice(), ends.params);
+    if place.is_some() {
+        return Ok(place);
+    }
+    Ok(first_other(signature.results.as_slice(), results, ends.results))
 }
 
 // The parameters of a use as locals.
@@ -82,19 +113,19 @@ fn params_of_use(
     alloc: Global,
     signature: &FuncType,
     params: &[Binding],
-    results: &[ValType],
-    left: usize,
+    results: &[WrittenType],
+    ends: Ends,
 ) -> Result<Ids, ReadError>
     ensures { Gives (λ x. x) result (params_of_use signature.now params.now results.now) }
 {
     if params.is_empty() && results.is_empty() {
         return Ok(Ids::nameless(alloc, signature.params.len()));
     }
-    if !fits_signature(alloc, signature, params, results)? {
+    if let Some(left) = misfit(alloc, signature, params, results, ends)? {
         return Err(ReadError::Malformed { left });
     }
     let mut ids = Ids::new(alloc);
-    declare_bindings(alloc, &mut ids, params, left)?;
+    declare_bindings(alloc, &mut ids, params)?;
     Ok(ids)
 }
 
@@ -124,21 +155,33 @@ pub fn read_use<'a>(
 {
     let (type_index, rest) = read_type_index(scopes, tokens)?;
     let mut params = Vec::new(alloc);
-    let rest = push_bindings(alloc, "param", &mut params, rest)?;
+    let after_params = push_bindings(alloc, "param", &mut params, rest)?;
     let mut results = Vec::new(alloc);
-    let rest = push_results(&mut results, rest)?;
+    let rest = push_results(&mut results, after_params)?;
     let Some(signature) = scopes.signatures.as_slice().get(type_index as usize) else {
         // The index is the third token.
         return Err(ReadError::Malformed {
             left: tokens.len().saturating_sub(2),
         });
     };
+    let ends = Ends {
+        params: after_params.len(),
+        results: rest.len(),
+    };
+    let first_name = first_name(params.as_slice());
     let params = params_of_use(
         alloc,
         signature,
         params.as_slice(),
         results.as_slice(),
-        tokens.len(),
+        ends,
     )?;
-    Ok((TypeUse { type_index, params }, rest))
+    Ok((
+        TypeUse {
+            type_index,
+            params,
+            first_name,
+        },
+        rest,
+    ))
 }
