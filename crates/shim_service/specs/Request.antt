@@ -4,6 +4,7 @@ use Rattle.hex.specs.Hex.{decode_of}
 use Rattle.serde_json.specs.Data.{Data, string, number, unsigned, object, Members, put}
 use Rattle.task_board.specs.declared.request.Request.{Request}
 use Rattle.task_board.specs.declared.request.Request.TheVariants.{Put, PutText, Remove, LeaseCreate, LeaseAdd, LeaseDelete, Gc, Create, Start, Pause, Resume, Kill, Delete, State, Wait, Output}
+use Rattle.task_board.specs.Limits.{max_budget}
 use Rattle.task_board.specs.declared.event.Event.{Event}
 use Rattle.task_board.specs.declared.event.Event.TheVariants.{Call, Take, Return}
 use Rattle.shim_service.specs.Shape.{IsJson, members}
@@ -55,9 +56,6 @@ HasKeys ms (Output id stream) =
     ms ≡ members ((codes "id", string id) ∷ (codes "stream", number (unsigned stream)) ∷ [])
 
 -- ---- the event lines of a replay
-
-abbrev pub max_budget : ℕ
-max_budget = 1000000
 
 abbrev pub event_op : Event → List ℕ
 event_op (Call request) = op_of request

@@ -4,7 +4,8 @@ ghost use Rattle.std.specs.Prelude.{◌≡◌, ◌≤◌, ◌<◌, ◌⊎◌, If
 ghost use Rattle.serde_json.specs.View.{view, members_view};
 ghost use Rattle.task_board.specs.declared.event.Event.{Event};
 ghost use Rattle.task_board.specs.declared.event.Event.TheVariants as Happening;
-ghost use Rattle.shim_service.specs.Request.{HasEventKeys, AsksEvent, IsEvent, max_budget};
+ghost use Rattle.task_board.specs.Limits.{max_budget};
+ghost use Rattle.shim_service.specs.Request.{HasEventKeys, AsksEvent, IsEvent};
 ghost use Rattle.shim_service.specs.Shape.{max_line_bytes};
 ghost use Rattle.shim_service.specs.Inside.Parse.{Parses, IsEventAsked};
 
@@ -13,11 +14,8 @@ use crate::members::{Members, read_only_id, read_value, split_op, take_number};
 use crate::parse_request::read_request;
 use serde_json::Value;
 use std::alloc::Global;
-use task_board::Event;
+use task_board::{Event, MAX_BUDGET};
 use wasm_ast::{Refusal, Text};
-
-/// Turns of a slice at most.
-const MAX_BUDGET: u64 = 1_000_000;
 
 /// Reads the members beside `op` of a take: its budget, from 1 to 1,000,000, and its id.
 fn read_take(members: Members) -> Option<(Text, u64)>

@@ -24,7 +24,7 @@ pub use event::{Event, EventReply};
 pub use loan::Loan;
 pub use prepared::Prepared;
 pub use request::{Reply, Request, TaskState};
-pub use run::run_events;
+pub use run::{MAX_BUDGET, run_events};
 pub use task_lifecycle::{ExitRecord, Signal, Status, TaskCall};
 pub use ticket::Ticket;
 pub use wasm_ast::{is_digest, is_id};

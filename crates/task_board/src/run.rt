@@ -16,7 +16,7 @@ use std::alloc::{AllocError, Global};
 use wasm_ast::{Refusal, Text};
 
 /// The most turns of a slice.
-const MAX_BUDGET: u64 = 1_000_000;
+pub const MAX_BUDGET: u64 = 1_000_000;
 
 fn is_fitting(board: &Board, loan: &Loan, slot: usize) -> bool
     ensures { IsTrue result ↔ IsFitting board.now.state.tasks slot loan.now }
