@@ -371,29 +371,35 @@ events_same s e r s1 r' s2 d a b h g = step_same s e r s1 r' s2 d (is_step s e r
 abbrev pub One : Type 0
 One = (bytes : List ℕ) (m n : Module) → Spells bytes m → Spells bytes n → m ≡ n
 
--- bytes that can be opened are refused only as what the machine cannot run yet
-opened_refused : (bytes : List ℕ) (p : ProcessConfig) (m : Module) (e : Refusal) → One → Openable bytes p m → CannotOpen bytes p e → e ≡ refusal.Invalid
-opened_refused bytes p m _ one opens (no_module none) = absurd (none m opens.spelled.spells)
-opened_refused bytes p m _ one opens (too_much over none) = absurd (none m opens.spelled)
-opened_refused bytes p m _ one opens (invalid n spelled unfit) = refl
+-- bytes that can be opened are not refused
+opened_refused : (bytes : List ℕ) (p : ProcessConfig) (m : Module) (e : Refusal) → One → Openable bytes p m → CannotOpen bytes p e → ⊥
+opened_refused bytes p m _ one opens (no_module none) = none m opens.spelled.spells
+opened_refused bytes p m _ one opens (too_much over none) = none m opens.spelled
+opened_refused bytes p m _ one opens (invalid n spelled unfit) =
+    unfit (subst ValidModule (one bytes m n opens.spelled.spells spelled.spells) opens.valid)
 opened_refused bytes p m _ one opens (refused n e spelled valid is) =
     let same : n ≡ m = one bytes n m spelled.spells opens.spelled.spells in
-    absurd (none_is_not e (sym opens.opens ∙ subst (λ (x : Module). instantiation_refusal x p ≡ Some e) same is))
+    none_is_not e (sym opens.opens ∙ subst (λ (x : Module). instantiation_refusal x p ≡ Some e) same is)
 
 -- two refusals of the same bytes
 refused_agree : (bytes : List ℕ) (p : ProcessConfig) (e e' : Refusal) → One → CannotOpen bytes p e → CannotOpen bytes p e' → AgreeOnRefusal e e'
 refused_agree bytes p _ _ one (no_module none) (no_module none') = inl refl
-refused_agree bytes p _ _ one (no_module none) (too_much over none') = inr (inl (inl (refl, refl)))
+refused_agree bytes p _ _ one (no_module none) (too_much over none') = inr (inl (refl, refl))
 refused_agree bytes p _ _ one (no_module none) (invalid m spelled unfit) = absurd (none m spelled.spells)
 refused_agree bytes p _ _ one (no_module none) (refused m e spelled valid is) = absurd (none m spelled.spells)
-refused_agree bytes p _ _ one (too_much over none) (no_module none') = inr (inl (inr (refl, refl)))
+refused_agree bytes p _ _ one (too_much over none) (no_module none') = inr (inr (refl, refl))
 refused_agree bytes p _ _ one (too_much over none) (too_much over' none') = inl refl
 refused_agree bytes p _ _ one (too_much over none) (invalid m spelled unfit) = absurd (none m spelled)
 refused_agree bytes p _ _ one (too_much over none) (refused m e spelled valid is) = absurd (none m spelled)
-refused_agree bytes p _ _ one (invalid m spelled unfit) other = inr (inr (inl refl))
+refused_agree bytes p _ _ one (invalid m spelled unfit) (no_module none) = absurd (none m spelled.spells)
+refused_agree bytes p _ _ one (invalid m spelled unfit) (too_much over none) = absurd (none m spelled)
+refused_agree bytes p _ _ one (invalid m spelled unfit) (invalid n spelled' unfit') = inl refl
+refused_agree bytes p _ _ one (invalid m spelled unfit) (refused n e spelled' valid is) =
+    absurd (unfit (subst ValidModule (one bytes n m spelled'.spells spelled.spells) valid))
 refused_agree bytes p _ _ one (refused m e spelled valid is) (no_module none) = absurd (none m spelled.spells)
 refused_agree bytes p _ _ one (refused m e spelled valid is) (too_much over none) = absurd (none m spelled)
-refused_agree bytes p _ _ one (refused m e spelled valid is) (invalid n spelled' unfit) = inr (inr (inr refl))
+refused_agree bytes p _ _ one (refused m e spelled valid is) (invalid n spelled' unfit) =
+    absurd (unfit (subst ValidModule (one bytes m n spelled.spells spelled'.spells) valid))
 refused_agree bytes p _ _ one (refused m e spelled valid is) (refused n e' spelled' valid' is') =
     let same : n ≡ m = one bytes n m spelled'.spells spelled.spells in
     inl (some_is e e' (sym is ∙ subst (λ (x : Module). instantiation_refusal x p ≡ Some e') same is'))
@@ -401,8 +407,8 @@ refused_agree bytes p _ _ one (refused m e spelled valid is) (refused n e' spell
 opens_agree : (s : BoardState) (id bytes : List ℕ) (p : ProcessConfig) (r : Answer) (s1 : BoardState) (r' : Answer) (s2 : BoardState) → One
     → Opens s id bytes p r s1 → Opens s id bytes p r' s2 → AgreeOnCreate s r s1 r' s2
 opens_agree s id bytes p (Err e) s1 (Err e') s2 one a b = (a.1, b.1, refused_agree bytes p e e' one a.0 b.0)
-opens_agree s id bytes p (Err e) s1 (Ok y) s2 one a b = (a.1, opened_refused bytes p b.0 e one b.1 a.0)
-opens_agree s id bytes p (Ok x) s1 (Err e') s2 one a b = (b.1, opened_refused bytes p a.0 e' one a.1 b.0)
+opens_agree s id bytes p (Err e) s1 (Ok y) s2 one a b = opened_refused bytes p b.0 e one b.1 a.0
+opens_agree s id bytes p (Ok x) s1 (Err e') s2 one a b = opened_refused bytes p a.0 e' one a.1 b.0
 opens_agree s id bytes p (Ok x) s1 (Ok y) s2 one a b =
     let same : b.0 ≡ a.0 = one bytes b.0 a.0 b.1.spelled.spells a.1.spelled.spells in
     let t = created_task id s.creates bytes a.0 p in

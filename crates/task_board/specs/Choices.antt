@@ -21,19 +21,17 @@ abbrev pub AreEither : Refusal → Refusal → Type 0
 AreEither e e' = ((e ≡ refusal.BadModule) × (e' ≡ refusal.Limit)) ⊎ ((e ≡ refusal.Limit) × (e' ≡ refusal.BadModule))
 
 -- two refusals of one create: the same; or BadModule and Limit, of bytes that spell no module and pass a
--- limit; or Invalid in place of the other, of a module that the machine cannot run yet
+-- limit
 abbrev pub AgreeOnRefusal : Refusal → Refusal → Type 0
-AgreeOnRefusal e e' = (e ≡ e') ⊎ (AreEither e e' ⊎ ((e ≡ refusal.Invalid) ⊎ (e' ≡ refusal.Invalid)))
+AgreeOnRefusal e e' = (e ≡ e') ⊎ AreEither e e'
 
--- two answers to one create on one board, and the boards that they leave. If one is accepted and the
--- other not, the refusal is Invalid; if both are, it is with the same task, each in an empty slot of its
--- choice
+-- two answers to one create on one board, and the boards that they leave. Both are refusals, which leave the
+-- board; or both accept it with the same task, each in an empty slot of its choice
 abbrev pub AgreeOnCreate : BoardState → Answer → BoardState → Answer → BoardState → Type 0
 AgreeOnCreate s (Err e) s1 (Err e') s2 = (s1 ≡ s) × (s2 ≡ s) × AgreeOnRefusal e e'
-AgreeOnCreate s (Err e) s1 (Ok r') s2 = (s1 ≡ s) × (e ≡ refusal.Invalid)
-AgreeOnCreate s (Ok r) s1 (Err e') s2 = (s2 ≡ s) × (e' ≡ refusal.Invalid)
 AgreeOnCreate s (Ok r) s1 (Ok r') s2 =
     (r ≡ r') × (t : Task) × (k : ℕ) × (k' : ℕ) × (s1 ≡ with_new_task s k t) × (s2 ≡ with_new_task s k' t)
+AgreeOnCreate s r s1 r' s2 = ⊥
 
 -- how a text that denotes no module may be refused: at any line and column; and as Limit, if more than 256 blocks are
 -- open in it

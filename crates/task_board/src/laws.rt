@@ -122,8 +122,9 @@ pub fn events_are_determined()
         → Happens s e r s1 → Happens s e r' s2 → (r ≡ r') × (s1 ≡ s2) }
 {}
 
-/// The answer to a create is determined but for the choices that are open: which of two refusals is told,
-/// and the slot of the task.
+/// Whether a create is accepted is determined, and so are its task and its refusal, but for the choices that are
+/// open: the slot of the task, and whether bytes that encode no module and pass a limit are refused as `BadModule`
+/// or as `Limit`.
 pub fn creates_are_determined()
     ensures { (s : BoardState) (config id : List ℕ)
         (r : Answer) (s1 : BoardState) (r' : Answer) (s2 : BoardState)
