@@ -44,14 +44,15 @@ pub enum CommandError {
 
 const VERSION: &str = "0.1.0";
 
+// What FILE is in the commands that read a module.
+const MODULE_FILE: &str = "The file of the module, in the binary or the text format";
+
 // The argument FILE.
-fn file_arg<'a>(alloc: Global) -> Arg<'a>
+fn file_arg<'a>(alloc: Global, help: &'a str) -> Arg<'a>
     ensures rule { rule_of result ≡ file_rule }
     ensures local { result.global ≡ false }
 {
-    Arg::new(alloc, "FILE")
-        .required(true)
-        .help("The file, in the format that the command reads")
+    Arg::new(alloc, "FILE").required(true).help(help)
 }
 
 // The flag `--list`.
@@ -95,13 +96,14 @@ fn file_command<'a>(
     alloc: Global,
     name: &'a str,
     about: &'a str,
+    file: &'a str,
     example: &'a str,
 ) -> Result<Parser<'a>, AllocError>
     ensures shape { IfOk result (λ p. shape_of p ≡ command_shape name.now (file_rule ∷ [])) }
     ensures local { IfOk result (λ p. (fields_of p).has_globals ≡ false) }
 {
     let command = bare_command(alloc, name, about, example);
-    command.arg(file_arg(alloc))
+    command.arg(file_arg(alloc, file))
 }
 
 // `check [--list] FILE`
@@ -117,7 +119,7 @@ fn check_command<'a>(alloc: Global) -> Result<Parser<'a>, AllocError>
         "Example: wasm-shim check --list examples/sum.wat",
     );
     let listed = command.arg(list_arg(alloc))?;
-    listed.arg(file_arg(alloc))
+    listed.arg(file_arg(alloc, MODULE_FILE))
 }
 
 // `run MODULE [ARG..]`
@@ -157,7 +159,8 @@ fn line_parser<'a>(alloc: Global) -> Result<Parser<'a>, AllocError>
     let replay = file_command(
         alloc,
         "replay",
-        "Run a file of requests, takes and returns on one thread",
+        "Answer the requests, takes and returns of a file",
+        "The file of requests, takes and returns, a line each",
         "Example: wasm-shim replay examples/slices.replay.jsonl",
     )?;
     let with_serve = bare_parser(alloc).subcommand(serve)?;
@@ -172,6 +175,7 @@ fn parser<'a>(alloc: Global) -> Result<Parser<'a>, AllocError>
         alloc,
         "asm",
         "Write the binary format of the module of a file, in hexadecimal",
+        MODULE_FILE,
         "Example: wasm-shim asm examples/hello.wat",
     )?;
     let with_asm = line_parser(alloc)?.subcommand(asm)?;

@@ -12,7 +12,7 @@ Usage: wasm-shim <COMMAND>
 
 Commands:
   serve   Answer the requests of standard input, a line each, on standard output
-  replay  Run a file of requests, takes and returns on one thread
+  replay  Answer the requests, takes and returns of a file
   asm     Write the binary format of the module of a file, in hexadecimal
   check   Check whether the module of a file is valid
   run     Run the module of a file as one task, and end with its status
@@ -43,7 +43,7 @@ const ASM_HELP: &str = "Write the binary format of the module of a file, in hexa
 Usage: wasm-shim asm <FILE>
 
 Arguments:
-  <FILE>  The file, in the format that the command reads
+  <FILE>  The file of the module, in the binary or the text format
 
 Options:
   -h, --help     Print help
