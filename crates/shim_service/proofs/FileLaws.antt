@@ -1,5 +1,5 @@
 -- What the bytes of a file determine.
-use Rattle.std.proofs.Common.{◌≡◌, ◌⊎◌, ◌++◌, cond, codes, inl, inr, ℕ, zero, suc, ◌+◌, ◌≤◌, List, ◌∷◌, Bool, true, false, true≢false, Option, None, Some, length, refl, sym, ap, ◌∙◌, subst, arith}
+use Rattle.std.proofs.Common.{◌≡◌, ◌⊎◌, ◌++◌, cond, codes, inl, inr, ℕ, zero, suc, ◌+◌, ◌≤◌, List, ◌∷◌, Bool, true, false, true≢false, None, Some, length, refl, sym, ap, ◌∙◌, subst, arith}
 use Rattle.hex.specs.Hex.{encode_lower}
 use Rattle.wasm_ast.specs.declared.module.Module.{Module}
 use Rattle.wasm_ast.specs.declared.refusal.Refusal.{Refusal}
@@ -9,7 +9,7 @@ use Rattle.wasm_binary.specs.Limits.{Over}
 use Rattle.wasm_binary.specs.Canonical.{canon, FitsLimits}
 use Rattle.text_assembler.specs.Modules.{Denotes}
 use Rattle.oci_config.specs.declared.process.ProcessConfig.{ProcessConfig}
-use Rattle.oci_config.specs.Config.{are_arguments_alone, process_with}
+use Rattle.oci_config.specs.Config.{process_with}
 use Rattle.validator.specs.Typing.{ValidModule}
 use Rattle.step_machine.specs.declared.ends.End.{End}
 use Rattle.step_machine.specs.declared.ends.End.TheVariants as ends

@@ -11,6 +11,7 @@ pub mod CallLemmas
 pub mod DeterminedLemmas
 pub mod FloatLemmas
 pub mod SourceLemmas
+pub mod StreamLemmas
 pub mod ListLemmas
 pub mod RanLemmas
 pub mod RunLemmas

@@ -11,7 +11,6 @@ use Rattle.step_machine.specs.Instantiation.{instantiation_refusal}
 use Rattle.step_machine.specs.MachineView.{MachineView}
 use Rattle.shim_service.specs.declared.ran.Ran.{Ran}
 use Rattle.shim_service.specs.Source.{IsSource, IsNoSource}
-use Rattle.shim_service.specs.Ran.{refused_run}
 use Rattle.shim_service.specs.TaskRun.{ran_to, CannotRun, IsEnd, IsRun}
 use Rattle.shim_service.specs.TaskRun as task
 use Rattle.shim_service.specs.Inside.Written.{CannotStart, IsOpened, HasEnded}
@@ -79,8 +78,8 @@ opened bytes args m p (Err e) source taken same valid opens is = tt
 
 -- ---- its end
 
-pub has_ended : (name bytes : List ℕ) (args : List (List ℕ)) (v : MachineView) (r : Result Ran Refusal) → IsOpened bytes (name ∷ args) v → IfOk r (HasEnded v.module v.process) → IfOk r (IsRun name bytes args)
-has_ended name bytes args v (Ok x) opened_so h =
+pub is_run : (name bytes : List ℕ) (args : List (List ℕ)) (v : MachineView) (x : Ran) → IsOpened bytes (name ∷ args) v → HasEnded v.module v.process x → IsRun name bytes args x
+is_run name bytes args v x opened_so h =
     let p = process_with (name ∷ args) in
     let its : HasEnded v.module p x = subst (λ (q : ProcessConfig). HasEnded v.module q x) opened_so.process h in
     task.IsRun.ran x (record {
@@ -94,8 +93,3 @@ has_ended name bytes args v (Ok x) opened_so h =
       ends = its.ends;
       is = its.is;
     })
-has_ended name bytes args v (Err e) opened_so h = tt
-
-pub run_refused : (name bytes : List ℕ) (args : List (List ℕ)) (e : Refusal) (r : Result Ran Refusal) → IfOk r (λ x. x ≡ refused_run e) → OnOk r (e ≢ refusal.NoMemory) → Unless (CannotRun bytes (name ∷ args)) e → IfOk r (IsRun name bytes args)
-run_refused name bytes args e (Ok x) is told h = subst (IsRun name bytes args) (sym is) (task.IsRun.no_task e (h told))
-run_refused name bytes args e (Err y) is told h = tt

@@ -23,7 +23,7 @@ FaultExample =
     line_text (json_of (Err (refusal.BadText 1 38)))
     ≡ codes "{\"column\":38,\"error\":\"BadText\",\"line\":1,\"number\":18,\"ok\":false}\n"
 
--- of a key that stands twice the last value counts
+-- of a key that is written twice the last value counts
 abbrev pub TwiceExample : Type 0
 TwiceExample = IsEvent (codes "{\"op\":\"start\",\"id\":\"a\",\"op\":\"state\"}") (Call (request.State (codes "a")))
 

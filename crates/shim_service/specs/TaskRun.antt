@@ -1,5 +1,6 @@
 -- What `run` writes: one task, from its first turn to its end.
-use Rattle.std.specs.Prelude.{◌≡◌, ℕ, ◌%◌, List, [], ◌∷◌, ◌++◌, true, false, codes, None, Some}
+use Rattle.std.specs.Prelude.{◌≡◌, ℕ, ◌%◌, List, [], ◌∷◌, ◌++◌, true, false, codes, Option, None, Some}
+use Rattle.std.specs.Io.KnownBytes.{Appends}
 use Rattle.wasm_ast.specs.declared.module.Module.{Module}
 use Rattle.wasm_ast.specs.declared.refusal.Refusal.{Refusal}
 use Rattle.wasm_ast.specs.declared.refusal.Refusal.TheVariants as refusal
@@ -59,3 +60,8 @@ pub record IsEnd (bytes : List ℕ) (args : List (List ℕ)) (ran : Ran) : Type 
 pub data IsRun (name bytes : List ℕ) (args : List (List ℕ)) : Ran → Type 0 where
   ran : (r : Ran) → IsEnd bytes (name ∷ args) r → IsRun name bytes args r
   no_task : (e : Refusal) → CannotRun bytes (name ∷ args) e → IsRun name bytes args (refused_run e)
+
+-- to two streams is appended what one `Ran` of these writes, and the status is its own
+abbrev pub IsWritten : (Ran → Type 0) → (out out' err err' : Option (List ℕ)) → (status : ℕ) → Type 0
+IsWritten Is out out' err err' status =
+    (r : Ran) × Is r × Appends out out' r.out × Appends err err' r.err × (status ≡ r.status)

@@ -17,6 +17,7 @@ mod replay;
 mod reply_line;
 mod reply_value;
 mod run;
+mod run_error;
 mod serve;
 mod source;
 
@@ -28,5 +29,6 @@ pub use parse_request::request_of;
 pub use ran::Ran;
 pub use replay::replay_lines;
 pub use reply_line::{bad_request_line, event_line_of, line_of, no_memory_line};
-pub use run::run_file;
+pub use run::{run_file, run_streams};
+pub use run_error::RunError;
 pub use serve::serve_lines;

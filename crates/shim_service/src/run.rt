@@ -1,24 +1,29 @@
 //! The command `run`.
 
-ghost use Rattle.std.specs.Prelude.{◌≡◌, ◌≢◌, ◌-◌, ◌<◌, ◌%◌, ◌∷◌, ◌++◌, [], map, IfOk, IfErr, OnOk, Some, None, true, false, string_bytes};
+ghost use Rattle.std.specs.Prelude.{◌≡◌, ◌≢◌, ◌-◌, ◌<◌, ◌≤◌, ◌%◌, ◌∷◌, ◌++◌, [], List, ℕ, map, drop, length, IfOk, IfErr, OnOk, Some, None, true, false, string_bytes};
+ghost use Rattle.std.specs.Io.KnownBytes.{Appends};
 ghost use Rattle.wasm_ast.specs.declared.refusal.Refusal.TheVariants as refusal;
 ghost use Rattle.oci_config.specs.Processes.{config_of};
 ghost use Rattle.oci_config.specs.Config as config;
 ghost use Rattle.oci_config.specs.Config.{are_arguments_alone};
 ghost use Rattle.validator.specs.Typing.{ValidModule};
-ghost use Rattle.step_machine.specs.Instantiation.{instantiation_refusal, after, ended};
+ghost use Rattle.step_machine.specs.Instantiation.{instantiation_refusal, ended};
 ghost use Rattle.step_machine.specs.Limits.{last_turn};
-ghost use Rattle.step_machine.specs.MachineView.{state_of};
+ghost use Rattle.step_machine.specs.MachineView.{state_of, output_of};
 ghost use Rattle.task_lifecycle.specs.Names.{exit_status};
 ghost use Rattle.task_board.specs.Tasks.{exit_of};
-ghost use Rattle.shim_service.specs.TaskRun.{trap_line, ran_to, CannotRun, IsRun};
+ghost use Rattle.shim_service.specs.Ran.{refused_run};
+ghost use Rattle.shim_service.specs.TaskRun.{trap_line, CannotRun, IsRun, IsWritten};
 ghost use Rattle.shim_service.specs.Inside.Written.{CannotStart, IsOpened, HasEnded};
 
 use crate::ran::Ran;
+use crate::run_error::RunError;
 use crate::source::module_of;
 use oci_config::{Process, Stream, process_with};
 use std::alloc::{AllocError, Global};
-use step_machine::laws::{slices_go_forward, turns_are_limited};
+use std::io;
+use std::io::Write;
+use step_machine::laws::{outputs_grow, slices_go_forward, turns_are_limited};
 use step_machine::{Breaks, End, Machine, validate};
 use wasm_ast::{Module, Refusal, Sequence, Text};
 
@@ -78,6 +83,51 @@ fn task_of(alloc: Global, name: &str, bytes: &[u8], args: &[String]) -> Result<M
     machine_of(alloc, module, process)
 }
 
+// ---- what it writes
+
+// Writes these bytes, if there are any, and flushes.
+fn write_some<W: Write>(bytes: &[u8], writer: &mut W) -> io::Result<()>
+    ensures { OnOk result (Appends (W.contents writer.old) (W.contents writer.new) bytes.now) }
+{
+    if bytes.is_empty() {
+        return Ok(());
+    }
+    writer.write_all(bytes)?;
+    writer.flush()
+}
+
+// How many bytes of each of a task's streams have been written.
+#[derive(Drop)]
+struct Progress {
+    out: usize,
+    err: usize,
+}
+
+// Writes what is new on the streams of a task.
+fn write_new<O: Write, E: Write>(
+    machine: &Machine,
+    written: &mut Progress,
+    out: &mut O,
+    err: &mut E,
+) -> Result<(), RunError>
+    requires out { written.old.out ≤ length (output_of machine.now Stream.Out) }
+    requires err { written.old.err ≤ length (output_of machine.now Stream.Err) }
+    ensures out { OnOk result (Appends (O.contents out.old) (O.contents out.new)
+        (drop written.old.out (output_of machine.now Stream.Out))) }
+    ensures err { OnOk result (Appends (E.contents err.old) (E.contents err.new)
+        (drop written.old.err (output_of machine.now Stream.Err))) }
+    ensures all_out { OnOk result (written.new.out ≡ length (output_of machine.now Stream.Out)) }
+    ensures all_err { OnOk result (written.new.err ≡ length (output_of machine.now Stream.Err)) }
+{
+    let on_out = machine.output(Stream::Out);
+    write_some(&on_out[written.out..], out).map_err(RunError::StandardOutput)?;
+    let on_err = machine.output(Stream::Err);
+    write_some(&on_err[written.err..], err).map_err(RunError::StandardError)?;
+    written.out = on_out.len();
+    written.err = on_err.len();
+    Ok(())
+}
+
 // ---- its turns
 
 // Makes a slice of a task that has not ended.
@@ -86,27 +136,41 @@ fn run_slice(machine: &mut Machine, none: &Breaks)
     ensures same_module { machine.new.module ≡ machine.old.module }
     ensures same_process { machine.new.process ≡ machine.old.process }
     ensures fewer { last_turn - machine.new.turns < last_turn - machine.old.turns }
+    ensures grown { (s : Stream) → (later : List ℕ)
+        × (output_of machine.new s ≡ output_of machine.old s ++ later) }
 {
     turns_are_limited();
     slices_go_forward();
+    outputs_grow();
     machine.run(SLICE_BUDGET, none);
 }
 
-// Makes all turns of a task, slice by slice.
-fn run_to_end(machine: &mut Machine, none: &Breaks) -> End
+// Makes all turns of a task, slice by slice, and writes after each what is new.
+fn run_to_end<O: Write, E: Write>(
+    machine: &mut Machine,
+    none: &Breaks,
+    out: &mut O,
+    err: &mut E,
+) -> Result<End, RunError>
     ensures same_module { machine.new.module ≡ machine.old.module }
     ensures same_process { machine.new.process ≡ machine.old.process }
-    ensures end { ended (state_of machine.new) ≡ Some result }
+    ensures end { IfOk result (λ e. ended (state_of machine.new) ≡ Some e) }
+    ensures out { OnOk result
+        (Appends (O.contents out.old) (O.contents out.new) (output_of machine.new Stream.Out)) }
+    ensures err { OnOk result
+        (Appends (E.contents err.old) (E.contents err.new) (output_of machine.new Stream.Err)) }
 {
+    let mut written = Progress { out: 0, err: 0 };
     loop {
+        write_new(machine, &mut written, out, err)?;
         if let Some(end) = machine.halted() {
-            return end;
+            return Ok(end);
         }
         run_slice(machine, none);
     }
 }
 
-// ---- what it leaves
+// ---- its end
 
 // The status of a program whose task has ended so.
 fn status_of(end: End) -> u8
@@ -131,29 +195,66 @@ fn push_trap(err: &mut Vec<u8>, end: End) -> Result<(), AllocError>
     err.extend_from_slice(b"\n")
 }
 
-// What a task that has ended so has written, and its status.
-fn ran_to(alloc: Global, machine: &Machine, end: End) -> Result<Ran, AllocError>
-    ensures { IfOk result (λ r. r
-        ≡ ran_to (after machine.now.module machine.now.process machine.now.turns).store end) }
+// Writes the line of a trap.
+fn write_trap<W: Write>(alloc: Global, end: End, err: &mut W) -> Result<(), RunError>
+    ensures { OnOk result (Appends (W.contents err.old) (W.contents err.new) (trap_line end)) }
 {
-    let out = Vec::from_slice(alloc, machine.output(Stream::Out))?;
-    let mut err = Vec::from_slice(alloc, machine.output(Stream::Err))?;
-    push_trap(&mut err, end)?;
-    Ok(Ran {
-        out: Sequence::new(out),
-        err: Sequence::new(err),
-        status: status_of(end),
-    })
+    let mut line = Vec::new(alloc);
+    push_trap(&mut line, end)?;
+    write_some(line.as_slice(), err).map_err(RunError::StandardError)
 }
 
-// Runs a task to its end.
-fn run_task(alloc: Global, mut machine: Machine) -> Result<Ran, Refusal>
-    ensures ran { IfOk result (HasEnded machine.module machine.process) }
-    ensures errors { IfErr result (λ e. e ≡ refusal.NoMemory) }
+// Writes the line of a refusal, and answers its status. `NoMemory` has no line.
+fn write_refusal<W: Write>(alloc: Global, cause: Refusal, err: &mut W) -> Result<u8, RunError>
+    ensures written { OnOk result
+        (Appends (W.contents err.old) (W.contents err.new) (refused_run cause).err) }
+    ensures status { IfOk result (λ s. s ≡ (refused_run cause).status) }
+    ensures told { OnOk result (cause ≢ refusal.NoMemory) }
+{
+    let Ok(ran) = Ran::refused_run(alloc, cause) else {
+        return Err(RunError::OutOfMemory);
+    };
+    write_some(ran.err.as_slice(), err).map_err(RunError::StandardError)?;
+    Ok(ran.status)
+}
+
+// Runs a task to its end, and writes what it writes.
+fn run_task<O: Write, E: Write>(
+    alloc: Global,
+    machine: &mut Machine,
+    out: &mut O,
+    err: &mut E,
+) -> Result<u8, RunError>
+    ensures { IfOk result (IsWritten (HasEnded machine.old.module machine.old.process)
+        (O.contents out.old) (O.contents out.new) (E.contents err.old) (E.contents err.new)) }
 {
     let none = Breaks::none(alloc)?;
-    let end = run_to_end(&mut machine, &none);
-    Ok(ran_to(alloc, &machine, end)?)
+    let end = run_to_end(machine, &none, out, err)?;
+    write_trap(alloc, end, err)?;
+    Ok(status_of(end))
+}
+
+/// The command `run` for a file of this name with these bytes, as `run_file` says, over two streams that are
+/// written to while the task runs. It makes slices of at most 1,000,000 turns; what a slice has written is
+/// written to `out` and then to `err`, and flushed, before the next one begins. The answer is the status.
+///
+/// `StandardOutput` or `StandardError` if that stream failed: the task goes no further. `OutOfMemory` if
+/// memory runs out for anything but what the task itself may be refused. What was written stays written.
+pub fn run_streams<O: Write, E: Write>(
+    alloc: Global,
+    name: &str,
+    bytes: &[u8],
+    args: &[String],
+    out: &mut O,
+    err: &mut E,
+) -> Result<u8, RunError>
+    ensures { IfOk result (IsWritten (IsRun name.now bytes.now (map string_bytes args.now))
+        (O.contents out.old) (O.contents out.new) (E.contents err.old) (E.contents err.new)) }
+{
+    match task_of(alloc, name, bytes, args) {
+        Ok(mut machine) => run_task(alloc, &mut machine, out, err),
+        Err(refusal) => write_refusal(alloc, refusal, err),
+    }
 }
 
 /// What `run` writes for a file of this name with these bytes: one task whose arguments are the name and
@@ -165,8 +266,14 @@ pub fn run_file(alloc: Global, name: &str, bytes: &[u8], args: &[String]) -> Res
     ensures ran { IfOk result (IsRun name.now bytes.now (map string_bytes args.now)) }
     ensures errors { IfErr result (λ e. e ≡ refusal.NoMemory) }
 {
-    match task_of(alloc, name, bytes, args) {
-        Ok(machine) => run_task(alloc, machine),
-        Err(refusal) => Ran::refused_run(alloc, refusal),
+    let mut out = Vec::new(alloc);
+    let mut err = Vec::new(alloc);
+    match run_streams(alloc, name, bytes, args, &mut out, &mut err) {
+        Ok(status) => Ok(Ran {
+            out: Sequence::new(out),
+            err: Sequence::new(err),
+            status,
+        }),
+        Err(_) => Err(Refusal::NoMemory),
     }
 }

@@ -19,6 +19,8 @@ mod lines;
 #[cfg(test)]
 mod modules;
 #[cfg(test)]
+mod runs;
+#[cfg(test)]
 mod stores;
 #[cfg(test)]
 mod streams;

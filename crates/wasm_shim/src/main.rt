@@ -2,8 +2,8 @@
 #![tactic(auto)]
 
 use shim_service::{
-    Command, CommandError, Ran, asm_file, check_file, command_of, replay_lines, run_file,
-    serve_lines,
+    Command, CommandError, Ran, RunError, asm_file, check_file, command_of, replay_lines,
+    run_streams, serve_lines,
 };
 use std::io::Write;
 use std::process::ExitCode;
@@ -107,12 +107,33 @@ fn check(rt: &HostRuntime, file: &str, list: bool) -> ExitCode {
     }
 }
 
-// Runs the module in a file.
-fn run(rt: &HostRuntime, file: &str, args: &[String]) -> ExitCode {
-    match read(rt, file) {
-        Ok(bytes) => finish(rt, run_file(rt.alloc(), file, bytes.as_slice(), args)),
-        Err(status) => status,
+// Ends with what a run came to. If standard error failed, there is nowhere to say so.
+fn finish_run(rt: &HostRuntime, ran: Result<u8, RunError>) -> ExitCode {
+    match ran {
+        Ok(status) => ExitCode::from(status),
+        Err(RunError::StandardError(_)) => ExitCode::FAILURE,
+        Err(RunError::StandardOutput(error)) => stream_failed(rt, "standard output", &error),
+        Err(RunError::OutOfMemory) => failed(rt, "out of memory"),
     }
+}
+
+// Runs the module in a file, and writes what it writes as it comes.
+fn run(rt: &HostRuntime, file: &str, args: &[String]) -> ExitCode {
+    let bytes = match read(rt, file) {
+        Ok(bytes) => bytes,
+        Err(status) => return status,
+    };
+    let mut out = rt.stdout();
+    let mut err = rt.stderr();
+    let ran = run_streams(
+        rt.alloc(),
+        file,
+        bytes.as_slice(),
+        args,
+        &mut out,
+        &mut err,
+    );
+    finish_run(rt, ran)
 }
 
 // Says on standard error what is wrong with the arguments.

@@ -1,5 +1,6 @@
 -- What the parts of the commands promise.
-use Rattle.std.specs.Prelude.{◌≡◌, ℕ, List, true, None, Some}
+use Rattle.std.specs.Prelude.{◌≡◌, ℕ, ◌≤◌, List, length, take, true, Option, None, Some}
+use Rattle.std.specs.Io.KnownBytes.{Appends}
 use Rattle.wasm_ast.specs.declared.module.Module.{Module}
 use Rattle.wasm_ast.specs.declared.refusal.Refusal.{Refusal}
 use Rattle.wasm_ast.specs.declared.refusal.Refusal.TheVariants as refusal
@@ -57,3 +58,7 @@ pub record HasEnded (m : Module) (p : ProcessConfig) (ran : Ran) : Type 0 where
   pub end : End
   pub ends : ended (after m p turns).state ≡ Some end
   pub is : ran ≡ ran_to (after m p turns).store end
+
+-- of a stream, the first bytes, of this number, were appended to what a writer holds
+abbrev pub IsCopied : (stream : List ℕ) → (count : ℕ) → (old new : Option (List ℕ)) → Type 0
+IsCopied stream count old new = (count ≤ length stream) × Appends old new (take count stream)

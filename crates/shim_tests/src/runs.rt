@@ -1,0 +1,164 @@
+//! What `run` writes to two streams as it comes, and streams that fail.
+
+use crate::checks::{check_bytes, check_text};
+use crate::streams::FailingWriter;
+use shim_service::{Ran, RunError, run_file, run_streams};
+use std::alloc::{AllocError, Global};
+use std::process::Abort;
+use std::test::Fail;
+
+/// What is before the body of an entry, which may have a local: a function that writes `x` to a stream.
+const BEFORE: &str = "(module
+  (type $w (func (param i32 i32 i32 i32) (result i32)))
+  (type $p (func (param i32)))
+  (type $v (func))
+  (import \"wasi_snapshot_preview1\" \"fd_write\" (func $write (type $w)))
+  (memory 1)
+  (data (offset i32.const 0) \"\\08\\00\\00\\00\\01\\00\\00\\00x\")
+  (func $put (type $p) local.get 0 i32.const 0 i32.const 1 i32.const 32 call $write drop)
+  (func $s (type $v) (local i32)
+";
+
+/// What is after it.
+const AFTER: &str = ")
+  (export \"_start\" (func $s))
+  (export \"memory\" (memory 0)))
+";
+
+/// A body that writes to both streams, makes 2,000,000 turns, writes to both again, and traps.
+const BOTH_AND_TRAP: &str = "
+  i32.const 1 call $put i32.const 2 call $put
+  i32.const 400000 local.set 0
+  loop local.get 0 i32.const 1 i32.sub local.tee 0 br_if 0 end
+  i32.const 1 call $put i32.const 2 call $put unreachable
+";
+
+/// One that writes to standard output, makes 2,000,000 turns, writes to standard error and goes on for ever.
+const BOTH_IN_TURN: &str = "
+  i32.const 1 call $put
+  i32.const 400000 local.set 0
+  loop local.get 0 i32.const 1 i32.sub local.tee 0 br_if 0 end
+  i32.const 2 call $put
+  loop br 0 end
+";
+
+/// A task whose stream fails after some bytes, and what was written before that.
+struct Failure {
+    body: &'static str,
+    out_room: usize,
+    err_room: usize,
+    cause: &'static str,
+    out: &'static str,
+    err: &'static str,
+}
+
+const FAILURES: &[Failure] = &[
+    Failure {
+        body: "i32.const 1 call $put loop br 0 end",
+        out_room: 0,
+        err_room: 0,
+        cause: "standard output",
+        out: "",
+        err: "",
+    },
+    Failure {
+        body: "i32.const 2 call $put loop br 0 end",
+        out_room: 0,
+        err_room: 0,
+        cause: "standard error",
+        out: "",
+        err: "",
+    },
+    Failure {
+        body: BOTH_IN_TURN,
+        out_room: 1,
+        err_room: 0,
+        cause: "standard error",
+        out: "x",
+        err: "",
+    },
+    Failure {
+        body: "unreachable",
+        out_room: 0,
+        err_room: 3,
+        cause: "standard error",
+        out: "",
+        err: "tra",
+    },
+    Failure {
+        body: "call 9",
+        out_room: 0,
+        err_room: 7,
+        cause: "standard error",
+        out: "",
+        err: "refused",
+    },
+];
+
+fn framed(alloc: Global, body: &str) -> Result<String, AllocError> {
+    let mut text = String::from_str(alloc, BEFORE)?;
+    text.push_str(body)?;
+    text.push_str(AFTER)?;
+    Ok(text)
+}
+
+// Why a run was given up.
+fn cause(ran: &Result<u8, RunError>) -> &'static str {
+    match ran {
+        Ok(_) => "none",
+        Err(RunError::OutOfMemory) => "out of memory",
+        Err(RunError::StandardOutput(_)) => "standard output",
+        Err(RunError::StandardError(_)) => "standard error",
+    }
+}
+
+fn check_failure(rt: &impl Abort, alloc: Global, at: usize, row: &Failure) -> Result<(), Fail> {
+    let file = framed(alloc, row.body)?;
+    let mut out = FailingWriter::new(alloc, row.out_room);
+    let mut err = FailingWriter::new(alloc, row.err_room);
+    let ran = run_streams(alloc, "m", file.as_bytes(), &[], &mut out, &mut err);
+    check_text(rt, row.body, cause(&ran), row.cause);
+    check_bytes(rt, at, out.as_slice(), row.out.as_bytes());
+    check_bytes(rt, at, err.as_slice(), row.err.as_bytes());
+    Ok(())
+}
+
+// A task goes on only as long as its streams take what it writes: most of these would never end.
+#[test]
+fn a_stream_fails_while_its_task_runs(rt: HostRuntime) -> Result<(), Fail> {
+    for (at, row) in FAILURES.iter().enumerate() {
+        check_failure(&rt, rt.alloc(), at, row)?;
+    }
+    Ok(())
+}
+
+fn check_ran(rt: &impl Abort, alloc: Global, file: &str, wanted: &Ran) -> Result<(), Fail> {
+    let mut out = FailingWriter::new(alloc, usize::MAX);
+    let mut err = FailingWriter::new(alloc, usize::MAX);
+    let status = run_streams(alloc, "m", file.as_bytes(), &[], &mut out, &mut err)?;
+    assert_eq!(rt; status, wanted.status, "{file}");
+    check_bytes(rt, 0, out.as_slice(), wanted.out.as_slice());
+    check_bytes(rt, 0, err.as_slice(), wanted.err.as_slice());
+    Ok(())
+}
+
+#[test]
+fn streams_are_those_of_the_file(rt: HostRuntime) -> Result<(), Fail> {
+    let alloc = rt.alloc();
+    let file = framed(alloc, BOTH_AND_TRAP)?;
+    let wanted = run_file(alloc, "m", file.as_bytes(), &[])?;
+    assert_eq!(rt; wanted.status, 134);
+    check_bytes(&rt, 0, wanted.out.as_slice(), b"xx");
+    check_bytes(&rt, 0, wanted.err.as_slice(), b"xxtrap: unreachable\n");
+    check_ran(&rt, alloc, file.as_str(), &wanted)
+}
+
+#[test]
+fn a_refused_file_is_one_line(rt: HostRuntime) -> Result<(), Fail> {
+    let alloc = rt.alloc();
+    let wanted = run_file(alloc, "m", b"(module", &[])?;
+    assert_eq!(rt; wanted.status, 125);
+    check_bytes(&rt, 0, wanted.out.as_slice(), b"");
+    check_bytes(&rt, 0, wanted.err.as_slice(), b"refused 18 BadText\n");
+    check_ran(&rt, alloc, "(module", &wanted)
+}
