@@ -11,7 +11,8 @@ use Rattle.content_leases.specs.StoreState.{Content, StoreState, content_in, lea
 use Rattle.content_leases.specs.Refusals.{first_refusal, is_bytes, has_conflict, put_refusals, remove_refusals, lease_create_refusals, is_member, is_full, lease_add_refusals}
 use Rattle.content_leases.proofs.LeaseLemmas.{none_is_not}
 
-pub none_first : (b : Bool) (e : Refusal) (rest : Option Refusal) → cond b (Some e) rest ≡ None → (b ≡ false) × (rest ≡ None)
+pub none_first :
+    (b : Bool) (e : Refusal) (rest : Option Refusal) → cond b (Some e) rest ≡ None → (b ≡ false) × (rest ≡ None)
 none_first true e rest h = absurd (none_is_not e (sym h))
 none_first false e rest h = (refl, h)
 
@@ -24,7 +25,9 @@ neither None bytes e c = refl
 neither (Some x) bytes e c = absurd (true≢false (sym (not_true (bytes_eq x bytes) c) ∙ e))
 
 -- bytes that may be stored are not stored yet
-pub put_new : (s : StoreState) (bytes : List ℕ) → first_refusal (put_refusals s bytes) ≡ None → content_in s.contents (digest_of bytes) ≡ None
+pub put_new :
+    (s : StoreState) (bytes : List ℕ) → first_refusal (put_refusals s bytes) ≡ None
+    → content_in s.contents (digest_of bytes) ≡ None
 put_new s bytes h =
     let stored = content_in s.contents (digest_of bytes) in
     let l = none_first _ refusal.Limit _ h in
@@ -36,7 +39,9 @@ none_of : {X : Type 0} (o : Option X) → is_some o ≡ false → o ≡ None
 none_of {X} None h = refl
 none_of {X} (Some x) h = cc
 
-pub create_new : (s : StoreState) (name : List ℕ) → first_refusal (lease_create_refusals s name) ≡ None → lease_in s.leases name ≡ None
+pub create_new :
+    (s : StoreState) (name : List ℕ) → first_refusal (lease_create_refusals s name) ≡ None
+    → lease_in s.leases name ≡ None
 create_new s name h =
     let a = none_first (not (is_id name)) refusal.BadId _ h in
     let b = none_first (is_some (lease_in s.leases name)) refusal.Exists _ a.1 in
@@ -46,11 +51,15 @@ create_new s name h =
 abbrev pub Takes : (digest : List ℕ) → Option (List (List ℕ)) → Type 0
 Takes digest o = (ms : List (List ℕ)) × (o ≡ Some ms) × (is_among digest ms ≡ false) × (length ms < max_members)
 
-takes_by : (digest : List ℕ) (o : Option (List (List ℕ))) → is_none o ≡ false → is_member digest o ≡ false → is_full o ≡ false → Takes digest o
+takes_by :
+    (digest : List ℕ) (o : Option (List (List ℕ))) → is_none o ≡ false → is_member digest o ≡ false → is_full o ≡ false
+    → Takes digest o
 takes_by digest None none member full = cc
 takes_by digest (Some ms) none member full = (ms, refl, member, grind (arith, nat_tests, full))
 
-pub add_takes : (s : StoreState) (digest name : List ℕ) → first_refusal (lease_add_refusals s digest name) ≡ None → Takes digest (lease_in s.leases name)
+pub add_takes :
+    (s : StoreState) (digest name : List ℕ) → first_refusal (lease_add_refusals s digest name) ≡ None
+    → Takes digest (lease_in s.leases name)
 add_takes s digest name h =
     let o = lease_in s.leases name in
     let a = none_first (not (is_digest digest) || not (is_id name)) refusal.BadId _ h in
@@ -62,16 +71,22 @@ add_takes s digest name h =
 
 -- ---- what is held
 
-kept_by : (test : List ℕ → Bool) (digest : List ℕ) (c : Content) (cs : List Content) (a b : Bool) → test c.digest ≡ a → bytes_eq c.digest digest ≡ b
+kept_by :
+    (test : List ℕ → Bool) (digest : List ℕ) (c : Content) (cs : List Content) (a b : Bool) → test c.digest ≡ a
+    → bytes_eq c.digest digest ≡ b
     → content_in (filter (λ (x : Content). test x.digest) cs) digest ≡ cond (test digest) (content_in cs digest) None
-    → content_in (cond a (c ∷ filter (λ (x : Content). test x.digest) cs) (filter (λ (x : Content). test x.digest) cs)) digest ≡ cond (test digest) (cond b (Some c.bytes) (content_in cs digest)) None
+    → content_in (cond a (c ∷ filter (λ (x : Content). test x.digest) cs) (filter (λ (x : Content). test x.digest) cs))
+    digest ≡ cond (test digest) (cond b (Some c.bytes) (content_in cs digest)) None
 kept_by test digest c cs true true is same h =
     let at : test digest ≡ true = ap test (sym ((bytes_eq-Decides c.digest digest).0 same)) ∙ is in
-    ap (λ (x : Bool). cond x (Some c.bytes) (content_in (filter (λ (y : Content). test y.digest) cs) digest)) same ∙ sym (ap (λ (x : Bool). cond x (Some c.bytes) None) at)
-kept_by test digest c cs true false is same h = ap (λ (x : Bool). cond x (Some c.bytes) (content_in (filter (λ (y : Content). test y.digest) cs) digest)) same ∙ h
+    ap (λ (x : Bool). cond x (Some c.bytes) (content_in (filter (λ (y : Content). test y.digest) cs) digest)) same
+    ∙ sym (ap (λ (x : Bool). cond x (Some c.bytes) None) at)
+kept_by test digest c cs true false is same h =
+    ap (λ (x : Bool). cond x (Some c.bytes) (content_in (filter (λ (y : Content). test y.digest) cs) digest)) same ∙ h
 kept_by test digest c cs false true is same h =
     let at : test digest ≡ false = ap test (sym ((bytes_eq-Decides c.digest digest).0 same)) ∙ is in
-    h ∙ (ap (λ (x : Bool). cond x (content_in cs digest) None) at ∙ sym (ap (λ (x : Bool). cond x (Some c.bytes) None) at))
+    h ∙ (ap (λ (x : Bool). cond x (content_in cs digest) None) at
+    ∙ sym (ap (λ (x : Bool). cond x (Some c.bytes) None) at))
 kept_by test digest c cs false false is same h = h
 
 none_either : (b : Bool) (o : Option (List ℕ)) → o ≡ None → o ≡ cond b o None
@@ -79,17 +94,28 @@ none_either true o h = refl
 none_either false o h = h
 
 -- of contents that are chosen by their digests, a look-up finds those that are chosen
-pub kept : (test : List ℕ → Bool) (digest : List ℕ) (cs : List Content) → content_in (filter (λ (x : Content). test x.digest) cs) digest ≡ cond (test digest) (content_in cs digest) None
+pub kept :
+    (test : List ℕ → Bool) (digest : List ℕ) (cs : List Content)
+    → content_in (filter (λ (x : Content). test x.digest) cs) digest ≡ cond (test digest) (content_in cs digest) None
 kept test digest [] = none_either (test digest) None refl
-kept test digest (c ∷ cs) = kept_by test digest c cs (test c.digest) (bytes_eq c.digest digest) refl refl (kept test digest cs)
+kept test digest (c ∷ cs) =
+    kept_by test digest c cs (test c.digest) (bytes_eq c.digest digest) refl refl (kept test digest cs)
 
-pub held_kept : (used : List (List ℕ)) (s : StoreState) (digest : List ℕ) → is_held used s.leases digest ≡ true → content_in (collected used s).contents digest ≡ content_in s.contents digest
-held_kept used s digest h = kept (is_held used s.leases) digest s.contents ∙ ap (λ (b : Bool). cond b (content_in s.contents digest) None) h
+pub held_kept :
+    (used : List (List ℕ)) (s : StoreState) (digest : List ℕ) → is_held used s.leases digest ≡ true
+    → content_in (collected used s).contents digest ≡ content_in s.contents digest
+held_kept used s digest h =
+    kept (is_held used s.leases) digest s.contents ∙ ap (λ (b : Bool). cond b (content_in s.contents digest) None) h
 
-pub unheld_gone : (used : List (List ℕ)) (s : StoreState) (digest : List ℕ) → is_held used s.leases digest ≡ false → content_in (collected used s).contents digest ≡ None
-unheld_gone used s digest h = kept (is_held used s.leases) digest s.contents ∙ ap (λ (b : Bool). cond b (content_in s.contents digest) None) h
+pub unheld_gone :
+    (used : List (List ℕ)) (s : StoreState) (digest : List ℕ) → is_held used s.leases digest ≡ false
+    → content_in (collected used s).contents digest ≡ None
+unheld_gone used s digest h =
+    kept (is_held used s.leases) digest s.contents ∙ ap (λ (b : Bool). cond b (content_in s.contents digest) None) h
 
-pub held_refused : (used : List (List ℕ)) (s : StoreState) (digest : List ℕ) → is_held used s.leases digest ≡ true → first_refusal (remove_refusals used s digest) ≡ None → ⊥
+pub held_refused :
+    (used : List (List ℕ)) (s : StoreState) (digest : List ℕ) → is_held used s.leases digest ≡ true
+    → first_refusal (remove_refusals used s digest) ≡ None → ⊥
 held_refused used s digest held h =
     let a = none_first (not (is_digest digest)) refusal.BadId _ h in
     let b = none_first (is_none (content_in s.contents digest)) refusal.NoContent _ a.1 in

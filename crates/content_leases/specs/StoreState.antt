@@ -36,7 +36,8 @@ with_content s bytes =
 -- the contents without the one under a digest
 abbrev pub remove_content : (digest : List ℕ) → List Content → List Content
 remove_content digest [] = []
-remove_content digest (c ∷ cs) = if bytes_eq c.digest digest then cs else c ∷ remove_content digest cs
+remove_content digest (c ∷ cs) =
+    if bytes_eq c.digest digest then cs else c ∷ remove_content digest cs
 
 abbrev pub without_content : StoreState → (digest : List ℕ) → StoreState
 without_content s digest = record s { contents = remove_content digest s.contents }
@@ -56,7 +57,8 @@ with_lease s name = record s { leases = s.leases ++ record { name = name; member
 abbrev pub add_member : (digest name : List ℕ) → List Lease → List Lease
 add_member digest name [] = []
 add_member digest name (l ∷ ls) =
-    if bytes_eq l.name name then record l { members = l.members ++ digest ∷ [] } ∷ ls else l ∷ add_member digest name ls
+    if bytes_eq l.name name then record l { members = l.members ++ digest ∷ [] } ∷ ls
+    else l ∷ add_member digest name ls
 
 abbrev pub with_member : StoreState → (digest name : List ℕ) → StoreState
 with_member s digest name = record s { leases = add_member digest name s.leases }
@@ -94,4 +96,5 @@ unheld used s = unheld_among used s.leases s.contents
 
 -- the store with the contents that are held
 abbrev pub collected : (used : List (List ℕ)) → StoreState → StoreState
-collected used s = record s { contents = filter (λ (c : Content). is_held used s.leases c.digest) s.contents }
+collected used s =
+    record s { contents = filter (λ (c : Content). is_held used s.leases c.digest) s.contents }

@@ -216,7 +216,8 @@ impl Store {
     pub fn add_member_reserved(&mut self, digest: String, name: &str)
         requires { (ms : List (List ℕ)) × (lease_in self.old.state.leases name.now ≡ Some ms)
             × (is_among (string_bytes digest) ms ≡ false) × (length ms < max_members) }
-        ensures leaves { self.new.state ≡ with_member self.old.state (string_bytes digest) name.now }
+        ensures leaves { self.new.state
+            ≡ with_member self.old.state (string_bytes digest) name.now }
         ensures room { UsesRoom 0 0 self.old self.new }
     {
         self.leases.add_reserved(name, digest);

@@ -31,7 +31,8 @@ pub fn divisions_round_toward_zero()
     ensures remainder_by_zero { binary w32 RemS 1 0 ≡ Err IntegerDivideByZero }
     ensures unsigned_remainder { binary w32 RemU 4294967289 2 ≡ Ok 1 }
     ensures unsigned_remainder_by_zero { binary w32 RemU 1 0 ≡ Err IntegerDivideByZero }
-    ensures too_large_64 { binary w64 DivS 9223372036854775808 18446744073709551615 ≡ Err IntegerOverflow }
+    ensures too_large_64 { binary w64 DivS 9223372036854775808 18446744073709551615
+        ≡ Err IntegerOverflow }
 {}
 
 /// Shifts and rotations by the width and beyond.

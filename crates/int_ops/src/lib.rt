@@ -1,5 +1,5 @@
-//! Operations on integers, each equal to its definition on whole numbers (4.3.2, 4.3.3). Sections are those of
-//! the WebAssembly Core Specification 1.0.
+//! Operations on integers, each equal to its definition on whole numbers (4.3.2, 4.3.3). Sections
+//! are those of the WebAssembly Core Specification 1.0.
 #![tactic(auto)]
 
 mod conversions;

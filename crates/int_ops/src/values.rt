@@ -30,8 +30,10 @@ pub fn unary(op: UnaryOp, operand: Value) -> Result<Value, Trap>
 /// `IntegerOverflow` of a division or remainder.
 pub fn binary(op: BinaryOp, first: Value, second: Value) -> Result<Value, Trap>
     requires { type_of first ≡ type_of second }
-    ensures i32 { (a b : ℕ) → first ≡ Value.I32 a → second ≡ Value.I32 b → result ≡ value_32 (binary w32 op a b) }
-    ensures i64 { (a b : ℕ) → first ≡ Value.I64 a → second ≡ Value.I64 b → result ≡ value_64 (binary w64 op a b) }
+    ensures i32 { (a b : ℕ) → first ≡ Value.I32 a → second ≡ Value.I32 b
+        → result ≡ value_32 (binary w32 op a b) }
+    ensures i64 { (a b : ℕ) → first ≡ Value.I64 a → second ≡ Value.I64 b
+        → result ≡ value_64 (binary w64 op a b) }
 {
     match (first, second) {
         (Value::I32(a), Value::I32(b)) => Ok(Value::I32(binary_32(op, a, b)?)),
@@ -53,8 +55,10 @@ pub fn test(op: TestOp, operand: Value) -> Result<Value, Trap>
 /// The i32 1 or 0 of a comparison of two operands of one type; never a trap.
 pub fn compare(op: RelationOp, first: Value, second: Value) -> Result<Value, Trap>
     requires { type_of first ≡ type_of second }
-    ensures i32 { (a b : ℕ) → first ≡ Value.I32 a → second ≡ Value.I32 b → result ≡ Ok (truth (compare w32 op a b)) }
-    ensures i64 { (a b : ℕ) → first ≡ Value.I64 a → second ≡ Value.I64 b → result ≡ Ok (truth (compare w64 op a b)) }
+    ensures i32 { (a b : ℕ) → first ≡ Value.I32 a → second ≡ Value.I32 b
+        → result ≡ Ok (truth (compare w32 op a b)) }
+    ensures i64 { (a b : ℕ) → first ≡ Value.I64 a → second ≡ Value.I64 b
+        → result ≡ Ok (truth (compare w64 op a b)) }
 {
     match (first, second) {
         (Value::I32(a), Value::I32(b)) => Ok(truth(compare_32(op, a, b))),
@@ -66,9 +70,12 @@ pub fn compare(op: RelationOp, first: Value, second: Value) -> Result<Value, Tra
 /// The operand in the other width; never a trap.
 pub fn convert(op: ConvertOp, operand: Value) -> Result<Value, Trap>
     requires { type_of operand ≡ source_of op }
-    ensures wrap { (a : ℕ) → op ≡ ConvertOp.Wrap → operand ≡ Value.I64 a → result ≡ Ok (Value.I32 (wrap a)) }
-    ensures extend_s { (a : ℕ) → op ≡ ConvertOp.ExtendS → operand ≡ Value.I32 a → result ≡ Ok (Value.I64 (extend_s a)) }
-    ensures extend_u { (a : ℕ) → op ≡ ConvertOp.ExtendU → operand ≡ Value.I32 a → result ≡ Ok (Value.I64 (extend_u a)) }
+    ensures wrap { (a : ℕ) → op ≡ ConvertOp.Wrap → operand ≡ Value.I64 a
+        → result ≡ Ok (Value.I32 (wrap a)) }
+    ensures extend_s { (a : ℕ) → op ≡ ConvertOp.ExtendS → operand ≡ Value.I32 a
+        → result ≡ Ok (Value.I64 (extend_s a)) }
+    ensures extend_u { (a : ℕ) → op ≡ ConvertOp.ExtendU → operand ≡ Value.I32 a
+        → result ≡ Ok (Value.I64 (extend_u a)) }
 {
     match (op, operand) {
         (ConvertOp::Wrap, Value::I64(a)) => Ok(Value::I32(wrap(a))),

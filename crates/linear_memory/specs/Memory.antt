@@ -39,7 +39,8 @@ with_range m address bytes =
 
 -- nothing is written if a byte would be outside
 abbrev pub written_at : Memory → (address : ℕ) → List ℕ → Memory
-written_at m address bytes = if is_inside m address (length bytes) then with_range m address bytes else m
+written_at m address bytes =
+    if is_inside m address (length bytes) then with_range m address bytes else m
 
 -- ---- words
 
@@ -61,7 +62,8 @@ low_bytes (suc k) n = n % 256 ∷ low_bytes k (n / 256)
 
 abbrev pub loaded : Memory → (address : ℕ) → Width → Option ℕ
 loaded m address width =
-    if is_inside m address (byte_count width) then Some (little_endian (range m address (byte_count width))) else None
+    if is_inside m address (byte_count width)
+    then Some (little_endian (range m address (byte_count width))) else None
 
 abbrev pub stored : Memory → (address : ℕ) → Width → (n : ℕ) → Memory
 stored m address width n = written_at m address (low_bytes (byte_count width) n)

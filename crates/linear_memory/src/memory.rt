@@ -32,7 +32,8 @@ impl Model for LinearMemory {
 
     ghost view = { λ m. record { bytes = m.bytes.items; cap = m.cap } };
 
-    ghost invariant = { λ m. (vec_len m.bytes ≡ m.pages * page_bytes) × (m.pages ≤ m.cap) × (m.cap ≤ max_pages)
+    ghost invariant = { λ m. (vec_len m.bytes ≡ m.pages * page_bytes) × (m.pages ≤ m.cap)
+        × (m.cap ≤ max_pages)
         × (m.cap * page_bytes ≤ vec_capacity m.bytes) };
 }
 

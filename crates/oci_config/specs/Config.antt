@@ -1,7 +1,7 @@
 -- Which process a config asks for, as a function of its JSON value (OCI Runtime Specification 1.0: config.md,
 -- sections Specification version, Process and Annotations; config-linux.md, section Memory). Properties that
--- are not named here mean nothing. Demands beyond OCI's are the profile's own: the counts and sizes, the ban on
--- U+0000, the range of numbers, and the key of the module's digest.
+-- are not named here mean nothing. Demands beyond OCI's are the profile's own: the counts and
+-- sizes, the ban on U+0000, the range of numbers, and the key of the module's digest.
 use Rattle.std.specs.Prelude.{ℕ, zero, suc, ◌+◌, ◌/◌, min, ℤ, pos, negsuc, List, [], ◌∷◌, Bool, true, false, not, ◌&&◌, nat_le, nat_eq, bytes_eq, codes, length, take, drop, Option, Some, None, is_some}
 use Rattle.std.specs.List.{list_all, list_any}
 use Rattle.std.specs.Str.{is_utf8}
@@ -46,7 +46,8 @@ object_at key d = do
   object_of found
 
 -- an optional property: what it says where it is present, else what goes for a missing one
-abbrev pub optional : {A : Type 0} → Option Data → (missing : A) → (present : Data → Option A) → Option A
+abbrev pub optional :
+    {A : Type 0} → Option Data → (missing : A) → (present : Data → Option A) → Option A
 optional None missing present = Some missing
 optional (Some d) missing present = present d
 
@@ -116,8 +117,8 @@ are_arguments texts =
 abbrev pub are_arguments_alone : List (List ℕ) → Bool
 are_arguments_alone texts = are_arguments texts && nat_le (bytes_of texts) max_text_bytes
 
--- what a process is configured with that has these arguments alone: no config names its module, so its digest is
--- empty; and there is no limit on its memory
+-- what a process is configured with that has these arguments alone: no config names its module, so
+-- its digest is empty; and there is no limit on its memory
 abbrev pub process_with : (args : List (List ℕ)) → ProcessConfig
 process_with args = record { «module» = []; args = args; env = []; cap = default_pages }
 
@@ -132,7 +133,8 @@ args_at process = do
 
 -- at most 64 texts without U+0000, each with = after at least one character
 abbrev pub are_entries : List (List ℕ) → Bool
-are_entries texts = nat_le (length texts) max_entries && list_all is_plain texts && list_all is_entry texts
+are_entries texts =
+    nat_le (length texts) max_entries && list_all is_plain texts && list_all is_entry texts
 
 abbrev pub entries_in : (list : Data) → Option (List (List ℕ))
 entries_in list = do

@@ -14,7 +14,10 @@ with_linux linux = object (member (codes "linux") linux no_members)
 -- a config with this part for the memory
 abbrev pub with_memory : Data → Data
 with_memory memory =
-    with_linux (object (member (codes "resources") (object (member (codes "memory") memory no_members)) no_members))
+    with_linux
+    (object
+    (member (codes "resources")
+    (object (member (codes "memory") memory no_members)) no_members))
 
 -- ---- whole configs
 
@@ -26,7 +29,8 @@ zeros = codes "sha256:" ++ replicate 64 48
 abbrev pub config_with : (in_process beside : List ℕ) → List ℕ
 config_with in_process beside =
     codes "{\"ociVersion\":\"1.0.2\",\"annotations\":{\"dev.shim.module\":\"" ++ zeros
-    ++ codes "\"},\"process\":{\"args\":[\"a\"],\"cwd\":\"/\"" ++ in_process ++ codes "}" ++ beside ++ codes "}"
+    ++ codes "\"},\"process\":{\"args\":[\"a\"],\"cwd\":\"/\"" ++ in_process ++ codes "}"
+    ++ beside ++ codes "}"
 
 -- its process, with this environment and cap
 abbrev pub asked_with : List (List ℕ) → ℕ → ProcessConfig

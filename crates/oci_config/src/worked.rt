@@ -54,15 +54,18 @@ pub fn texts_are_plain()
     ensures nul { is_plain (97 ∷ 0 ∷ []) ≡ false }
     ensures argument { are_arguments ((97 ∷ 0 ∷ []) ∷ []) ≡ false }
     ensures entry { are_entries ((97 ∷ 61 ∷ 0 ∷ []) ∷ []) ≡ false }
-    ensures directory { directory_at (object (member (codes "cwd") (string (47 ∷ 0 ∷ [])) no_members))
+    ensures directory { directory_at
+        (object (member (codes "cwd") (string (47 ∷ 0 ∷ [])) no_members))
         ≡ None }
 {}
 
 /// Versions and working directories.
 pub fn outlines_are_these()
-    ensures one { version_at (object (member (codes "ociVersion") (string (codes "1.0.2")) no_members))
+    ensures one { version_at
+        (object (member (codes "ociVersion") (string (codes "1.0.2")) no_members))
         ≡ Some (codes "1.0.2") }
-    ensures one_alone { version_at (object (member (codes "ociVersion") (string (codes "1")) no_members))
+    ensures one_alone { version_at
+        (object (member (codes "ociVersion") (string (codes "1")) no_members))
         ≡ None }
     ensures no_version { version_at (object no_members) ≡ None }
     ensures absolute { directory_at (object (member (codes "cwd") (string (codes "/a")) no_members))
@@ -101,11 +104,13 @@ pub fn limits_are_optional()
     ensures no_linux { cap_at (object no_members) ≡ Some 16 }
     ensures null_linux { cap_at (with_linux null) ≡ None }
     ensures no_resources { cap_at (with_linux (object no_members)) ≡ Some 16 }
-    ensures null_resources { cap_at (with_linux (object (member (codes "resources") null no_members)))
+    ensures null_resources { cap_at
+        (with_linux (object (member (codes "resources") null no_members)))
         ≡ None }
     ensures null_memory { cap_at (with_memory null) ≡ None }
     ensures no_limit { cap_at (with_memory (object no_members)) ≡ Some 16 }
-    ensures null_limit { cap_at (with_memory (object (member (codes "limit") null no_members))) ≡ None }
+    ensures null_limit { cap_at (with_memory (object (member (codes "limit") null no_members)))
+        ≡ None }
     ensures limit { cap_at (with_memory
         (object (member (codes "limit") (number (unsigned 131072)) no_members))) ≡ Some 2 }
 {}

@@ -22,7 +22,9 @@ pub program_is_free : is_simple_and_free program ≡ true
 unfolding clap_on_literals
 program_is_free = refl
 
-pub named_from_chosen : (arguments : List Text) (found : Option (Text × List Row)) → found ≡ command_in arguments → faults_in arguments ≡ [] → (c : Command) → IsCommand found c → Name arguments c
+pub named_from_chosen :
+    (arguments : List Text) (found : Option (Text × List Row)) → found ≡ command_in arguments → faults_in arguments ≡ []
+    → (c : Command) → IsCommand found c → Name arguments c
 named_from_chosen arguments found e none Serve h = (none, subst (λ f. IsCommand f Serve) e h)
 named_from_chosen arguments found e none (Replay file) h = (none, subst (λ f. IsCommand f (Replay file)) e h)
 named_from_chosen arguments found e none (Asm file) h = (none, subst (λ f. IsCommand f (Asm file)) e h)
@@ -30,7 +32,9 @@ named_from_chosen arguments found e none (Check file list) h = (none, subst (λ 
 named_from_chosen arguments found e none (Run name args) h = (none, subst (λ f. IsCommand f (Run name args)) e h)
 named_from_chosen arguments found e none (Show text) h = absurd h
 
-pub named_from_shown : (arguments : List Text) (kind : ErrorKind) → (kind ≡ OutOfMemory) ⊎ IsAmong kind (faults_in arguments) → (c : Command) → IsShown kind c → Name arguments c
+pub named_from_shown :
+    (arguments : List Text) (kind : ErrorKind) → (kind ≡ OutOfMemory) ⊎ IsAmong kind (faults_in arguments)
+    → (c : Command) → IsShown kind c → Name arguments c
 named_from_shown arguments kind h Serve shown = absurd shown
 named_from_shown arguments kind h (Replay file) shown = absurd shown
 named_from_shown arguments kind h (Asm file) shown = absurd shown
@@ -38,10 +42,15 @@ named_from_shown arguments kind h (Check file list) shown = absurd shown
 named_from_shown arguments kind h (Run name args) shown = absurd shown
 named_from_shown arguments kind (inl memory) (Show text) (inl help) = cc
 named_from_shown arguments kind (inl memory) (Show text) (inr version) = cc
-named_from_shown arguments kind (inr among) (Show text) (inl help) = inl (subst (λ k. IsAmong k (faults_in arguments)) help among)
-named_from_shown arguments kind (inr among) (Show text) (inr version) = inr (subst (λ k. IsAmong k (faults_in arguments)) version among)
+named_from_shown arguments kind (inr among) (Show text) (inl help) =
+    inl (subst (λ k. IsAmong k (faults_in arguments)) help among)
+named_from_shown arguments kind (inr among) (Show text) (inr version) =
+    inr (subst (λ k. IsAmong k (faults_in arguments)) version among)
 
-pub faulty_from_kind : (arguments : List Text) (kind : ErrorKind) → (kind ≡ OutOfMemory) ⊎ IsAmong kind (faults_in arguments) → (f : CommandError) → IsOfArguments kind f → AreFaulty arguments f
+pub faulty_from_kind :
+    (arguments : List Text) (kind : ErrorKind) → (kind ≡ OutOfMemory) ⊎ IsAmong kind (faults_in arguments)
+    → (f : CommandError) → IsOfArguments kind f → AreFaulty arguments f
 faulty_from_kind arguments kind h failed.OutOfMemory g = tt
 faulty_from_kind arguments kind (inl memory) (failed.Arguments text) g = absurd (g.0 memory)
-faulty_from_kind arguments kind (inr among) (failed.Arguments text) g = record { kind = kind; fault = among; no_help = g.1; no_version = g.2 }
+faulty_from_kind arguments kind (inr among) (failed.Arguments text) g =
+    record { kind = kind; fault = among; no_help = g.1; no_version = g.2 }

@@ -9,19 +9,25 @@ use Rattle.std.proofs.lemmas.Bool.Decides.{nat_tests}
 use Rattle.shim_service.specs.Lines.{lines_of}
 use Rattle.shim_service.specs.Shape.{max_line_bytes}
 
-pub consumes_to_feed : (left old : Option (List ℕ)) (bytes rest piece : List ℕ) → Keeps old (prepend_known bytes left) → TakesPiece true bytes rest piece
+pub consumes_to_feed :
+    (left old : Option (List ℕ)) (bytes rest piece : List ℕ) → Keeps old (prepend_known bytes left)
+    → TakesPiece true bytes rest piece
     → Consumes old (prepend_known rest left) (piece ++ 10 ∷ [])
 consumes_to_feed None None bytes rest piece keeps takes = tt
 consumes_to_feed None (Some xs) bytes rest piece keeps takes = absurd keeps
 consumes_to_feed (Some r) None bytes rest piece keeps takes = tt
 consumes_to_feed (Some r) (Some xs) bytes rest piece keeps takes =
-    sym keeps ∙ (ap (λ b. b ++ r) takes.split ∙ (append_assoc piece (10 ∷ rest) r ∙ sym (append_assoc piece (10 ∷ []) (rest ++ r))))
+    sym keeps
+    ∙ (ap (λ b. b ++ r) takes.split
+    ∙ (append_assoc piece (10 ∷ rest) r ∙ sym (append_assoc piece (10 ∷ []) (rest ++ r))))
 
 no_feed_append : (a b : List ℕ) → HasNoFeed a → HasNoFeed b → HasNoFeed (a ++ b)
 no_feed_append [] b h g = g
 no_feed_append (x ∷ a) b h g = (h.0, no_feed_append a b h.1 g)
 
-consumes_more : (old new next : Option (List ℕ)) (a b : List ℕ) → Consumes old new a → Consumes new next b → Consumes old next (a ++ b)
+consumes_more :
+    (old new next : Option (List ℕ)) (a b : List ℕ) → Consumes old new a → Consumes new next b
+    → Consumes old next (a ++ b)
 consumes_more None new next a b h g = tt
 consumes_more (Some xs) None next a b h g = absurd h
 consumes_more (Some xs) (Some ys) None a b h g = absurd g
@@ -58,7 +64,9 @@ gathers_more old now next was kept g step s is = record {
   bytes = consumes_more old now next g.got s.piece g.bytes (subst (λ x. IsProgress x now next s.piece) is s.bytes);
 }
 
-takes_line : (old new : Option (List ℕ)) (line : List ℕ) → HasNoFeed line → Consumes old new (line ++ 10 ∷ []) → TakesLine old new line
+takes_line :
+    (old new : Option (List ℕ)) (line : List ℕ) → HasNoFeed line → Consumes old new (line ++ 10 ∷ [])
+    → TakesLine old new line
 takes_line None new line h g = tt
 takes_line (Some xs) None line h g = g
 takes_line (Some xs) (Some ys) line h g = ap lines_of (g ∙ append_assoc line (10 ∷ []) ys) ∙ lines_of_more line ys h
@@ -67,19 +75,24 @@ pub takes_found : (old now next : Option (List ℕ)) (was : Option (List ℕ)) (
     → Gathers old now was → (step : Progress) → ReadsPiece step now next was kept → step ≡ Found
     → (text : List ℕ) × IsKept kept text × TakesLine old next text
 takes_found old now next was kept g step s is =
-    let all = consumes_more old now next g.got (s.piece ++ 10 ∷ []) g.bytes (subst (λ x. IsProgress x now next s.piece) is s.bytes) in (
+    let all =
+    consumes_more old now next g.got (s.piece ++ 10 ∷ []) g.bytes
+    (subst (λ x. IsProgress x now next s.piece) is s.bytes) in (
       g.got ++ s.piece,
       s.adds g.got g.held,
       takes_line old next (g.got ++ s.piece) (no_feed_append g.got s.piece g.plain s.plain)
           (subst (Consumes old next) (sym (append_assoc g.got s.piece (10 ∷ []))) all),
     )
 
-takes_last : (old new : Option (List ℕ)) (line : List ℕ) → HasNoFeed line → (line ≡ [] → ⊥) → Consumes old new line → IsAtEnd new → TakesLine old new line
+takes_last :
+    (old new : Option (List ℕ)) (line : List ℕ) → HasNoFeed line → (line ≡ [] → ⊥) → Consumes old new line → IsAtEnd new
+    → TakesLine old new line
 takes_last None new line h some g end = tt
 takes_last (Some xs) None line h some g end = g
 takes_last (Some xs) (Some ys) [] h some g end = absurd (some refl)
 takes_last (Some xs) (Some ys) (x ∷ line) h some g end =
-    ap lines_of (g ∙ (ap (λ r. (x ∷ line) ++ r) end ∙ append-nil (x ∷ line))) ∙ (lines_of_last x line h ∙ ap (λ r. (x ∷ line) ∷ lines_of r) (sym end))
+    ap lines_of (g ∙ (ap (λ r. (x ∷ line) ++ r) end ∙ append-nil (x ∷ line)))
+    ∙ (lines_of_last x line h ∙ ap (λ r. (x ∷ line) ∷ lines_of r) (sym end))
 
 pub ends_with_line : (old now next : Option (List ℕ)) (was : Option (List ℕ)) (kept : Option (List ℕ))
     → Gathers old now was → (step : Progress) → ReadsPiece step now next was kept → step ≡ End
@@ -90,7 +103,8 @@ ends_with_line old now next was kept g step s is some =
     let last = subst (λ x. IsProgress x now next s.piece) is s.bytes in (
       g.got ++ s.piece,
       held,
-      takes_last old next (g.got ++ s.piece) (no_feed_append g.got s.piece g.plain s.plain) (some (g.got ++ s.piece) held)
+      takes_last old next (g.got ++ s.piece) (no_feed_append g.got s.piece g.plain s.plain)
+          (some (g.got ++ s.piece) held)
           (consumes_more old now next g.got s.piece g.bytes last.0) last.1,
     )
 

@@ -88,8 +88,10 @@ simple_aligned c (instr.Convert op) old new t = tt
 mutual
   op_aligned : (c : Context) (o : Op) (old new : List ValType) → OpTyped c o old new → OpAligned o
   op_aligned c (simple s) old new t = simple_aligned c s old new t
-  op_aligned c (block b body) old new (t, is, applies, typed) = ops_aligned (under c t.results) body (reverse t.params) (reverse t.results) typed
-  op_aligned c (loop b body) old new (t, is, applies, typed) = ops_aligned (under c t.params) body (reverse t.params) (reverse t.results) typed
+  op_aligned c (block b body) old new (t, is, applies, typed) =
+      ops_aligned (under c t.results) body (reverse t.params) (reverse t.results) typed
+  op_aligned c (loop b body) old new (t, is, applies, typed) =
+      ops_aligned (under c t.params) body (reverse t.params) (reverse t.results) typed
   op_aligned c (if' b then_arm else_arm) old new (t, between, test, is, applies, first, second) = (
     ops_aligned (under c t.results) then_arm (reverse t.params) (reverse t.results) first,
     ops_aligned (under c t.results) else_arm (reverse t.params) (reverse t.results) second,
@@ -97,12 +99,14 @@ mutual
 
   ops_aligned : (c : Context) (os : Ops) (old new : List ValType) → Typed c os old new → OpsAligned os
   ops_aligned c stop old new t = tt
-  ops_aligned c (next o os) old new (between, first, rest) = (op_aligned c o old between first, ops_aligned c os between new rest)
+  ops_aligned c (next o os) old new (between, first, rest) =
+      (op_aligned c o old between first, ops_aligned c os between new rest)
 
 -- the alignments of a valid module
 pub funcs_aligned : (m : Module) → ValidModule m → All (λ f. OpsAligned f.body) m.funcs
 funcs_aligned m valid =
-    All-weaker (ValidFunc m) (λ (f : Func). OpsAligned f.body) (λ f v. ops_aligned (body_context m v.type f) f.body [] (reverse v.type.results) v.typed) m.funcs valid.funcs
+    All-weaker (ValidFunc m) (λ (f : Func). OpsAligned f.body)
+    (λ f v. ops_aligned (body_context m v.type f) f.body [] (reverse v.type.results) v.typed) m.funcs valid.funcs
 
 pub line_aligned : (o : Op) → OpAligned o → IsAligned o
 line_aligned (simple s) h = h
@@ -110,31 +114,41 @@ line_aligned (block type body) h = tt
 line_aligned (loop type body) h = tt
 line_aligned (if' type then_arm else_arm) h = tt
 
-pub item_aligned : (is : List Instr) (n : ℕ) (d : Instr) → n < length is → OpsAligned (ops_of (map op_of is)) → OpAligned (op_of (get_or is n d))
+pub item_aligned :
+    (is : List Instr) (n : ℕ) (d : Instr) → n < length is → OpsAligned (ops_of (map op_of is))
+    → OpAligned (op_of (get_or is n d))
 item_aligned [] n d lt h = absurd (omega arith)
 item_aligned (i ∷ is) zero d lt h = h.0
 item_aligned (i ∷ is) (suc n) d lt h = item_aligned is n d (omega arith) h.1
 
 -- ---- lists of instructions
 
-rest_at : (is : List Instr) (n : ℕ) (i : Instr) → n < length is → i ≡ get_or is n i → ops_of (map op_of (drop n is)) ≡ next (op_of i) (ops_of (map op_of (drop (suc n) is)))
+rest_at :
+    (is : List Instr) (n : ℕ) (i : Instr) → n < length is → i ≡ get_or is n i
+    → ops_of (map op_of (drop n is)) ≡ next (op_of i) (ops_of (map op_of (drop (suc n) is)))
 rest_at [] n i h e = absurd (omega arith)
 rest_at (x ∷ xs) zero i h e = ap (λ (j : Instr). next (op_of j) (ops_of (map op_of xs))) (sym e)
 rest_at (x ∷ xs) (suc n) i h e = rest_at xs n i (omega arith) e
 
 -- what is left of a sequence is an instruction and what is left after it
-pub rest_of : (is : List Instr) (n : ℕ) (i : Instr) → n < length is → i ≡ get_or is n i → ops_of (map op_of (drop n is)) ≡ next (op_of i) (ops_of (map op_of (drop (n + 1) is)))
+pub rest_of :
+    (is : List Instr) (n : ℕ) (i : Instr) → n < length is → i ≡ get_or is n i
+    → ops_of (map op_of (drop n is)) ≡ next (op_of i) (ops_of (map op_of (drop (n + 1) is)))
 rest_of is n i h e =
     let after : suc n ≡ n + 1 = omega arith in
     rest_at is n i h e ∙ ap (λ m. next (op_of i) (ops_of (map op_of (drop m is)))) after
 
-pub item_le_count : (is : List Instr) (k : ℕ) (i : Instr) → k < length is → count (op_of (get_or is k i)) ≤ ops_count (ops_of (map op_of is))
+pub item_le_count :
+    (is : List Instr) (k : ℕ) (i : Instr) → k < length is
+    → count (op_of (get_or is k i)) ≤ ops_count (ops_of (map op_of is))
 item_le_count [] k i h = absurd (omega arith)
 item_le_count (x ∷ xs) zero i h = omega arith
 item_le_count (x ∷ xs) (suc k) i h = let rest = item_le_count xs k i (omega arith) in omega (arith, rest)
 
 -- the lines of one instruction more
-pub one_more : (func here there : ℕ) (o : Op) (rest : Ops) (list new all : List ℕ) → there ≡ here + count o → new ≡ list ++ op_lines func here o → list ++ ops_lines func here (next o rest) ≡ all
+pub one_more :
+    (func here there : ℕ) (o : Op) (rest : Ops) (list new all : List ℕ) → there ≡ here + count o
+    → new ≡ list ++ op_lines func here o → list ++ ops_lines func here (next o rest) ≡ all
     → new ++ ops_lines func there rest ≡ all
 one_more func here there o rest list new all place added so_far =
     ap (λ k. new ++ ops_lines func k rest) place

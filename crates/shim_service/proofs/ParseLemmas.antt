@@ -13,7 +13,9 @@ use Rattle.shim_service.specs.Request.{only_id, HasKeys, event_op, HasEventKeys,
 use Rattle.shim_service.specs.Inside.Parse.{Parses, without, IsAsked, IsEventAsked, HasOnlyId, IsSimple}
 
 -- no put with these keys, no request at all
-pub only_put : (op : List ℕ) (ms : Members) → op ≡ codes "put" → ((bytes : List ℕ) → HasKeys ms (Put bytes) → ⊥) → (r : Request) → IsAsked op ms r → ⊥
+pub only_put :
+    (op : List ℕ) (ms : Members) → op ≡ codes "put" → ((bytes : List ℕ) → HasKeys ms (Put bytes) → ⊥) → (r : Request)
+    → IsAsked op ms r → ⊥
 only_put op ms is none (Put bytes) a = none bytes a.keys
 only_put op ms is none (PutText text) a = let same = a.same in cc
 only_put op ms is none (Remove digest) a = let same = a.same in cc
@@ -32,7 +34,9 @@ only_put op ms is none (Wait id) a = let same = a.same in cc
 only_put op ms is none (Output id stream) a = let same = a.same in cc
 
 -- no request with these keys beside `op`, and none that is simple
-pub none_left : (op : List ℕ) (ms : Members) → op ≢ codes "put" → op ≢ codes "create" → op ≢ codes "kill" → ((r : Request) → IsSimple r → IsAsked op ms r → ⊥)
+pub none_left :
+    (op : List ℕ) (ms : Members) → op ≢ codes "put" → op ≢ codes "create" → op ≢ codes "kill"
+    → ((r : Request) → IsSimple r → IsAsked op ms r → ⊥)
     → (r : Request) → IsAsked op ms r → ⊥
 none_left op ms put create kill none (Put bytes) a = put a.same
 none_left op ms put create kill none (PutText text) a = none (PutText text) tt a
@@ -56,7 +60,9 @@ differ : (x y op : List ℕ) → bytes_eq x y ≡ false → op ≡ x → op ≡ 
 differ x y op other is at = true≢false (sym ((bytes_eq-Decides x y).1 (sym is ∙ at)) ∙ other)
 
 -- no put of a text with these keys, no simple request at all
-pub only_put_text : (op : List ℕ) (ms : Members) → op ≡ codes "put_text" → ((text : List ℕ) → HasKeys ms (PutText text) → ⊥) → (r : Request) → IsSimple r → IsAsked op ms r → ⊥
+pub only_put_text :
+    (op : List ℕ) (ms : Members) → op ≡ codes "put_text" → ((text : List ℕ) → HasKeys ms (PutText text) → ⊥)
+    → (r : Request) → IsSimple r → IsAsked op ms r → ⊥
 only_put_text op ms is none (PutText text) own a = none text a.keys
 only_put_text op ms is none (Put bytes) own a = own
 only_put_text op ms is none (Create config id) own a = own
@@ -75,7 +81,9 @@ only_put_text op ms is none (Wait id) own a = differ (codes "put_text") (codes "
 only_put_text op ms is none (Output id stream) own a = differ (codes "put_text") (codes "output") op refl is a.same
 
 -- no removal with these keys, no simple request at all
-pub only_remove : (op : List ℕ) (ms : Members) → op ≡ codes "remove" → ((digest : List ℕ) → HasKeys ms (Remove digest) → ⊥) → (r : Request) → IsSimple r → IsAsked op ms r → ⊥
+pub only_remove :
+    (op : List ℕ) (ms : Members) → op ≡ codes "remove" → ((digest : List ℕ) → HasKeys ms (Remove digest) → ⊥)
+    → (r : Request) → IsSimple r → IsAsked op ms r → ⊥
 only_remove op ms is none (Remove digest) own a = none digest a.keys
 only_remove op ms is none (Put bytes) own a = own
 only_remove op ms is none (PutText text) own a = differ (codes "remove") (codes "put_text") op refl is a.same
@@ -93,15 +101,19 @@ only_remove op ms is none (State id) own a = differ (codes "remove") (codes "sta
 only_remove op ms is none (Wait id) own a = differ (codes "remove") (codes "wait") op refl is a.same
 only_remove op ms is none (Output id stream) own a = differ (codes "remove") (codes "output") op refl is a.same
 
-pub only_lease_add : (op : List ℕ) (ms : Members) → op ≡ codes "lease_add" → ((digest id : List ℕ) → HasKeys ms (LeaseAdd digest id) → ⊥) → (r : Request) → IsSimple r → IsAsked op ms r → ⊥
+pub only_lease_add :
+    (op : List ℕ) (ms : Members) → op ≡ codes "lease_add" → ((digest id : List ℕ) → HasKeys ms (LeaseAdd digest id) → ⊥)
+    → (r : Request) → IsSimple r → IsAsked op ms r → ⊥
 only_lease_add op ms is none (LeaseAdd digest id) own a = none digest id a.keys
 only_lease_add op ms is none (Put bytes) own a = own
 only_lease_add op ms is none (PutText text) own a = differ (codes "lease_add") (codes "put_text") op refl is a.same
 only_lease_add op ms is none (Create config id) own a = own
 only_lease_add op ms is none (Kill id signal) own a = own
 only_lease_add op ms is none (Remove digest) own a = differ (codes "lease_add") (codes "remove") op refl is a.same
-only_lease_add op ms is none (LeaseCreate id) own a = differ (codes "lease_add") (codes "lease_create") op refl is a.same
-only_lease_add op ms is none (LeaseDelete id) own a = differ (codes "lease_add") (codes "lease_delete") op refl is a.same
+only_lease_add op ms is none (LeaseCreate id) own a =
+    differ (codes "lease_add") (codes "lease_create") op refl is a.same
+only_lease_add op ms is none (LeaseDelete id) own a =
+    differ (codes "lease_add") (codes "lease_delete") op refl is a.same
 only_lease_add op ms is none Gc own a = differ (codes "lease_add") (codes "gc") op refl is a.same
 only_lease_add op ms is none (Start id) own a = differ (codes "lease_add") (codes "start") op refl is a.same
 only_lease_add op ms is none (Pause id) own a = differ (codes "lease_add") (codes "pause") op refl is a.same
@@ -111,7 +123,10 @@ only_lease_add op ms is none (State id) own a = differ (codes "lease_add") (code
 only_lease_add op ms is none (Wait id) own a = differ (codes "lease_add") (codes "wait") op refl is a.same
 only_lease_add op ms is none (Output id stream) own a = differ (codes "lease_add") (codes "output") op refl is a.same
 
-pub only_output : (op : List ℕ) (ms : Members) → op ≡ codes "output" → ((id : List ℕ) (stream : ℕ) → HasKeys ms (Output id stream) → ⊥) → (r : Request) → IsSimple r → IsAsked op ms r → ⊥
+pub only_output :
+    (op : List ℕ) (ms : Members) → op ≡ codes "output"
+    → ((id : List ℕ) (stream : ℕ) → HasKeys ms (Output id stream) → ⊥) → (r : Request) → IsSimple r
+    → IsAsked op ms r → ⊥
 only_output op ms is none (Output id stream) own a = none id stream a.keys
 only_output op ms is none (Put bytes) own a = own
 only_output op ms is none (PutText text) own a = differ (codes "output") (codes "put_text") op refl is a.same
@@ -129,7 +144,9 @@ only_output op ms is none (Delete id) own a = differ (codes "output") (codes "de
 only_output op ms is none (State id) own a = differ (codes "output") (codes "state") op refl is a.same
 only_output op ms is none (Wait id) own a = differ (codes "output") (codes "wait") op refl is a.same
 
-pub only_gc : (op : List ℕ) (ms : Members) → op ≡ codes "gc" → (ms ≡ no_members → ⊥) → (r : Request) → IsSimple r → IsAsked op ms r → ⊥
+pub only_gc :
+    (op : List ℕ) (ms : Members) → op ≡ codes "gc" → (ms ≡ no_members → ⊥) → (r : Request) → IsSimple r
+    → IsAsked op ms r → ⊥
 only_gc op ms is none Gc own a = none a.keys
 only_gc op ms is none (Put bytes) own a = own
 only_gc op ms is none (PutText text) own a = differ (codes "gc") (codes "put_text") op refl is a.same
@@ -148,7 +165,9 @@ only_gc op ms is none (Wait id) own a = differ (codes "gc") (codes "wait") op re
 only_gc op ms is none (Output id stream) own a = differ (codes "gc") (codes "output") op refl is a.same
 
 -- no simple request with these keys, and none that has the key `id` alone
-pub none_simple : (op : List ℕ) (ms : Members) → op ≢ codes "put_text" → op ≢ codes "remove" → op ≢ codes "lease_add" → op ≢ codes "output" → op ≢ codes "gc" → ((r : Request) → HasOnlyId r → IsAsked op ms r → ⊥)
+pub none_simple :
+    (op : List ℕ) (ms : Members) → op ≢ codes "put_text" → op ≢ codes "remove" → op ≢ codes "lease_add"
+    → op ≢ codes "output" → op ≢ codes "gc" → ((r : Request) → HasOnlyId r → IsAsked op ms r → ⊥)
     → (r : Request) → IsSimple r → IsAsked op ms r → ⊥
 none_simple op ms put_text remove add output gc none (Put bytes) own a = own
 none_simple op ms put_text remove add output gc none (PutText text) own a = put_text a.same
@@ -168,7 +187,8 @@ none_simple op ms put_text remove add output gc none (Wait id) own a = none (Wai
 none_simple op ms put_text remove add output gc none (Output id stream) own a = output a.same
 
 -- a request of the key `id` alone has these members
-pub only_its_id : (op : List ℕ) (ms : Members) → ((id : List ℕ) → ms ≢ only_id id) → (r : Request) → HasOnlyId r → IsAsked op ms r → ⊥
+pub only_its_id :
+    (op : List ℕ) (ms : Members) → ((id : List ℕ) → ms ≢ only_id id) → (r : Request) → HasOnlyId r → IsAsked op ms r → ⊥
 only_its_id op ms none (LeaseCreate id) own a = none id a.keys
 only_its_id op ms none (LeaseDelete id) own a = none id a.keys
 only_its_id op ms none (Start id) own a = none id a.keys
@@ -187,7 +207,9 @@ only_its_id op ms none (Kill id signal) own a = own
 only_its_id op ms none (Output id stream) own a = own
 
 -- no `op` of such a request
-pub no_such_op : (op : List ℕ) (ms : Members) → op ≢ codes "lease_create" → op ≢ codes "lease_delete" → op ≢ codes "start" → op ≢ codes "pause" → op ≢ codes "resume" → op ≢ codes "delete"
+pub no_such_op :
+    (op : List ℕ) (ms : Members) → op ≢ codes "lease_create" → op ≢ codes "lease_delete" → op ≢ codes "start"
+    → op ≢ codes "pause" → op ≢ codes "resume" → op ≢ codes "delete"
     → op ≢ codes "state" → op ≢ codes "wait" → (r : Request) → HasOnlyId r → IsAsked op ms r → ⊥
 no_such_op op ms g h a b c d e f (LeaseCreate id) own is = g is.same
 no_such_op op ms g h a b c d e f (LeaseDelete id) own is = h is.same
@@ -228,31 +250,42 @@ rest_of (Take id budget) d ms h = rw (h.0) refl
 rest_of (Return id) d ms h = rw h refl
 
 -- without `op` a value is no event
-pub no_op : (d : Data) → ((op : List ℕ) (ms : Members) → d ≡ object ms → get_member (codes "op") ms ≢ Some (string op)) → (e : Event) → AsksEvent d e → ⊥
+pub no_op :
+    (d : Data) → ((op : List ℕ) (ms : Members) → d ≡ object ms → get_member (codes "op") ms ≢ Some (string op))
+    → (e : Event) → AsksEvent d e → ⊥
 no_op d none e a = none (event_op e) _ a.1 (get_member-put (codes "op") (string (event_op e)) a.0)
 
 -- an event is read off the `op` and the rest of its value
-from_whole : (d : Data) (op : List ℕ) (ms : Members) → d ≡ object (put (codes "op") (string op) ms) → ((all : Members) → d ≡ object all → ms ≡ without (codes "op") all)
+from_whole :
+    (d : Data) (op : List ℕ) (ms : Members) → d ≡ object (put (codes "op") (string op) ms)
+    → ((all : Members) → d ≡ object all → ms ≡ without (codes "op") all)
     → (e : Event) → AsksEvent d e → IsEventAsked op ms e
 from_whole d op ms whole rest e a =
     let first = get_member-put (codes "op") (string op) ms in
     let second = get_member-put (codes "op") (string (event_op e)) a.0 in
-    let both : object (put (codes "op") (string op) ms) ≡ object (put (codes "op") (string (event_op e)) a.0) = sym whole ∙ a.1 in
+    let both :
+    object (put (codes "op") (string op) ms) ≡ object (put (codes "op") (string (event_op e)) a.0) =
+    sym whole ∙ a.1 in
     let same : op ≡ event_op e = cc in
     let others : ms ≡ a.0 = rest _ a.1 ∙ rest_of e (string (event_op e)) a.0 a.2 in
     record { same = same; keys = subst (λ m. HasEventKeys m e) (sym others) a.2 }
 
-to_whole : (d : Data) (op : List ℕ) (ms : Members) → d ≡ object (put (codes "op") (string op) ms) → (e : Event) → IsEventAsked op ms e → AsksEvent d e
+to_whole :
+    (d : Data) (op : List ℕ) (ms : Members) → d ≡ object (put (codes "op") (string op) ms) → (e : Event)
+    → IsEventAsked op ms e → AsksEvent d e
 to_whole d op ms whole e a = (ms, whole ∙ ap (λ o. object (put (codes "op") (string o) ms)) a.same, a.keys)
 
 module _ {X : Type 0} (event : X → Event) where
-  ok_whole : (d : Data) (op : List ℕ) (ms : Members) → d ≡ object (put (codes "op") (string op) ms) → (r : Result X LineError)
+  ok_whole :
+      (d : Data) (op : List ℕ) (ms : Members) → d ≡ object (put (codes "op") (string op) ms) → (r : Result X LineError)
       → IfOk r (λ x. IsEventAsked op ms (event x)) → IfOk r (λ x. AsksEvent d (event x))
   ok_whole d op ms whole (Ok x) h = to_whole d op ms whole (event x) h
   ok_whole d op ms whole (Err e) h = tt
 
   -- what is parsed of the parts is parsed of the whole
-  pub parses_whole : (d : Data) (op : List ℕ) (ms : Members) → d ≡ object (put (codes "op") (string op) ms) → ((all : Members) → d ≡ object all → ms ≡ without (codes "op") all)
+  pub parses_whole :
+      (d : Data) (op : List ℕ) (ms : Members) → d ≡ object (put (codes "op") (string op) ms)
+      → ((all : Members) → d ≡ object all → ms ≡ without (codes "op") all)
       → (r : Result X LineError) → Parses (λ x. IsEventAsked op ms (event x)) r → Parses (λ x. AsksEvent d (event x)) r
   parses_whole d op ms whole rest r p = record {
     ok = ok_whole d op ms whole r p.ok;

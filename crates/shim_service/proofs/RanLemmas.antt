@@ -19,41 +19,61 @@ use Rattle.shim_service.specs.Inside.Written as why
 abbrev pub Told : (Refusal → Type 0) → Refusal → Type 0
 Told P e = (e ≡ refusal.NoMemory) ⊎ P e
 
-pub handed_on : {W : Type 0} (P : Refusal → Type 0) (r : Result W Refusal) (e : Refusal) → r ≡ Err e → Told P e → IfErr r (Told P)
+pub handed_on :
+    {W : Type 0} (P : Refusal → Type 0) (r : Result W Refusal) (e : Refusal) → r ≡ Err e → Told P e → IfErr r (Told P)
 handed_on {W} P r e same h = subst (λ (q : Result W Refusal). IfErr q (Told P)) (sym same) h
 
 pub not_assembled : (bytes : List ℕ) (e : Refusal) → Told (IsNoSource bytes) e → Told (CannotAssemble bytes) e
 not_assembled bytes e (inl p) = inl p
 not_assembled bytes e (inr h) = inr (why.CannotAssemble.no_module e h)
 
-pub not_encoded : (bytes : List ℕ) (m : Module) (e : Refusal) → IsSource bytes m → (e ≡ refusal.Limit) ⊎ (e ≡ refusal.NoMemory) → (e ≡ refusal.Limit → FitsLimits m → ⊥) → Told (CannotAssemble bytes) e
-not_encoded bytes m e source (inl p) limit = inr (subst (CannotAssemble bytes) (sym p) (why.CannotAssemble.too_long m source (limit p)))
+pub not_encoded :
+    (bytes : List ℕ) (m : Module) (e : Refusal) → IsSource bytes m → (e ≡ refusal.Limit) ⊎ (e ≡ refusal.NoMemory)
+    → (e ≡ refusal.Limit → FitsLimits m → ⊥) → Told (CannotAssemble bytes) e
+not_encoded bytes m e source (inl p) limit =
+    inr (subst (CannotAssemble bytes) (sym p) (why.CannotAssemble.too_long m source (limit p)))
 not_encoded bytes m e source (inr p) limit = inl p
 
-assembled_refused : (bytes : List ℕ) (e : Refusal) (r : Ran) → r ≡ refused e → e ≢ refusal.NoMemory → Told (CannotAssemble bytes) e → IsAssembled bytes r
+assembled_refused :
+    (bytes : List ℕ) (e : Refusal) (r : Ran) → r ≡ refused e → e ≢ refusal.NoMemory → Told (CannotAssemble bytes) e
+    → IsAssembled bytes r
 assembled_refused bytes e r is told (inl p) = absurd (told p)
-assembled_refused bytes e r is told (inr (why.CannotAssemble.no_module x h)) = subst (IsAssembled bytes) (sym is) (assembled.IsAssembled.no_module e h)
-assembled_refused bytes e r is told (inr (why.CannotAssemble.too_long m source long)) = subst (IsAssembled bytes) (sym is) (assembled.IsAssembled.too_long m source long)
+assembled_refused bytes e r is told (inr (why.CannotAssemble.no_module x h)) =
+    subst (IsAssembled bytes) (sym is) (assembled.IsAssembled.no_module e h)
+assembled_refused bytes e r is told (inr (why.CannotAssemble.too_long m source long)) =
+    subst (IsAssembled bytes) (sym is) (assembled.IsAssembled.too_long m source long)
 
 pub not_checked : (bytes : List ℕ) (e : Refusal) → Told (IsNoSource bytes) e → Told (CannotCheck bytes) e
 not_checked bytes e (inl p) = inl p
 not_checked bytes e (inr h) = inr (why.CannotCheck.no_module e h)
 
 -- why a module is not validated
-pub not_validated : {V : Type 0} (P : Refusal → Type 0) (r : Result V Refusal) (e : Refusal) → r ≡ Err e → OnErr r ((r ≡ Err refusal.Invalid) ⊎ (r ≡ Err refusal.NoMemory)) → (r ≡ Err refusal.Invalid → P refusal.Invalid) → Told P e
+pub not_validated :
+    {V : Type 0} (P : Refusal → Type 0) (r : Result V Refusal) (e : Refusal) → r ≡ Err e
+    → OnErr r ((r ≡ Err refusal.Invalid) ⊎ (r ≡ Err refusal.NoMemory))
+    → (r ≡ Err refusal.Invalid → P refusal.Invalid) → Told P e
 not_validated P (Ok v) e is why invalid = absurd cc
-not_validated P (Err x) e is (inl p) invalid = let same : e ≡ refusal.Invalid = cc in inr (subst P (sym same) (invalid p))
+not_validated P (Err x) e is (inl p) invalid =
+    let same : e ≡ refusal.Invalid = cc in inr (subst P (sym same) (invalid p))
 not_validated P (Err x) e is (inr p) invalid = let same : e ≡ refusal.NoMemory = cc in inl same
 
-checked_refused : (bytes : List ℕ) (list : Bool) (e : Refusal) (r : Ran) → r ≡ refused e → e ≢ refusal.NoMemory → Told (CannotCheck bytes) e → IsChecked bytes list r
+checked_refused :
+    (bytes : List ℕ) (list : Bool) (e : Refusal) (r : Ran) → r ≡ refused e → e ≢ refusal.NoMemory
+    → Told (CannotCheck bytes) e → IsChecked bytes list r
 checked_refused bytes list e r is told (inl p) = absurd (told p)
-checked_refused bytes list e r is told (inr (why.CannotCheck.no_module x h)) = subst (IsChecked bytes list) (sym is) (checked.IsChecked.no_module e h)
-checked_refused bytes list e r is told (inr (why.CannotCheck.invalid m source not_valid)) = subst (IsChecked bytes list) (sym is) (checked.IsChecked.invalid m source not_valid)
+checked_refused bytes list e r is told (inr (why.CannotCheck.no_module x h)) =
+    subst (IsChecked bytes list) (sym is) (checked.IsChecked.no_module e h)
+checked_refused bytes list e r is told (inr (why.CannotCheck.invalid m source not_valid)) =
+    subst (IsChecked bytes list) (sym is) (checked.IsChecked.invalid m source not_valid)
 
-pub asm_answer : (bytes : List ℕ) (e : Refusal) (r : Result Ran Refusal) → IfOk r (λ x. x ≡ refused e) → OnOk r (e ≢ refusal.NoMemory) → Told (CannotAssemble bytes) e → IfOk r (IsAssembled bytes)
+pub asm_answer :
+    (bytes : List ℕ) (e : Refusal) (r : Result Ran Refusal) → IfOk r (λ x. x ≡ refused e)
+    → OnOk r (e ≢ refusal.NoMemory) → Told (CannotAssemble bytes) e → IfOk r (IsAssembled bytes)
 asm_answer bytes e (Ok x) is told h = assembled_refused bytes e x is told h
 asm_answer bytes e (Err x) is told h = tt
 
-pub check_answer : (bytes : List ℕ) (list : Bool) (e : Refusal) (r : Result Ran Refusal) → IfOk r (λ x. x ≡ refused e) → OnOk r (e ≢ refusal.NoMemory) → Told (CannotCheck bytes) e → IfOk r (IsChecked bytes list)
+pub check_answer :
+    (bytes : List ℕ) (list : Bool) (e : Refusal) (r : Result Ran Refusal) → IfOk r (λ x. x ≡ refused e)
+    → OnOk r (e ≢ refusal.NoMemory) → Told (CannotCheck bytes) e → IfOk r (IsChecked bytes list)
 check_answer bytes list e (Ok x) is told h = checked_refused bytes list e x is told h
 check_answer bytes list e (Err x) is told h = tt

@@ -24,12 +24,18 @@ kept_whole None bytes line e h = cc
 kept_whole (Some k) bytes line e h = cc
 
 -- a line that could not be read
-pub answered_unread : (s : BoardState) (line : List ℕ) (e : LineError) (x : Refusal) → x ≡ refusal_of e → (e ≡ NoRequest → (r : Request) → IsRequest line r → ⊥)
+pub answered_unread :
+    (s : BoardState) (line : List ℕ) (e : LineError) (x : Refusal) → x ≡ refusal_of e
+    → (e ≡ NoRequest → (r : Request) → IsRequest line r → ⊥)
     → (e ≡ OutOfMemory → length line ≤ max_line_bytes) → IsAnswered s line (Err x) s
-answered_unread s line NoRequest x is none short = inr (inl (record { none = none refl; refused = ap Err is; same = refl }))
-answered_unread s line OutOfMemory x is none short = inr (inr (record { short = short refl; refused = ap Err is; same = refl }))
+answered_unread s line NoRequest x is none short =
+    inr (inl (record { none = none refl; refused = ap Err is; same = refl }))
+answered_unread s line OutOfMemory x is none short =
+    inr (inr (record { short = short refl; refused = ap Err is; same = refl }))
 
-pub answered_by : (s : BoardState) (line : List ℕ) (e : LineError) (r : Answer) → IsErrAnd r (λ x. x ≡ refusal_of e) → (e ≡ NoRequest → (q : Request) → IsRequest line q → ⊥)
+pub answered_by :
+    (s : BoardState) (line : List ℕ) (e : LineError) (r : Answer) → IsErrAnd r (λ x. x ≡ refusal_of e)
+    → (e ≡ NoRequest → (q : Request) → IsRequest line q → ⊥)
     → (e ≡ OutOfMemory → length line ≤ max_line_bytes) → IsAnswered s line r s
 answered_by s line e (Ok x) is none short = absurd is
 answered_by s line e (Err x) is none short = answered_unread s line e x is none short
@@ -41,7 +47,9 @@ one_error : {X : Type 0} (r : Result X LineError) → r ≡ Err NoRequest → r 
 one_error r none memory = cc
 
 -- a line that is refused for lack of memory is not too long
-pub short_unless_long : {X : Type 0} (line : List ℕ) (r : Result X LineError) (e : LineError) → (max_line_bytes < length line → r ≡ Err NoRequest) → r ≡ Err e → e ≡ OutOfMemory
+pub short_unless_long :
+    {X : Type 0} (line : List ℕ) (r : Result X LineError) (e : LineError)
+    → (max_line_bytes < length line → r ≡ Err NoRequest) → r ≡ Err e → e ≡ OutOfMemory
     → length line ≤ max_line_bytes
 short_unless_long line r e long was memory = not_longer (λ longer. one_error r (long longer) (was ∙ ap Err memory))
 
@@ -71,42 +79,58 @@ prepend_none : (known : Option (List ℕ)) → known ≡ prepend_known [] known
 prepend_none None = refl
 prepend_none (Some xs) = refl
 
-pub serving_none : (s : BoardState) (input written : Option (List ℕ)) (chunk : List ℕ) → chunk ≡ [] → Serving s input (prepend_known chunk input) written written s
+pub serving_none :
+    (s : BoardState) (input written : Option (List ℕ)) (chunk : List ℕ) → chunk ≡ []
+    → Serving s input (prepend_known chunk input) written written s
 serving_none s input written chunk empty = record {
   lines = [];
   texts = [];
-  read = subst (λ r. TakesLines input r []) (prepend_none input ∙ ap (λ x. prepend_known x input) (sym empty)) (takes_none input);
+  read =
+      subst (λ r. TakesLines input r []) (prepend_none input ∙ ap (λ x. prepend_known x input) (sym empty))
+      (takes_none input);
   session = refl;
   appended = appends_none written;
 }
 
-takes_more : (input left next : Option (List ℕ)) (lines : List (List ℕ)) (line : List ℕ) → TakesLines input left lines → TakesLine left next line → TakesLines input next (lines ++ line ∷ [])
+takes_more :
+    (input left next : Option (List ℕ)) (lines : List (List ℕ)) (line : List ℕ) → TakesLines input left lines
+    → TakesLine left next line → TakesLines input next (lines ++ line ∷ [])
 takes_more None left next lines line h g = tt
 takes_more (Some xs) None next lines line h g = absurd h
 takes_more (Some xs) (Some ys) None lines line h g = g
-takes_more (Some xs) (Some ys) (Some zs) lines line h g = h ∙ (ap (λ r. lines ++ r) g ∙ sym (append_assoc lines (line ∷ []) (lines_of zs)))
+takes_more (Some xs) (Some ys) (Some zs) lines line h g =
+    h ∙ (ap (λ r. lines ++ r) g ∙ sym (append_assoc lines (line ∷ []) (lines_of zs)))
 
 joined_more : (texts : List (List ℕ)) (text : List ℕ) → joined (texts ++ text ∷ []) ≡ joined texts ++ text
 joined_more [] text = append-nil text
 joined_more (t ∷ texts) text = ap (λ r. t ++ r) (joined_more texts text) ∙ sym (append_assoc t (joined texts) text)
 
-appends_more : (old now next : Option (List ℕ)) (texts : List (List ℕ)) (text : List ℕ) → Appends old now (joined texts) → Appends now next text → Appends old next (joined (texts ++ text ∷ []))
+appends_more :
+    (old now next : Option (List ℕ)) (texts : List (List ℕ)) (text : List ℕ) → Appends old now (joined texts)
+    → Appends now next text → Appends old next (joined (texts ++ text ∷ []))
 appends_more None now next texts text h g = tt
 appends_more (Some xs) None next texts text h g = absurd h
 appends_more (Some xs) (Some ys) None texts text h g = g
-appends_more (Some xs) (Some ys) (Some zs) texts text h g = g ∙ (ap (λ r. r ++ text) h ∙ (append_assoc xs (joined texts) text ∙ ap (λ r. xs ++ r) (sym (joined_more texts text))))
+appends_more (Some xs) (Some ys) (Some zs) texts text h g =
+    g ∙ (ap (λ r. r ++ text) h
+    ∙ (append_assoc xs (joined texts) text ∙ ap (λ r. xs ++ r) (sym (joined_more texts text))))
 
 module _ {S : Type 0} (Is : S → (line text : List ℕ) → S → Type 0) where
   -- one line more
-  session_more : (s : S) (lines texts : List (List ℕ)) (mid : S) (line text : List ℕ) (s' : S) → Session Is s lines texts mid → Is mid line text s'
+  session_more :
+      (s : S) (lines texts : List (List ℕ)) (mid : S) (line text : List ℕ) (s' : S) → Session Is s lines texts mid
+      → Is mid line text s'
       → Session Is s (lines ++ line ∷ []) (texts ++ text ∷ []) s'
   session_more s [] [] mid line text s' h g = (s', subst (λ m. Is m line text s') h g, refl)
   session_more s [] (t ∷ texts) mid line text s' h g = absurd h
   session_more s (l ∷ lines) [] mid line text s' h g = absurd h
-  session_more s (l ∷ lines) (t ∷ texts) mid line text s' h g = (h.0, h.1, session_more h.0 lines texts mid line text s' h.2 g)
+  session_more s (l ∷ lines) (t ∷ texts) mid line text s' h g =
+      (h.0, h.1, session_more h.0 lines texts mid line text s' h.2 g)
 
-pub serving_more : (s : BoardState) (input left next written writes after : Option (List ℕ)) (mid s' : BoardState) (line text : List ℕ)
-    → Serving s input left written writes mid → TakesLine left next line → IsServed mid line text s' → Appends writes after text
+pub serving_more :
+    (s : BoardState) (input left next written writes after : Option (List ℕ)) (mid s' : BoardState) (line text : List ℕ)
+    → Serving s input left written writes mid → TakesLine left next line → IsServed mid line text s'
+    → Appends writes after text
     → Serving s input next written after s'
 serving_more s input left next written writes after mid s' line text v takes served appends = record {
   lines = v.lines ++ line ∷ [];
@@ -116,16 +140,21 @@ serving_more s input left next written writes after mid s' line text v takes ser
   appended = appends_more written writes after v.texts text v.appended appends;
 }
 
-begins : (input left : Option (List ℕ)) (lines : List (List ℕ)) → TakesLines input left lines → BeginWithLines input lines
+begins :
+    (input left : Option (List ℕ)) (lines : List (List ℕ)) → TakesLines input left lines → BeginWithLines input lines
 begins None left lines h = tt
 begins (Some xs) None lines h = absurd h
 begins (Some xs) (Some ys) lines h = (lines_of ys, h)
 
-pub stops_here : (s : BoardState) (input left written writes : Option (List ℕ)) (s' : BoardState) → Serving s input left written writes s' → Stops s input s'
-stops_here s input left written writes s' v = record { lines = v.lines; texts = v.texts; read = begins input left v.lines v.read; session = v.session }
+pub stops_here :
+    (s : BoardState) (input left written writes : Option (List ℕ)) (s' : BoardState)
+    → Serving s input left written writes s' → Stops s input s'
+stops_here s input left written writes s' v =
+    record { lines = v.lines; texts = v.texts; read = begins input left v.lines v.read; session = v.session }
 
 -- a line was answered, and then its answer could not be written
-pub stops_after : (s : BoardState) (input left next written writes : Option (List ℕ)) (mid s' : BoardState) (line text : List ℕ)
+pub stops_after :
+    (s : BoardState) (input left next written writes : Option (List ℕ)) (mid s' : BoardState) (line text : List ℕ)
     → Serving s input left written writes mid → TakesLine left next line → IsServed mid line text s' → Stops s input s'
 stops_after s input left next written writes mid s' line text v takes served = record {
   lines = v.lines ++ line ∷ [];

@@ -15,17 +15,21 @@ use Rattle.shim_service.specs.Ran.{line, succeeded, refused}
 
 -- `FUNC PLACE TEXT`
 abbrev pub instr_line : (func place : ℕ) → Op → List ℕ
-instr_line func place o = line (decimal func ++ codes " " ++ decimal place ++ codes " " ++ line_of o)
+instr_line func place o =
+    line (decimal func ++ codes " " ++ decimal place ++ codes " " ++ line_of o)
 
 -- a line for each instruction from this place on, those inside blocks included, in the order of places
 abbrev mutual
   pub op_lines : (func place : ℕ) → Op → List ℕ
   op_lines func place (simple s) = instr_line func place (simple s)
-  op_lines func place (block type body) = instr_line func place (block type body) ++ ops_lines func (place + 1) body
-  op_lines func place (loop type body) = instr_line func place (loop type body) ++ ops_lines func (place + 1) body
+  op_lines func place (block type body) =
+      instr_line func place (block type body) ++ ops_lines func (place + 1) body
+  op_lines func place (loop type body) =
+      instr_line func place (loop type body) ++ ops_lines func (place + 1) body
   op_lines func place (if' type then_arm else_arm) =
       instr_line func place (if' type then_arm else_arm)
-      ++ (ops_lines func (place + 1) then_arm ++ ops_lines func (place + 1 + ops_count then_arm) else_arm)
+      ++ (ops_lines func (place + 1) then_arm
+      ++ ops_lines func (place + 1 + ops_count then_arm) else_arm)
 
   pub ops_lines : (func place : ℕ) → Ops → List ℕ
   ops_lines func place stop = []
@@ -51,5 +55,7 @@ pub data IsChecked (bytes : List ℕ) (list : Bool) : Ran → Type 0 where
       (m : Module) → IsSource bytes m → ValidModule m
       → IsChecked bytes list (succeeded (line (codes "ok") ++ list_if list m))
   -- it has one that is not valid
-  invalid : (m : Module) → IsSource bytes m → (ValidModule m → ⊥) → IsChecked bytes list (refused refusal.Invalid)
+  invalid :
+      (m : Module) → IsSource bytes m → (ValidModule m → ⊥)
+      → IsChecked bytes list (refused refusal.Invalid)
   no_module : (e : Refusal) → IsNoSource bytes e → IsChecked bytes list (refused e)

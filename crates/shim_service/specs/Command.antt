@@ -35,7 +35,12 @@ command_shape name rules = record (new_shape name) { rules = rules; has_version 
 
 -- the program without its commands, of which it wants one
 abbrev pub bare_program : App
-bare_program = record { top = record (new_shape (codes "wasm-shim")) { has_version = true; subcommand_required = true }; subs = [] }
+bare_program =
+    record {
+      top = record (new_shape (codes "wasm-shim"))
+          { has_version = true; subcommand_required = true };
+      subs = [];
+    }
 
 -- `serve`, `replay FILE`, `asm FILE`, `check [--list] FILE` and `run MODULE [ARG..]`
 abbrev pub serve_shape : Shape
@@ -58,7 +63,8 @@ abbrev pub line_program : App
 line_program = with_subcommand (with_subcommand bare_program serve_shape) replay_shape
 
 abbrev pub program : App
-program = with_subcommand (with_subcommand (with_subcommand line_program asm_shape) check_shape) run_shape
+program =
+    with_subcommand (with_subcommand (with_subcommand line_program asm_shape) check_shape) run_shape
 
 -- ---- what is found of the arguments of a command
 
@@ -94,11 +100,15 @@ with_module p = (p.0, module_in p.1)
 -- this is the command
 abbrev pub IsCommand : Option (Text × List Row) → Command → Type 0
 IsCommand found Serve = option_map (λ p. p.0) found ≡ Some (codes "serve")
-IsCommand found (Replay file) = option_map with_file found ≡ Some (codes "replay", Some (string_bytes file))
-IsCommand found (Asm file) = option_map with_file found ≡ Some (codes "asm", Some (string_bytes file))
-IsCommand found (Check file list) = option_map with_list found ≡ Some (codes "check", Some (string_bytes file), list)
+IsCommand found (Replay file) =
+    option_map with_file found ≡ Some (codes "replay", Some (string_bytes file))
+IsCommand found (Asm file) =
+    option_map with_file found ≡ Some (codes "asm", Some (string_bytes file))
+IsCommand found (Check file list) =
+    option_map with_list found ≡ Some (codes "check", Some (string_bytes file), list)
 IsCommand found (Run name args) =
-    option_map with_module found ≡ Some (codes "run", Some (string_bytes name ∷ map string_bytes args.items))
+    option_map with_module found
+    ≡ Some (codes "run", Some (string_bytes name ∷ map string_bytes args.items))
 IsCommand found (Show text) = ⊥
 
 -- what is wrong with the arguments, help and version included; empty where nothing is
@@ -107,16 +117,20 @@ faults_in = fault_of program
 
 -- the arguments ask for help or for the version
 abbrev pub AskToShow : List Text → Type 0
-AskToShow arguments = IsAmong DisplayHelp (faults_in arguments) ⊎ IsAmong DisplayVersion (faults_in arguments)
+AskToShow arguments =
+    IsAmong DisplayHelp (faults_in arguments) ⊎ IsAmong DisplayVersion (faults_in arguments)
 
 -- the arguments name this command
 abbrev pub Name : List Text → Command → Type 0
 Name arguments (Show text) = AskToShow arguments
 Name arguments Serve = (faults_in arguments ≡ []) × IsCommand (command_in arguments) Serve
-Name arguments (Replay file) = (faults_in arguments ≡ []) × IsCommand (command_in arguments) (Replay file)
+Name arguments (Replay file) =
+    (faults_in arguments ≡ []) × IsCommand (command_in arguments) (Replay file)
 Name arguments (Asm file) = (faults_in arguments ≡ []) × IsCommand (command_in arguments) (Asm file)
-Name arguments (Check file list) = (faults_in arguments ≡ []) × IsCommand (command_in arguments) (Check file list)
-Name arguments (Run name args) = (faults_in arguments ≡ []) × IsCommand (command_in arguments) (Run name args)
+Name arguments (Check file list) =
+    (faults_in arguments ≡ []) × IsCommand (command_in arguments) (Check file list)
+Name arguments (Run name args) =
+    (faults_in arguments ≡ []) × IsCommand (command_in arguments) (Run name args)
 
 -- one of the faults of the arguments is no wish for help or the version
 pub record HasFault (arguments : List Text) : Type 0 where

@@ -15,7 +15,9 @@ PutExample = IsEvent (codes "{\"op\":\"put\",\"hex\":\"00fF\"}") (Call (request.
 
 -- a line feed that is escaped in JSON is one in the text
 abbrev pub TextExample : Type 0
-TextExample = IsEvent (codes "{\"op\":\"put_text\",\"text\":\"(module\\n)\"}") (Call (request.PutText (codes "(module\n)")))
+TextExample =
+    IsEvent (codes "{\"op\":\"put_text\",\"text\":\"(module\\n)\"}")
+    (Call (request.PutText (codes "(module\n)")))
 
 -- the place of a fault
 abbrev pub FaultExample : Type 0
@@ -25,28 +27,40 @@ FaultExample =
 
 -- of a key that is written twice the last value counts
 abbrev pub TwiceExample : Type 0
-TwiceExample = IsEvent (codes "{\"op\":\"start\",\"id\":\"a\",\"op\":\"state\"}") (Call (request.State (codes "a")))
+TwiceExample =
+    IsEvent (codes "{\"op\":\"start\",\"id\":\"a\",\"op\":\"state\"}")
+    (Call (request.State (codes "a")))
 
 abbrev pub TakeExample : Type 0
 TakeExample = IsEvent (codes "{\"op\":\"take\",\"id\":\"a\",\"budget\":100}") (Take (codes "a") 100)
 
 abbrev pub OutputExample : Type 0
-OutputExample = IsEvent (codes "{\"op\":\"output\",\"id\":\"a\",\"stream\":1}") (Call (request.Output (codes "a") 1))
+OutputExample =
+    IsEvent (codes "{\"op\":\"output\",\"id\":\"a\",\"stream\":1}")
+    (Call (request.Output (codes "a") 1))
 
 -- in lower-case digits, two for each byte
 abbrev pub WrittenExample : Type 0
 WrittenExample =
-    line_text (json_of (Ok (reply.Output (0 ∷ 255 ∷ []) (codes "a") 2))) ≡ codes "{\"hex\":\"00ff\",\"id\":\"a\",\"ok\":true,\"size\":2}\n"
+    line_text (json_of (Ok (reply.Output (0 ∷ 255 ∷ []) (codes "a") 2)))
+    ≡ codes "{\"hex\":\"00ff\",\"id\":\"a\",\"ok\":true,\"size\":2}\n"
 
 -- the digests of a list are in its order
 abbrev pub RemovedExample : Type 0
 RemovedExample =
-    line_text (json_of (Ok (reply.Gc (codes "b" ∷ codes "a" ∷ [])))) ≡ codes "{\"ok\":true,\"removed\":[\"b\",\"a\"]}\n"
+    line_text (json_of (Ok (reply.Gc (codes "b" ∷ codes "a" ∷ []))))
+    ≡ codes "{\"ok\":true,\"removed\":[\"b\",\"a\"]}\n"
 
 abbrev pub LeaseExample : Type 0
-LeaseExample = IsEvent (codes "{\"op\":\"lease_add\",\"id\":\"l\",\"digest\":\"d\"}") (Call (request.LeaseAdd (codes "d") (codes "l")))
+LeaseExample =
+    IsEvent (codes "{\"op\":\"lease_add\",\"id\":\"l\",\"digest\":\"d\"}")
+    (Call (request.LeaseAdd (codes "d") (codes "l")))
 
 abbrev pub StoppedExample : Type 0
 StoppedExample =
-    line_text (json_of (Ok (reply.State (record { id = codes "a"; n = 2; status = Stopped; end = Some (Exit 7) }))))
-    ≡ codes "{\"cause\":\"exit\",\"exit\":7,\"id\":\"a\",\"n\":2,\"ok\":true,\"status\":\"stopped\"}\n"
+    line_text
+    (json_of
+    (Ok (reply.State
+    (record { id = codes "a"; n = 2; status = Stopped; end = Some (Exit 7) }))))
+    ≡ codes
+    "{\"cause\":\"exit\",\"exit\":7,\"id\":\"a\",\"n\":2,\"ok\":true,\"status\":\"stopped\"}\n"

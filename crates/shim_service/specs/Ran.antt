@@ -19,7 +19,8 @@ refusal_text e = codes "refused " ++ decimal (refusal_number e) ++ codes " " ++ 
 
 -- where the fault of a text is
 abbrev pub fault_text : Refusal → List ℕ
-fault_text (refusal.BadText at_line column) = codes " line " ++ decimal at_line ++ codes " column " ++ decimal column
+fault_text (refusal.BadText at_line column) =
+    codes " line " ++ decimal at_line ++ codes " column " ++ decimal column
 fault_text _ = []
 
 -- `asm` and `check` were refused

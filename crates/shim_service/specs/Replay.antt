@@ -12,13 +12,15 @@ use Rattle.shim_service.specs.Reply.{event_data, line_text}
 use Rattle.shim_service.specs.Session.{Session}
 
 -- the line is this event, which happens with this reply
-pub record IsPlayed (s : BoardState) (line : List ℕ) (reply : EventReply) (s' : BoardState) : Type 0 where
+pub record IsPlayed (s : BoardState) (line : List ℕ) (reply : EventReply) (s' : BoardState) :
+    Type 0 where
   pub event : Event
   pub is : IsEvent line event
   pub happens : Happens s event reply s'
 
 -- the line is no event, and the board stays
-pub record IsBad (s : BoardState) (line : List ℕ) (reply : EventReply) (s' : BoardState) : Type 0 where
+pub record IsBad (s : BoardState) (line : List ℕ) (reply : EventReply) (s' : BoardState) :
+    Type 0 where
   pub none : (e : Event) → IsEvent line e → ⊥
   pub refused : reply ≡ Called (Err BadRequest)
   pub same : s' ≡ s
@@ -26,7 +28,8 @@ pub record IsBad (s : BoardState) (line : List ℕ) (reply : EventReply) (s' : B
 -- a line of a script is answered by this text
 abbrev pub IsReplied : BoardState → (line text : List ℕ) → BoardState → Type 0
 IsReplied s line text s' =
-    (reply : EventReply) × (IsPlayed s line reply s' ⊎ IsBad s line reply s') × (text ≡ line_text (event_data reply))
+    (reply : EventReply) × (IsPlayed s line reply s' ⊎ IsBad s line reply s')
+    × (text ≡ line_text (event_data reply))
 
 -- the bytes are the answers to the lines of a script, on a board of their own
 pub record IsReplay (script out : List ℕ) : Type 0 where

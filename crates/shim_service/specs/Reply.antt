@@ -1,4 +1,5 @@
--- What is answered, as JSON values and as lines. The members of a value are listed in the order of their keys.
+-- What is answered, as JSON values and as lines. The members of a value are listed in the order of
+-- their keys.
 use Rattle.std.specs.Prelude.{ℕ, List, [], ◌∷◌, ◌++◌, map, true, false, Option, None, Some, Result, Ok, Err, codes}
 use Rattle.hex.specs.Hex.{encode_lower}
 use Rattle.serde_json.specs.Data.{Data, string, boolean, number, array, unsigned}
@@ -55,16 +56,19 @@ abbrev pub texts_data : List (List ℕ) → Data
 texts_data texts = array (items_of (map string texts))
 
 abbrev pub removed_data : (digests : List (List ℕ)) → Data
-removed_data digests = object_of ((codes "ok", boolean true) ∷ (codes "removed", texts_data digests) ∷ [])
+removed_data digests =
+    object_of ((codes "ok", boolean true) ∷ (codes "removed", texts_data digests) ∷ [])
 
 abbrev pub status_data : (id : List ℕ) → Status → Data
 status_data id status = object_of
-    ((codes "id", string id) ∷ (codes "ok", boolean true) ∷ (codes "status", string (status_name status)) ∷ [])
+    ((codes "id", string id) ∷ (codes "ok", boolean true)
+    ∷ (codes "status", string (status_name status)) ∷ [])
 
 -- why a stopped task ended, and its exit status
 abbrev pub cause_members : Option ExitRecord → List (List ℕ × Data)
 cause_members None = []
-cause_members (Some end) = (codes "cause", string (cause_name end)) ∷ (codes "exit", count (exit_status end)) ∷ []
+cause_members (Some end) =
+    (codes "cause", string (cause_name end)) ∷ (codes "exit", count (exit_status end)) ∷ []
 
 -- the signal of a killed task
 abbrev pub signal_members : Option ExitRecord → List (List ℕ × Data)
@@ -120,8 +124,10 @@ json_of (Err refusal) = refusal_data refusal
 -- what an event is answered
 abbrev pub event_data : EventReply → Data
 event_data (Called answer) = json_of answer
-event_data (Taken taken) = object_of ((codes "ok", boolean true) ∷ (codes "taken", boolean taken) ∷ [])
-event_data (Returned returned) = object_of ((codes "ok", boolean true) ∷ (codes "returned", boolean returned) ∷ [])
+event_data (Taken taken) =
+    object_of ((codes "ok", boolean true) ∷ (codes "taken", boolean taken) ∷ [])
+event_data (Returned returned) =
+    object_of ((codes "ok", boolean true) ∷ (codes "returned", boolean returned) ∷ [])
 
 -- a line: compact JSON with its keys in byte order, and a line feed
 abbrev pub line_text : Data → List ℕ

@@ -36,14 +36,17 @@ only_id id = members ((codes "id", string id) ∷ [])
 
 -- the other members, by their keys: `hex` is an even number of hexadecimal digits of either case
 abbrev pub HasKeys : Members → Request → Type 0
-HasKeys ms (Put bytes) = (hex : List ℕ) × (ms ≡ members ((codes "hex", string hex) ∷ [])) × (decode_of hex ≡ Ok bytes)
+HasKeys ms (Put bytes) =
+    (hex : List ℕ) × (ms ≡ members ((codes "hex", string hex) ∷ [])) × (decode_of hex ≡ Ok bytes)
 HasKeys ms (PutText text) = ms ≡ members ((codes "text", string text) ∷ [])
 HasKeys ms (Remove digest) = ms ≡ members ((codes "digest", string digest) ∷ [])
 HasKeys ms (LeaseCreate id) = ms ≡ only_id id
-HasKeys ms (LeaseAdd digest id) = ms ≡ members ((codes "digest", string digest) ∷ (codes "id", string id) ∷ [])
+HasKeys ms (LeaseAdd digest id) =
+    ms ≡ members ((codes "digest", string digest) ∷ (codes "id", string id) ∷ [])
 HasKeys ms (LeaseDelete id) = ms ≡ only_id id
 HasKeys ms Gc = ms ≡ members []
-HasKeys ms (Create config id) = ms ≡ members ((codes "config", string config) ∷ (codes "id", string id) ∷ [])
+HasKeys ms (Create config id) =
+    ms ≡ members ((codes "config", string config) ∷ (codes "id", string id) ∷ [])
 HasKeys ms (Start id) = ms ≡ only_id id
 HasKeys ms (Pause id) = ms ≡ only_id id
 HasKeys ms (Resume id) = ms ≡ only_id id
@@ -76,7 +79,8 @@ abbrev pub AsksFor : Data → Request → Type 0
 AsksFor d r = (ms : Members) × (d ≡ object (put (codes "op") (string (op_of r)) ms)) × HasKeys ms r
 
 abbrev pub AsksEvent : Data → Event → Type 0
-AsksEvent d e = (ms : Members) × (d ≡ object (put (codes "op") (string (event_op e)) ms)) × HasEventKeys ms e
+AsksEvent d e =
+    (ms : Members) × (d ≡ object (put (codes "op") (string (event_op e)) ms)) × HasEventKeys ms e
 
 -- the line is this request
 pub record IsRequest (line : List ℕ) (request : Request) : Type 0 where

@@ -90,7 +90,8 @@ BeginWithLines None lines = Unit {0}
 BeginWithLines (Some bytes) lines = (others : List (List ℕ)) × (lines_of bytes ≡ lines ++ others)
 
 -- the lines of a stream are answered in their order, and nothing else is written
-pub record Serves (s : BoardState) (input written writes : Option (List ℕ)) (s' : BoardState) : Type 0 where
+pub record Serves (s : BoardState) (input written writes : Option (List ℕ)) (s' : BoardState) :
+    Type 0 where
   pub lines : List (List ℕ)
   pub texts : List (List ℕ)
   pub read : HaveLines input lines

@@ -4,5 +4,6 @@ use Rattle.std.specs.Prelude.{◌≡◌, ℕ, List, [], ◌∷◌}
 module _ {S : Type 0} (IsAnswered : S → (line text : List ℕ) → S → Type 0) where
   abbrev pub Session : S → (lines texts : List (List ℕ)) → S → Type 0
   Session s [] [] s' = s' ≡ s
-  Session s (line ∷ lines) (text ∷ texts) s' = (mid : S) × IsAnswered s line text mid × Session mid lines texts s'
+  Session s (line ∷ lines) (text ∷ texts) s' =
+      (mid : S) × IsAnswered s line text mid × Session mid lines texts s'
   Session s lines texts s' = ⊥

@@ -22,12 +22,14 @@ pub data CannotRun (bytes : List ℕ) (args : List (List ℕ)) : Refusal → Typ
   no_module : (e : Refusal) → IsNoSource bytes e → CannotRun bytes args e
   -- a process cannot have the arguments
   bad_arguments :
-      (m : Module) → IsSource bytes m → are_arguments_alone args ≡ false → CannotRun bytes args refusal.BadConfig
+      (m : Module) → IsSource bytes m → are_arguments_alone args ≡ false
+      → CannotRun bytes args refusal.BadConfig
   invalid :
       (m : Module) → IsSource bytes m → are_arguments_alone args ≡ true → (ValidModule m → ⊥)
       → CannotRun bytes args refusal.Invalid
   not_instantiated :
-      (m : Module) (e : Refusal) → IsSource bytes m → are_arguments_alone args ≡ true → ValidModule m
+      (m : Module) (e : Refusal) → IsSource bytes m
+      → are_arguments_alone args ≡ true → ValidModule m
       → instantiation_refusal m (process_with args) ≡ Some e → CannotRun bytes args e
 
 -- a trap adds a line to standard error
@@ -62,6 +64,7 @@ pub data IsRun (name bytes : List ℕ) (args : List (List ℕ)) : Ran → Type 0
   no_task : (e : Refusal) → CannotRun bytes (name ∷ args) e → IsRun name bytes args (refused_run e)
 
 -- to two streams is appended what one `Ran` of these writes, and the status is its own
-abbrev pub IsWritten : (Ran → Type 0) → (out out' err err' : Option (List ℕ)) → (status : ℕ) → Type 0
+abbrev pub IsWritten :
+    (Ran → Type 0) → (out out' err err' : Option (List ℕ)) → (status : ℕ) → Type 0
 IsWritten Is out out' err err' status =
     (r : Ran) × Is r × Appends out out' r.out × Appends err err' r.err × (status ≡ r.status)

@@ -295,9 +295,10 @@ fn chosen(alloc: Global, matches: &ArgMatches<'_>) -> Result<Command, CommandErr
 
 /// The command that the arguments name. The first word is the program's own name.
 ///
-/// `serve`, `replay FILE`, `asm FILE`, `check [--list] FILE` and `run MODULE [ARG..]` are the commands. Every word
-/// after MODULE is an ARG, one that begins with a dash too. `--help` and `--version`, alone or after a command, and
-/// `help` are shown. All else is `CommandError::Arguments`, and `CommandError::OutOfMemory` comes if memory ran out.
+/// `serve`, `replay FILE`, `asm FILE`, `check [--list] FILE` and `run MODULE [ARG..]` are the
+/// commands. Every word after MODULE is an ARG, one that begins with a dash too. `--help` and
+/// `--version`, alone or after a command, and `help` are shown. All else is
+/// `CommandError::Arguments`, and `CommandError::OutOfMemory` comes if memory ran out.
 pub fn command_of(alloc: Global, arguments: &[String]) -> Result<Command, CommandError>
     ensures ok { IfOk result (Name (map string_bytes arguments.now)) }
     ensures err { IfErr result (AreFaulty (map string_bytes arguments.now)) }

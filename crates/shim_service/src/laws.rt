@@ -41,7 +41,8 @@ pub fn script_lines_are_determined()
 }
 
 /// What a line of a stream is answered, and the board that it leaves, are determined by the line and the
-/// board, unless the line is a create or a put of a text, or memory ran out. A wait runs its task to one board alone.
+/// board, unless the line is a create or a put of a text, or memory ran out. A wait runs its task
+/// to one board alone.
 pub fn stream_lines_are_determined()
     ensures { (s : BoardState) (line : List ℕ)
         (text : List ℕ) (s1 : BoardState) (text' : List ℕ) (s2 : BoardState)

@@ -48,7 +48,8 @@ impl Model for Chunk {
 
     ghost view = { λ c. take (c.end - c.start) (drop c.start c.buffer.items) };
 
-    ghost invariant = { λ c. (c.start ≤ c.end) × (c.end ≤ vec_len c.buffer) × (0 < vec_len c.buffer) };
+    ghost invariant = { λ c. (c.start ≤ c.end) × (c.end ≤ vec_len c.buffer)
+        × (0 < vec_len c.buffer) };
 }
 
 impl Chunk {
@@ -106,7 +107,8 @@ impl Chunk {
     /// Reads the next bytes.
     fn fill<R: Read>(&mut self, reader: &mut R) -> Result<Filled, Stop>
         requires { self.old ≡ [] }
-        ensures bytes { OnOk result (Consumes (R.remaining reader.old) (R.remaining reader.new) self.new) }
+        ensures bytes { OnOk result
+            (Consumes (R.remaining reader.old) (R.remaining reader.new) self.new) }
         ensures some { result ≡ Ok Filled.Bytes → self.new ≢ [] }
         ensures end { result ≡ Ok Filled.End → IsAtEnd (R.remaining reader.new) × (self.new ≡ []) }
     {
@@ -179,7 +181,8 @@ impl Line {
 
     /// Adds what was read.
     fn add(&mut self, piece: &[u8]) -> Result<(), AllocError>
-        ensures { OnOk result ((line : List ℕ) → IsKept self.old line → IsKept self.new (line ++ piece.now)) }
+        ensures { OnOk result
+            ((line : List ℕ) → IsKept self.old line → IsKept self.new (line ++ piece.now)) }
     {
         if self.is_long || MAX_LINE_BYTES - self.kept.len() < piece.len() {
             self.is_long = true;
@@ -238,7 +241,9 @@ fn refill<R: Read>(chunk: &mut Chunk, reader: &mut R) -> Result<bool, Stop>
 
 /// Moves a piece of a line from the reader to the line.
 fn read_piece<R: Read>(chunk: &mut Chunk, line: &mut Line, reader: &mut R) -> Result<Progress, Stop>
-    ensures { IfOk result (λ p. ReadsPiece p (prepend_known chunk.old (R.remaining reader.old)) (prepend_known chunk.new (R.remaining reader.new))
+    ensures { IfOk result
+        (λ p. ReadsPiece p (prepend_known chunk.old (R.remaining reader.old))
+        (prepend_known chunk.new (R.remaining reader.new))
         line.old line.new) }
 {
     if !refill(chunk, reader)? {
@@ -258,7 +263,8 @@ pub(crate) fn next_line<R: Read>(
     reader: &mut R,
 ) -> Result<bool, Stop>
     ensures line { result ≡ Ok true → (text : List ℕ) × IsKept line.new text
-        × TakesLine (prepend_known chunk.old (R.remaining reader.old)) (prepend_known chunk.new (R.remaining reader.new)) text }
+        × TakesLine (prepend_known chunk.old (R.remaining reader.old))
+        (prepend_known chunk.new (R.remaining reader.new)) text }
     ensures end { result ≡ Ok false → IsAtEnd (prepend_known chunk.old (R.remaining reader.old)) }
 {
     line.clear();

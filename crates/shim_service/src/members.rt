@@ -38,9 +38,11 @@ pub(crate) fn read_value(alloc: Global, line: &[u8]) -> Result<Value, LineError>
 /// Takes the member of this key.
 pub(crate) fn take_member(members: &mut Members, key: &str) -> Option<Value>
     ensures value { option_map view result ≡ get_member key.now (members_view members.old.entries) }
-    ensures rest { members_view members.new.entries ≡ without key.now (members_view members.old.entries) }
+    ensures rest { members_view members.new.entries
+        ≡ without key.now (members_view members.old.entries) }
     ensures whole { IfSome result (λ v.
-        members_view members.old.entries ≡ put key.now (view v) (members_view members.new.entries)) }
+        members_view members.old.entries
+        ≡ put key.now (view v) (members_view members.new.entries)) }
 {
     let _in_order = members.len();
     members.remove(key)
@@ -49,10 +51,12 @@ pub(crate) fn take_member(members: &mut Members, key: &str) -> Option<Value>
 /// Takes the member of this key if it is a text. The member is gone if it is another value, too.
 pub(crate) fn take_text(members: &mut Members, key: &str) -> Option<Text>
     ensures some { IfSome result (λ t.
-        members_view members.old.entries ≡ put key.now (string t) (members_view members.new.entries)) }
+        members_view members.old.entries
+        ≡ put key.now (string t) (members_view members.new.entries)) }
     ensures none { IfNone result ((t : List ℕ) →
         get_member key.now (members_view members.old.entries) ≢ Some (string t)) }
-    ensures rest { members_view members.new.entries ≡ without key.now (members_view members.old.entries) }
+    ensures rest { members_view members.new.entries
+        ≡ without key.now (members_view members.old.entries) }
 {
     match take_member(members, key) {
         Some(Value::String(text)) => Some(Text::new(text)),
@@ -64,10 +68,12 @@ pub(crate) fn take_text(members: &mut Members, key: &str) -> Option<Text>
 /// gone if it is another value, too.
 pub(crate) fn take_number(members: &mut Members, key: &str) -> Option<u64>
     ensures some { IfSome result (λ n.
-        members_view members.old.entries ≡ put key.now (number (unsigned n)) (members_view members.new.entries)) }
+        members_view members.old.entries
+        ≡ put key.now (number (unsigned n)) (members_view members.new.entries)) }
     ensures none { IfNone result ((n : ℕ) →
         get_member key.now (members_view members.old.entries) ≢ Some (number (unsigned n))) }
-    ensures rest { members_view members.new.entries ≡ without key.now (members_view members.old.entries) }
+    ensures rest { members_view members.new.entries
+        ≡ without key.now (members_view members.old.entries) }
 {
     let value = take_member(members, key)?;
     value.as_u64()

@@ -107,7 +107,8 @@ fn put_count(alloc: Global, members: &mut Members, key: &str, count: u64) -> Res
 
 /// Adds why a task ended: its cause and exit status.
 fn put_cause(alloc: Global, members: &mut Members, end: &ExitRecord) -> Result<(), AllocError>
-    ensures { OnOk result (members_view members.new.entries ≡ put (codes "exit") (count_data (exit_status end.now))
+    ensures { OnOk result
+        (members_view members.new.entries ≡ put (codes "exit") (count_data (exit_status end.now))
         (put (codes "cause") (string (cause_name end.now)) (members_view members.old.entries))) }
 {
     put_text(alloc, members, "cause", end.cause())?;
@@ -116,7 +117,9 @@ fn put_cause(alloc: Global, members: &mut Members, end: &ExitRecord) -> Result<(
 
 /// Adds the trap or the signal that ended a task.
 fn put_detail(alloc: Global, members: &mut Members, end: &ExitRecord) -> Result<(), AllocError>
-    ensures { OnOk result (members_view members.new.entries ≡ with_detail end.now (members_view members.old.entries)) }
+    ensures { OnOk result
+        (members_view members.new.entries
+        ≡ with_detail end.now (members_view members.old.entries)) }
 {
     match end {
         ExitRecord::Trapped(trap) => put_text(alloc, members, "trap", trap.name()),

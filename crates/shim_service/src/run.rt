@@ -49,7 +49,8 @@ fn process_of(alloc: Global, name: &str, args: &[String]) -> Result<Process, Ref
     ensures process { IfOk result (λ p. config_of p
         ≡ config.process_with (name.now ∷ map string_bytes args.now)) }
     ensures nothing_written { IfOk result (λ p. (p.out ≡ []) × (p.err ≡ [])) }
-    ensures taken { OnOk result (are_arguments_alone (name.now ∷ map string_bytes args.now) ≡ true) }
+    ensures taken { OnOk result
+        (are_arguments_alone (name.now ∷ map string_bytes args.now) ≡ true) }
     ensures err { IfErr result (λ e. e ≢ refusal.NoMemory → (e ≡ refusal.BadConfig)
         × (are_arguments_alone (name.now ∷ map string_bytes args.now) ≡ false)) }
 {

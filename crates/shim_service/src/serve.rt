@@ -116,7 +116,8 @@ pub fn serve_lines<R: Read, W: Write>(
 ) -> bool
     ensures served { result ≡ true → Serves board.old.state (R.remaining reader.old)
         (W.contents writer.old) (W.contents writer.new) board.new.state }
-    ensures stopped { result ≡ false → Stops board.old.state (R.remaining reader.old) board.new.state }
+    ensures stopped { result ≡ false
+        → Stops board.old.state (R.remaining reader.old) board.new.state }
 {
     let Ok(mut chunk) = Chunk::new(alloc) else {
         return false;

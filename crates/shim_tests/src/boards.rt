@@ -176,7 +176,8 @@ fn is_fitting(board: &mut Board, loan: Option<Loan>) -> bool {
     fits
 }
 
-// A loan of a task with another module does not fit, though slot, incarnation, id, turns and budget are the same.
+// A loan of a task with another module does not fit, though slot, incarnation, id, turns and budget
+// are the same.
 #[test]
 fn loans_of_other_modules_do_not_fit(rt: HostRuntime) -> Result<(), Fail> {
     let alloc = rt.alloc();

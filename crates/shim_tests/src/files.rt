@@ -27,7 +27,8 @@ const NOTHING: &str =
 const WRITE_AND_TRAP: &str =
     "(module (type $w (func (param i32 i32 i32 i32) (result i32))) (type $v (func)) (import \"wasi_snapshot_preview1\" \"fd_write\" (func $write (type $w))) (memory 1) (data (offset i32.const 0) \"\\08\\00\\00\\00\\01\\00\\00\\00x\") (func $s (type $v) i32.const 2 i32.const 0 i32.const 1 i32.const 32 call $write drop unreachable) (export \"_start\" (func $s)) (export \"memory\" (memory 0)))";
 
-/// A module that exits with ten times the number of its arguments, and the bytes of all with one more for each.
+/// A module that exits with ten times the number of its arguments, and the bytes of all with one
+/// more for each.
 const COUNT_ARGUMENTS: &str =
     "(module (type $g (func (param i32 i32) (result i32))) (type $p (func (param i32))) (type $v (func)) (import \"wasi_snapshot_preview1\" \"args_sizes_get\" (func $sizes (type $g))) (import \"wasi_snapshot_preview1\" \"proc_exit\" (func $exit (type $p))) (memory 1) (func $s (type $v) i32.const 0 i32.const 4 call $sizes drop i32.const 0 i32.load i32.const 10 i32.mul i32.const 4 i32.load i32.add call $exit) (export \"_start\" (func $s)) (export \"memory\" (memory 0)))";
 

@@ -33,14 +33,18 @@ from_start : (t : List (Option ℕ)) (fs : List ℕ) (k : ℕ) → k < length fs
 from_start t [] k h n = absurd (omega arith)
 from_start [] (f ∷ fs) k h n = absurd (omega arith)
 from_start (x ∷ t) (f ∷ fs) zero h n = refl
-from_start (x ∷ t) (f ∷ fs) (suc k) h n = ap (λ (ys : List (Option ℕ)). Some f ∷ ys) (from_start t fs k (omega arith) (omega arith))
+from_start (x ∷ t) (f ∷ fs) (suc k) h n =
+    ap (λ (ys : List (Option ℕ)). Some f ∷ ys) (from_start t fs k (omega arith) (omega arith))
 
 -- the items after a start are those of the rest of the list
-apart : (t : List (Option ℕ)) (o : ℕ) (ys : List (Option ℕ)) → with_items t o ys ≡ take o t ++ (ys ++ drop (length ys) (drop o t))
+apart :
+    (t : List (Option ℕ)) (o : ℕ) (ys : List (Option ℕ))
+    → with_items t o ys ≡ take o t ++ (ys ++ drop (length ys) (drop o t))
 apart t o ys = ap (λ (zs : List (Option ℕ)). take o t ++ (ys ++ zs)) (sym (drop-drop (length ys) o t))
 
 pub one_func : (t : List (Option ℕ)) (o : ℕ) (fs : List ℕ) (k : ℕ) → k < length fs → o + length fs ≤ length t
-    → slice_set (with_items t o (map some (take k fs))) (o + k) (Some (slice_index_or fs k 0)) ≡ with_items t o (map some (take (k + 1) fs))
+    → slice_set (with_items t o (map some (take k fs))) (o + k) (Some (slice_index_or fs k 0))
+    ≡ with_items t o (map some (take (k + 1) fs))
 one_func t o fs k h n =
     let f = Some (slice_index_or fs k 0) in
     let next : suc k ≡ k + 1 = omega arith in
@@ -56,18 +60,24 @@ one_func t o fs k h n =
 
 -- ---- what is written leaves the rest inside
 
-segment_keeps_length : (m : Memory) (s : Segment) → is_inside m (offset_of s.offset) (length s.bytes) ≡ true → length (with_segment m s).bytes ≡ length m.bytes
+segment_keeps_length :
+    (m : Memory) (s : Segment) → is_inside m (offset_of s.offset) (length s.bytes) ≡ true
+    → length (with_segment m s).bytes ≡ length m.bytes
 segment_keeps_length m s h =
     let fits : offset_of s.offset + length s.bytes ≤ length m.bytes = grind (arith, nat_tests, h) in
     same_length m (offset_of s.offset) s.bytes fits
 
-same_inside : (m n : Memory) (ss : List Segment) → length m.bytes ≡ length n.bytes → are_segments_inside m ss ≡ are_segments_inside n ss
+same_inside :
+    (m n : Memory) (ss : List Segment) → length m.bytes ≡ length n.bytes
+    → are_segments_inside m ss ≡ are_segments_inside n ss
 same_inside m n [] e = refl
 same_inside m n (s ∷ ss) e =
     ap (λ k. nat_le (offset_of s.offset + length s.bytes) k && are_segments_inside m ss) e
     ∙ ap (λ b. nat_le (offset_of s.offset + length s.bytes) (length n.bytes) && b) (same_inside m n ss e)
 
-pub other_segments : (m : Memory) (s : Segment) (ss : List Segment) → are_segments_inside m (s ∷ ss) ≡ true → are_segments_inside (with_segment m s) ss ≡ true
+pub other_segments :
+    (m : Memory) (s : Segment) (ss : List Segment) → are_segments_inside m (s ∷ ss) ≡ true
+    → are_segments_inside (with_segment m s) ss ≡ true
 other_segments m s ss h =
     let b = both (is_inside m (offset_of s.offset) (length s.bytes)) (are_segments_inside m ss) h in
     same_inside (with_segment m s) m ss (segment_keeps_length m s b.0) ∙ b.1
@@ -75,7 +85,9 @@ other_segments m s ss h =
 -- ---- a module's first store
 
 -- after its segments a memory has the bytes that it began with in number, and the same cap
-fold_length : (m : Memory) (ss : List Segment) → are_segments_inside m ss ≡ true → length (fold with_segment m ss).bytes ≡ length m.bytes
+fold_length :
+    (m : Memory) (ss : List Segment) → are_segments_inside m ss ≡ true
+    → length (fold with_segment m ss).bytes ≡ length m.bytes
 fold_length m [] h = refl
 fold_length m (s ∷ ss) h =
     let b = both (is_inside m (offset_of s.offset) (length s.bytes)) (are_segments_inside m ss) h in
@@ -85,10 +97,15 @@ fold_cap : (m : Memory) (ss : List Segment) → (fold with_segment m ss).cap ≡
 fold_cap m [] = refl
 fold_cap m (s ∷ ss) = fold_cap (with_segment m s) ss
 
-global_ranged : (g : Global) → IsConstant g.val_type g.init → RangedGlobal g → RangedValue (first_global g) × (type_of (first_global g) ≡ g.val_type)
+global_ranged :
+    (g : Global) → IsConstant g.val_type g.init → RangedGlobal g
+    → RangedValue (first_global g) × (type_of (first_global g) ≡ g.val_type)
 global_ranged g typed ranged = of_init g.init typed ranged
   where
-    of_init : (os : Ops) → IsConstant g.val_type os → RangedOps os → RangedValue (unwrap_or (constant os) (zero_of g.val_type)) × (type_of (unwrap_or (constant os) (zero_of g.val_type)) ≡ g.val_type)
+    of_init :
+        (os : Ops) → IsConstant g.val_type os → RangedOps os
+        → RangedValue (unwrap_or (constant os) (zero_of g.val_type))
+        × (type_of (unwrap_or (constant os) (zero_of g.val_type)) ≡ g.val_type)
     of_init (next (simple (instr.Const v)) stop) typed ranged = (ranged.0, typed)
     of_init _ typed ranged = absurd typed
 
@@ -98,21 +115,28 @@ IsTyped g = IsConstant g.val_type g.init
 globals_ranged : (gs : List Global) → All IsTyped gs → All RangedGlobal gs → All RangedValue (map first_global gs)
 globals_ranged [] typed ranged = All-nil RangedValue
 globals_ranged (g ∷ gs) typed ranged =
-    All-cons RangedValue (first_global g) (map first_global gs) (global_ranged g (All-head IsTyped g gs typed) (All-head RangedGlobal g gs ranged)).0
+    All-cons RangedValue (first_global g) (map first_global gs)
+    (global_ranged g (All-head IsTyped g gs typed) (All-head RangedGlobal g gs ranged)).0
     (globals_ranged gs (All-tail IsTyped g gs typed) (All-tail RangedGlobal g gs ranged))
 
-globals_typed : (gs : List Global) → All IsTyped gs → All RangedGlobal gs → map type_of (map first_global gs) ≡ map (λ (g : Global). g.val_type) gs
+globals_typed :
+    (gs : List Global) → All IsTyped gs → All RangedGlobal gs
+    → map type_of (map first_global gs) ≡ map (λ (g : Global). g.val_type) gs
 globals_typed [] typed ranged = refl
 globals_typed (g ∷ gs) typed ranged =
-    ap (λ (t : ValType). t ∷ map type_of (map first_global gs)) (global_ranged g (All-head IsTyped g gs typed) (All-head RangedGlobal g gs ranged)).1
-    ∙ ap (λ (ts : List ValType). g.val_type ∷ ts) (globals_typed gs (All-tail IsTyped g gs typed) (All-tail RangedGlobal g gs ranged))
+    ap (λ (t : ValType). t ∷ map type_of (map first_global gs))
+    (global_ranged g (All-head IsTyped g gs typed) (All-head RangedGlobal g gs ranged)).1
+    ∙ ap (λ (ts : List ValType). g.val_type ∷ ts)
+    (globals_typed gs (All-tail IsTyped g gs typed) (All-tail RangedGlobal g gs ranged))
 
 module _ (m : Module) where
   nothing_in_table : (ls : List Limits) → All (InTable m) (empty_table ls)
   nothing_in_table [] = All-nil (InTable m)
   nothing_in_table (l ∷ ls) = All-replicate (InTable m) l.min None (record {})
 
-  elements_in_table : (t : List (Option ℕ)) (es : List Element) → All (ValidElement m) es → All (InTable m) t → All (InTable m) (fold with_element t es)
+  elements_in_table :
+      (t : List (Option ℕ)) (es : List Element) → All (ValidElement m) es → All (InTable m) t
+      → All (InTable m) (fold with_element t es)
   elements_in_table t [] valid ok = ok
   elements_in_table t (e ∷ es) valid ok =
       let here = All-head (ValidElement m) e es valid in
@@ -121,9 +145,11 @@ module _ (m : Module) where
       let after = drop (o + length funcs) t in
       elements_in_table (with_element t e) es (All-tail (ValidElement m) e es valid)
       (All-append (InTable m) (take o t) (funcs ++ after) (All-take (InTable m) o t ok)
-      (All-append (InTable m) funcs after (All-map (InTable m) some e.funcs here.2) (All-drop (InTable m) (o + length funcs) t ok)))
+      (All-append (InTable m) funcs after (All-map (InTable m) some e.funcs here.2)
+      (All-drop (InTable m) (o + length funcs) t ok)))
 
-  zero_pages : (ls : List Limits) (cap : ℕ) → All (ValidLimits standard_pages) ls → pages_of (zero_memory ls cap) < 2 ^ 32
+  zero_pages :
+      (ls : List Limits) (cap : ℕ) → All (ValidLimits standard_pages) ls → pages_of (zero_memory ls cap) < 2 ^ 32
   zero_pages [] cap valid = omega arith
   zero_pages (l ∷ ls) cap valid =
       let here = (All-head (ValidLimits standard_pages) l ls valid).0 in
@@ -145,7 +171,9 @@ module _ (m : Module) where
     pub first_in_table : All (InTable m) (first_store m p).table
     first_in_table = elements_in_table (empty_table m.tables) m.elements valid.elements (nothing_in_table m.tables)
 
-    pub first_ranged : p.cap ≤ max_pages → are_segments_inside (zero_memory m.memories p.cap) m.segments ≡ true → All (λ b. b < 256) (first_memory m p.cap).bytes → RangedStore (first_store m p)
+    pub first_ranged :
+        p.cap ≤ max_pages → are_segments_inside (zero_memory m.memories p.cap) m.segments ≡ true
+        → All (λ b. b < 256) (first_memory m p.cap).bytes → RangedStore (first_store m p)
     first_ranged few inside bytes =
         let n = fold_length (zero_memory m.memories p.cap) m.segments inside in
         let pages = zero_pages m.memories p.cap valid.memories in

@@ -26,7 +26,9 @@ same_types (t ∷ ts) (u ∷ us) h =
     cc
 
 -- a type of this form is there
-pub of_type : (t : FuncType) (o : Option FuncType) → is_of_type t o ≡ true → (u : FuncType) × (o ≡ Some u) × (u.params ≡ t.params) × (u.results ≡ t.results)
+pub of_type :
+    (t : FuncType) (o : Option FuncType) → is_of_type t o ≡ true
+    → (u : FuncType) × (o ≡ Some u) × (u.params ≡ t.params) × (u.results ≡ t.results)
 of_type t None h = absurd (true≢false (sym h))
 of_type t (Some u) h =
     let b = both (are_same_types t.params u.params) (are_same_types t.results u.results) h in

@@ -53,18 +53,21 @@ module _ (w : Width) where
 
   signed_remainder : (a b : ℕ) → IsBelow w a → IsBelow w (of_z w (int_rem (to_z w a) (to_z w b)))
   signed_remainder a b h =
-      (of_z_fits w (int_rem (to_z w a) (to_z w b)) (sfits_le (mag_rem (to_z w a) (to_z w b)) (to_z-Fits w a (record { fits = h })))).fits
+      (of_z_fits w (int_rem (to_z w a) (to_z w b))
+      (sfits_le (mag_rem (to_z w a) (to_z w b)) (to_z-Fits w a (record { fits = h })))).fits
 
   signed_shift : (a k : ℕ) → IsBelow w a → IsBelow w (of_z w (int_shr (to_z w a) k))
   signed_shift a k h =
-      (of_z_fits w (int_shr (to_z w a) k) (sfits_le (mag_shr (to_z w a) (2 ^ k)) (to_z-Fits w a (record { fits = h })))).fits
+      (of_z_fits w (int_shr (to_z w a) k)
+      (sfits_le (mag_shr (to_z w a) (2 ^ k)) (to_z-Fits w a (record { fits = h })))).fits
 
   divided : (a b : ℕ) → IsBelow w a → IsBelow w (a / b)
   divided a b h = less (a / b) a (div-le_self a b) h
 
   rotated_left : (a b : ℕ) → IsBelow w a → IsBelow w (rotate_left w a b)
   rotated_left a b h =
-      or_lt (bits w) ((a * 2 ^ (b % bits w)) % 2 ^ bits w) (a / 2 ^ ((bits w - b % bits w) % bits w)) (rest_of (a * 2 ^ (b % bits w)))
+      or_lt (bits w) ((a * 2 ^ (b % bits w)) % 2 ^ bits w) (a / 2 ^ ((bits w - b % bits w) % bits w))
+      (rest_of (a * 2 ^ (b % bits w)))
       (divided a (2 ^ ((bits w - b % bits w) % bits w)) h)
 
   rotated_right : (a b : ℕ) → IsBelow w a → IsBelow w (rotate_right w a b)
@@ -93,7 +96,9 @@ module _ (w : Width) where
           let g : 2 ^ (bits w - 1) ≤ 2 ^ bits w = pow_mono (omega arith) in
           omega (arith, l, g)
 
-      by_test : (b : Bool) → int_lt z (pos (2 ^ (bits w - 1))) ≡ b → (n : ℕ) → cond b (Ok (of_z w z)) (Err IntegerOverflow) ≡ Ok n → IsBelow w n
+      by_test :
+          (b : Bool) → int_lt z (pos (2 ^ (bits w - 1))) ≡ b → (n : ℕ)
+          → cond b (Ok (of_z w z)) (Err IntegerOverflow) ≡ Ok n → IsBelow w n
       by_test true e n is = one (of_z w z) (bits_below z (λ k same. small k e same)) n is
       by_test false e n is = cc
 
@@ -102,24 +107,31 @@ module _ (w : Width) where
   unary_below Ctz a few h = less (trailing_zeros w a) (bits w) (trailing_le (bits w) a) few
   unary_below Popcnt a few h = less (count_ones a) a (ones_le_self a) h
 
-  pub binary_below : (op : BinaryOp) (a b : ℕ) → bits w - 1 < bits w → IsBelow w a → IsBelow w b → BelowIfOk (integers.binary w op a b)
+  pub binary_below :
+      (op : BinaryOp) (a b : ℕ) → bits w - 1 < bits w → IsBelow w a → IsBelow w b → BelowIfOk (integers.binary w op a b)
   binary_below Add a b s h g = one ((a + b) % 2 ^ bits w) (rest_of (a + b))
   binary_below Sub a b s h g = one ((a + (2 ^ bits w - b)) % 2 ^ bits w) (rest_of (a + (2 ^ bits w - b)))
   binary_below Mul a b s h g = one ((a * b) % 2 ^ bits w) (rest_of (a * b))
   binary_below DivS a b s h g =
-      by_divisor (b == 0) (integers.quotient w (int_div (to_z w a) (to_z w b))) IntegerDivideByZero (quotient_below (int_div (to_z w a) (to_z w b)) s)
+      by_divisor (b == 0) (integers.quotient w (int_div (to_z w a) (to_z w b))) IntegerDivideByZero
+      (quotient_below (int_div (to_z w a) (to_z w b)) s)
   binary_below DivU a b s h g = by_divisor (b == 0) (Ok (a / b)) IntegerDivideByZero (one (a / b) (divided a b h))
   binary_below RemS a b s h g =
-      by_divisor (b == 0) (Ok (of_z w (int_rem (to_z w a) (to_z w b)))) IntegerDivideByZero (one (of_z w (int_rem (to_z w a) (to_z w b))) (signed_remainder a b h))
-  binary_below RemU a b s h g = by_divisor (b == 0) (Ok (a % b)) IntegerDivideByZero (one (a % b) (less (a % b) a (mod-le a b) h))
+      by_divisor (b == 0) (Ok (of_z w (int_rem (to_z w a) (to_z w b)))) IntegerDivideByZero
+      (one (of_z w (int_rem (to_z w a) (to_z w b))) (signed_remainder a b h))
+  binary_below RemU a b s h g =
+      by_divisor (b == 0) (Ok (a % b)) IntegerDivideByZero (one (a % b) (less (a % b) a (mod-le a b) h))
   binary_below And a b s h g = one (bit_and a b) (less (bit_and a b) a (and_le_l a b) h)
   binary_below Or a b s h g = one (bit_or a b) (or_lt (bits w) a b h g)
   binary_below Xor a b s h g = one (bit_xor a b) (xor_lt (bits w) a b h g)
-  binary_below Shl a b s h g = one ((a * 2 ^ integers.distance w b) % 2 ^ bits w) (rest_of (a * 2 ^ integers.distance w b))
-  binary_below ShrS a b s h g = one (of_z w (int_shr (to_z w a) (integers.distance w b))) (signed_shift a (integers.distance w b) h)
+  binary_below Shl a b s h g =
+      one ((a * 2 ^ integers.distance w b) % 2 ^ bits w) (rest_of (a * 2 ^ integers.distance w b))
+  binary_below ShrS a b s h g =
+      one (of_z w (int_shr (to_z w a) (integers.distance w b))) (signed_shift a (integers.distance w b) h)
   binary_below ShrU a b s h g = one (a / 2 ^ integers.distance w b) (divided a (2 ^ integers.distance w b) h)
   binary_below Rotl a b s h g = one (rotate_left w a (integers.distance w b)) (rotated_left a (integers.distance w b) h)
-  binary_below Rotr a b s h g = one (rotate_right w a (integers.distance w b)) (rotated_right a (integers.distance w b) h)
+  binary_below Rotr a b s h g =
+      one (rotate_right w a (integers.distance w b)) (rotated_right a (integers.distance w b) h)
 
   pub extended_below : (from n : ℕ) → n < 2 ^ from → from ≤ bits w → IsBelow w (sign_extended w from n)
   extended_below from n h few = by_test (nat_lt n (2 ^ (from - 1)))
@@ -148,7 +160,9 @@ narrow_word type.I32 (I32 n) e h = omega (arith, h)
 narrow_word type.I32 (I64 n) e h = cc
 narrow_word type.I64 v e h = refl
 
-pub unary_ranged : (t : ValType) (op : UnaryOp) (a : ℕ) → IsBelow (width_of t) a → RangedValue (value_of t (integers.unary (width_of t) op a))
+pub unary_ranged :
+    (t : ValType) (op : UnaryOp) (a : ℕ) → IsBelow (width_of t) a
+    → RangedValue (value_of t (integers.unary (width_of t) op a))
 unary_ranged type.I32 op a h = unary_below w32 op a (omega arith) h
 unary_ranged type.I64 op a h = unary_below w64 op a (omega arith) h
 
@@ -177,7 +191,8 @@ bytes_below (b ∷ bs) h =
     let first = All-head IsByte b bs h in
     let others = bytes_below bs (All-tail IsByte b bs h) in
     let more : 8 * suc (length bs) ≡ 8 + 8 * length bs = omega arith in
-    let power : 2 ^ (8 * suc (length bs)) ≡ 2 ^ 8 * 2 ^ (8 * length bs) = ap (λ k. 2 ^ k) more ∙ pow-add 2 8 (8 * length bs) in
+    let power :
+    2 ^ (8 * suc (length bs)) ≡ 2 ^ 8 * 2 ^ (8 * length bs) = ap (λ k. 2 ^ k) more ∙ pow-add 2 8 (8 * length bs) in
     omega (arith, first, others, power)
 
 pub low_are_bytes : (k n : ℕ) → All IsByte (low_bytes k n)
@@ -187,7 +202,8 @@ low_are_bytes (suc k) n = All-cons IsByte (n % 256) (low_bytes k (n / 256)) (ome
 pub range_bytes : (m : Memory) (a n : ℕ) → All IsByte m.bytes → All IsByte (range m a n)
 range_bytes m a n h = All-take IsByte n (drop a m.bytes) (All-drop IsByte a m.bytes h)
 
-pub written_bytes : (m : Memory) (a : ℕ) (bs : List ℕ) → All IsByte m.bytes → All IsByte bs → All IsByte (with_range m a bs).bytes
+pub written_bytes :
+    (m : Memory) (a : ℕ) (bs : List ℕ) → All IsByte m.bytes → All IsByte bs → All IsByte (with_range m a bs).bytes
 written_bytes m a bs h g =
     All-append IsByte (take a m.bytes) (bs ++ drop (a + length bs) m.bytes) (All-take IsByte a m.bytes h)
     (All-append IsByte bs (drop (a + length bs) m.bytes) g (All-drop IsByte (a + length bs) m.bytes h))
@@ -206,7 +222,8 @@ few_bits load.I64From16U = omega arith
 few_bits load.I64From32S = omega arith
 few_bits load.I64From32U = omega arith
 
-pub loaded_ranged : (op : LoadOp) (m : Memory) (a : ℕ) → All IsByte m.bytes → RangedValue (loaded_value op (range m a (load_bytes op)))
+pub loaded_ranged :
+    (op : LoadOp) (m : Memory) (a : ℕ) → All IsByte m.bytes → RangedValue (loaded_value op (range m a (load_bytes op)))
 loaded_ranged op m a h = ranged_value (load_type op) _ (by_sign (is_sign_extended op))
   where
     bs : List ℕ
@@ -220,6 +237,10 @@ loaded_ranged op m a h = ranged_value (load_type op) _ (by_sign (is_sign_extende
         omega (arith, n, g)
 
     by_sign : (b : Bool)
-        → IsBelow (width_of (load_type op)) (cond b (sign_extended (width_of (load_type op)) (8 * load_bytes op) (little_endian bs)) (little_endian bs))
+        → IsBelow (width_of (load_type op))
+        (cond b (sign_extended (width_of (load_type op)) (8 * load_bytes op) (little_endian bs)) (little_endian bs))
     by_sign true = extended_below (width_of (load_type op)) (8 * load_bytes op) (little_endian bs) number (few_bits op)
-    by_sign false = let g : 2 ^ (8 * load_bytes op) ≤ 2 ^ bits (width_of (load_type op)) = pow_mono (few_bits op) in omega (arith, number, g)
+    by_sign false =
+        let g :
+        2 ^ (8 * load_bytes op) ≤ 2 ^ bits (width_of (load_type op)) =
+        pow_mono (few_bits op) in omega (arith, number, g)

@@ -16,7 +16,9 @@ length_low : (k n : ℕ) → length (low_bytes k n) ≡ k
 length_low zero n = refl
 length_low (suc k) n = ap suc (length_low k (n / 256))
 
-pub same_length : (m : Memory) (a : ℕ) (bs : List ℕ) → a + length bs ≤ length m.bytes → length (with_range m a bs).bytes ≡ length m.bytes
+pub same_length :
+    (m : Memory) (a : ℕ) (bs : List ℕ) → a + length bs ≤ length m.bytes
+    → length (with_range m a bs).bytes ≡ length m.bytes
 same_length m a bs h =
     let first = length-append (take a m.bytes) (bs ++ drop (a + length bs) m.bytes) in
     let second = length-append bs (drop (a + length bs) m.bytes) in
@@ -25,7 +27,9 @@ same_length m a bs h =
     omega (arith, first, second, before, after, h)
 
 module _ (r : Store) (ranged : RangedStore r) where
-  pub written_ranged : (a k n : ℕ) → is_inside r.memory a k ≡ true → RangedStore (record r { memory = with_range r.memory a (low_bytes k n) })
+  pub written_ranged :
+      (a k n : ℕ) → is_inside r.memory a k ≡ true
+      → RangedStore (record r { memory = with_range r.memory a (low_bytes k n) })
   written_ranged a k n h =
       let k_bytes = length_low k n in
       let inside : a + k ≤ length r.memory.bytes = grind (arith, nat_tests) in
@@ -40,7 +44,13 @@ module _ (r : Store) (ranged : RangedStore r) where
   pub grown_ranged : (n : ℕ) → RangedStore (record r { memory = grown r.memory n })
   grown_ranged n = by_test (can_grow r.memory n) refl
     where
-      by_test : (b : Bool) → can_grow r.memory n ≡ b → RangedStore (record r { memory = cond b (record r.memory { bytes = r.memory.bytes ++ replicate (n * page_bytes) 0 }) r.memory })
+      by_test :
+          (b : Bool) → can_grow r.memory n ≡ b
+          → RangedStore
+          (record r {
+            memory = cond b
+                (record r.memory { bytes = r.memory.bytes ++ replicate (n * page_bytes) 0 }) r.memory;
+          })
       by_test true e =
           let fits : pages_of r.memory + n ≤ r.memory.cap = grind (arith, nat_tests) in
           let cap = ranged.cap in
@@ -49,7 +59,8 @@ module _ (r : Store) (ranged : RangedStore r) where
           record {
             globals = ranged.globals;
             bytes =
-                All-append IsByte r.memory.bytes (replicate (n * page_bytes) 0) ranged.bytes (All-replicate IsByte (n * page_bytes) 0 (omega arith));
+                All-append IsByte r.memory.bytes (replicate (n * page_bytes) 0) ranged.bytes
+                (All-replicate IsByte (n * page_bytes) 0 (omega arith));
             pages = omega (arith, fits, cap, both, zeros);
             cap = ranged.cap;
           }

@@ -10,12 +10,14 @@ use Rattle.wasi_calls.specs.HostCalls.{host_name, host_type, host_calls, host_mo
 abbrev pub call_named : List ℕ → Option FuncType → List HostCall → Option HostCall
 call_named name type [] = None
 call_named name type (h ∷ hs) =
-    if bytes_eq name (host_name h) && is_of_type (host_type h) type then Some h else call_named name type hs
+    if bytes_eq name (host_name h) && is_of_type (host_type h) type then Some h
+    else call_named name type hs
 
 -- the system call that an import is: by its module, its name and its type
 abbrev pub known : List FuncType → Import → Option HostCall
 known types i =
-    if bytes_eq i.module host_module then call_named i.name (slice_get types i.type_index) host_calls else None
+    if bytes_eq i.module host_module
+    then call_named i.name (slice_get types i.type_index) host_calls else None
 
 abbrev pub all_known : List FuncType → List Import → Bool
 all_known types [] = true

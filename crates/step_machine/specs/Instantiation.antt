@@ -119,7 +119,8 @@ names_one name (h ∷ hs) = uses_memory h && bytes_eq name (host_name h) || name
 -- an import, by its module and name, is of such a call, whatever its type
 abbrev pub needs_memory : List Import → Bool
 needs_memory [] = false
-needs_memory (i ∷ is) = bytes_eq i.module host_module && names_one i.name host_calls || needs_memory is
+needs_memory (i ∷ is) =
+    bytes_eq i.module host_module && names_one i.name host_calls || needs_memory is
 
 abbrev pub is_memory : ExportKind → Bool
 is_memory kind.Memory = true
@@ -150,14 +151,16 @@ are_segments_inside memory [] = true
 are_segments_inside memory (s ∷ ss) =
     is_inside memory (offset_of s.offset) (length s.bytes) && are_segments_inside memory ss
 
--- why no task can run it: the first reason that holds
+-- why no task can run it: the first reason that holds. A module that was decoded is within the
+-- limits; any other may not be
 abbrev pub instantiation_refusal : Module → ProcessConfig → Option Refusal
 instantiation_refusal m p =
     if not (can_enter m) then Some refusal.NoEntry
     else if not (all_known m.types m.imports) then Some refusal.BadImport
     else if not (is_within m && are_pages_within m.memories p.cap) then Some refusal.Limit
     else if not (are_elements_inside (length (empty_table m.tables)) m.elements
-    && are_segments_inside (zero_memory m.memories p.cap) m.segments) then Some refusal.SegmentOutOfBounds
+    && are_segments_inside (zero_memory m.memories p.cap) m.segments)
+    then Some refusal.SegmentOutOfBounds
     else None
 
 -- ---- the first configuration
@@ -184,7 +187,9 @@ first_state start (Some func) = running (seq [] (invoked_first start (more (invo
 
 -- instantiated, up to the first plain instruction
 abbrev pub initial : Module → ProcessConfig → Configuration
-initial m p = settled (program m p) (record { store = first_store m p; state = first_state m.start (entry m) })
+initial m p =
+    settled (program m p)
+    (record { store = first_store m p; state = first_state m.start (entry m) })
 
 -- the configuration after n turns
 abbrev pub after : Module → ProcessConfig → (n : ℕ) → Configuration

@@ -63,14 +63,16 @@ abbrev pub to_i32 : FuncType
 to_i32 = record { params = []; results = type.I32 ∷ [] }
 
 abbrev pub exit_import : Import
-exit_import = record { «module» = codes "wasi_snapshot_preview1"; name = codes "proc_exit"; type_index = 0 }
+exit_import =
+    record { «module» = codes "wasi_snapshot_preview1"; name = codes "proc_exit"; type_index = 0 }
 
 abbrev pub entry_export : Export
 entry_export = record { name = codes "_start"; kind = kind.Func; index = 1 }
 
 -- a function of this type, with these locals and this body
 abbrev pub func : (type_index : ℕ) → (locals : List ValType) → (body : List Op) → Func
-func type_index locals body = record { type_index = type_index; locals = locals; body = ops_of body }
+func type_index locals body =
+    record { type_index = type_index; locals = locals; body = ops_of body }
 
 -- a module with proc_exit as function 0, the entry as function 1 with this body, and more functions
 -- from function 2 on, the first of them of this type
@@ -101,7 +103,8 @@ exit_seven = with_entry (i32_const 7 ∷ call 0 ∷ [])
 
 -- block (result i32) i32.const 1 i32.const 2 br 0 end call 0
 abbrev pub branch_out : Module
-branch_out = with_entry (block (One type.I32) (ops_of (i32_const 1 ∷ i32_const 2 ∷ br 0 ∷ [])) ∷ call 0 ∷ [])
+branch_out =
+    with_entry (block (One type.I32) (ops_of (i32_const 1 ∷ i32_const 2 ∷ br 0 ∷ [])) ∷ call 0 ∷ [])
 
 -- loop br 0 end
 abbrev pub endless : Module
@@ -110,11 +113,15 @@ endless = with_entry (loop Empty (ops_of (br 0 ∷ [])) ∷ [])
 -- if i32.const 3 call 0 else i32.const 4 call 0 end, on this operand
 abbrev pub two_ways : ℕ → Module
 two_ways n =
-    with_entry (i32_const n ∷ if' Empty (ops_of (i32_const 3 ∷ call 0 ∷ [])) (ops_of (i32_const 4 ∷ call 0 ∷ [])) ∷ [])
+    with_entry
+    (i32_const n
+    ∷ if' Empty (ops_of (i32_const 3 ∷ call 0 ∷ [])) (ops_of (i32_const 4 ∷ call 0 ∷ []))
+    ∷ [])
 
 -- call 2 call 0, where function 2 is i32.const 1 i32.const 9 return
 abbrev pub call_and_return : Module
-call_and_return = with_callee (call 2 ∷ call 0 ∷ []) to_i32 (i32_const 1 ∷ i32_const 9 ∷ return' ∷ [])
+call_and_return =
+    with_callee (call 2 ∷ call 0 ∷ []) to_i32 (i32_const 1 ∷ i32_const 9 ∷ return' ∷ [])
 
 -- function 2 has no instructions
 abbrev pub calls_nothing : Module
@@ -134,13 +141,17 @@ fall_through = with_entry (i32_const 5 ∷ block (One type.I32) (ops_of (i32_con
 
 -- i32.const 5 block (result i32) i32.const 1 i32.const 2 br 0 end, and then that
 abbrev pub branch_above : Module
-branch_above = with_entry (i32_const 5 ∷ block (One type.I32) (ops_of (i32_const 1 ∷ i32_const 2 ∷ br 0 ∷ [])) ∷ finish)
+branch_above =
+    with_entry
+    (i32_const 5
+    ∷ block (One type.I32) (ops_of (i32_const 1 ∷ i32_const 2 ∷ br 0 ∷ [])) ∷ finish)
 
 -- i32.const 5 block (result i32) block i32.const 3 br 1 end i32.const 8 end, and then that
 abbrev pub branch_through : Module
 branch_through =
     with_entry (i32_const 5
-    ∷ block (One type.I32) (ops_of (block Empty (ops_of (i32_const 3 ∷ br 1 ∷ [])) ∷ i32_const 8 ∷ []))
+    ∷ block (One type.I32)
+    (ops_of (block Empty (ops_of (i32_const 3 ∷ br 1 ∷ [])) ∷ i32_const 8 ∷ []))
     ∷ finish)
 
 -- the body of the loop of the next module
@@ -154,7 +165,9 @@ loop_above = with_entry (i32_const 5 ∷ loop_of Empty loop_body ∷ call 0 ∷ 
 -- i32.const 5 i32.const n if (result i32) i32.const 6 else i32.const 7 end, and then that
 abbrev pub if_above : (n : ℕ) → Module
 if_above n =
-    with_entry (i32_const 5 ∷ i32_const n ∷ if' (One type.I32) (ops_of (i32_const 6 ∷ [])) (ops_of (i32_const 7 ∷ [])) ∷ finish)
+    with_entry
+    (i32_const 5 ∷ i32_const n
+    ∷ if' (One type.I32) (ops_of (i32_const 6 ∷ [])) (ops_of (i32_const 7 ∷ [])) ∷ finish)
 
 -- i32.const 5 call 2, and then that, where function 2 gives an i32 and has this body
 abbrev pub call_above : (callee : List Op) → Module
@@ -190,7 +203,10 @@ call_with_two =
 -- i32.const n if (result i32) i32.const 2 br 0 else i32.const 3 br 0 end drop
 abbrev pub if_and_branch : (n : ℕ) → Module
 if_and_branch n =
-    with_entry (i32_const n ∷ if' (One type.I32) (ops_of (i32_const 2 ∷ br 0 ∷ [])) (ops_of (i32_const 3 ∷ br 0 ∷ [])) ∷ drop' ∷ [])
+    with_entry
+    (i32_const n
+    ∷ if' (One type.I32) (ops_of (i32_const 2 ∷ br 0 ∷ []))
+    (ops_of (i32_const 3 ∷ br 0 ∷ [])) ∷ drop' ∷ [])
 
 -- loop (result i32) br 0 end drop
 abbrev pub loop_result : Module
@@ -234,13 +250,22 @@ nested (suc n) t = seq [] (more (frame 1 2 [] (nested n t)) done)
 
 -- the innermost of n frames is about to call function 2
 abbrev pub deep : (n : ℕ) → Configuration
-deep n = record { store = empty_store; state = running (nested n (seq [] (items_of 0 (next (call 2) stop)))) }
+deep n =
+    record {
+      store = empty_store;
+      state = running (nested n (seq [] (items_of 0 (next (call 2) stop))));
+    }
 
 -- a tree of three frames and six values: locals and operands, in labels and in what follows them
 abbrev pub measured : Tree
 measured =
     seq (I32 1 ∷ [])
-    (more (label 0 0 onward (seq (I32 2 ∷ I32 3 ∷ []) (more (frame 0 2 (I64 4 ∷ []) (seq (I32 5 ∷ []) (more (frame 0 2 [] (seq [] done)) done))) done)))
+    (more
+    (label 0 0 onward
+    (seq (I32 2 ∷ I32 3 ∷ [])
+    (more
+    (frame 0 2 (I64 4 ∷ [])
+    (seq (I32 5 ∷ []) (more (frame 0 2 [] (seq [] done)) done))) done)))
     (more (frame 0 3 (I32 6 ∷ []) (seq [] done)) done))
 
 abbrev pub repeated : (n : ℕ) → Op → Ops → Ops
@@ -269,10 +294,14 @@ pile n = with_body (repeated n (i32_const 0) (repeated n drop' stop))
 -- ---- evaluation contexts (4.2.13)
 
 -- the same tree inside a label, with these operands below it and this after it
-abbrev pub in_label : (below : List Value) → (arity place : ℕ) → Target → (rest : Items) → Env → Tree → Reduced
-in_label below arity place target rest env tree = to env (seq below (more (label arity place target tree) rest))
+abbrev pub in_label :
+    (below : List Value) → (arity place : ℕ) → Target → (rest : Items) → Env → Tree → Reduced
+in_label below arity place target rest env tree =
+    to env (seq below (more (label arity place target tree) rest))
 
 -- the same tree inside a frame, whose locals are its own
-abbrev pub in_frame : (outer below : List Value) → (arity func : ℕ) → (rest : Items) → Env → Tree → Reduced
+abbrev pub in_frame :
+    (outer below : List Value) → (arity func : ℕ) → (rest : Items) → Env → Tree → Reduced
 in_frame outer below arity func rest env tree =
-    to (record { store = env.store; locals = outer }) (seq below (more (frame arity func env.locals tree) rest))
+    to (record { store = env.store; locals = outer })
+    (seq below (more (frame arity func env.locals tree) rest))

@@ -20,7 +20,8 @@ abbrev pub two_to_number : FuncType
 two_to_number = record { params = type.I32 ∷ type.I32 ∷ []; results = type.I32 ∷ [] }
 
 abbrev pub four_to_number : FuncType
-four_to_number = record { params = type.I32 ∷ type.I32 ∷ type.I32 ∷ type.I32 ∷ []; results = type.I32 ∷ [] }
+four_to_number =
+    record { params = type.I32 ∷ type.I32 ∷ type.I32 ∷ type.I32 ∷ []; results = type.I32 ∷ [] }
 
 abbrev pub import_of : («module» name : List ℕ) → Import
 import_of «module» name = record { «module» = «module»; name = name; type_index = 0 }
@@ -33,7 +34,8 @@ start_export = record { name = codes "_start"; kind = kind.Func; index = 1 }
 
 -- a module with this import, of this type, as function 0, the entry as function 1 with this body, a page of
 -- memory with these segments, and these exports beside the entry
-abbrev pub calling : FuncType → Import → (body : List Op) → List Segment → (exports : List Export) → Module
+abbrev pub calling :
+    FuncType → Import → (body : List Op) → List Segment → (exports : List Export) → Module
 calling t i body segments exports = record {
   types = t ∷ nothing_to_nothing ∷ [];
   imports = i ∷ [];
@@ -55,12 +57,14 @@ abbrev pub hello : Module
 hello =
     calling four_to_number (wasi (codes "fd_write"))
     (i32_const 1 ∷ i32_const 0 ∷ i32_const 1 ∷ i32_const 12 ∷ call 0 ∷ drop' ∷ [])
-    (segment 0 (8 ∷ 0 ∷ 0 ∷ 0 ∷ 3 ∷ 0 ∷ 0 ∷ 0 ∷ codes "hi!") ∷ []) (memory_export (codes "memory") ∷ [])
+    (segment 0 (8 ∷ 0 ∷ 0 ∷ 0 ∷ 3 ∷ 0 ∷ 0 ∷ 0 ∷ codes "hi!") ∷ [])
+    (memory_export (codes "memory") ∷ [])
 
 -- args_sizes_get to 0 and 4, and its answer dropped
 abbrev pub counts_args : Module
 counts_args =
-    calling two_to_number (wasi (codes "args_sizes_get")) (i32_const 0 ∷ i32_const 4 ∷ call 0 ∷ drop' ∷ []) []
+    calling two_to_number (wasi (codes "args_sizes_get"))
+    (i32_const 0 ∷ i32_const 4 ∷ call 0 ∷ drop' ∷ []) []
     (memory_export (codes "memory") ∷ [])
 
 -- an entry that does nothing, this import, and these exports beside the entry

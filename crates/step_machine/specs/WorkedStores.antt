@@ -54,10 +54,13 @@ with_globals_of globals = record empty_entry { globals = globals }
 -- function 2 drops 4, and is the start function; the entry drops 5 and exits with 6
 abbrev pub with_start : Module
 with_start =
-    record (with_callee (i32_const 5 ∷ drop' ∷ i32_const 6 ∷ call 0 ∷ []) nothing_to_nothing (i32_const 4 ∷ drop' ∷ [])) { start = Some 2 }
+    record (with_callee (i32_const 5 ∷ drop' ∷ i32_const 6 ∷ call 0 ∷ []) nothing_to_nothing
+    (i32_const 4 ∷ drop' ∷ [])) { start = Some 2 }
 
 -- call 2 call 0, where function 2 gives an i32, has a local, and is i32.const 5 local.set 0 local.get 0
 abbrev pub written_local : Module
 written_local =
     with_funcs (call 2 ∷ call 0 ∷ []) to_i32
-    (func 2 (type.I32 ∷ []) (i32_const 5 ∷ simple (instr.Local local.Set 0) ∷ simple (instr.Local local.Get 0) ∷ []) ∷ [])
+    (func 2 (type.I32 ∷ [])
+    (i32_const 5 ∷ simple (instr.Local local.Set 0) ∷ simple (instr.Local local.Get 0) ∷ [])
+    ∷ [])

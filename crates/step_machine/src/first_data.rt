@@ -38,7 +38,8 @@ fn first_kept(alloc: Global, of: &Module, process: Process) -> Result<Kept, Allo
     requires pages { are_pages_within of.now.memories process.cap ≡ true }
     requires inside { are_elements_inside (length (empty_table of.now.tables)) of.now.elements
         && are_segments_inside (zero_memory of.now.memories process.cap) of.now.segments ≡ true }
-    ensures globals { IfOk result (λ k. k.globals.items ≡ map word_of (map first_global of.now.globals)) }
+    ensures globals { IfOk result
+        (λ k. k.globals.items ≡ map word_of (map first_global of.now.globals)) }
     ensures memory { IfOk result (λ k. k.memory ≡ first_memory of.now process.cap) }
     ensures bytes { IfOk result (λ k. All (λ b. b < 256) k.memory.bytes) }
     ensures table { IfOk result (λ k. k.table.items ≡ first_table of.now) }

@@ -32,7 +32,8 @@ pub fn find_entry(of: &Module, is_within: bool, cap: PageCap) -> Result<u32, Ref
     ensures known { OnOk result (all_known of.now.types of.now.imports ≡ true) }
     ensures within { OnOk result (within_limits of.now ≡ true) }
     ensures pages { OnOk result (are_pages_within of.now.memories cap ≡ true) }
-    ensures inside { OnOk result (are_elements_inside (length (empty_table of.now.tables)) of.now.elements
+    ensures inside { OnOk result
+        (are_elements_inside (length (empty_table of.now.tables)) of.now.elements
         && are_segments_inside (zero_memory of.now.memories cap) of.now.segments ≡ true) }
     ensures opens { OnOk result ((p : ProcessConfig) → p.cap ≡ cap
         → instantiation_refusal of.now p ≡ None) }

@@ -85,7 +85,8 @@ fn zero_memory(alloc: Global, memories: &[Limits], cap: PageCap) -> Result<Linea
 }
 
 fn write_segment(memory: &mut LinearMemory, segment: &Segment)
-    requires { is_inside memory.old (offset_of segment.now.offset) (length segment.now.bytes) ≡ true }
+    requires { is_inside memory.old (offset_of segment.now.offset) (length segment.now.bytes)
+        ≡ true }
     ensures { memory.new ≡ with_segment memory.old segment.now }
 {
     memory.write_range(offset_of(&segment.offset), segment.bytes.as_slice());

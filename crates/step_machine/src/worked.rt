@@ -36,8 +36,10 @@ pub fn empty_entry_returns()
 
 /// What was written to one output stream is not told of the other.
 pub fn streams_are_apart()
-    ensures out { written_to stream.Out (record empty_store { out = 1 ∷ []; err = 2 ∷ [] }) ≡ 1 ∷ [] }
-    ensures err { written_to stream.Err (record empty_store { out = 1 ∷ []; err = 2 ∷ [] }) ≡ 2 ∷ [] }
+    ensures out { written_to stream.Out (record empty_store { out = 1 ∷ []; err = 2 ∷ [] })
+        ≡ 1 ∷ [] }
+    ensures err { written_to stream.Err (record empty_store { out = 1 ∷ []; err = 2 ∷ [] })
+        ≡ 2 ∷ [] }
 {}
 
 /// A branch out of a block keeps the top value: the task exits with 2 at its fifth turn.

@@ -32,7 +32,8 @@ pub fn hello_is_written()
 
 /// A module counts its arguments and their bytes.
 pub fn arguments_are_counted()
-    ensures sizes { range (after counts_args (with_args (codes "a" ∷ codes "bc" ∷ [])) 3).store.memory
+    ensures sizes { range
+        (after counts_args (with_args (codes "a" ∷ codes "bc" ∷ [])) 3).store.memory
         0 9 ≡ 2 ∷ 0 ∷ 0 ∷ 0 ∷ 5 ∷ 0 ∷ 0 ∷ 0 ∷ 0 ∷ [] }
     ensures returned { ended (after counts_args (with_args (codes "a" ∷ [])) 4).state
         ≡ Some end.Returned }
@@ -45,9 +46,11 @@ pub fn memory_is_exported()
         (memory_export (codes "memory") ∷ [])) (with_args []) ≡ None }
     ensures missing { instantiation_refusal (importing four_to_number (wasi (codes "fd_write")) [])
         (with_args []) ≡ Some refusal.NoEntry }
-    ensures of_other_name { instantiation_refusal (importing two_to_number (wasi (codes "environ_get"))
+    ensures of_other_name { instantiation_refusal
+        (importing two_to_number (wasi (codes "environ_get"))
         (memory_export (codes "mem") ∷ [])) (with_args []) ≡ Some refusal.NoEntry }
-    ensures of_wrong_type { instantiation_refusal (importing two_to_number (wasi (codes "fd_write")) [])
+    ensures of_wrong_type { instantiation_refusal
+        (importing two_to_number (wasi (codes "fd_write")) [])
         (with_args []) ≡ Some refusal.NoEntry }
     ensures wrong_type_alone { instantiation_refusal (importing two_to_number
         (wasi (codes "fd_write")) (memory_export (codes "memory") ∷ [])) (with_args [])

@@ -49,11 +49,14 @@ pub fn segments_are_inside()
     ensures outside { are_segments_inside four_zeros (segment 3 (1 ∷ 1 ∷ []) ∷ []) ≡ false }
     ensures empty { are_segments_inside four_zeros (segment 4 [] ∷ []) ≡ true }
     ensures empty_outside { are_segments_inside four_zeros (segment 5 [] ∷ []) ≡ false }
-    ensures accepted { instantiation_refusal (with_table_of (limits 2 None) (element 1 (1 ∷ []) ∷ []))
+    ensures accepted { instantiation_refusal
+        (with_table_of (limits 2 None) (element 1 (1 ∷ []) ∷ []))
         bare_process ≡ None }
-    ensures elements { instantiation_refusal (with_table_of (limits 2 None) (element 2 (1 ∷ []) ∷ []))
+    ensures elements { instantiation_refusal
+        (with_table_of (limits 2 None) (element 2 (1 ∷ []) ∷ []))
         bare_process ≡ Some refusal.SegmentOutOfBounds }
-    ensures segments { instantiation_refusal (with_memory_of (limits 0 None) (segment 0 (1 ∷ []) ∷ []))
+    ensures segments { instantiation_refusal
+        (with_memory_of (limits 0 None) (segment 0 (1 ∷ []) ∷ []))
         bare_process ≡ Some refusal.SegmentOutOfBounds }
     ensures pages { instantiation_refusal (with_memory_of (limits 3 None) (segment 0 (1 ∷ []) ∷ []))
         (capped 2) ≡ Some refusal.Limit }

@@ -40,9 +40,11 @@ pub fn numbers_are_computed()
         → simple_effect p env (I32 0 ∷ I32 10 ∷ vs) (instr.Binary type.I32 bin.DivU)
         ≡ traps trap.IntegerDivideByZero }
     ensures test { (p : Program) (env : Env) (vs : List Value)
-        → simple_effect p env (I64 0 ∷ vs) (instr.Test type.I64 tests.Eqz) ≡ gives env (I32 1 ∷ vs) }
+        → simple_effect p env (I64 0 ∷ vs) (instr.Test type.I64 tests.Eqz)
+        ≡ gives env (I32 1 ∷ vs) }
     ensures test_fails { (p : Program) (env : Env) (vs : List Value)
-        → simple_effect p env (I32 5 ∷ vs) (instr.Test type.I32 tests.Eqz) ≡ gives env (I32 0 ∷ vs) }
+        → simple_effect p env (I32 5 ∷ vs) (instr.Test type.I32 tests.Eqz)
+        ≡ gives env (I32 0 ∷ vs) }
     ensures compare { (p : Program) (env : Env) (vs : List Value)
         → simple_effect p env (I64 3 ∷ I64 2 ∷ vs) (instr.Compare type.I64 rel.LtU)
         ≡ gives env (I32 1 ∷ vs) }

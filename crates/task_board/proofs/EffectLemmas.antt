@@ -101,20 +101,26 @@ stopped_only Paused h = cc
 stopped_only Stopped h = refl
 
 -- a change that its status allows leaves a task sound
-change_sound : (creates : ℕ) (c : Change) (t : Task) → IsSound creates t → allowed (change_call c) t.status ≡ true → IsSound creates (changed c t)
+change_sound :
+    (creates : ℕ) (c : Change) (t : Task) → IsSound creates t → allowed (change_call c) t.status ≡ true
+    → IsSound creates (changed c t)
 change_sound creates change.Start t h can = started_sound creates t h
 change_sound creates change.Pause t h can = paused_sound creates t h (running_only t.status can)
 change_sound creates change.Resume t h can = resumed_sound creates t h (paused_only t.status can)
 change_sound creates (change.Kill signal) t h can = killed_sound creates signal t h
 
-one_accepted : (id : List ℕ) (t : Task) (c : TaskCall) → first_refusal ((not (is_id id), refusal.BadId) ∷ (not (allowed c t.status), refusal.WrongStatus) ∷ []) ≡ None
+one_accepted :
+    (id : List ℕ) (t : Task) (c : TaskCall)
+    → first_refusal ((not (is_id id), refusal.BadId) ∷ (not (allowed c t.status), refusal.WrongStatus) ∷ []) ≡ None
     → allowed c t.status ≡ true
 one_accepted id t c h =
     let a = none_first (not (is_id id)) refusal.BadId _ h in
     not_true (allowed c t.status) (none_first (not (allowed c t.status)) refusal.WrongStatus None a.1).0
 
 -- a change that is not refused is allowed
-pub change_allowed : (c : Change) (id : List ℕ) (t : Task) → first_refusal (task_refusals id (change_refusals c) (Some t)) ≡ None → allowed (change_call c) t.status ≡ true
+pub change_allowed :
+    (c : Change) (id : List ℕ) (t : Task) → first_refusal (task_refusals id (change_refusals c) (Some t)) ≡ None
+    → allowed (change_call c) t.status ≡ true
 change_allowed change.Start id t h = one_accepted id t call.Start h
 change_allowed change.Pause id t h = one_accepted id t call.Pause h
 change_allowed change.Resume id t h = one_accepted id t call.Resume h
@@ -122,61 +128,88 @@ change_allowed (change.Kill signal.Kill) id t h = one_accepted id t call.Kill h
 change_allowed (change.Kill signal.Terminate) id t h = one_accepted id t call.Kill h
 
 -- and one that is allowed is not refused
-pub change_accepted : (c : Change) (id : List ℕ) (t : Task) → is_id id ≡ true → allowed (change_call c) t.status ≡ true → first_refusal (task_refusals id (change_refusals c) (Some t)) ≡ None
+pub change_accepted :
+    (c : Change) (id : List ℕ) (t : Task) → is_id id ≡ true → allowed (change_call c) t.status ≡ true
+    → first_refusal (task_refusals id (change_refusals c) (Some t)) ≡ None
 change_accepted change.Start id t ok can = rw (ok, can) refl
 change_accepted change.Pause id t ok can = rw (ok, can) refl
 change_accepted change.Resume id t ok can = rw (ok, can) refl
 change_accepted (change.Kill signal.Kill) id t ok can = rw (ok, can) refl
 change_accepted (change.Kill signal.Terminate) id t ok can = rw (ok, can) refl
 
-pub delete_accepted : (id : List ℕ) (t : Task) → is_id id ≡ true → allowed call.Delete t.status ≡ true → first_refusal (task_refusals id delete_refusals (Some t)) ≡ None
+pub delete_accepted :
+    (id : List ℕ) (t : Task) → is_id id ≡ true → allowed call.Delete t.status ≡ true
+    → first_refusal (task_refusals id delete_refusals (Some t)) ≡ None
 delete_accepted id t ok can = rw (ok, can) refl
 
 -- ---- answers to requests of one task
 
 -- a refusal of its own list
-pub refused_on : (s : BoardState) (id : List ℕ) (own : Task → Refusals) (rep : Task → Reply) (new : Task → BoardState) (o : Option Task) (e : Refusal)
+pub refused_on :
+    (s : BoardState) (id : List ℕ) (own : Task → Refusals) (rep : Task → Reply) (new : Task → BoardState)
+    (o : Option Task) (e : Refusal)
     → first_refusal (task_refusals id own o) ≡ Some e → OnFound id own rep new o s (Err e) s
 refused_on s id own rep new None e h = subst (λ (x : Option Refusal). DecidedBy x ⊥ s (Err e) s) (sym h) (refl, refl)
-refused_on s id own rep new (Some t) e h = subst (λ (x : Option Refusal). DecidedBy x ((Err e ≡ Ok (rep t)) × (s ≡ new t)) s (Err e) s) (sym h) (refl, refl)
+refused_on s id own rep new (Some t) e h =
+    subst (λ (x : Option Refusal). DecidedBy x ((Err e ≡ Ok (rep t)) × (s ≡ new t)) s (Err e) s) (sym h) (refl, refl)
 
 -- the effect, if no refusal's condition holds
-pub accepted_on : (s : BoardState) (id : List ℕ) (own : Task → Refusals) (rep : Task → Reply) (new : Task → BoardState) (t : Task) (s' : BoardState)
-    → task_of id s.tasks ≡ Some t → first_refusal (task_refusals id own (Some t)) ≡ None → s' ≡ new t → OnTask id own rep new s (Ok (rep t)) s'
+pub accepted_on :
+    (s : BoardState) (id : List ℕ) (own : Task → Refusals) (rep : Task → Reply) (new : Task → BoardState) (t : Task)
+    (s' : BoardState)
+    → task_of id s.tasks ≡ Some t → first_refusal (task_refusals id own (Some t)) ≡ None → s' ≡ new t
+    → OnTask id own rep new s (Ok (rep t)) s'
 accepted_on s id own rep new t s' at none is =
     let a : Answer = Ok (rep t) in
     let P : Option Refusal → Type 0 = λ x. DecidedBy x ((a ≡ Ok (rep t)) × (s' ≡ new t)) s a s' in
     subst (λ (o : Option Task). OnFound id own rep new o s a s') (sym at) (subst P (sym none) (refl, is))
 
 -- the answer to a change that is made
-pub change_answers : (c : Change) (s : BoardState) (id : List ℕ) (t : Task) (s' : BoardState) → task_of id s.tasks ≡ Some t
+pub change_answers :
+    (c : Change) (s : BoardState) (id : List ℕ) (t : Task) (s' : BoardState) → task_of id s.tasks ≡ Some t
     → first_refusal (task_refusals id (change_refusals c) (Some t)) ≡ None → s' ≡ with_task s (changed c t)
     → Answers s (change_request c id) (Ok (change_reply c t.id (changed c t).status)) s'
-change_answers change.Start s id t s' at none is = accepted_on s id start_refusals (λ u. reply.Start u.id (started u).status) (λ u. with_task s (started u)) t s' at none is
-change_answers change.Pause s id t s' at none is = accepted_on s id pause_refusals (λ u. reply.Pause u.id (paused u).status) (λ u. with_task s (paused u)) t s' at none is
-change_answers change.Resume s id t s' at none is = accepted_on s id resume_refusals (λ u. reply.Resume u.id (resumed u).status) (λ u. with_task s (resumed u)) t s' at none is
+change_answers change.Start s id t s' at none is =
+    accepted_on s id start_refusals (λ u. reply.Start u.id (started u).status)
+    (λ u. with_task s (started u)) t s' at none is
+change_answers change.Pause s id t s' at none is =
+    accepted_on s id pause_refusals (λ u. reply.Pause u.id (paused u).status)
+    (λ u. with_task s (paused u)) t s' at none is
+change_answers change.Resume s id t s' at none is =
+    accepted_on s id resume_refusals (λ u. reply.Resume u.id (resumed u).status)
+    (λ u. with_task s (resumed u)) t s' at none is
 change_answers (change.Kill signal.Kill) s id t s' at none is =
-    accepted_on s id (kill_refusals 9) (λ u. reply.Kill u.id (killed_by (signal_of 9) u).status) (λ u. with_task s (killed_by (signal_of 9) u)) t s' at none is
+    accepted_on s id (kill_refusals 9) (λ u. reply.Kill u.id (killed_by (signal_of 9) u).status)
+    (λ u. with_task s (killed_by (signal_of 9) u)) t s' at none is
 change_answers (change.Kill signal.Terminate) s id t s' at none is =
-    accepted_on s id (kill_refusals 15) (λ u. reply.Kill u.id (killed_by (signal_of 15) u).status) (λ u. with_task s (killed_by (signal_of 15) u)) t s' at none is
+    accepted_on s id (kill_refusals 15) (λ u. reply.Kill u.id (killed_by (signal_of 15) u).status)
+    (λ u. with_task s (killed_by (signal_of 15) u)) t s' at none is
 
 pub delete_answers : (s : BoardState) (id : List ℕ) (t : Task) (s' : BoardState) → task_of id s.tasks ≡ Some t
-    → first_refusal (task_refusals id delete_refusals (Some t)) ≡ None → s' ≡ without_task s t.id → Answers s (request.Delete id) (Ok (reply.Delete (state_of t))) s'
-delete_answers s id t s' at none is = accepted_on s id delete_refusals (λ u. reply.Delete (state_of u)) (λ u. without_task s u.id) t s' at none is
+    → first_refusal (task_refusals id delete_refusals (Some t)) ≡ None → s' ≡ without_task s t.id
+    → Answers s (request.Delete id) (Ok (reply.Delete (state_of t))) s'
+delete_answers s id t s' at none is =
+    accepted_on s id delete_refusals (λ u. reply.Delete (state_of u)) (λ u. without_task s u.id) t s' at none is
 
 -- ---- refusals of requests of one task
 
-pub not_memory : (a b : Bool) (x e : Refusal) → x ≢ refusal.NoMemory → cond a (Some refusal.BadId) (cond b (Some x) None) ≡ Some e → e ≢ refusal.NoMemory
+pub not_memory :
+    (a b : Bool) (x e : Refusal) → x ≢ refusal.NoMemory → cond a (Some refusal.BadId) (cond b (Some x) None) ≡ Some e
+    → e ≢ refusal.NoMemory
 not_memory true b x e known h is = cc
 not_memory false true x e known h is = known (some_is x e h ∙ is)
 not_memory false false x e known h is = cc
 
 task_known : (id : List ℕ) (c : TaskCall) (o : Option Task) (e : Refusal)
-    → first_refusal (task_refusals id (λ t. (not (allowed c t.status), refusal.WrongStatus) ∷ []) o) ≡ Some e → e ≢ refusal.NoMemory
+    → first_refusal (task_refusals id (λ t. (not (allowed c t.status), refusal.WrongStatus) ∷ []) o) ≡ Some e
+    → e ≢ refusal.NoMemory
 task_known id c None e h = not_memory (not (is_id id)) true refusal.NotFound e (λ x. cc) h
 task_known id c (Some t) e h = not_memory (not (is_id id)) (not (allowed c t.status)) refusal.WrongStatus e (λ x. cc) h
 
-same_refusal : (id : List ℕ) (c : Change) (o : Option Task) (e : Refusal) → first_refusal (task_refusals id (λ t. (not (allowed (change_call c) t.status), refusal.WrongStatus) ∷ []) o) ≡ Some e
+same_refusal :
+    (id : List ℕ) (c : Change) (o : Option Task) (e : Refusal)
+    → first_refusal (task_refusals id (λ t. (not (allowed (change_call c) t.status), refusal.WrongStatus) ∷ []) o)
+    ≡ Some e
     → first_refusal (task_refusals id (change_refusals c) o) ≡ Some e
 same_refusal id change.Start None e h = h
 same_refusal id change.Start (Some t) e h = h
@@ -189,60 +222,96 @@ same_refusal id (change.Kill signal.Kill) (Some t) e h = h
 same_refusal id (change.Kill signal.Terminate) None e h = h
 same_refusal id (change.Kill signal.Terminate) (Some t) e h = h
 
-refused_change_by : (c : Change) (s : BoardState) (id : List ℕ) (e : Refusal) → first_refusal (task_refusals id (change_refusals c) (task_of id s.tasks)) ≡ Some e
+refused_change_by :
+    (c : Change) (s : BoardState) (id : List ℕ) (e : Refusal)
+    → first_refusal (task_refusals id (change_refusals c) (task_of id s.tasks)) ≡ Some e
     → Answers s (change_request c id) (Err e) s
-refused_change_by change.Start s id e h = refused_on s id start_refusals (λ u. reply.Start u.id (started u).status) (λ u. with_task s (started u)) (task_of id s.tasks) e h
-refused_change_by change.Pause s id e h = refused_on s id pause_refusals (λ u. reply.Pause u.id (paused u).status) (λ u. with_task s (paused u)) (task_of id s.tasks) e h
-refused_change_by change.Resume s id e h = refused_on s id resume_refusals (λ u. reply.Resume u.id (resumed u).status) (λ u. with_task s (resumed u)) (task_of id s.tasks) e h
+refused_change_by change.Start s id e h =
+    refused_on s id start_refusals (λ u. reply.Start u.id (started u).status) (λ u. with_task s (started u))
+    (task_of id s.tasks) e h
+refused_change_by change.Pause s id e h =
+    refused_on s id pause_refusals (λ u. reply.Pause u.id (paused u).status) (λ u. with_task s (paused u))
+    (task_of id s.tasks) e h
+refused_change_by change.Resume s id e h =
+    refused_on s id resume_refusals (λ u. reply.Resume u.id (resumed u).status) (λ u. with_task s (resumed u))
+    (task_of id s.tasks) e h
 refused_change_by (change.Kill x) s id e h =
-    refused_on s id (kill_refusals (signal_number x)) (λ u. reply.Kill u.id (killed_by (signal_of (signal_number x)) u).status) (λ u. with_task s (killed_by (signal_of (signal_number x)) u)) (task_of id s.tasks) e h
+    refused_on s id (kill_refusals (signal_number x))
+    (λ u. reply.Kill u.id (killed_by (signal_of (signal_number x)) u).status)
+    (λ u. with_task s (killed_by (signal_of (signal_number x)) u)) (task_of id s.tasks) e h
 
 -- a change that is not allowed, or of no task
-pub refused_change : (c : Change) (s : BoardState) (id : List ℕ) (e : Refusal) → RefusesTask s id (change_call c) refusal.WrongStatus e
+pub refused_change :
+    (c : Change) (s : BoardState) (id : List ℕ) (e : Refusal) → RefusesTask s id (change_call c) refusal.WrongStatus e
     → (e ≢ refusal.NoMemory) × Answers s (change_request c id) (Err e) s
-refused_change c s id e h = (task_known id (change_call c) (task_of id s.tasks) e h, refused_change_by c s id e (same_refusal id c (task_of id s.tasks) e h))
+refused_change c s id e h = (
+  task_known id (change_call c) (task_of id s.tasks) e h,
+  refused_change_by c s id e (same_refusal id c (task_of id s.tasks) e h),
+)
 
 pub refused_delete : (s : BoardState) (id : List ℕ) (e : Refusal) → RefusesTask s id call.Delete refusal.WrongStatus e
     → (e ≢ refusal.NoMemory) × Answers s (request.Delete id) (Err e) s
-refused_delete s id e h =
-    (task_known id call.Delete (task_of id s.tasks) e h, refused_on s id delete_refusals (λ u. reply.Delete (state_of u)) (λ u. without_task s u.id) (task_of id s.tasks) e h)
+refused_delete s id e h = (
+  task_known id call.Delete (task_of id s.tasks) e h,
+  refused_on s id delete_refusals (λ u. reply.Delete (state_of u)) (λ u. without_task s u.id)
+      (task_of id s.tasks) e h,
+)
 
 -- a number that is no signal's, of a task that is there
-pub no_signal : (s : BoardState) (id : List ℕ) (number : ℕ) (e : ℕ × Task) → signal_of number ≡ None → IsAllowed s id call.State e → RefusesKill s id number refusal.OutOfRange
+pub no_signal :
+    (s : BoardState) (id : List ℕ) (number : ℕ) (e : ℕ × Task) → signal_of number ≡ None → IsAllowed s id call.State e
+    → RefusesKill s id number refusal.OutOfRange
 no_signal s id number e none is =
     let at : task_of id s.tasks ≡ Some e.1 = ap (option_map (λ (x : ℕ × Task). x.1)) is.found in
     let off : is_none (signal_of number) ≡ true = ap is_none none in
     let named = is.named in
-    let own : first_refusal (task_refusals id (kill_refusals number) (Some e.1)) ≡ Some refusal.OutOfRange = rw (named, off) refl in
+    let own :
+    first_refusal (task_refusals id (kill_refusals number) (Some e.1)) ≡ Some refusal.OutOfRange =
+    rw (named, off) refl in
     ap (λ (o : Option Task). first_refusal (task_refusals id (kill_refusals number) o)) at ∙ own
 
 -- of a call that no status refuses, the refusals before a request's own
-pub no_task_by : (id : List ℕ) (own : Task → Refusals) (o : Option Task) (e : Refusal) → first_refusal (task_refusals id (λ t. (not (allowed call.State t.status), refusal.WrongStatus) ∷ []) o) ≡ Some e
+pub no_task_by :
+    (id : List ℕ) (own : Task → Refusals) (o : Option Task) (e : Refusal)
+    → first_refusal (task_refusals id (λ t. (not (allowed call.State t.status), refusal.WrongStatus) ∷ []) o) ≡ Some e
     → first_refusal (task_refusals id own o) ≡ Some e
 no_task_by id own None e h = h
 no_task_by id own (Some t) e h = by (not (is_id id)) h
   where
-    by : (b : Bool) → cond b (Some refusal.BadId) None ≡ Some e → cond b (Some refusal.BadId) (first_refusal (own t)) ≡ Some e
+    by :
+        (b : Bool) → cond b (Some refusal.BadId) None ≡ Some e
+        → cond b (Some refusal.BadId) (first_refusal (own t)) ≡ Some e
     by true g = g
     by false g = absurd (none_is_not e g)
 
-pub no_task_to_kill : (s : BoardState) (id : List ℕ) (number : ℕ) (e : Refusal) → RefusesTask s id call.State refusal.WrongStatus e → RefusesKill s id number e
+pub no_task_to_kill :
+    (s : BoardState) (id : List ℕ) (number : ℕ) (e : Refusal) → RefusesTask s id call.State refusal.WrongStatus e
+    → RefusesKill s id number e
 no_task_to_kill s id number e h = no_task_by id (kill_refusals number) (task_of id s.tasks) e h
 
-kill_known : (id : List ℕ) (number : ℕ) (o : Option Task) (e : Refusal) → first_refusal (task_refusals id (kill_refusals number) o) ≡ Some e → e ≢ refusal.NoMemory
+kill_known :
+    (id : List ℕ) (number : ℕ) (o : Option Task) (e : Refusal)
+    → first_refusal (task_refusals id (kill_refusals number) o) ≡ Some e → e ≢ refusal.NoMemory
 kill_known id number None e h = not_memory (not (is_id id)) true refusal.NotFound e (λ x. cc) h
-kill_known id number (Some t) e h = by (not (is_id id)) (is_none (signal_of number)) (not (allowed call.Kill t.status)) h
+kill_known id number (Some t) e h =
+    by (not (is_id id)) (is_none (signal_of number)) (not (allowed call.Kill t.status)) h
   where
-    by : (a b c : Bool) → cond a (Some refusal.BadId) (cond b (Some refusal.OutOfRange) (cond c (Some refusal.WrongStatus) None)) ≡ Some e → e ≢ refusal.NoMemory
+    by :
+        (a b c : Bool)
+        → cond a (Some refusal.BadId) (cond b (Some refusal.OutOfRange) (cond c (Some refusal.WrongStatus) None))
+        ≡ Some e → e ≢ refusal.NoMemory
     by true b c g is = cc
     by false true c g is = cc
     by false false true g is = cc
     by false false false g is = cc
 
-pub refused_kill : (s : BoardState) (id : List ℕ) (number : ℕ) (e : Refusal) → RefusesKill s id number e → (e ≢ refusal.NoMemory) × Answers s (request.Kill id number) (Err e) s
+pub refused_kill :
+    (s : BoardState) (id : List ℕ) (number : ℕ) (e : Refusal) → RefusesKill s id number e
+    → (e ≢ refusal.NoMemory) × Answers s (request.Kill id number) (Err e) s
 refused_kill s id number e h = (
   kill_known id number (task_of id s.tasks) e h,
-  refused_on s id (kill_refusals number) (λ u. reply.Kill u.id (killed_by (signal_of number) u).status) (λ u. with_task s (killed_by (signal_of number) u)) (task_of id s.tasks) e h,
+  refused_on s id (kill_refusals number) (λ u. reply.Kill u.id (killed_by (signal_of number) u).status)
+      (λ u. with_task s (killed_by (signal_of number) u)) (task_of id s.tasks) e h,
 )
 
 -- ---- what requests do
@@ -250,40 +319,62 @@ refused_kill s id number e h = (
 pub data Effect (s s' : BoardState) : Type 0 where
   nothing : s' ≡ s → Effect s s'
   stores : (new : StoreState) → StoreEffect (used_by s.tasks) s.store new → s' ≡ with_store s new → Effect s s'
-  enters : (config id : List ℕ) → (r : Answer) → first_refusal (create_refusals s config id) ≡ None → Creates s config id r s' → Effect s s'
-  changes : (c : Change) → (id : List ℕ) → (t : Task) → task_of id s.tasks ≡ Some t → allowed (change_call c) t.status ≡ true → s' ≡ with_task s (changed c t) → Effect s s'
-  deletes : (id : List ℕ) → (t : Task) → task_of id s.tasks ≡ Some t → allowed call.Delete t.status ≡ true → s' ≡ without_task s t.id → Effect s s'
+  enters :
+      (config id : List ℕ) → (r : Answer) → first_refusal (create_refusals s config id) ≡ None
+      → Creates s config id r s' → Effect s s'
+  changes :
+      (c : Change) → (id : List ℕ) → (t : Task) → task_of id s.tasks ≡ Some t → allowed (change_call c) t.status ≡ true
+      → s' ≡ with_task s (changed c t) → Effect s s'
+  deletes :
+      (id : List ℕ) → (t : Task) → task_of id s.tasks ≡ Some t → allowed call.Delete t.status ≡ true
+      → s' ≡ without_task s t.id → Effect s s'
 
-effect_by : (s s' : BoardState) (o : Option Refusal) (E : Type 0) → (o ≡ None → E → Effect s s') → (s' ≡ s) ⊎ ((o ≡ None) × E) → Effect s s'
+effect_by :
+    (s s' : BoardState) (o : Option Refusal) (E : Type 0) → (o ≡ None → E → Effect s s')
+    → (s' ≡ s) ⊎ ((o ≡ None) × E) → Effect s s'
 effect_by s s' o E f (inl same) = nothing same
 effect_by s s' o E f (inr e) = f e.0 e.1
 
-on_store_effect : (s : BoardState) (refusals : Refusals) (rep : Reply) (new : StoreState) (r : Answer) (s' : BoardState) → OnStore s refusals rep new r s'
+on_store_effect :
+    (s : BoardState) (refusals : Refusals) (rep : Reply) (new : StoreState) (r : Answer) (s' : BoardState)
+    → OnStore s refusals rep new r s'
     → (first_refusal refusals ≡ None → StoreEffect (used_by s.tasks) s.store new) → Effect s s'
 on_store_effect s refusals rep new r s' on f =
     effect_by s s' (first_refusal refusals) ((r ≡ Ok rep) × (s' ≡ with_store s new)) (λ none e. stores new (f none) e.1)
     (decided (first_refusal refusals) ((r ≡ Ok rep) × (s' ≡ with_store s new)) s r s' on)
 
-on_task_effect : (s : BoardState) (id : List ℕ) (own : Task → Refusals) (rep : Task → Reply) (new : Task → BoardState) (o : Option Task) (r : Answer) (s' : BoardState)
-    → OnFound id own rep new o s r s' → ((t : Task) → o ≡ Some t → first_refusal (task_refusals id own (Some t)) ≡ None → s' ≡ new t → Effect s s') → Effect s s'
+on_task_effect :
+    (s : BoardState) (id : List ℕ) (own : Task → Refusals) (rep : Task → Reply) (new : Task → BoardState)
+    (o : Option Task) (r : Answer) (s' : BoardState)
+    → OnFound id own rep new o s r s'
+    → ((t : Task) → o ≡ Some t → first_refusal (task_refusals id own (Some t)) ≡ None → s' ≡ new t → Effect s s')
+    → Effect s s'
 on_task_effect s id own rep new None r s' on f =
-    effect_by s s' (first_refusal (task_refusals id own None)) ⊥ (λ none e. absurd e) (decided (first_refusal (task_refusals id own None)) ⊥ s r s' on)
+    effect_by s s' (first_refusal (task_refusals id own None)) ⊥ (λ none e. absurd e)
+    (decided (first_refusal (task_refusals id own None)) ⊥ s r s' on)
 on_task_effect s id own rep new (Some t) r s' on f =
-    effect_by s s' (first_refusal (task_refusals id own (Some t))) ((r ≡ Ok (rep t)) × (s' ≡ new t)) (λ none e. f t refl none e.1)
+    effect_by s s' (first_refusal (task_refusals id own (Some t))) ((r ≡ Ok (rep t)) × (s' ≡ new t))
+    (λ none e. f t refl none e.1)
     (decided (first_refusal (task_refusals id own (Some t))) ((r ≡ Ok (rep t)) × (s' ≡ new t)) s r s' on)
 
 -- a kill by a number is one by its signal
 kill_effect : (s s' : BoardState) (id : List ℕ) (t : Task) (o : Option Signal) → task_of id s.tasks ≡ Some t
-    → first_refusal ((not (is_id id), refusal.BadId) ∷ (is_none o, refusal.OutOfRange) ∷ (not (allowed call.Kill t.status), refusal.WrongStatus) ∷ []) ≡ None
+    → first_refusal
+    ((not (is_id id), refusal.BadId) ∷ (is_none o, refusal.OutOfRange)
+    ∷ (not (allowed call.Kill t.status), refusal.WrongStatus) ∷ []) ≡ None
     → s' ≡ with_task s (killed_by o t) → Effect s s'
 kill_effect s s' id t None at none is =
     let a = none_first (not (is_id id)) refusal.BadId _ none in
-    absurd (true≢false (none_first true refusal.OutOfRange (first_refusal ((not (allowed call.Kill t.status), refusal.WrongStatus) ∷ [])) a.1).0)
+    absurd
+    (true≢false
+    (none_first true refusal.OutOfRange
+    (first_refusal ((not (allowed call.Kill t.status), refusal.WrongStatus) ∷ [])) a.1).0)
 kill_effect s s' id t (Some x) at none is = changes (change.Kill x) id t at (one_accepted id t call.Kill none) is
 
 put_effect : (s : BoardState) (bytes : List ℕ) (r : Answer) (s' : BoardState) → Puts s bytes r s' → Effect s s'
 put_effect s bytes r s' a =
-    on_store_effect s (put_refusals s.store bytes) (reply.Put (digest_of bytes) (length bytes)) (with_content s.store bytes) r s' a (λ none. puts bytes none refl)
+    on_store_effect s (put_refusals s.store bytes) (reply.Put (digest_of bytes) (length bytes))
+    (with_content s.store bytes) r s' a (λ none. puts bytes none refl)
 
 -- a put of a text does nothing, or is one of bytes
 text_effect : (s : BoardState) (text : List ℕ) (r : Answer) (s' : BoardState) → PutsText s text r s' → Effect s s'
@@ -294,48 +385,66 @@ pub effect_of : (s : BoardState) (q : Request) (r : Answer) (s' : BoardState) �
 effect_of s (request.Put bytes) r s' a = put_effect s bytes r s' a
 effect_of s (request.PutText text) r s' a = text_effect s text r s' a
 effect_of s (request.Remove digest) r s' a =
-    on_store_effect s (remove_refusals (used_by s.tasks) s.store digest) (reply.Remove digest) (without_content s.store digest) r s' a (λ none. removes digest none refl)
+    on_store_effect s (remove_refusals (used_by s.tasks) s.store digest) (reply.Remove digest)
+    (without_content s.store digest) r s' a (λ none. removes digest none refl)
 effect_of s (request.LeaseCreate id) r s' a =
-    on_store_effect s (lease_create_refusals s.store id) (reply.LeaseCreate id) (with_lease s.store id) r s' a (λ none. leases id none refl)
+    on_store_effect s (lease_create_refusals s.store id) (reply.LeaseCreate id) (with_lease s.store id) r s' a
+    (λ none. leases id none refl)
 effect_of s (request.LeaseAdd digest id) r s' a =
-    on_store_effect s (lease_add_refusals s.store digest id) (reply.LeaseAdd digest id) (with_member s.store digest id) r s' a (λ none. adds digest id none refl)
+    on_store_effect s (lease_add_refusals s.store digest id) (reply.LeaseAdd digest id) (with_member s.store digest id)
+    r s' a (λ none. adds digest id none refl)
 effect_of s (request.LeaseDelete id) r s' a =
-    on_store_effect s (lease_delete_refusals s.store id) (reply.LeaseDelete id) (without_lease s.store id) r s' a (λ none. ends id none refl)
+    on_store_effect s (lease_delete_refusals s.store id) (reply.LeaseDelete id) (without_lease s.store id) r s' a
+    (λ none. ends id none refl)
 effect_of s request.Gc r s' a =
-    on_store_effect s [] (reply.Gc (unheld (used_by s.tasks) s.store)) (collected (used_by s.tasks) s.store) r s' a (λ none. collects refl)
+    on_store_effect s [] (reply.Gc (unheld (used_by s.tasks) s.store)) (collected (used_by s.tasks) s.store) r s' a
+    (λ none. collects refl)
 effect_of s (request.Create config id) r s' a =
-    effect_by s s' (first_refusal (create_refusals s config id)) (Creates s config id r s') (λ none e. enters config id r none e)
+    effect_by s s' (first_refusal (create_refusals s config id)) (Creates s config id r s')
+    (λ none e. enters config id r none e)
     (decided (first_refusal (create_refusals s config id)) (Creates s config id r s') s r s' a)
 effect_of s (request.Start id) r s' a =
-    on_task_effect s id start_refusals (λ t. reply.Start t.id (started t).status) (λ t. with_task s (started t)) (task_of id s.tasks) r s' a
+    on_task_effect s id start_refusals (λ t. reply.Start t.id (started t).status) (λ t. with_task s (started t))
+    (task_of id s.tasks) r s' a
     (λ t at none is. changes change.Start id t at (change_allowed change.Start id t none) is)
 effect_of s (request.Pause id) r s' a =
-    on_task_effect s id pause_refusals (λ t. reply.Pause t.id (paused t).status) (λ t. with_task s (paused t)) (task_of id s.tasks) r s' a
+    on_task_effect s id pause_refusals (λ t. reply.Pause t.id (paused t).status) (λ t. with_task s (paused t))
+    (task_of id s.tasks) r s' a
     (λ t at none is. changes change.Pause id t at (change_allowed change.Pause id t none) is)
 effect_of s (request.Resume id) r s' a =
-    on_task_effect s id resume_refusals (λ t. reply.Resume t.id (resumed t).status) (λ t. with_task s (resumed t)) (task_of id s.tasks) r s' a
+    on_task_effect s id resume_refusals (λ t. reply.Resume t.id (resumed t).status) (λ t. with_task s (resumed t))
+    (task_of id s.tasks) r s' a
     (λ t at none is. changes change.Resume id t at (change_allowed change.Resume id t none) is)
 effect_of s (request.Kill id number) r s' a =
-    on_task_effect s id (kill_refusals number) (λ t. reply.Kill t.id (killed_by (signal_of number) t).status) (λ t. with_task s (killed_by (signal_of number) t)) (task_of id s.tasks) r s' a
+    on_task_effect s id (kill_refusals number) (λ t. reply.Kill t.id (killed_by (signal_of number) t).status)
+    (λ t. with_task s (killed_by (signal_of number) t)) (task_of id s.tasks) r s' a
     (λ t at none is. kill_effect s s' id t (signal_of number) at none is)
 effect_of s (request.Delete id) r s' a =
-    on_task_effect s id delete_refusals (λ t. reply.Delete (state_of t)) (λ t. without_task s t.id) (task_of id s.tasks) r s' a
+    on_task_effect s id delete_refusals (λ t. reply.Delete (state_of t)) (λ t. without_task s t.id)
+    (task_of id s.tasks) r s' a
     (λ t at none is. deletes id t at (one_accepted id t call.Delete none) is)
 effect_of s (request.State id) r s' a =
-    on_task_effect s id state_refusals (λ t. reply.State (state_of t)) (λ t. s) (task_of id s.tasks) r s' a (λ t at none is. nothing is)
+    on_task_effect s id state_refusals (λ t. reply.State (state_of t)) (λ t. s) (task_of id s.tasks) r s' a
+    (λ t at none is. nothing is)
 effect_of s (request.Wait id) r s' a =
-    on_task_effect s id wait_refusals (λ t. reply.Wait (state_of t)) (λ t. s) (task_of id s.tasks) r s' a (λ t at none is. nothing is)
+    on_task_effect s id wait_refusals (λ t. reply.Wait (state_of t)) (λ t. s) (task_of id s.tasks) r s' a
+    (λ t at none is. nothing is)
 effect_of s (request.Output id number) r s' a =
-    on_task_effect s id (output_refusals number) (λ t. output_reply t.id (output_of (stream_of number) t)) (λ t. s) (task_of id s.tasks) r s' a (λ t at none is. nothing is)
+    on_task_effect s id (output_refusals number) (λ t. output_reply t.id (output_of (stream_of number) t)) (λ t. s)
+    (task_of id s.tasks) r s' a (λ t at none is. nothing is)
 
 -- ---- soundness
 
-pub change_keeps_sound : (s : BoardState) (c : Change) (id : List ℕ) (t : Task) → IsBoard s → task_of id s.tasks ≡ Some t → allowed (change_call c) t.status ≡ true
+pub change_keeps_sound :
+    (s : BoardState) (c : Change) (id : List ℕ) (t : Task) → IsBoard s → task_of id s.tasks ≡ Some t
+    → allowed (change_call c) t.status ≡ true
     → IsBoard (with_task s (changed c t))
 change_keeps_sound s c id t b at can =
-    changed_sound s id t (changed c t) b at (change_id c t) (change_incarnation c t) (change_sound s.creates c t (sound_of s id t b at) can)
+    changed_sound s id t (changed c t) b at (change_id c t) (change_incarnation c t)
+    (change_sound s.creates c t (sound_of s id t b at) can)
 
-pub delete_keeps_sound : (s : BoardState) (id : List ℕ) (t : Task) → IsBoard s → task_of id s.tasks ≡ Some t → IsBoard (without_task s t.id)
+pub delete_keeps_sound :
+    (s : BoardState) (id : List ℕ) (t : Task) → IsBoard s → task_of id s.tasks ≡ Some t → IsBoard (without_task s t.id)
 delete_keeps_sound s id t b at =
     let f = found id s.tasks t at in
     remove_sound s t.id f.0 t b (ap (λ (x : List ℕ). entry_of x s.tasks) (task_named id s.tasks t at) ∙ f.1)
@@ -347,5 +456,6 @@ effect_sound s s' b (enters config id r none made) = create_leaves s config id r
 effect_sound s s' b (changes c id t at can is) = subst IsBoard (sym is) (change_keeps_sound s c id t b at can)
 effect_sound s s' b (deletes id t at can is) = subst IsBoard (sym is) (delete_keeps_sound s id t b at)
 
-pub answers_sound : (s : BoardState) (q : Request) (r : Answer) (s' : BoardState) → IsBoard s → Answers s q r s' → IsBoard s'
+pub answers_sound :
+    (s : BoardState) (q : Request) (r : Answer) (s' : BoardState) → IsBoard s → Answers s q r s' → IsBoard s'
 answers_sound s q r s' b a = effect_sound s s' b (effect_of s q r s' a)

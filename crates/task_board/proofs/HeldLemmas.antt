@@ -23,19 +23,23 @@ use Rattle.task_board.proofs.RunLemmas.{run_keeps}
 -- ---- one event
 
 abbrev pub HeldStay : BoardState → BoardState → Type 0
-HeldStay s s' = (digest bytes : List ℕ) → is_held (used_by s.tasks) s.store.leases digest ≡ true → content_in s.store.contents digest ≡ Some bytes → content_in s'.store.contents digest ≡ Some bytes
+HeldStay s s' =
+    (digest bytes : List ℕ) → is_held (used_by s.tasks) s.store.leases digest ≡ true
+    → content_in s.store.contents digest ≡ Some bytes → content_in s'.store.contents digest ≡ Some bytes
 
 same_store : (s s' : BoardState) → s'.store ≡ s.store → HeldStay s s'
 same_store s s' same digest bytes held h = ap (λ (x : StoreState). content_in x.contents digest) same ∙ h
 
-create_store : (s : BoardState) (config id : List ℕ) (r : Answer) (s' : BoardState) → Creates s config id r s' → s'.store ≡ s.store
+create_store :
+    (s : BoardState) (config id : List ℕ) (r : Answer) (s' : BoardState) → Creates s config id r s' → s'.store ≡ s.store
 create_store s config id (Err e) s' effect = ap (λ (x : BoardState). x.store) effect.4.1
 create_store s config id (Ok r) s' effect = ap (λ (x : BoardState). x.store) effect.4.3.2
 
 effect_held : (s s' : BoardState) → Effect s s' → HeldStay s s'
 effect_held s s' (nothing same) = same_store s s' (ap (λ (x : BoardState). x.store) same)
 effect_held s s' (stores new change is) =
-    λ digest bytes held h. ap (λ (x : BoardState). content_in x.store.contents digest) is ∙ held_stays (used_by s.tasks) s.store new change digest bytes held h
+    λ digest bytes held h. ap (λ (x : BoardState). content_in x.store.contents digest) is
+    ∙ held_stays (used_by s.tasks) s.store new change digest bytes held h
 effect_held s s' (enters config id r none made) = same_store s s' (create_store s config id r s' made)
 effect_held s s' (changes c id t at can is) = same_store s s' (ap (λ (x : BoardState). x.store) is)
 effect_held s s' (deletes id t at can is) = same_store s s' (ap (λ (x : BoardState). x.store) is)
@@ -46,10 +50,13 @@ return_held s (Some t) s' back = same_store s s' (ap (λ (x : BoardState). x.sto
 
 step_held : (s : BoardState) (e : Event) (r : EventReply) (s' : BoardState) → Step s e r s' → HeldStay s s'
 step_held s (event.Call q) (answer.Called a) s' step = effect_held s s' (effect_of s q a s' step)
-step_held s (event.Take id budget) (answer.Taken true) s' step = same_store s s' (ap (λ (x : BoardState). x.store) (taken_of s id budget s' step).leaves)
-step_held s (event.Take id budget) (answer.Taken false) s' step = same_store s s' (ap (λ (x : BoardState). x.store) step.1)
+step_held s (event.Take id budget) (answer.Taken true) s' step =
+    same_store s s' (ap (λ (x : BoardState). x.store) (taken_of s id budget s' step).leaves)
+step_held s (event.Take id budget) (answer.Taken false) s' step =
+    same_store s s' (ap (λ (x : BoardState). x.store) step.1)
 step_held s (event.Return id) (answer.Returned true) s' step = return_held s (task_of id s.tasks) s' step
-step_held s (event.Return id) (answer.Returned false) s' step = same_store s s' (ap (λ (x : BoardState). x.store) step.1)
+step_held s (event.Return id) (answer.Returned false) s' step =
+    same_store s s' (ap (λ (x : BoardState). x.store) step.1)
 step_held s (event.Call q) (answer.Taken x) s' step = absurd step
 step_held s (event.Call q) (answer.Returned x) s' step = absurd step
 step_held s (event.Take id budget) (answer.Called a) s' step = absurd step
@@ -68,7 +75,8 @@ happens_held s e r s' h = held_by s e r s' (happens s e r s' h)
 
 -- the content of each task is there
 abbrev pub TasksHave : StoreState → Entries → Type 0
-TasksHave store es = (k : ℕ) → (t : Task) → task_in k es ≡ Some t → content_in store.contents t.process.module ≡ Some t.bytes
+TasksHave store es =
+    (k : ℕ) → (t : Task) → task_in k es ≡ Some t → content_in store.contents t.process.module ≡ Some t.bytes
 
 pub record AllThere (s : BoardState) : Type 0 where
   pub sound : IsBoard s
@@ -82,31 +90,46 @@ used_in k t (e ∷ es) h =
     by_slot e.0 k
     (λ y here.
     let is : e.1 ≡ t = some_is e.1 t (cond_true (nat_eq e.0 k) (Some e.1) (task_in k es) (Some t) y h) in
-    or_left (bytes_eq e.1.process.module t.process.module) (is_among t.process.module (used_by es)) (same_id e.1.process.module t.process.module (ap (λ (x : Task). x.process.module) is)))
-    (λ n other. or_right (bytes_eq e.1.process.module t.process.module) (is_among t.process.module (used_by es)) (used_in k t es (cond_false (nat_eq e.0 k) (Some e.1) (task_in k es) (Some t) n h)))
+    or_left (bytes_eq e.1.process.module t.process.module) (is_among t.process.module (used_by es))
+    (same_id e.1.process.module t.process.module (ap (λ (x : Task). x.process.module) is)))
+    (λ n other. or_right (bytes_eq e.1.process.module t.process.module) (is_among t.process.module (used_by es))
+    (used_in k t es (cond_false (nat_eq e.0 k) (Some e.1) (task_in k es) (Some t) n h)))
 
-store_tasks : (s : BoardState) (new : StoreState) → ((digest bytes : List ℕ) → is_held (used_by s.tasks) s.store.leases digest ≡ true → content_in s.store.contents digest ≡ Some bytes → content_in new.contents digest ≡ Some bytes)
+store_tasks :
+    (s : BoardState) (new : StoreState)
+    → ((digest bytes : List ℕ) → is_held (used_by s.tasks) s.store.leases digest ≡ true
+    → content_in s.store.contents digest ≡ Some bytes → content_in new.contents digest ≡ Some bytes)
     → TasksHave s.store s.tasks → TasksHave new s.tasks
 store_tasks s new stays all k t there =
-    stays t.process.module t.bytes (or_right (is_leased s.store.leases t.process.module) (is_among t.process.module (used_by s.tasks)) (used_in k t s.tasks there)) (all k t there)
+    stays t.process.module t.bytes
+    (or_right (is_leased s.store.leases t.process.module) (is_among t.process.module (used_by s.tasks))
+    (used_in k t s.tasks there)) (all k t there)
 
 -- a task is changed to one of the same content
-one_changed : (store : StoreState) (es us : Entries) (old new : Task) (j : ℕ) (t : Task) → new.process ≡ old.process → new.bytes ≡ old.bytes → TasksHave store es → IsChangedFrom old new j es us
+one_changed :
+    (store : StoreState) (es us : Entries) (old new : Task) (j : ℕ) (t : Task) → new.process ≡ old.process
+    → new.bytes ≡ old.bytes → TasksHave store es → IsChangedFrom old new j es us
     → task_in j us ≡ Some t → content_in store.contents t.process.module ≡ Some t.bytes
 one_changed store es us old new j t process bytes all (inl same) there = all j t (sym same ∙ there)
 one_changed store es us old new j t process bytes all (inr one) there =
     let is : new ≡ t = some_is new t (sym one.1 ∙ there) in
     let P : Task → Type 0 = λ x. content_in store.contents x.process.module ≡ Some x.bytes in
     let own : content_in store.contents new.process.module ≡ Some new.bytes =
-    ap (λ p. content_in store.contents p.module) process ∙ (all j old one.0 ∙ ap (λ (x : List ℕ). Some x) (sym bytes)) in
+    ap (λ p. content_in store.contents p.module) process ∙ (all j old one.0 ∙ ap (λ (x : List ℕ). Some x) (sym bytes))
+    in
     subst P is own
 
-task_changed : (s : BoardState) (id : List ℕ) (old new : Task) → task_of id s.tasks ≡ Some old → new.id ≡ old.id → new.process ≡ old.process → new.bytes ≡ old.bytes
+task_changed :
+    (s : BoardState) (id : List ℕ) (old new : Task) → task_of id s.tasks ≡ Some old → new.id ≡ old.id
+    → new.process ≡ old.process → new.bytes ≡ old.bytes
     → TasksHave s.store s.tasks → TasksHave s.store (change_task new s.tasks)
 task_changed s id old new at same process bytes all j t there =
     let f = found id s.tasks old at in
-    let own : entry_of new.id s.tasks ≡ Some (f.0, old) = ap (λ (x : List ℕ). entry_of x s.tasks) (same ∙ task_named id s.tasks old at) ∙ f.1 in
-    one_changed s.store s.tasks (change_task new s.tasks) old new j t process bytes all (changed_from_old old new f.0 j s.tasks own) there
+    let own :
+    entry_of new.id s.tasks ≡ Some (f.0, old) =
+    ap (λ (x : List ℕ). entry_of x s.tasks) (same ∙ task_named id s.tasks old at) ∙ f.1 in
+    one_changed s.store s.tasks (change_task new s.tasks) old new j t process bytes all
+    (changed_from_old old new f.0 j s.tasks own) there
 
 change_process : (c : Change) (t : Task) → ((changed c t).process ≡ t.process) × ((changed c t).bytes ≡ t.bytes)
 change_process change.Start t = (refl, refl)
@@ -118,8 +141,11 @@ change_process (change.Kill signal) t = by t.out
     by None = (refl, refl)
     by (Some n) = (refl, refl)
 
-create_tasks : (s : BoardState) (config id : List ℕ) (r : Answer) (s' : BoardState) → Creates s config id r s' → TasksHave s.store s.tasks → TasksHave s'.store s'.tasks
-create_tasks s config id (Err e) s' effect all = subst (λ (x : BoardState). TasksHave x.store x.tasks) (sym effect.4.1) all
+create_tasks :
+    (s : BoardState) (config id : List ℕ) (r : Answer) (s' : BoardState) → Creates s config id r s'
+    → TasksHave s.store s.tasks → TasksHave s'.store s'.tasks
+create_tasks s config id (Err e) s' effect all =
+    subst (λ (x : BoardState). TasksHave x.store x.tasks) (sym effect.4.1) all
 create_tasks s config id (Ok r) s' effect all =
     let enters = effect.4.3 in
     let t = created_task id s.creates effect.1 effect.4.0 effect.0 in
@@ -127,43 +153,66 @@ create_tasks s config id (Ok r) s' effect all =
     (λ k u there.
     by_slot k enters.0
     (λ y here.
-    let is : t ≡ u = some_is t u (sym (put_there enters.0 t s.tasks enters.1) ∙ subst (λ (j : ℕ). task_in j (put_task enters.0 t s.tasks) ≡ Some u) here there) in
+    let is :
+    t ≡ u =
+    some_is t u
+    (sym (put_there enters.0 t s.tasks enters.1)
+    ∙ subst (λ (j : ℕ). task_in j (put_task enters.0 t s.tasks) ≡ Some u) here there) in
     subst (λ (x : Task). content_in s.store.contents x.process.module ≡ Some x.bytes) is effect.3)
     (λ n other. all k u (sym (put_in enters.0 k t s.tasks other) ∙ there)))
 
-delete_tasks : (s : BoardState) (id : List ℕ) (old : Task) → IsBoard s → task_of id s.tasks ≡ Some old → TasksHave s.store s.tasks → TasksHave s.store (remove_task old.id s.tasks)
+delete_tasks :
+    (s : BoardState) (id : List ℕ) (old : Task) → IsBoard s → task_of id s.tasks ≡ Some old → TasksHave s.store s.tasks
+    → TasksHave s.store (remove_task old.id s.tasks)
 delete_tasks s id old b at all k t there =
     let f = found id s.tasks old at in
-    let own : entry_of old.id s.tasks ≡ Some (f.0, old) = ap (λ (x : List ℕ). entry_of x s.tasks) (task_named id s.tasks old at) ∙ f.1 in
+    let own :
+    entry_of old.id s.tasks ≡ Some (f.0, old) =
+    ap (λ (x : List ℕ). entry_of x s.tasks) (task_named id s.tasks old at) ∙ f.1 in
     by_slot k f.0
-    (λ y here. absurd (none_is_not t (sym (removed_there old.id (f.0, old) s.tasks b.slots own) ∙ subst (λ (j : ℕ). task_in j (remove_task old.id s.tasks) ≡ Some t) here there)))
+    (λ y here. absurd
+    (none_is_not t
+    (sym (removed_there old.id (f.0, old) s.tasks b.slots own)
+    ∙ subst (λ (j : ℕ). task_in j (remove_task old.id s.tasks) ≡ Some t) here there)))
     (λ n other. all k t (sym (removed_beside old.id (f.0, old) k s.tasks own other) ∙ there))
 
 effect_tasks : (s s' : BoardState) → IsBoard s → Effect s s' → TasksHave s.store s.tasks → TasksHave s'.store s'.tasks
 effect_tasks s s' b (nothing same) all = subst (λ (x : BoardState). TasksHave x.store x.tasks) (sym same) all
 effect_tasks s s' b (stores new change is) all =
-    subst (λ (x : BoardState). TasksHave x.store x.tasks) (sym is) (store_tasks s new (held_stays (used_by s.tasks) s.store new change) all)
+    subst (λ (x : BoardState). TasksHave x.store x.tasks) (sym is)
+    (store_tasks s new (held_stays (used_by s.tasks) s.store new change) all)
 effect_tasks s s' b (enters config id r none made) all = create_tasks s config id r s' made all
 effect_tasks s s' b (changes c id t at can is) all =
     let same = change_process c t in
-    subst (λ (x : BoardState). TasksHave x.store x.tasks) (sym is) (task_changed s id t (changed c t) at (change_id c t) same.0 same.1 all)
-effect_tasks s s' b (deletes id t at can is) all = subst (λ (x : BoardState). TasksHave x.store x.tasks) (sym is) (delete_tasks s id t b at all)
+    subst (λ (x : BoardState). TasksHave x.store x.tasks) (sym is)
+    (task_changed s id t (changed c t) at (change_id c t) same.0 same.1 all)
+effect_tasks s s' b (deletes id t at can is) all =
+    subst (λ (x : BoardState). TasksHave x.store x.tasks) (sym is) (delete_tasks s id t b at all)
 
-return_tasks : (s : BoardState) (id : List ℕ) (o : Option Task) (s' : BoardState) → task_of id s.tasks ≡ o → Returns s o s' → TasksHave s.store s.tasks → TasksHave s'.store s'.tasks
+return_tasks :
+    (s : BoardState) (id : List ℕ) (o : Option Task) (s' : BoardState) → task_of id s.tasks ≡ o → Returns s o s'
+    → TasksHave s.store s.tasks → TasksHave s'.store s'.tasks
 return_tasks s id None s' at back all = absurd back
 return_tasks s id (Some t) s' at back all =
     let is = back.1.advances in
     subst (λ (x : BoardState). TasksHave x.store x.tasks) (sym back.2)
-    (task_changed s id t back.0 at (ap (λ (x : Task). x.id) is) (ap (λ (x : Task). x.process) is) (ap (λ (x : Task). x.bytes) is) all)
+    (task_changed s id t back.0 at (ap (λ (x : Task). x.id) is) (ap (λ (x : Task). x.process) is)
+    (ap (λ (x : Task). x.bytes) is) all)
 
-step_tasks : (s : BoardState) (e : Event) (r : EventReply) (s' : BoardState) → IsBoard s → Step s e r s' → TasksHave s.store s.tasks → TasksHave s'.store s'.tasks
+step_tasks :
+    (s : BoardState) (e : Event) (r : EventReply) (s' : BoardState) → IsBoard s → Step s e r s'
+    → TasksHave s.store s.tasks → TasksHave s'.store s'.tasks
 step_tasks s (event.Call q) (answer.Called a) s' b step all = effect_tasks s s' b (effect_of s q a s' step) all
 step_tasks s (event.Take id budget) (answer.Taken true) s' b step all =
     let is = taken_of s id budget s' step in
-    subst (λ (x : BoardState). TasksHave x.store x.tasks) (sym is.leaves) (task_changed s id is.task (lent is.task budget) is.named refl refl refl all)
-step_tasks s (event.Take id budget) (answer.Taken false) s' b step all = subst (λ (x : BoardState). TasksHave x.store x.tasks) (sym step.1) all
-step_tasks s (event.Return id) (answer.Returned true) s' b step all = return_tasks s id (task_of id s.tasks) s' refl step all
-step_tasks s (event.Return id) (answer.Returned false) s' b step all = subst (λ (x : BoardState). TasksHave x.store x.tasks) (sym step.1) all
+    subst (λ (x : BoardState). TasksHave x.store x.tasks) (sym is.leaves)
+    (task_changed s id is.task (lent is.task budget) is.named refl refl refl all)
+step_tasks s (event.Take id budget) (answer.Taken false) s' b step all =
+    subst (λ (x : BoardState). TasksHave x.store x.tasks) (sym step.1) all
+step_tasks s (event.Return id) (answer.Returned true) s' b step all =
+    return_tasks s id (task_of id s.tasks) s' refl step all
+step_tasks s (event.Return id) (answer.Returned false) s' b step all =
+    subst (λ (x : BoardState). TasksHave x.store x.tasks) (sym step.1) all
 step_tasks s (event.Call q) (answer.Taken x) s' b step all = absurd step
 step_tasks s (event.Call q) (answer.Returned x) s' b step all = absurd step
 step_tasks s (event.Take id budget) (answer.Called a) s' b step all = absurd step
@@ -176,21 +225,30 @@ leased_same s s' same all = subst LeasedAreThere (sym same) all
 
 effect_leased : (s s' : BoardState) → Effect s s' → LeasedAreThere s.store → LeasedAreThere s'.store
 effect_leased s s' (nothing same) all = leased_same s s' (ap (λ (x : BoardState). x.store) same) all
-effect_leased s s' (stores new change is) all = subst (λ (x : BoardState). LeasedAreThere x.store) (sym is) (leased_are_there (used_by s.tasks) s.store new change all)
+effect_leased s s' (stores new change is) all =
+    subst (λ (x : BoardState). LeasedAreThere x.store) (sym is)
+    (leased_are_there (used_by s.tasks) s.store new change all)
 effect_leased s s' (enters config id r none made) all = leased_same s s' (create_store s config id r s' made) all
 effect_leased s s' (changes c id t at can is) all = leased_same s s' (ap (λ (x : BoardState). x.store) is) all
 effect_leased s s' (deletes id t at can is) all = leased_same s s' (ap (λ (x : BoardState). x.store) is) all
 
-return_leased : (s : BoardState) (o : Option Task) (s' : BoardState) → Returns s o s' → LeasedAreThere s.store → LeasedAreThere s'.store
+return_leased :
+    (s : BoardState) (o : Option Task) (s' : BoardState) → Returns s o s' → LeasedAreThere s.store
+    → LeasedAreThere s'.store
 return_leased s None s' back all = absurd back
 return_leased s (Some t) s' back all = leased_same s s' (ap (λ (x : BoardState). x.store) back.2) all
 
-step_leased : (s : BoardState) (e : Event) (r : EventReply) (s' : BoardState) → Step s e r s' → LeasedAreThere s.store → LeasedAreThere s'.store
+step_leased :
+    (s : BoardState) (e : Event) (r : EventReply) (s' : BoardState) → Step s e r s' → LeasedAreThere s.store
+    → LeasedAreThere s'.store
 step_leased s (event.Call q) (answer.Called a) s' step all = effect_leased s s' (effect_of s q a s' step) all
-step_leased s (event.Take id budget) (answer.Taken true) s' step all = leased_same s s' (ap (λ (x : BoardState). x.store) (taken_of s id budget s' step).leaves) all
-step_leased s (event.Take id budget) (answer.Taken false) s' step all = leased_same s s' (ap (λ (x : BoardState). x.store) step.1) all
+step_leased s (event.Take id budget) (answer.Taken true) s' step all =
+    leased_same s s' (ap (λ (x : BoardState). x.store) (taken_of s id budget s' step).leaves) all
+step_leased s (event.Take id budget) (answer.Taken false) s' step all =
+    leased_same s s' (ap (λ (x : BoardState). x.store) step.1) all
 step_leased s (event.Return id) (answer.Returned true) s' step all = return_leased s (task_of id s.tasks) s' step all
-step_leased s (event.Return id) (answer.Returned false) s' step all = leased_same s s' (ap (λ (x : BoardState). x.store) step.1) all
+step_leased s (event.Return id) (answer.Returned false) s' step all =
+    leased_same s s' (ap (λ (x : BoardState). x.store) step.1) all
 step_leased s (event.Call q) (answer.Taken x) s' step all = absurd step
 step_leased s (event.Call q) (answer.Returned x) s' step all = absurd step
 step_leased s (event.Take id budget) (answer.Called a) s' step all = absurd step
@@ -198,7 +256,9 @@ step_leased s (event.Take id budget) (answer.Returned x) s' step all = absurd st
 step_leased s (event.Return id) (answer.Called a) s' step all = absurd step
 step_leased s (event.Return id) (answer.Taken x) s' step all = absurd step
 
-there_by : (s : BoardState) (e : Event) (r : EventReply) (s' : BoardState) → AllThere s → Happens s e r s' → (s' ≡ s) ⊎ Step s e r s' → AllThere s'
+there_by :
+    (s : BoardState) (e : Event) (r : EventReply) (s' : BoardState) → AllThere s → Happens s e r s'
+    → (s' ≡ s) ⊎ Step s e r s' → AllThere s'
 there_by s e r s' all h (inl same) = subst AllThere (sym same) all
 there_by s e r s' all h (inr step) = record {
   sound = happens_sound s e r s' all.sound h;
@@ -206,7 +266,8 @@ there_by s e r s' all h (inr step) = record {
   tasks = step_tasks s e r s' all.sound step all.tasks;
 }
 
-happens_there : (s : BoardState) (e : Event) (r : EventReply) (s' : BoardState) → AllThere s → Happens s e r s' → AllThere s'
+happens_there :
+    (s : BoardState) (e : Event) (r : EventReply) (s' : BoardState) → AllThere s → Happens s e r s' → AllThere s'
 happens_there s e r s' all h = there_by s e r s' all h (happens s e r s' h)
 
 empty_there : AllThere empty

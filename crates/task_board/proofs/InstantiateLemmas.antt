@@ -15,13 +15,18 @@ pub record Undecoded (bytes : List ℕ) (e : Refusal) : Type 0 where
   pub over : e ≡ refusal.Limit → Over bytes
   pub none : e ≡ refusal.Limit → (m : Module) → Spells bytes m → Within m → length bytes ≤ max_module_bytes → ⊥
 
-pub undecoded : (bytes : List ℕ) (p : ProcessConfig) (e : Refusal) → Undecoded bytes e → (e ≡ refusal.BadModule) ⊎ ((e ≡ refusal.Limit) ⊎ (e ≡ refusal.NoMemory))
+pub undecoded :
+    (bytes : List ℕ) (p : ProcessConfig) (e : Refusal) → Undecoded bytes e
+    → (e ≡ refusal.BadModule) ⊎ ((e ≡ refusal.Limit) ⊎ (e ≡ refusal.NoMemory))
     → e ≢ refusal.NoMemory → CannotOpen bytes p e
 undecoded bytes p e u (inl bad) other = subst (CannotOpen bytes p) (sym bad) (no_module (u.bad bad))
-undecoded bytes p e u (inr (inl over)) other = subst (CannotOpen bytes p) (sym over) (too_much (u.over over) (λ m s. u.none over m s.spells s.within s.short))
+undecoded bytes p e u (inr (inl over)) other =
+    subst (CannotOpen bytes p) (sym over) (too_much (u.over over) (λ m s. u.none over m s.spells s.within s.short))
 undecoded bytes p e u (inr (inr no_memory)) other = absurd (other no_memory)
 
-pub unchecked : (r : Result Module Refusal) (e : Refusal) → OnErr r ((r ≡ Err refusal.Invalid) ⊎ (r ≡ Err refusal.NoMemory)) → r ≡ Err e → e ≢ refusal.NoMemory → e ≡ refusal.Invalid
+pub unchecked :
+    (r : Result Module Refusal) (e : Refusal) → OnErr r ((r ≡ Err refusal.Invalid) ⊎ (r ≡ Err refusal.NoMemory))
+    → r ≡ Err e → e ≢ refusal.NoMemory → e ≡ refusal.Invalid
 unchecked (Ok v) e h is other = cc
 unchecked (Err x) e (inl p) is other = cc
 unchecked (Err x) e (inr p) is other = let n : e ≡ refusal.NoMemory = cc in absurd (other n)

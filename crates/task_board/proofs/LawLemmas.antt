@@ -76,12 +76,23 @@ pub record IsTakenOf (s : BoardState) (id : List ℕ) (budget : ℕ) (s' : Board
   pub ready : can_lend task ≡ true
   pub leaves : s' ≡ with_task s (lent task budget)
 
-taken_task : (s : BoardState) (id : List ℕ) (budget : ℕ) (t : Task) (s' : BoardState) (b : Bool) → (1 ≤ budget) × (budget ≤ max_budget) → task_of id s.tasks ≡ Some t → can_lend t ≡ b
+taken_task :
+    (s : BoardState) (id : List ℕ) (budget : ℕ) (t : Task) (s' : BoardState) (b : Bool)
+    → (1 ≤ budget) × (budget ≤ max_budget) → task_of id s.tasks ≡ Some t → can_lend t ≡ b
     → cond b (Some (with_task s (lent t budget))) None ≡ Some s' → IsTakenOf s id budget s'
-taken_task s id budget t s' true range is ready h = record { task = t; range = range; named = is; ready = ready; leaves = sym (some_is (with_task s (lent t budget)) s' h) }
+taken_task s id budget t s' true range is ready h =
+    record {
+      task = t;
+      range = range;
+      named = is;
+      ready = ready;
+      leaves = sym (some_is (with_task s (lent t budget)) s' h);
+    }
 taken_task s id budget t s' false range is ready h = absurd (none_is_not s' h)
 
-taken_named : (s : BoardState) (id : List ℕ) (budget : ℕ) (o : Option Task) (s' : BoardState) → (1 ≤ budget) × (budget ≤ max_budget) → task_of id s.tasks ≡ o
+taken_named :
+    (s : BoardState) (id : List ℕ) (budget : ℕ) (o : Option Task) (s' : BoardState)
+    → (1 ≤ budget) × (budget ≤ max_budget) → task_of id s.tasks ≡ o
     → option_and_then (lends s budget) o ≡ Some s' → IsTakenOf s id budget s'
 taken_named s id budget None s' range is h = absurd (none_is_not s' h)
 taken_named s id budget (Some t) s' range is h = taken_task s id budget t s' (can_lend t) range is refl h
@@ -91,23 +102,33 @@ taken_by : (s : BoardState) (id : List ℕ) (budget : ℕ) (s' : BoardState) (b 
 taken_by s id budget s' true is h = taken_named s id budget (task_of id s.tasks) s' (budget_range budget is) refl h
 taken_by s id budget s' false is h = absurd (none_is_not s' h)
 
-pub taken_of : (s : BoardState) (id : List ℕ) (budget : ℕ) (s' : BoardState) → taken s id budget ≡ Some s' → IsTakenOf s id budget s'
+pub taken_of :
+    (s : BoardState) (id : List ℕ) (budget : ℕ) (s' : BoardState) → taken s id budget ≡ Some s'
+    → IsTakenOf s id budget s'
 taken_of s id budget s' h = taken_by s id budget s' (is_budget budget) refl h
 
-take_sound : (s : BoardState) (id : List ℕ) (budget : ℕ) (s' : BoardState) → IsBoard s → IsTakenOf s id budget s' → IsBoard s'
+take_sound :
+    (s : BoardState) (id : List ℕ) (budget : ℕ) (s' : BoardState) → IsBoard s → IsTakenOf s id budget s' → IsBoard s'
 take_sound s id budget s' b is =
-    subst IsBoard (sym is.leaves) (changed_sound s id is.task (lent is.task budget) b is.named refl refl (lent_sound s.creates is.task budget (sound_of s id is.task b is.named) is.ready is.range))
+    subst IsBoard (sym is.leaves)
+    (changed_sound s id is.task (lent is.task budget) b is.named refl refl
+    (lent_sound s.creates is.task budget (sound_of s id is.task b is.named) is.ready is.range))
 
-return_sound : (s : BoardState) (id : List ℕ) (o : Option Task) (s' : BoardState) → IsBoard s → task_of id s.tasks ≡ o → Returns s o s' → IsBoard s'
+return_sound :
+    (s : BoardState) (id : List ℕ) (o : Option Task) (s' : BoardState) → IsBoard s → task_of id s.tasks ≡ o
+    → Returns s o s' → IsBoard s'
 return_sound s id None s' b is back = absurd back
 return_sound s id (Some t) s' b is back =
     let n = slice_turns t back.1.budget in
     let leaves : s' ≡ with_task s (advanced t n) = back.2 ∙ ap (with_task s) back.1.advances in
-    subst IsBoard (sym leaves) (changed_sound s id t (advanced t n) b is refl refl (advanced_sound s.creates t n (sound_of s id t b is)))
+    subst IsBoard (sym leaves)
+    (changed_sound s id t (advanced t n) b is refl refl (advanced_sound s.creates t n (sound_of s id t b is)))
 
-pub step_sound : (s : BoardState) (e : Event) (r : EventReply) (s' : BoardState) → IsBoard s → Step s e r s' → IsBoard s'
+pub step_sound :
+    (s : BoardState) (e : Event) (r : EventReply) (s' : BoardState) → IsBoard s → Step s e r s' → IsBoard s'
 step_sound s (event.Call q) (answer.Called a) s' b step = answers_sound s q a s' b step
-step_sound s (event.Take id budget) (answer.Taken true) s' b step = take_sound s id budget s' b (taken_of s id budget s' step)
+step_sound s (event.Take id budget) (answer.Taken true) s' b step =
+    take_sound s id budget s' b (taken_of s id budget s' step)
 step_sound s (event.Take id budget) (answer.Taken false) s' b step = subst IsBoard (sym step.1) b
 step_sound s (event.Return id) (answer.Returned true) s' b step = return_sound s id (task_of id s.tasks) s' b refl step
 step_sound s (event.Return id) (answer.Returned false) s' b step = subst IsBoard (sym step.1) b
@@ -118,19 +139,24 @@ step_sound s (event.Take id budget) (answer.Returned x) s' b step = absurd step
 step_sound s (event.Return id) (answer.Called a) s' b step = absurd step
 step_sound s (event.Return id) (answer.Taken x) s' b step = absurd step
 
-happens_by : (s : BoardState) (e : Event) (r : EventReply) (s' : BoardState) (b : Bool) → MatchBool b (s' ≡ s) (Step s e r s') → (s' ≡ s) ⊎ Step s e r s'
+happens_by :
+    (s : BoardState) (e : Event) (r : EventReply) (s' : BoardState) (b : Bool) → MatchBool b (s' ≡ s) (Step s e r s')
+    → (s' ≡ s) ⊎ Step s e r s'
 happens_by s e r s' true h = inl h
 happens_by s e r s' false h = inr h
 
 -- nothing changes, or it is a step
-pub happens : (s : BoardState) (e : Event) (r : EventReply) (s' : BoardState) → Happens s e r s' → (s' ≡ s) ⊎ Step s e r s'
+pub happens :
+    (s : BoardState) (e : Event) (r : EventReply) (s' : BoardState) → Happens s e r s' → (s' ≡ s) ⊎ Step s e r s'
 happens s e r s' h = happens_by s e r s' (met_no_memory e r) h
 
-sound_by : (s : BoardState) (e : Event) (r : EventReply) (s' : BoardState) → IsBoard s → (s' ≡ s) ⊎ Step s e r s' → IsBoard s'
+sound_by :
+    (s : BoardState) (e : Event) (r : EventReply) (s' : BoardState) → IsBoard s → (s' ≡ s) ⊎ Step s e r s' → IsBoard s'
 sound_by s e r s' b (inl same) = subst IsBoard (sym same) b
 sound_by s e r s' b (inr step) = step_sound s e r s' b step
 
-pub happens_sound : (s : BoardState) (e : Event) (r : EventReply) (s' : BoardState) → IsBoard s → Happens s e r s' → IsBoard s'
+pub happens_sound :
+    (s : BoardState) (e : Event) (r : EventReply) (s' : BoardState) → IsBoard s → Happens s e r s' → IsBoard s'
 happens_sound s e r s' b h = sound_by s e r s' b (happens s e r s' h)
 
 pub run_sound : (es : List Event) (rs : List EventReply) (s : BoardState) → Run empty es rs s → IsBoard s
@@ -152,61 +178,103 @@ stay_same : (s s' : BoardState) → s' ≡ s → AllMove s.tasks s'.tasks
 stay_same s s' is = subst (λ (x : BoardState). AllMove s.tasks x.tasks) (sym is) (all_stay s.tasks)
 
 -- the task with an id is changed in its slot alone
-change_beside : (new old : Task) (k j : ℕ) (es : Entries) → entry_of new.id es ≡ Some (k, old) → j ≢ k → task_in j (change_task new es) ≡ task_in j es
+change_beside :
+    (new old : Task) (k j : ℕ) (es : Entries) → entry_of new.id es ≡ Some (k, old) → j ≢ k
+    → task_in j (change_task new es) ≡ task_in j es
 change_beside new old k j [] h other = refl
 change_beside new old k j (e ∷ es) h other =
     by_id e.1.id new.id
     (λ y same.
-    let at : e.0 ≡ k = ap (λ (x : ℕ × Task). x.0) (some_is e (k, old) (cond_true (bytes_eq e.1.id new.id) (Some e) (entry_of new.id es) (Some (k, old)) y h)) in
+    let at :
+    e.0 ≡ k =
+    ap (λ (x : ℕ × Task). x.0)
+    (some_is e (k, old) (cond_true (bytes_eq e.1.id new.id) (Some e) (entry_of new.id es) (Some (k, old)) y h))
+    in
     let off : nat_eq e.0 j ≡ false = other_slot e.0 j (λ x. other (sym x ∙ at)) in
     ap (task_in j) (cond_is_true (bytes_eq e.1.id new.id) ((e.0, new) ∷ es) (e ∷ change_task new es) y)
-    ∙ (cond_is_false (nat_eq e.0 j) (Some new) (task_in j es) off ∙ sym (cond_is_false (nat_eq e.0 j) (Some e.1) (task_in j es) off)))
+    ∙ (cond_is_false (nat_eq e.0 j) (Some new) (task_in j es) off
+    ∙ sym (cond_is_false (nat_eq e.0 j) (Some e.1) (task_in j es) off)))
     (λ n differs.
     ap (task_in j) (cond_is_false (bytes_eq e.1.id new.id) ((e.0, new) ∷ es) (e ∷ change_task new es) n)
-    ∙ ap (cond (nat_eq e.0 j) (Some e.1)) (change_beside new old k j es (cond_false (bytes_eq e.1.id new.id) (Some e) (entry_of new.id es) (Some (k, old)) n h) other))
+    ∙ ap (cond (nat_eq e.0 j) (Some e.1))
+    (change_beside new old k j es
+    (cond_false (bytes_eq e.1.id new.id) (Some e) (entry_of new.id es) (Some (k, old)) n h) other))
 
-change_there : (new old : Task) (k : ℕ) (es : Entries) → AreRising (slots_of es) → entry_of new.id es ≡ Some (k, old) → task_in k (change_task new es) ≡ Some new
+change_there :
+    (new old : Task) (k : ℕ) (es : Entries) → AreRising (slots_of es) → entry_of new.id es ≡ Some (k, old)
+    → task_in k (change_task new es) ≡ Some new
 change_there new old k [] r h = absurd (none_is_not (k, old) h)
 change_there new old k (e ∷ es) r h =
     by_id e.1.id new.id
     (λ y same.
-    let at : e.0 ≡ k = ap (λ (x : ℕ × Task). x.0) (some_is e (k, old) (cond_true (bytes_eq e.1.id new.id) (Some e) (entry_of new.id es) (Some (k, old)) y h)) in
-    ap (task_in k) (cond_is_true (bytes_eq e.1.id new.id) ((e.0, new) ∷ es) (e ∷ change_task new es) y) ∙ cond_is_true (nat_eq e.0 k) (Some new) (task_in k es) (same_slot e.0 k at))
+    let at :
+    e.0 ≡ k =
+    ap (λ (x : ℕ × Task). x.0)
+    (some_is e (k, old) (cond_true (bytes_eq e.1.id new.id) (Some e) (entry_of new.id es) (Some (k, old)) y h))
+    in
+    ap (task_in k) (cond_is_true (bytes_eq e.1.id new.id) ((e.0, new) ∷ es) (e ∷ change_task new es) y)
+    ∙ cond_is_true (nat_eq e.0 k) (Some new) (task_in k es) (same_slot e.0 k at))
     (λ n differs.
     let rest = cond_false (bytes_eq e.1.id new.id) (Some e) (entry_of new.id es) (Some (k, old)) n h in
     let below = slot_away e.0 k new.id (k, old) es r.0 rest in
     ap (task_in k) (cond_is_false (bytes_eq e.1.id new.id) ((e.0, new) ∷ es) (e ∷ change_task new es) n)
-    ∙ (cond_is_false (nat_eq e.0 k) (Some e.1) (task_in k (change_task new es)) (other_slot e.0 k (λ x. omega (arith, below, x))) ∙ change_there new old k es r.1 rest))
+    ∙ (cond_is_false (nat_eq e.0 k) (Some e.1) (task_in k (change_task new es))
+    (other_slot e.0 k (λ x. omega (arith, below, x))) ∙ change_there new old k es r.1 rest))
 
-pub one_moves : (s : BoardState) (id : List ℕ) (old new : Task) → AreRising (slots_of s.tasks) → task_of id s.tasks ≡ Some old → new.id ≡ old.id → Moves old new → AllMove s.tasks (with_task s new).tasks
+pub one_moves :
+    (s : BoardState) (id : List ℕ) (old new : Task) → AreRising (slots_of s.tasks) → task_of id s.tasks ≡ Some old
+    → new.id ≡ old.id → Moves old new → AllMove s.tasks (with_task s new).tasks
 one_moves s id old new r is same moves k t there =
     let f = found id s.tasks old is in
-    let own : entry_of new.id s.tasks ≡ Some (f.0, old) = ap (λ (x : List ℕ). entry_of x s.tasks) (same ∙ named id s.tasks (f.0, old) f.1) ∙ f.1 in
+    let own :
+    entry_of new.id s.tasks ≡ Some (f.0, old) =
+    ap (λ (x : List ℕ). entry_of x s.tasks) (same ∙ named id s.tasks (f.0, old) f.1) ∙ f.1 in
     by_slot k f.0
     (λ y here.
-    let is_old : old ≡ t = some_is old t (sym (in_slot id (f.0, old) s.tasks r f.1) ∙ subst (λ (j : ℕ). task_in j s.tasks ≡ Some t) here there) in
-    moves_to (change_task new s.tasks) k t new (ap (λ (j : ℕ). task_in j (change_task new s.tasks)) here ∙ change_there new old f.0 s.tasks r own) (subst (λ (x : Task). Moves x new) is_old moves))
-    (λ n other. moves_to (change_task new s.tasks) k t t (change_beside new old f.0 k s.tasks own other ∙ there) (stays refl))
+    let is_old :
+    old ≡ t =
+    some_is old t
+    (sym (in_slot id (f.0, old) s.tasks r f.1) ∙ subst (λ (j : ℕ). task_in j s.tasks ≡ Some t) here there) in
+    moves_to (change_task new s.tasks) k t new
+    (ap (λ (j : ℕ). task_in j (change_task new s.tasks)) here ∙ change_there new old f.0 s.tasks r own)
+    (subst (λ (x : Task). Moves x new) is_old moves))
+    (λ n other. moves_to (change_task new s.tasks) k t t
+    (change_beside new old f.0 k s.tasks own other ∙ there) (stays refl))
 
 -- a task that is deleted leaves its slot, and the others stay
-one_goes : (s : BoardState) (id : List ℕ) (old : Task) → AreRising (slots_of s.tasks) → task_of id s.tasks ≡ Some old → allowed call.Delete old.status ≡ true → AllMove s.tasks (without_task s old.id).tasks
+one_goes :
+    (s : BoardState) (id : List ℕ) (old : Task) → AreRising (slots_of s.tasks) → task_of id s.tasks ≡ Some old
+    → allowed call.Delete old.status ≡ true → AllMove s.tasks (without_task s old.id).tasks
 one_goes s id old r is can k t there =
     let f = found id s.tasks old is in
-    let own : entry_of old.id s.tasks ≡ Some (f.0, old) = ap (λ (x : List ℕ). entry_of x s.tasks) (named id s.tasks (f.0, old) f.1) ∙ f.1 in
+    let own :
+    entry_of old.id s.tasks ≡ Some (f.0, old) =
+    ap (λ (x : List ℕ). entry_of x s.tasks) (named id s.tasks (f.0, old) f.1) ∙ f.1 in
     by_slot k f.0
     (λ y here.
-    let is_old : old ≡ t = some_is old t (sym (in_slot id (f.0, old) s.tasks r f.1) ∙ subst (λ (j : ℕ). task_in j s.tasks ≡ Some t) here there) in
-    let gone : task_in k (remove_task old.id s.tasks) ≡ None = ap (λ (j : ℕ). task_in j (remove_task old.id s.tasks)) here ∙ removed_there old.id (f.0, old) s.tasks r own in
+    let is_old :
+    old ≡ t =
+    some_is old t
+    (sym (in_slot id (f.0, old) s.tasks r f.1) ∙ subst (λ (j : ℕ). task_in j s.tasks ≡ Some t) here there) in
+    let gone :
+    task_in k (remove_task old.id s.tasks) ≡ None =
+    ap (λ (j : ℕ). task_in j (remove_task old.id s.tasks)) here ∙ removed_there old.id (f.0, old) s.tasks r own in
     subst (Becomes t) (sym gone) (goes (subst (λ (x : Task). allowed call.Delete x.status ≡ true) is_old can)))
-    (λ n other. moves_to (remove_task old.id s.tasks) k t t (removed_beside old.id (f.0, old) k s.tasks own other ∙ there) (stays refl))
+    (λ n other. moves_to (remove_task old.id s.tasks) k t t
+    (removed_beside old.id (f.0, old) k s.tasks own other ∙ there) (stays refl))
 
-create_moves : (s : BoardState) (config id : List ℕ) (r : Answer) (s' : BoardState) → Creates s config id r s' → AllMove s.tasks s'.tasks
+create_moves :
+    (s : BoardState) (config id : List ℕ) (r : Answer) (s' : BoardState) → Creates s config id r s'
+    → AllMove s.tasks s'.tasks
 create_moves s config id (Err e) s' effect = stay_same s s' effect.4.1
 create_moves s config id (Ok r) s' effect =
     let enters = effect.4.3 in
     let t = created_task id s.creates effect.1 effect.4.0 effect.0 in
     subst (λ (x : BoardState). AllMove s.tasks x.tasks) (sym enters.2)
-    (λ k u there. moves_to (put_task enters.0 t s.tasks) k u u (put_in enters.0 k t s.tasks (λ same. none_is_not u (sym enters.1 ∙ subst (λ (j : ℕ). task_in j s.tasks ≡ Some u) same there)) ∙ there) (stays refl))
+    (λ k u there. moves_to (put_task enters.0 t s.tasks) k u u
+    (put_in enters.0 k t s.tasks
+    (λ same. none_is_not u (sym enters.1 ∙ subst (λ (j : ℕ). task_in j s.tasks ≡ Some u) same there)) ∙ there)
+    (stays refl))
 
 change_moves : (c : Change) (t : Task) → allowed (change_call c) t.status ≡ true → Moves t (changed c t)
 change_moves change.Start t can = starts can refl
@@ -216,28 +284,41 @@ change_moves (change.Kill signal) t can = is_killed signal can refl
 
 effect_moves : (s s' : BoardState) → AreRising (slots_of s.tasks) → Effect s s' → AllMove s.tasks s'.tasks
 effect_moves s s' rising (nothing same) = stay_same s s' same
-effect_moves s s' rising (stores new change is) = subst (λ (x : BoardState). AllMove s.tasks x.tasks) (sym is) (all_stay s.tasks)
+effect_moves s s' rising (stores new change is) =
+    subst (λ (x : BoardState). AllMove s.tasks x.tasks) (sym is) (all_stay s.tasks)
 effect_moves s s' rising (enters config id r none made) = create_moves s config id r s' made
-effect_moves s s' rising (changes c id t at can is) = subst (λ (x : BoardState). AllMove s.tasks x.tasks) (sym is) (one_moves s id t (changed c t) rising at (change_id c t) (change_moves c t can))
-effect_moves s s' rising (deletes id t at can is) = subst (λ (x : BoardState). AllMove s.tasks x.tasks) (sym is) (one_goes s id t rising at can)
+effect_moves s s' rising (changes c id t at can is) =
+    subst (λ (x : BoardState). AllMove s.tasks x.tasks) (sym is)
+    (one_moves s id t (changed c t) rising at (change_id c t) (change_moves c t can))
+effect_moves s s' rising (deletes id t at can is) =
+    subst (λ (x : BoardState). AllMove s.tasks x.tasks) (sym is) (one_goes s id t rising at can)
 
-answers_move : (s : BoardState) (q : Request) (r : Answer) (s' : BoardState) → AreRising (slots_of s.tasks) → Answers s q r s' → AllMove s.tasks s'.tasks
+answers_move :
+    (s : BoardState) (q : Request) (r : Answer) (s' : BoardState) → AreRising (slots_of s.tasks) → Answers s q r s'
+    → AllMove s.tasks s'.tasks
 answers_move s q r s' rising a = effect_moves s s' rising (effect_of s q r s' a)
 
-take_moves : (s : BoardState) (id : List ℕ) (budget : ℕ) (s' : BoardState) → AreRising (slots_of s.tasks) → IsTakenOf s id budget s' → AllMove s.tasks s'.tasks
+take_moves :
+    (s : BoardState) (id : List ℕ) (budget : ℕ) (s' : BoardState) → AreRising (slots_of s.tasks)
+    → IsTakenOf s id budget s' → AllMove s.tasks s'.tasks
 take_moves s id budget s' r is =
     subst (λ (x : BoardState). AllMove s.tasks x.tasks) (sym is.leaves)
     (one_moves s id is.task (lent is.task budget) r is.named refl (is_taken budget is.ready refl))
 
-return_moves : (s : BoardState) (id : List ℕ) (o : Option Task) (s' : BoardState) → AreRising (slots_of s.tasks) → task_of id s.tasks ≡ o → Returns s o s' → AllMove s.tasks s'.tasks
+return_moves :
+    (s : BoardState) (id : List ℕ) (o : Option Task) (s' : BoardState) → AreRising (slots_of s.tasks)
+    → task_of id s.tasks ≡ o → Returns s o s' → AllMove s.tasks s'.tasks
 return_moves s id None s' r is back = absurd back
 return_moves s id (Some t) s' r is back =
     subst (λ (x : BoardState). AllMove s.tasks x.tasks) (sym back.2)
     (one_moves s id t back.0 r is (ap (λ (x : Task). x.id) back.1.advances) (returns back.1))
 
-step_moves : (s : BoardState) (e : Event) (r : EventReply) (s' : BoardState) → AreRising (slots_of s.tasks) → Step s e r s' → AllMove s.tasks s'.tasks
+step_moves :
+    (s : BoardState) (e : Event) (r : EventReply) (s' : BoardState) → AreRising (slots_of s.tasks) → Step s e r s'
+    → AllMove s.tasks s'.tasks
 step_moves s (event.Call q) (answer.Called a) s' b step = answers_move s q a s' b step
-step_moves s (event.Take id budget) (answer.Taken true) s' b step = take_moves s id budget s' b (taken_of s id budget s' step)
+step_moves s (event.Take id budget) (answer.Taken true) s' b step =
+    take_moves s id budget s' b (taken_of s id budget s' step)
 step_moves s (event.Take id budget) (answer.Taken false) s' b step = stay_same s s' step.1
 step_moves s (event.Return id) (answer.Returned true) s' b step = return_moves s id (task_of id s.tasks) s' b refl step
 step_moves s (event.Return id) (answer.Returned false) s' b step = stay_same s s' step.1
@@ -248,11 +329,15 @@ step_moves s (event.Take id budget) (answer.Returned x) s' b step = absurd step
 step_moves s (event.Return id) (answer.Called a) s' b step = absurd step
 step_moves s (event.Return id) (answer.Taken x) s' b step = absurd step
 
-moves_by : (s : BoardState) (e : Event) (r : EventReply) (s' : BoardState) → AreRising (slots_of s.tasks) → (s' ≡ s) ⊎ Step s e r s' → AllMove s.tasks s'.tasks
+moves_by :
+    (s : BoardState) (e : Event) (r : EventReply) (s' : BoardState) → AreRising (slots_of s.tasks)
+    → (s' ≡ s) ⊎ Step s e r s' → AllMove s.tasks s'.tasks
 moves_by s e r s' b (inl same) = stay_same s s' same
 moves_by s e r s' b (inr step) = step_moves s e r s' b step
 
-pub happens_moves : (s : BoardState) (e : Event) (r : EventReply) (s' : BoardState) → AreRising (slots_of s.tasks) → Happens s e r s' → AllMove s.tasks s'.tasks
+pub happens_moves :
+    (s : BoardState) (e : Event) (r : EventReply) (s' : BoardState) → AreRising (slots_of s.tasks) → Happens s e r s'
+    → AllMove s.tasks s'.tasks
 happens_moves s e r s' b h = moves_by s e r s' b (happens s e r s' h)
 
 no_turn : (b : Bool) → b ≡ true → b ≡ false → ⊥
@@ -271,21 +356,28 @@ same_turns t t' quiet (is_killed signal can is) = ap (λ (x : Task). x.turns) is
 same_turns t t' quiet (is_taken budget can is) = ap (λ (x : Task). x.turns) is
 same_turns t t' quiet (returns back) = absurd (no_turn (takes_turns t.status) back.legal.status quiet)
 
-stay_by : (t t' : Task) (o : Option Task) → takes_turns t.status ≡ false → Becomes t o → o ≡ Some t' → t'.turns ≡ t.turns
+stay_by :
+    (t t' : Task) (o : Option Task) → takes_turns t.status ≡ false → Becomes t o → o ≡ Some t' → t'.turns ≡ t.turns
 stay_by t t' _ quiet (goes can) at = absurd (none_is_not t' at)
 stay_by t t' _ quiet (remains u m) at = ap (λ (x : Task). x.turns) (sym (some_is u t' at)) ∙ same_turns t u quiet m
 
-pub quiet_stays : (s : BoardState) (e : Event) (r : EventReply) (s' : BoardState) → IsBoard s → Happens s e r s' → (k : ℕ) (t : Task) → task_in k s.tasks ≡ Some t → takes_turns t.status ≡ false
+pub quiet_stays :
+    (s : BoardState) (e : Event) (r : EventReply) (s' : BoardState) → IsBoard s → Happens s e r s' → (k : ℕ) (t : Task)
+    → task_in k s.tasks ≡ Some t → takes_turns t.status ≡ false
     → (t' : Task) → task_in k s'.tasks ≡ Some t' → t'.turns ≡ t.turns
-quiet_stays s e r s' b h k t there quiet t' at = stay_by t t' (task_in k s'.tasks) quiet (happens_moves s e r s' b.slots h k t there) at
+quiet_stays s e r s' b h k t there quiet t' at =
+    stay_by t t' (task_in k s'.tasks) quiet (happens_moves s e r s' b.slots h k t there) at
 
 -- ---- what is determined
 
 abbrev pub Same : {A : Type 0} → A → BoardState → A → BoardState → Type 0
 Same r s1 r' s2 = (r ≡ r') × (s1 ≡ s2)
 
-decided_same : (o : Option Refusal) (rep : Reply) (new s : BoardState) (r : Answer) (s1 : BoardState) (r' : Answer) (s2 : BoardState)
-    → DecidedBy o ((r ≡ Ok rep) × (s1 ≡ new)) s r s1 → DecidedBy o ((r' ≡ Ok rep) × (s2 ≡ new)) s r' s2 → Same r s1 r' s2
+decided_same :
+    (o : Option Refusal) (rep : Reply) (new s : BoardState) (r : Answer) (s1 : BoardState) (r' : Answer)
+    (s2 : BoardState)
+    → DecidedBy o ((r ≡ Ok rep) × (s1 ≡ new)) s r s1 → DecidedBy o ((r' ≡ Ok rep) × (s2 ≡ new)) s r' s2
+    → Same r s1 r' s2
 decided_same None rep new s r s1 r' s2 a b = (a.0 ∙ sym b.0, a.1 ∙ sym b.1)
 decided_same (Some e) rep new s r s1 r' s2 a b = (a.0 ∙ sym b.0, a.1 ∙ sym b.1)
 
@@ -294,35 +386,66 @@ refused_same : (o : Option Refusal) (s : BoardState) (r : Answer) (s1 : BoardSta
 refused_same None s r s1 r' s2 a b = absurd a
 refused_same (Some e) s r s1 r' s2 a b = (a.0 ∙ sym b.0, a.1 ∙ sym b.1)
 
-on_task_same : (s : BoardState) (id : List ℕ) (own : Task → Refusals) (rep : Task → Reply) (new : Task → BoardState) (o : Option Task) (r : Answer) (s1 : BoardState) (r' : Answer) (s2 : BoardState)
+on_task_same :
+    (s : BoardState) (id : List ℕ) (own : Task → Refusals) (rep : Task → Reply) (new : Task → BoardState)
+    (o : Option Task) (r : Answer) (s1 : BoardState) (r' : Answer) (s2 : BoardState)
     → OnFound id own rep new o s r s1 → OnFound id own rep new o s r' s2 → Same r s1 r' s2
-on_task_same s id own rep new None r s1 r' s2 a b = refused_same (first_refusal (task_refusals id own None)) s r s1 r' s2 a b
-on_task_same s id own rep new (Some t) r s1 r' s2 a b = decided_same (first_refusal (task_refusals id own (Some t))) (rep t) (new t) s r s1 r' s2 a b
+on_task_same s id own rep new None r s1 r' s2 a b =
+    refused_same (first_refusal (task_refusals id own None)) s r s1 r' s2 a b
+on_task_same s id own rep new (Some t) r s1 r' s2 a b =
+    decided_same (first_refusal (task_refusals id own (Some t))) (rep t) (new t) s r s1 r' s2 a b
 
-on_store_same : (s : BoardState) (refusals : Refusals) (rep : Reply) (new : StoreState) (r : Answer) (s1 : BoardState) (r' : Answer) (s2 : BoardState)
+on_store_same :
+    (s : BoardState) (refusals : Refusals) (rep : Reply) (new : StoreState) (r : Answer) (s1 : BoardState) (r' : Answer)
+    (s2 : BoardState)
     → OnStore s refusals rep new r s1 → OnStore s refusals rep new r' s2 → Same r s1 r' s2
-on_store_same s refusals rep new r s1 r' s2 a b = decided_same (first_refusal refusals) rep (with_store s new) s r s1 r' s2 a b
+on_store_same s refusals rep new r s1 r' s2 a b =
+    decided_same (first_refusal refusals) rep (with_store s new) s r s1 r' s2 a b
 
-pub answers_same : (s : BoardState) (q : Request) (r : Answer) (s1 : BoardState) (r' : Answer) (s2 : BoardState) → IsDetermined (event.Call q)
+pub answers_same :
+    (s : BoardState) (q : Request) (r : Answer) (s1 : BoardState) (r' : Answer) (s2 : BoardState)
+    → IsDetermined (event.Call q)
     → Answers s q r s1 → Answers s q r' s2 → Same r s1 r' s2
-answers_same s (request.Put bytes) r s1 r' s2 d a b = on_store_same s (put_refusals s.store bytes) (reply.Put (digest_of bytes) (length bytes)) (with_content s.store bytes) r s1 r' s2 a b
+answers_same s (request.Put bytes) r s1 r' s2 d a b =
+    on_store_same s (put_refusals s.store bytes) (reply.Put (digest_of bytes) (length bytes))
+    (with_content s.store bytes) r s1 r' s2 a b
 answers_same s (request.PutText text) r s1 r' s2 d a b = absurd d
-answers_same s (request.Remove digest) r s1 r' s2 d a b = on_store_same s (remove_refusals (used_by s.tasks) s.store digest) (reply.Remove digest) (without_content s.store digest) r s1 r' s2 a b
-answers_same s (request.LeaseCreate id) r s1 r' s2 d a b = on_store_same s (lease_create_refusals s.store id) (reply.LeaseCreate id) (with_lease s.store id) r s1 r' s2 a b
-answers_same s (request.LeaseAdd digest id) r s1 r' s2 d a b = on_store_same s (lease_add_refusals s.store digest id) (reply.LeaseAdd digest id) (with_member s.store digest id) r s1 r' s2 a b
-answers_same s (request.LeaseDelete id) r s1 r' s2 d a b = on_store_same s (lease_delete_refusals s.store id) (reply.LeaseDelete id) (without_lease s.store id) r s1 r' s2 a b
-answers_same s request.Gc r s1 r' s2 d a b = on_store_same s [] (reply.Gc (unheld (used_by s.tasks) s.store)) (collected (used_by s.tasks) s.store) r s1 r' s2 a b
+answers_same s (request.Remove digest) r s1 r' s2 d a b =
+    on_store_same s (remove_refusals (used_by s.tasks) s.store digest) (reply.Remove digest)
+    (without_content s.store digest) r s1 r' s2 a b
+answers_same s (request.LeaseCreate id) r s1 r' s2 d a b =
+    on_store_same s (lease_create_refusals s.store id) (reply.LeaseCreate id) (with_lease s.store id) r s1 r' s2 a b
+answers_same s (request.LeaseAdd digest id) r s1 r' s2 d a b =
+    on_store_same s (lease_add_refusals s.store digest id) (reply.LeaseAdd digest id)
+    (with_member s.store digest id) r s1 r' s2 a b
+answers_same s (request.LeaseDelete id) r s1 r' s2 d a b =
+    on_store_same s (lease_delete_refusals s.store id) (reply.LeaseDelete id) (without_lease s.store id) r s1 r' s2 a b
+answers_same s request.Gc r s1 r' s2 d a b =
+    on_store_same s [] (reply.Gc (unheld (used_by s.tasks) s.store))
+    (collected (used_by s.tasks) s.store) r s1 r' s2 a b
 answers_same s (request.Create config id) r s1 r' s2 d a b = absurd d
-answers_same s (request.Start id) r s1 r' s2 d a b = on_task_same s id start_refusals (λ t. reply.Start t.id (started t).status) (λ t. with_task s (started t)) (task_of id s.tasks) r s1 r' s2 a b
-answers_same s (request.Pause id) r s1 r' s2 d a b = on_task_same s id pause_refusals (λ t. reply.Pause t.id (paused t).status) (λ t. with_task s (paused t)) (task_of id s.tasks) r s1 r' s2 a b
-answers_same s (request.Resume id) r s1 r' s2 d a b = on_task_same s id resume_refusals (λ t. reply.Resume t.id (resumed t).status) (λ t. with_task s (resumed t)) (task_of id s.tasks) r s1 r' s2 a b
+answers_same s (request.Start id) r s1 r' s2 d a b =
+    on_task_same s id start_refusals (λ t. reply.Start t.id (started t).status) (λ t. with_task s (started t))
+    (task_of id s.tasks) r s1 r' s2 a b
+answers_same s (request.Pause id) r s1 r' s2 d a b =
+    on_task_same s id pause_refusals (λ t. reply.Pause t.id (paused t).status) (λ t. with_task s (paused t))
+    (task_of id s.tasks) r s1 r' s2 a b
+answers_same s (request.Resume id) r s1 r' s2 d a b =
+    on_task_same s id resume_refusals (λ t. reply.Resume t.id (resumed t).status) (λ t. with_task s (resumed t))
+    (task_of id s.tasks) r s1 r' s2 a b
 answers_same s (request.Kill id number) r s1 r' s2 d a b =
-    on_task_same s id (kill_refusals number) (λ t. reply.Kill t.id (killed_by (signal_of number) t).status) (λ t. with_task s (killed_by (signal_of number) t)) (task_of id s.tasks) r s1 r' s2 a b
-answers_same s (request.Delete id) r s1 r' s2 d a b = on_task_same s id delete_refusals (λ t. reply.Delete (state_of t)) (λ t. without_task s t.id) (task_of id s.tasks) r s1 r' s2 a b
-answers_same s (request.State id) r s1 r' s2 d a b = on_task_same s id state_refusals (λ t. reply.State (state_of t)) (λ t. s) (task_of id s.tasks) r s1 r' s2 a b
-answers_same s (request.Wait id) r s1 r' s2 d a b = on_task_same s id wait_refusals (λ t. reply.Wait (state_of t)) (λ t. s) (task_of id s.tasks) r s1 r' s2 a b
+    on_task_same s id (kill_refusals number) (λ t. reply.Kill t.id (killed_by (signal_of number) t).status)
+    (λ t. with_task s (killed_by (signal_of number) t)) (task_of id s.tasks) r s1 r' s2 a b
+answers_same s (request.Delete id) r s1 r' s2 d a b =
+    on_task_same s id delete_refusals (λ t. reply.Delete (state_of t)) (λ t. without_task s t.id)
+    (task_of id s.tasks) r s1 r' s2 a b
+answers_same s (request.State id) r s1 r' s2 d a b =
+    on_task_same s id state_refusals (λ t. reply.State (state_of t)) (λ t. s) (task_of id s.tasks) r s1 r' s2 a b
+answers_same s (request.Wait id) r s1 r' s2 d a b =
+    on_task_same s id wait_refusals (λ t. reply.Wait (state_of t)) (λ t. s) (task_of id s.tasks) r s1 r' s2 a b
 answers_same s (request.Output id number) r s1 r' s2 d a b =
-    on_task_same s id (output_refusals number) (λ t. output_reply t.id (output_of (stream_of number) t)) (λ t. s) (task_of id s.tasks) r s1 r' s2 a b
+    on_task_same s id (output_refusals number) (λ t. output_reply t.id (output_of (stream_of number) t)) (λ t. s)
+    (task_of id s.tasks) r s1 r' s2 a b
 
 -- a task returns in one way
 return_same : (s : BoardState) (o : Option Task) (s1 s2 : BoardState) → Returns s o s1 → Returns s o s2 → s1 ≡ s2
@@ -336,15 +459,24 @@ return_out : (s : BoardState) (o : Option Task) (s' : BoardState) → Returns s 
 return_out s None s' a = absurd a
 return_out s (Some t) s' a = ap (is_some {T = ℕ}) a.1.out
 
-step_same : (s : BoardState) (e : Event) (r : EventReply) (s1 : BoardState) (r' : EventReply) (s2 : BoardState) → IsDetermined e → Step s e r s1 → Step s e r' s2 → Same r s1 r' s2
-step_same s (event.Call q) (answer.Called x) s1 (answer.Called y) s2 d a b = let same = answers_same s q x s1 y s2 d a b in (ap answer.Called same.0, same.1)
-step_same s (event.Take id budget) (answer.Taken true) s1 (answer.Taken true) s2 d a b = (refl, some_is s1 s2 (sym a ∙ b))
-step_same s (event.Take id budget) (answer.Taken true) s1 (answer.Taken false) s2 d a b = absurd (none_is_not s1 (sym b.0 ∙ a))
-step_same s (event.Take id budget) (answer.Taken false) s1 (answer.Taken true) s2 d a b = absurd (none_is_not s2 (sym a.0 ∙ b))
+step_same :
+    (s : BoardState) (e : Event) (r : EventReply) (s1 : BoardState) (r' : EventReply) (s2 : BoardState) → IsDetermined e
+    → Step s e r s1 → Step s e r' s2 → Same r s1 r' s2
+step_same s (event.Call q) (answer.Called x) s1 (answer.Called y) s2 d a b =
+    let same = answers_same s q x s1 y s2 d a b in (ap answer.Called same.0, same.1)
+step_same s (event.Take id budget) (answer.Taken true) s1 (answer.Taken true) s2 d a b =
+    (refl, some_is s1 s2 (sym a ∙ b))
+step_same s (event.Take id budget) (answer.Taken true) s1 (answer.Taken false) s2 d a b =
+    absurd (none_is_not s1 (sym b.0 ∙ a))
+step_same s (event.Take id budget) (answer.Taken false) s1 (answer.Taken true) s2 d a b =
+    absurd (none_is_not s2 (sym a.0 ∙ b))
 step_same s (event.Take id budget) (answer.Taken false) s1 (answer.Taken false) s2 d a b = (refl, a.1 ∙ sym b.1)
-step_same s (event.Return id) (answer.Returned true) s1 (answer.Returned true) s2 d a b = (refl, return_same s (task_of id s.tasks) s1 s2 a b)
-step_same s (event.Return id) (answer.Returned true) s1 (answer.Returned false) s2 d a b = absurd (true≢false (sym (return_out s (task_of id s.tasks) s1 a) ∙ b.0))
-step_same s (event.Return id) (answer.Returned false) s1 (answer.Returned true) s2 d a b = absurd (true≢false (sym (return_out s (task_of id s.tasks) s2 b) ∙ a.0))
+step_same s (event.Return id) (answer.Returned true) s1 (answer.Returned true) s2 d a b =
+    (refl, return_same s (task_of id s.tasks) s1 s2 a b)
+step_same s (event.Return id) (answer.Returned true) s1 (answer.Returned false) s2 d a b =
+    absurd (true≢false (sym (return_out s (task_of id s.tasks) s1 a) ∙ b.0))
+step_same s (event.Return id) (answer.Returned false) s1 (answer.Returned true) s2 d a b =
+    absurd (true≢false (sym (return_out s (task_of id s.tasks) s2 b) ∙ a.0))
 step_same s (event.Return id) (answer.Returned false) s1 (answer.Returned false) s2 d a b = (refl, a.1 ∙ sym b.1)
 step_same s (event.Call q) (answer.Called x) s1 (answer.Taken y) s2 d a b = absurd b
 step_same s (event.Call q) (answer.Called x) s1 (answer.Returned y) s2 d a b = absurd b
@@ -359,11 +491,15 @@ step_same s (event.Return id) (answer.Returned x) s1 (answer.Taken y) s2 d a b =
 step_same s (event.Return id) (answer.Called x) s1 r' s2 d a b = absurd a
 step_same s (event.Return id) (answer.Taken x) s1 r' s2 d a b = absurd a
 
-is_step : (s : BoardState) (e : Event) (r : EventReply) (s' : BoardState) → met_no_memory e r ≡ false → Happens s e r s' → Step s e r s'
+is_step :
+    (s : BoardState) (e : Event) (r : EventReply) (s' : BoardState) → met_no_memory e r ≡ false
+    → Happens s e r s' → Step s e r s'
 is_step s e r s' is h = subst (λ (b : Bool). MatchBool b (s' ≡ s) (Step s e r s')) is h
 
-pub events_same : (s : BoardState) (e : Event) (r : EventReply) (s1 : BoardState) (r' : EventReply) (s2 : BoardState) → IsDetermined e
-    → met_no_memory e r ≡ false → met_no_memory e r' ≡ false → Happens s e r s1 → Happens s e r' s2 → (r ≡ r') × (s1 ≡ s2)
+pub events_same :
+    (s : BoardState) (e : Event) (r : EventReply) (s1 : BoardState) (r' : EventReply) (s2 : BoardState) → IsDetermined e
+    → met_no_memory e r ≡ false → met_no_memory e r' ≡ false → Happens s e r s1 → Happens s e r' s2
+    → (r ≡ r') × (s1 ≡ s2)
 events_same s e r s1 r' s2 d a b h g = step_same s e r s1 r' s2 d (is_step s e r s1 a h) (is_step s e r' s2 b g)
 
 -- ---- what a create leaves open
@@ -372,7 +508,9 @@ abbrev pub One : Type 0
 One = (bytes : List ℕ) (m n : Module) → Spells bytes m → Spells bytes n → m ≡ n
 
 -- bytes that can be opened are not refused
-opened_refused : (bytes : List ℕ) (p : ProcessConfig) (m : Module) (e : Refusal) → One → Openable bytes p m → CannotOpen bytes p e → ⊥
+opened_refused :
+    (bytes : List ℕ) (p : ProcessConfig) (m : Module) (e : Refusal) → One → Openable bytes p m
+    → CannotOpen bytes p e → ⊥
 opened_refused bytes p m _ one opens (no_module none) = none m opens.spelled.spells
 opened_refused bytes p m _ one opens (too_much over none) = none m opens.spelled
 opened_refused bytes p m _ one opens (invalid n spelled unfit) =
@@ -382,7 +520,9 @@ opened_refused bytes p m _ one opens (refused n e spelled valid is) =
     none_is_not e (sym opens.opens ∙ subst (λ (x : Module). instantiation_refusal x p ≡ Some e) same is)
 
 -- two refusals of the same bytes
-refused_agree : (bytes : List ℕ) (p : ProcessConfig) (e e' : Refusal) → One → CannotOpen bytes p e → CannotOpen bytes p e' → AgreeOnRefusal e e'
+refused_agree :
+    (bytes : List ℕ) (p : ProcessConfig) (e e' : Refusal) → One → CannotOpen bytes p e → CannotOpen bytes p e'
+    → AgreeOnRefusal e e'
 refused_agree bytes p _ _ one (no_module none) (no_module none') = inl refl
 refused_agree bytes p _ _ one (no_module none) (too_much over none') = inr (inl (refl, refl))
 refused_agree bytes p _ _ one (no_module none) (invalid m spelled unfit) = absurd (none m spelled.spells)
@@ -404,39 +544,60 @@ refused_agree bytes p _ _ one (refused m e spelled valid is) (refused n e' spell
     let same : n ≡ m = one bytes n m spelled'.spells spelled.spells in
     inl (some_is e e' (sym is ∙ subst (λ (x : Module). instantiation_refusal x p ≡ Some e') same is'))
 
-opens_agree : (s : BoardState) (id bytes : List ℕ) (p : ProcessConfig) (r : Answer) (s1 : BoardState) (r' : Answer) (s2 : BoardState) → One
+opens_agree :
+    (s : BoardState) (id bytes : List ℕ) (p : ProcessConfig) (r : Answer) (s1 : BoardState) (r' : Answer)
+    (s2 : BoardState) → One
     → Opens s id bytes p r s1 → Opens s id bytes p r' s2 → AgreeOnCreate s r s1 r' s2
 opens_agree s id bytes p (Err e) s1 (Err e') s2 one a b = (a.1, b.1, refused_agree bytes p e e' one a.0 b.0)
 opens_agree s id bytes p (Err e) s1 (Ok y) s2 one a b = opened_refused bytes p b.0 e one b.1 a.0
 opens_agree s id bytes p (Ok x) s1 (Err e') s2 one a b = opened_refused bytes p a.0 e' one a.1 b.0
 opens_agree s id bytes p (Ok x) s1 (Ok y) s2 one a b =
     let same : b.0 ≡ a.0 = one bytes b.0 a.0 b.1.spelled.spells a.1.spelled.spells in
-    let t = created_task id s.creates bytes a.0 p in
-    (a.2 ∙ sym b.2, t, a.3.0, b.3.0, a.3.2, b.3.2 ∙ ap (λ (m : Module). with_new_task s b.3.0 (created_task id s.creates bytes m p)) same)
+    let t = created_task id s.creates bytes a.0 p in (
+      a.2 ∙ sym b.2,
+      t,
+      a.3.0,
+      b.3.0,
+      a.3.2,
+      b.3.2 ∙ ap (λ (m : Module). with_new_task s b.3.0 (created_task id s.creates bytes m p)) same,
+    )
 
-creates_agree : (s : BoardState) (config id : List ℕ) (r : Answer) (s1 : BoardState) (r' : Answer) (s2 : BoardState) → One
+creates_agree :
+    (s : BoardState) (config id : List ℕ) (r : Answer) (s1 : BoardState) (r' : Answer) (s2 : BoardState) → One
     → Creates s config id r s1 → Creates s config id r' s2 → AgreeOnCreate s r s1 r' s2
 creates_agree s config id r s1 r' s2 one a b =
     let process : b.0 ≡ a.0 = some_is b.0 a.0 (sym b.2 ∙ a.2) in
-    let stored : b.1 ≡ a.1 = some_is b.1 a.1 (sym b.3 ∙ (ap (λ (p : ProcessConfig). content_in s.store.contents p.module) process ∙ a.3)) in
+    let stored :
+    b.1 ≡ a.1 =
+    some_is b.1 a.1 (sym b.3 ∙ (ap (λ (p : ProcessConfig). content_in s.store.contents p.module) process ∙ a.3)) in
     let moved = subst (λ (x : List ℕ). Opens s id x b.0 r' s2) stored b.4 in
     opens_agree s id a.1 a.0 r s1 r' s2 one a.4 (subst (λ (p : ProcessConfig). Opens s id a.1 p r' s2) process moved)
 
-create_agrees_by : (s : BoardState) (config id : List ℕ) (o : Option Refusal) (r : Answer) (s1 : BoardState) (r' : Answer) (s2 : BoardState) → One
-    → DecidedBy o (Creates s config id r s1) s r s1 → DecidedBy o (Creates s config id r' s2) s r' s2 → AgreeOnCreate s r s1 r' s2
+create_agrees_by :
+    (s : BoardState) (config id : List ℕ) (o : Option Refusal) (r : Answer) (s1 : BoardState) (r' : Answer)
+    (s2 : BoardState) → One
+    → DecidedBy o (Creates s config id r s1) s r s1 → DecidedBy o (Creates s config id r' s2) s r' s2
+    → AgreeOnCreate s r s1 r' s2
 create_agrees_by s config id None r s1 r' s2 one a b = creates_agree s config id r s1 r' s2 one a b
 create_agrees_by s config id (Some e) r s1 r' s2 one a b =
     let P : Answer → Answer → Type 0 = λ x y. AgreeOnCreate s x s1 y s2 in
     let both : P (Err e) (Err e) = (a.1, b.1, inl refl) in
     subst (λ (x : Answer). P x r') (sym a.0) (subst (λ (y : Answer). P (Err e) y) (sym b.0) both)
 
-pub create_agrees : (s : BoardState) (config id : List ℕ) (r : Answer) (s1 : BoardState) (r' : Answer) (s2 : BoardState) → One
-    → Answers s (request.Create config id) r s1 → Answers s (request.Create config id) r' s2 → AgreeOnCreate s r s1 r' s2
-create_agrees s config id r s1 r' s2 one a b = create_agrees_by s config id (first_refusal (create_refusals s config id)) r s1 r' s2 one a b
+pub create_agrees :
+    (s : BoardState) (config id : List ℕ) (r : Answer) (s1 : BoardState) (r' : Answer) (s2 : BoardState) → One
+    → Answers s (request.Create config id) r s1 → Answers s (request.Create config id) r' s2
+    → AgreeOnCreate s r s1 r' s2
+create_agrees s config id r s1 r' s2 one a b =
+    create_agrees_by s config id (first_refusal (create_refusals s config id)) r s1 r' s2 one a b
 
 -- ---- what is never invalid
 
-never_invalid_by : (a b c d : Bool) → cond a (Some refusal.NoEntry) (cond b (Some refusal.BadImport) (cond c (Some refusal.Limit) (cond d (Some refusal.SegmentOutOfBounds) None))) ≡ Some refusal.Invalid → ⊥
+never_invalid_by :
+    (a b c d : Bool)
+    → cond a (Some refusal.NoEntry)
+    (cond b (Some refusal.BadImport) (cond c (Some refusal.Limit) (cond d (Some refusal.SegmentOutOfBounds) None)))
+    ≡ Some refusal.Invalid → ⊥
 never_invalid_by true b c d h = cc
 never_invalid_by false true c d h = cc
 never_invalid_by false false true d h = cc
@@ -446,7 +607,9 @@ never_invalid_by false false false false h = cc
 never_invalid : (m : Module) (p : ProcessConfig) → instantiation_refusal m p ≡ Some refusal.Invalid → ⊥
 never_invalid m p h = never_invalid_by _ _ _ _ h
 
-not_invalid_by : (bytes : List ℕ) (p : ProcessConfig) (m : Module) (e : Refusal) → One → IsSpelled bytes m → ValidModule m → e ≡ refusal.Invalid → CannotOpen bytes p e → ⊥
+not_invalid_by :
+    (bytes : List ℕ) (p : ProcessConfig) (m : Module) (e : Refusal) → One → IsSpelled bytes m → ValidModule m
+    → e ≡ refusal.Invalid → CannotOpen bytes p e → ⊥
 not_invalid_by bytes p m _ one spelled valid is (no_module none) = none m spelled.spells
 not_invalid_by bytes p m _ one spelled valid is (too_much over none) = none m spelled
 not_invalid_by bytes p m _ one spelled valid is (invalid n other unfit) =
@@ -454,5 +617,7 @@ not_invalid_by bytes p m _ one spelled valid is (invalid n other unfit) =
     unfit (subst ValidModule same valid)
 not_invalid_by bytes p m _ one spelled valid is (refused n e other ok why) = never_invalid n p (why ∙ ap Some is)
 
-pub not_invalid : (bytes : List ℕ) (p : ProcessConfig) (m : Module) → One → IsSpelled bytes m → ValidModule m → CannotOpen bytes p refusal.Invalid → ⊥
+pub not_invalid :
+    (bytes : List ℕ) (p : ProcessConfig) (m : Module) → One → IsSpelled bytes m → ValidModule m
+    → CannotOpen bytes p refusal.Invalid → ⊥
 not_invalid bytes p m one spelled valid h = not_invalid_by bytes p m refusal.Invalid one spelled valid refl h

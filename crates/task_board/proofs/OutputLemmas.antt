@@ -26,23 +26,33 @@ module _ (s : BoardState) (id : List ℕ) (number : ℕ) where
   there e is = ap (option_map (λ (x : ℕ × Task). x.1)) is.found
 
   -- the number is no stream's
-  pub no_stream : (e : ℕ × Task) → stream_of number ≡ None → IsAllowed s id call.State e → RefusesOutput s id number refusal.OutOfRange
+  pub no_stream :
+      (e : ℕ × Task) → stream_of number ≡ None → IsAllowed s id call.State e
+      → RefusesOutput s id number refusal.OutOfRange
   no_stream e none is =
       let off : is_none (stream_of number) ≡ true = ap is_none none in
       let named = is.named in
-      let own : first_refusal (task_refusals id (output_refusals number) (Some e.1)) ≡ Some refusal.OutOfRange = rw (named, off) refl in
+      let own :
+      first_refusal (task_refusals id (output_refusals number) (Some e.1)) ≡ Some refusal.OutOfRange =
+      rw (named, off) refl in
       ap (λ (o : Option Task). first_refusal (task_refusals id (output_refusals number) o)) (there e is) ∙ own
 
   -- its slice is out
-  pub is_busy : (e : ℕ × Task) (x : Stream) → stream_of number ≡ Some x → is_some e.1.out ≡ true → IsAllowed s id call.State e → RefusesOutput s id number refusal.Busy
+  pub is_busy :
+      (e : ℕ × Task) (x : Stream) → stream_of number ≡ Some x → is_some e.1.out ≡ true → IsAllowed s id call.State e
+      → RefusesOutput s id number refusal.Busy
   is_busy e x some out is =
       let on : is_none (stream_of number) ≡ false = ap is_none some in
       let named = is.named in
-      let own : first_refusal (task_refusals id (output_refusals number) (Some e.1)) ≡ Some refusal.Busy = rw (named, on, out) refl in
+      let own :
+      first_refusal (task_refusals id (output_refusals number) (Some e.1)) ≡ Some refusal.Busy =
+      rw (named, on, out) refl in
       ap (λ (o : Option Task). first_refusal (task_refusals id (output_refusals number) o)) (there e is) ∙ own
 
   -- its machine is on the board
-  pub tells : (e : ℕ × Task) (x : Stream) (bytes : List ℕ) → stream_of number ≡ Some x → e.1.out ≡ None → bytes ≡ output_of (Some x) e.1 → IsAllowed s id call.State e → TellsOutput s id number bytes
+  pub tells :
+      (e : ℕ × Task) (x : Stream) (bytes : List ℕ) → stream_of number ≡ Some x → e.1.out ≡ None
+      → bytes ≡ output_of (Some x) e.1 → IsAllowed s id call.State e → TellsOutput s id number bytes
   tells e x bytes some idle is_output is =
       let on : is_none (stream_of number) ≡ false = ap is_none some in
       let home : is_some e.1.out ≡ false = ap is_some idle in
@@ -54,24 +64,36 @@ module _ (s : BoardState) (id : List ℕ) (number : ℕ) where
         is = is_output ∙ ap (λ (o : Option Stream). output_of o e.1) (sym some);
       }
 
-  pub output_answers : (bytes : List ℕ) → TellsOutput s id number bytes → Answers s (request.Output id number) (Ok (reply.Output bytes id (length bytes))) s
+  pub output_answers :
+      (bytes : List ℕ) → TellsOutput s id number bytes
+      → Answers s (request.Output id number) (Ok (reply.Output bytes id (length bytes))) s
   output_answers bytes t =
-      subst (λ (x : List ℕ). Answers s (request.Output id number) (Ok (output_reply x bytes)) s) (task_named id s.tasks t.task t.found)
+      subst (λ (x : List ℕ). Answers s (request.Output id number) (Ok (output_reply x bytes)) s)
+      (task_named id s.tasks t.task t.found)
       (subst (λ (x : List ℕ). Answers s (request.Output id number) (Ok (output_reply t.task.id x)) s) (sym t.is)
-      (accepted_on s id (output_refusals number) (λ u. output_reply u.id (output_of (stream_of number) u)) (λ u. s) t.task s t.found t.accepted refl))
+      (accepted_on s id (output_refusals number) (λ u. output_reply u.id (output_of (stream_of number) u)) (λ u. s)
+      t.task s t.found t.accepted refl))
 
-  output_known : (o : Option Task) (e : Refusal) → first_refusal (task_refusals id (output_refusals number) o) ≡ Some e → e ≢ refusal.NoMemory
+  output_known :
+      (o : Option Task) (e : Refusal) → first_refusal (task_refusals id (output_refusals number) o) ≡ Some e
+      → e ≢ refusal.NoMemory
   output_known None e h = not_memory (not (is_id id)) true refusal.NotFound e (λ x. cc) h
   output_known (Some t) e h = by (not (is_id id)) (is_none (stream_of number)) (is_some t.out) h
     where
-      by : (a b c : Bool) → cond a (Some refusal.BadId) (cond b (Some refusal.OutOfRange) (cond c (Some refusal.Busy) None)) ≡ Some e → e ≢ refusal.NoMemory
+      by :
+          (a b c : Bool)
+          → cond a (Some refusal.BadId) (cond b (Some refusal.OutOfRange) (cond c (Some refusal.Busy) None)) ≡ Some e
+          → e ≢ refusal.NoMemory
       by true b c g is = cc
       by false true c g is = cc
       by false false true g is = cc
       by false false false g is = cc
 
-  pub refused_output : (e : Refusal) → RefusesOutput s id number e → (e ≢ refusal.NoMemory) × Answers s (request.Output id number) (Err e) s
+  pub refused_output :
+      (e : Refusal) → RefusesOutput s id number e
+      → (e ≢ refusal.NoMemory) × Answers s (request.Output id number) (Err e) s
   refused_output e h = (
     output_known (task_of id s.tasks) e h,
-    refused_on s id (output_refusals number) (λ u. output_reply u.id (output_of (stream_of number) u)) (λ u. s) (task_of id s.tasks) e h,
+    refused_on s id (output_refusals number) (λ u. output_reply u.id (output_of (stream_of number) u)) (λ u. s)
+        (task_of id s.tasks) e h,
   )

@@ -12,17 +12,21 @@ none_below : (j key : ℕ) (xs : List (Option Task)) → j < key → task_in j (
 none_below j key [] below = refl
 none_below j key (None ∷ xs) below = none_below j (key + 1) xs (omega (arith, below))
 none_below j key (Some t ∷ xs) below =
-    cond_is_false (nat_eq key j) (Some t) (task_in j (entries_from (key + 1) xs)) (other_slot key j (λ e. omega (arith, below, e)))
+    cond_is_false (nat_eq key j) (Some t) (task_in j (entries_from (key + 1) xs))
+    (other_slot key j (λ e. omega (arith, below, e)))
     ∙ none_below j (key + 1) xs (omega (arith, below))
 
 -- a slot has what the slab has under its key
-in_from : (key i j : ℕ) (xs : List (Option Task)) → j ≡ key + i → task_in j (entries_from key xs) ≡ slice_index_or xs i None
+in_from :
+    (key i j : ℕ) (xs : List (Option Task)) → j ≡ key + i → task_in j (entries_from key xs) ≡ slice_index_or xs i None
 in_from key i j [] is = refl
 in_from key zero j (None ∷ xs) is = none_below j (key + 1) xs (omega (arith, is))
-in_from key zero j (Some t ∷ xs) is = cond_is_true (nat_eq key j) (Some t) (task_in j (entries_from (key + 1) xs)) (same_slot key j (omega (arith, is)))
+in_from key zero j (Some t ∷ xs) is =
+    cond_is_true (nat_eq key j) (Some t) (task_in j (entries_from (key + 1) xs)) (same_slot key j (omega (arith, is)))
 in_from key (suc i) j (None ∷ xs) is = in_from (key + 1) i j xs (omega (arith, is))
 in_from key (suc i) j (Some t ∷ xs) is =
-    cond_is_false (nat_eq key j) (Some t) (task_in j (entries_from (key + 1) xs)) (other_slot key j (λ e. omega (arith, is, e)))
+    cond_is_false (nat_eq key j) (Some t) (task_in j (entries_from (key + 1) xs))
+    (other_slot key j (λ e. omega (arith, is, e)))
     ∙ in_from (key + 1) i j xs (omega (arith, is))
 
 pub in_slab : (s : Slab Task) (k : ℕ) → task_in k (entries s) ≡ get s k
@@ -30,34 +34,41 @@ in_slab s k = in_from 0 k k s.slots (omega arith)
 
 -- ---- a write in place
 
-changed_from : (key i : ℕ) (old new : Task) (xs : List (Option Task)) → slice_index_or xs i None ≡ Some old → old.id ≡ new.id
-    → AreDistinct (ids_of (entries_from key xs)) → change_task new (entries_from key xs) ≡ entries_from key (set xs i (Some new))
+changed_from :
+    (key i : ℕ) (old new : Task) (xs : List (Option Task)) → slice_index_or xs i None ≡ Some old → old.id ≡ new.id
+    → AreDistinct (ids_of (entries_from key xs))
+    → change_task new (entries_from key xs) ≡ entries_from key (set xs i (Some new))
 changed_from key i old new [] there same d = absurd (none_is_not old there)
 changed_from key zero old new (None ∷ xs) there same d = absurd (none_is_not old there)
 changed_from key zero old new (Some t ∷ xs) there same d =
-    cond_is_true (bytes_eq t.id new.id) ((key, new) ∷ entries_from (key + 1) xs) ((key, t) ∷ change_task new (entries_from (key + 1) xs))
+    cond_is_true (bytes_eq t.id new.id) ((key, new) ∷ entries_from (key + 1) xs)
+    ((key, t) ∷ change_task new (entries_from (key + 1) xs))
     (same_id t.id new.id (ap (λ (u : Task). u.id) (some_is t old there) ∙ same))
 changed_from key (suc i) old new (None ∷ xs) there same d = changed_from (key + 1) i old new xs there same d
 changed_from key (suc i) old new (Some t ∷ xs) there same d =
     let j = key + 1 + i in
     let at : task_in j (entries_from (key + 1) xs) ≡ Some old = in_from (key + 1) i j xs refl ∙ there in
     let away : t.id ≢ new.id = λ e. id_away t.id j old (entries_from (key + 1) xs) d.0 at (e ∙ sym same) in
-    cond_is_false (bytes_eq t.id new.id) ((key, new) ∷ entries_from (key + 1) xs) ((key, t) ∷ change_task new (entries_from (key + 1) xs)) (other_id t.id new.id away)
+    cond_is_false (bytes_eq t.id new.id) ((key, new) ∷ entries_from (key + 1) xs)
+    ((key, t) ∷ change_task new (entries_from (key + 1) xs)) (other_id t.id new.id away)
     ∙ ap (λ (es : Entries). (key, t) ∷ es) (changed_from (key + 1) i old new xs there same d.1)
 
 -- a task that keeps its id is changed where it is
-pub changed : (s : Slab Task) (k : ℕ) (old new : Task) → get s k ≡ Some old → old.id ≡ new.id → AreDistinct (ids_of (entries s))
+pub changed :
+    (s : Slab Task) (k : ℕ) (old new : Task) → get s k ≡ Some old → old.id ≡ new.id → AreDistinct (ids_of (entries s))
     → change_task new (entries s) ≡ entries_from 0 (set s.slots k (Some new))
 changed s k old new there same d = changed_from 0 k old new s.slots there same d
 
 -- ---- a removal
 
 removed_from : (key i : ℕ) (old : Task) (xs : List (Option Task)) → slice_index_or xs i None ≡ Some old
-    → AreDistinct (ids_of (entries_from key xs)) → entries_from key (set xs i None) ≡ remove_task old.id (entries_from key xs)
+    → AreDistinct (ids_of (entries_from key xs))
+    → entries_from key (set xs i None) ≡ remove_task old.id (entries_from key xs)
 removed_from key i old [] there d = absurd (none_is_not old there)
 removed_from key zero old (None ∷ xs) there d = absurd (none_is_not old there)
 removed_from key zero old (Some t ∷ xs) there d =
-    sym (cond_is_true (bytes_eq t.id old.id) (entries_from (key + 1) xs) ((key, t) ∷ remove_task old.id (entries_from (key + 1) xs))
+    sym (cond_is_true (bytes_eq t.id old.id) (entries_from (key + 1) xs)
+    ((key, t) ∷ remove_task old.id (entries_from (key + 1) xs))
     (same_id t.id old.id (ap (λ (u : Task). u.id) (some_is t old there))))
 removed_from key (suc i) old (None ∷ xs) there d = removed_from (key + 1) i old xs there d
 removed_from key (suc i) old (Some t ∷ xs) there d =
@@ -65,7 +76,9 @@ removed_from key (suc i) old (Some t ∷ xs) there d =
     let at : task_in j (entries_from (key + 1) xs) ≡ Some old = in_from (key + 1) i j xs refl ∙ there in
     let away : t.id ≢ old.id = id_away t.id j old (entries_from (key + 1) xs) d.0 at in
     ap (λ (es : Entries). (key, t) ∷ es) (removed_from (key + 1) i old xs there d.1)
-    ∙ sym (cond_is_false (bytes_eq t.id old.id) (entries_from (key + 1) xs) ((key, t) ∷ remove_task old.id (entries_from (key + 1) xs)) (other_id t.id old.id away))
+    ∙ sym
+    (cond_is_false (bytes_eq t.id old.id) (entries_from (key + 1) xs)
+    ((key, t) ∷ remove_task old.id (entries_from (key + 1) xs)) (other_id t.id old.id away))
 
 -- a task is removed from where it is
 pub removed : (s : Slab Task) (k : ℕ) (old : Task) → get s k ≡ Some old → AreDistinct (ids_of (entries s))
@@ -87,7 +100,9 @@ at_placed [] (suc k) t = at_placed [] k t
 at_placed (x ∷ xs) zero t = refl
 at_placed (x ∷ xs) (suc k) t = at_placed xs k t
 
-beside_placed : (xs : List (Option Task)) (k j : ℕ) (t : Task) → j ≢ k → slice_index_or (placed xs k t) j None ≡ slice_index_or xs j None
+beside_placed :
+    (xs : List (Option Task)) (k j : ℕ) (t : Task) → j ≢ k
+    → slice_index_or (placed xs k t) j None ≡ slice_index_or xs j None
 beside_placed [] zero zero t other = absurd (other refl)
 beside_placed [] zero (suc j) t other = refl
 beside_placed [] (suc k) zero t other = refl
@@ -119,10 +134,14 @@ not_below : (k j : ℕ) → j < k → nat_lt k j ≡ false
 not_below k j h = grind (arith, nat_tests, h)
 
 -- a task before all others
-put_first : (key k : ℕ) (t : Task) (xs : List (Option Task)) → k < key → put_task k t (entries_from key xs) ≡ (k, t) ∷ entries_from key xs
+put_first :
+    (key k : ℕ) (t : Task) (xs : List (Option Task)) → k < key
+    → put_task k t (entries_from key xs) ≡ (k, t) ∷ entries_from key xs
 put_first key k t [] h = refl
 put_first key k t (None ∷ xs) h = put_first (key + 1) k t xs (omega (arith, h))
-put_first key k t (Some u ∷ xs) h = cond_is_true (nat_lt k key) ((k, t) ∷ (key, u) ∷ entries_from (key + 1) xs) ((key, u) ∷ put_task k t (entries_from (key + 1) xs)) (below k key h)
+put_first key k t (Some u ∷ xs) h =
+    cond_is_true (nat_lt k key) ((k, t) ∷ (key, u) ∷ entries_from (key + 1) xs)
+    ((key, u) ∷ put_task k t (entries_from (key + 1) xs)) (below k key h)
 
 placed_from : (key i k : ℕ) (t : Task) (xs : List (Option Task)) → k ≡ key + i → slice_index_or xs i None ≡ None
     → entries_from key (placed xs i t) ≡ put_task k t (entries_from key xs)
@@ -135,14 +154,17 @@ placed_from key zero k t (Some u ∷ xs) is free = absurd (none_is_not u (sym fr
 placed_from key (suc i) k t (None ∷ xs) is free = placed_from (key + 1) i k t xs (omega (arith, is)) free
 placed_from key (suc i) k t (Some u ∷ xs) is free =
     ap (λ (es : Entries). (key, u) ∷ es) (placed_from (key + 1) i k t xs (omega (arith, is)) free)
-    ∙ sym (cond_is_false (nat_lt k key) ((k, t) ∷ (key, u) ∷ entries_from (key + 1) xs) ((key, u) ∷ put_task k t (entries_from (key + 1) xs)) (not_below k key (omega (arith, is))))
+    ∙ sym
+    (cond_is_false (nat_lt k key) ((k, t) ∷ (key, u) ∷ entries_from (key + 1) xs)
+    ((key, u) ∷ put_task k t (entries_from (key + 1) xs)) (not_below k key (omega (arith, is))))
 
 -- a task that is inserted under a free key
 pub inserted : (old new : Slab Task) (k : ℕ) (t : Task) → get old k ≡ None → Updates old new k (Some t)
     → entries new ≡ put_task k t (entries old)
 inserted old new k t free updates =
     same_entries 0 new.slots (placed old.slots k t) (λ j. by_slot j k
-    (λ y same. subst (λ (i : ℕ). slice_index_or new.slots i None ≡ slice_index_or (placed old.slots k t) i None) (sym same) (updates.changed ∙ sym (at_placed old.slots k t)))
+    (λ y same. subst (λ (i : ℕ). slice_index_or new.slots i None ≡ slice_index_or (placed old.slots k t) i None)
+    (sym same) (updates.changed ∙ sym (at_placed old.slots k t)))
     (λ n other. updates.others j other ∙ sym (beside_placed old.slots k j t other)))
     ∙ placed_from 0 k k t old.slots (omega arith) free
 
@@ -158,7 +180,8 @@ count_from key [] = refl
 count_from key (None ∷ xs) = count_from (key + 1) xs
 count_from key (Some t ∷ xs) = let rest = count_from (key + 1) xs in omega (arith, rest)
 
-filled_more : (x : Option Task) (xs : List (Option Task)) → filled (x ∷ xs) ≡ cond (is_some x) (1 + filled xs) (filled xs)
+filled_more :
+    (x : Option Task) (xs : List (Option Task)) → filled (x ∷ xs) ≡ cond (is_some x) (1 + filled xs) (filled xs)
 filled_more None xs = refl
 filled_more (Some t) xs = refl
 

@@ -27,7 +27,8 @@ use Rattle.task_board.proofs.EntryLemmas.{none_is_not, some_is, cond_true, cond_
 
 -- ---- lists
 
-pub each_map : {X Y : Type 0} (P : Y → Type 0) (f : X → Y) (xs : List X) → Each (λ (x : X). P (f x)) xs → Each P (map f xs)
+pub each_map :
+    {X Y : Type 0} (P : Y → Type 0) (f : X → Y) (xs : List X) → Each (λ (x : X). P (f x)) xs → Each P (map f xs)
 each_map {X} {Y} P f [] each = tt
 each_map {X} {Y} P f (x ∷ xs) each = (each.0, each_map P f xs each.1)
 
@@ -39,9 +40,11 @@ pub each_append : {X : Type 0} (P : X → Type 0) (xs : List X) (y : X) → Each
 each_append {X} P [] y each p = (p, tt)
 each_append {X} P (x ∷ xs) y each p = (each.0, each_append P xs y each.1 p)
 
-pub distinct_append : {X : Type 0} (xs : List X) (y : X) → AreDistinct xs → Each (λ (x : X). x ≢ y) xs → AreDistinct (xs ++ y ∷ [])
+pub distinct_append :
+    {X : Type 0} (xs : List X) (y : X) → AreDistinct xs → Each (λ (x : X). x ≢ y) xs → AreDistinct (xs ++ y ∷ [])
 distinct_append {X} [] y d away = (tt, tt)
-distinct_append {X} (x ∷ xs) y d away = (each_append (λ (z : X). x ≢ z) xs y d.0 away.0, distinct_append xs y d.1 away.1)
+distinct_append {X} (x ∷ xs) y d away =
+    (each_append (λ (z : X). x ≢ z) xs y d.0 away.0, distinct_append xs y d.1 away.1)
 
 pub map_append : {X Y : Type 0} (f : X → Y) (xs : List X) (y : X) → map f (xs ++ y ∷ []) ≡ map f xs ++ f y ∷ []
 map_append {X} {Y} f [] y = refl
@@ -60,7 +63,8 @@ change_sound s k old t b found same sound = record {
   tasks = change_each (IsSound s.creates) t s.tasks sound b.tasks;
   slots = subst AreRising (sym (change_slots t s.tasks)) b.slots;
   ids = subst (λ (xs : List (List ℕ)). AreDistinct xs) (sym (change_ids t s.tasks)) b.ids;
-  incarnations = subst (λ (xs : List ℕ). AreDistinct xs) (sym (change_incarnations t old k s.tasks found same)) b.incarnations;
+  incarnations =
+      subst (λ (xs : List ℕ). AreDistinct xs) (sym (change_incarnations t old k s.tasks found same)) b.incarnations;
   contents = b.contents;
   digests = b.digests;
   few_tasks = subst (λ (n : ℕ). n ≤ max_tasks) (sym (change_length t s.tasks)) b.few_tasks;
@@ -70,7 +74,9 @@ change_sound s k old t b found same sound = record {
 
 -- ---- one task less
 
-pub remove_sound : (s : BoardState) (id : List ℕ) (k : ℕ) (old : Task) → IsBoard s → entry_of id s.tasks ≡ Some (k, old) → IsBoard (without_task s id)
+pub remove_sound :
+    (s : BoardState) (id : List ℕ) (k : ℕ) (old : Task) → IsBoard s → entry_of id s.tasks ≡ Some (k, old)
+    → IsBoard (without_task s id)
 remove_sound s id k old b found = record {
   tasks = remove_entries (λ (e : ℕ × Task). IsSound s.creates e.1) id s.tasks b.tasks;
   slots = remove_rising id s.tasks b.slots;
@@ -85,16 +91,25 @@ remove_sound s id k old b found = record {
 
 -- ---- one task more
 
-put_slot_each : (j k : ℕ) (t : Task) (es : Entries) → Each (λ (m : ℕ). j < m) (slots_of es) → j < k → Each (λ (m : ℕ). j < m) (slots_of (put_task k t es))
+put_slot_each :
+    (j k : ℕ) (t : Task) (es : Entries) → Each (λ (m : ℕ). j < m) (slots_of es) → j < k
+    → Each (λ (m : ℕ). j < m) (slots_of (put_task k t es))
 put_slot_each j k t [] each below = (below, tt)
 put_slot_each j k t (e ∷ es) each below =
-    elim (nat_lt k e.0) as (λ (b : Bool). Each (λ (m : ℕ). j < m) (slots_of (cond b ((k, t) ∷ e ∷ es) (e ∷ put_task k t es)))) [ true ↦ (below, each) | false ↦ (each.0, put_slot_each j k t es each.1 below) ]
+    elim (nat_lt k e.0) as
+    (λ (b : Bool). Each (λ (m : ℕ). j < m) (slots_of (cond b ((k, t) ∷ e ∷ es) (e ∷ put_task k t es))))
+    [ true ↦ (below, each) | false ↦ (each.0, put_slot_each j k t es each.1 below) ]
 
-above_all : (k : ℕ) (e : ℕ × Task) (es : Entries) → k < e.0 → Each (λ (m : ℕ). e.0 < m) (slots_of es) → Each (λ (m : ℕ). k < m) (slots_of es)
-above_all k e es below each = each_imp (λ (m : ℕ). e.0 < m) (λ (m : ℕ). k < m) (slots_of es) (λ m h. omega (arith, below, h)) each
+above_all :
+    (k : ℕ) (e : ℕ × Task) (es : Entries) → k < e.0 → Each (λ (m : ℕ). e.0 < m) (slots_of es)
+    → Each (λ (m : ℕ). k < m) (slots_of es)
+above_all k e es below each =
+    each_imp (λ (m : ℕ). e.0 < m) (λ (m : ℕ). k < m) (slots_of es) (λ m h. omega (arith, below, h)) each
 
 -- before this entry, or after it
-rising_by : (k : ℕ) (t : Task) (e : ℕ × Task) (es : Entries) → AreRising (slots_of (e ∷ es)) → nat_eq e.0 k ≡ false → AreRising (slots_of (put_task k t es))
+rising_by :
+    (k : ℕ) (t : Task) (e : ℕ × Task) (es : Entries) → AreRising (slots_of (e ∷ es)) → nat_eq e.0 k ≡ false
+    → AreRising (slots_of (put_task k t es))
     → (b : Bool) → nat_lt k e.0 ≡ b → AreRising (slots_of (cond b ((k, t) ∷ e ∷ es) (e ∷ put_task k t es)))
 rising_by k t e es r off rest true is =
     let below : k < e.0 = grind (arith, nat_tests, is) in
@@ -103,44 +118,81 @@ rising_by k t e es r off rest false is =
     let below : e.0 < k = grind (arith, nat_tests, is, off) in
     (put_slot_each e.0 k t es r.0 below, rest)
 
-put_rising : (k : ℕ) (t : Task) (es : Entries) → AreRising (slots_of es) → task_in k es ≡ None → AreRising (slots_of (put_task k t es))
+put_rising :
+    (k : ℕ) (t : Task) (es : Entries) → AreRising (slots_of es) → task_in k es ≡ None
+    → AreRising (slots_of (put_task k t es))
 put_rising k t [] r free = (tt, tt)
 put_rising k t (e ∷ es) r free =
     by_slot e.0 k
     (λ y same. absurd (none_is_not e.1 (sym (cond_true (nat_eq e.0 k) (Some e.1) (task_in k es) None y free))))
-    (λ n other. rising_by k t e es r n (put_rising k t es r.1 (cond_false (nat_eq e.0 k) (Some e.1) (task_in k es) None n free)) (nat_lt k e.0) refl)
+    (λ n other. rising_by k t e es r n
+    (put_rising k t es r.1 (cond_false (nat_eq e.0 k) (Some e.1) (task_in k es) None n free)) (nat_lt k e.0) refl)
 
-put_id_each : (x : List ℕ) (k : ℕ) (t : Task) (es : Entries) → x ≢ t.id → Each (λ (y : List ℕ). x ≢ y) (ids_of es) → Each (λ (y : List ℕ). x ≢ y) (ids_of (put_task k t es))
+put_id_each :
+    (x : List ℕ) (k : ℕ) (t : Task) (es : Entries) → x ≢ t.id → Each (λ (y : List ℕ). x ≢ y) (ids_of es)
+    → Each (λ (y : List ℕ). x ≢ y) (ids_of (put_task k t es))
 put_id_each x k t [] other each = (other, tt)
 put_id_each x k t (e ∷ es) other each =
-    elim (nat_lt k e.0) as (λ (b : Bool). Each (λ (y : List ℕ). x ≢ y) (ids_of (cond b ((k, t) ∷ e ∷ es) (e ∷ put_task k t es)))) [ true ↦ (other, each) | false ↦ (each.0, put_id_each x k t es other each.1) ]
+    elim (nat_lt k e.0) as
+    (λ (b : Bool). Each (λ (y : List ℕ). x ≢ y) (ids_of (cond b ((k, t) ∷ e ∷ es) (e ∷ put_task k t es))))
+    [ true ↦ (other, each) | false ↦ (each.0, put_id_each x k t es other each.1) ]
 
 -- no task has the id
 all_other : (id : List ℕ) (es : Entries) → task_of id es ≡ None → Each (λ (y : List ℕ). id ≢ y) (ids_of es)
 all_other id [] none = tt
 all_other id (e ∷ es) none =
     by_id e.1.id id
-    (λ y same_y. absurd (none_is_not e.1 (sym (subst (λ (c : Bool). option_map (λ (z : ℕ × Task). z.1) (cond c (Some e) (entry_of id es)) ≡ None) y none))))
-    (λ n other_n. ((λ is. other_n (sym is)), all_other id es (subst (λ (c : Bool). option_map (λ (z : ℕ × Task). z.1) (cond c (Some e) (entry_of id es)) ≡ None) n none)))
+    (λ y same_y. absurd
+    (none_is_not e.1
+    (sym
+    (subst
+    (λ (c : Bool). option_map (λ (z : ℕ × Task). z.1) (cond c (Some e) (entry_of id es)) ≡ None) y
+    none))))
+    (λ n other_n. (
+      (λ is. other_n (sym is)),
+      all_other id es
+          (subst
+          (λ (c : Bool). option_map (λ (z : ℕ × Task). z.1) (cond c (Some e) (entry_of id es)) ≡ None) n
+          none),
+    ))
 
-put_distinct : (k : ℕ) (t : Task) (es : Entries) → AreDistinct (ids_of es) → Each (λ (y : List ℕ). t.id ≢ y) (ids_of es) → AreDistinct (ids_of (put_task k t es))
+put_distinct :
+    (k : ℕ) (t : Task) (es : Entries) → AreDistinct (ids_of es) → Each (λ (y : List ℕ). t.id ≢ y) (ids_of es)
+    → AreDistinct (ids_of (put_task k t es))
 put_distinct k t [] d away = (tt, tt)
 put_distinct k t (e ∷ es) d away =
-    elim (nat_lt k e.0) as (λ (b : Bool). AreDistinct (ids_of (cond b ((k, t) ∷ e ∷ es) (e ∷ put_task k t es)))) [ true ↦ (away, d) | false ↦ (put_id_each e.1.id k t es (λ is. away.0 (sym is)) d.0, put_distinct k t es d.1 away.1) ]
+    elim (nat_lt k e.0) as (λ (b : Bool). AreDistinct (ids_of (cond b ((k, t) ∷ e ∷ es) (e ∷ put_task k t es)))) [
+      | true ↦ (away, d)
+      | false ↦ (put_id_each e.1.id k t es (λ is. away.0 (sym is)) d.0, put_distinct k t es d.1 away.1)
+    ]
 
-put_number_each : (n k : ℕ) (t : Task) (es : Entries) → n ≢ t.incarnation → Each (λ (m : ℕ). n ≢ m) (incarnations_of es) → Each (λ (m : ℕ). n ≢ m) (incarnations_of (put_task k t es))
+put_number_each :
+    (n k : ℕ) (t : Task) (es : Entries) → n ≢ t.incarnation → Each (λ (m : ℕ). n ≢ m) (incarnations_of es)
+    → Each (λ (m : ℕ). n ≢ m) (incarnations_of (put_task k t es))
 put_number_each n k t [] other each = (other, tt)
 put_number_each n k t (e ∷ es) other each =
-    elim (nat_lt k e.0) as (λ (b : Bool). Each (λ (m : ℕ). n ≢ m) (incarnations_of (cond b ((k, t) ∷ e ∷ es) (e ∷ put_task k t es)))) [ true ↦ (other, each) | false ↦ (each.0, put_number_each n k t es other each.1) ]
+    elim (nat_lt k e.0) as
+    (λ (b : Bool). Each (λ (m : ℕ). n ≢ m) (incarnations_of (cond b ((k, t) ∷ e ∷ es) (e ∷ put_task k t es))))
+    [ true ↦ (other, each) | false ↦ (each.0, put_number_each n k t es other each.1) ]
 
-put_numbers : (k : ℕ) (t : Task) (es : Entries) → AreDistinct (incarnations_of es) → Each (λ (m : ℕ). t.incarnation ≢ m) (incarnations_of es) → AreDistinct (incarnations_of (put_task k t es))
+put_numbers :
+    (k : ℕ) (t : Task) (es : Entries) → AreDistinct (incarnations_of es)
+    → Each (λ (m : ℕ). t.incarnation ≢ m) (incarnations_of es) → AreDistinct (incarnations_of (put_task k t es))
 put_numbers k t [] d away = (tt, tt)
 put_numbers k t (e ∷ es) d away =
-    elim (nat_lt k e.0) as (λ (b : Bool). AreDistinct (incarnations_of (cond b ((k, t) ∷ e ∷ es) (e ∷ put_task k t es)))) [ true ↦ (away, d) | false ↦ (put_number_each e.1.incarnation k t es (λ is. away.0 (sym is)) d.0, put_numbers k t es d.1 away.1) ]
+    elim (nat_lt k e.0) as
+    (λ (b : Bool). AreDistinct (incarnations_of (cond b ((k, t) ∷ e ∷ es) (e ∷ put_task k t es)))) [
+      | true ↦ (away, d)
+      | false ↦
+          (put_number_each e.1.incarnation k t es (λ is. away.0 (sym is)) d.0, put_numbers k t es d.1 away.1)
+    ]
 
-earlier_all : (creates : ℕ) (es : Entries) → Each (λ (e : ℕ × Task). IsSound creates e.1) es → Each (λ (m : ℕ). creates ≢ m) (incarnations_of es)
+earlier_all :
+    (creates : ℕ) (es : Entries) → Each (λ (e : ℕ × Task). IsSound creates e.1) es
+    → Each (λ (m : ℕ). creates ≢ m) (incarnations_of es)
 earlier_all creates [] each = tt
-earlier_all creates (e ∷ es) each = (let below = each.0.earlier in (λ is. omega (arith, below, is)), earlier_all creates es each.1)
+earlier_all creates (e ∷ es) each =
+    (let below = each.0.earlier in (λ is. omega (arith, below, is)), earlier_all creates es each.1)
 
 later_sound : (creates : ℕ) (t : Task) → IsSound creates t → IsSound (creates + 1) t
 later_sound creates t h = record {
@@ -158,13 +210,21 @@ later_sound creates t h = record {
 }
 
 -- a sound task that is the newest enters a free slot of a board that takes it
-pub put_sound : (s : BoardState) (k : ℕ) (t : Task) → IsBoard s → task_in k s.tasks ≡ None → task_of t.id s.tasks ≡ None → t.incarnation ≡ s.creates
+pub put_sound :
+    (s : BoardState) (k : ℕ) (t : Task) → IsBoard s → task_in k s.tasks ≡ None → task_of t.id s.tasks ≡ None
+    → t.incarnation ≡ s.creates
     → IsSound (s.creates + 1) t → length s.tasks < max_tasks → s.creates < max_creates → IsBoard (with_new_task s k t)
 put_sound s k t b free new number sound few low = record {
-  tasks = put_each (IsSound (s.creates + 1)) k t s.tasks sound (each_imp (λ (e : ℕ × Task). IsSound s.creates e.1) (λ (e : ℕ × Task). IsSound (s.creates + 1) e.1) s.tasks (λ e h. later_sound s.creates e.1 h) b.tasks);
+  tasks =
+      put_each (IsSound (s.creates + 1)) k t s.tasks sound
+      (each_imp (λ (e : ℕ × Task). IsSound s.creates e.1) (λ (e : ℕ × Task). IsSound (s.creates + 1) e.1) s.tasks
+      (λ e h. later_sound s.creates e.1 h) b.tasks);
   slots = put_rising k t s.tasks b.slots free;
   ids = put_distinct k t s.tasks b.ids (all_other t.id s.tasks new);
-  incarnations = put_numbers k t s.tasks b.incarnations (subst (λ (n : ℕ). Each (λ (m : ℕ). n ≢ m) (incarnations_of s.tasks)) (sym number) (earlier_all s.creates s.tasks b.tasks));
+  incarnations =
+      put_numbers k t s.tasks b.incarnations
+      (subst (λ (n : ℕ). Each (λ (m : ℕ). n ≢ m) (incarnations_of s.tasks)) (sym number)
+      (earlier_all s.creates s.tasks b.tasks));
   contents = b.contents;
   digests = b.digests;
   few_tasks = let more = put_length k t s.tasks in omega (arith, more, few);
@@ -173,7 +233,9 @@ put_sound s k t b free new number sound few low = record {
 }
 
 -- a created task is sound
-pub created_sound : (id : List ℕ) (creates : ℕ) (bytes : List ℕ) (m : Module) (p : _) → is_id id ≡ true → Openable bytes p m → p.module ≡ digest_of bytes
+pub created_sound :
+    (id : List ℕ) (creates : ℕ) (bytes : List ℕ) (m : Module) (p : _) → is_id id ≡ true → Openable bytes p m
+    → p.module ≡ digest_of bytes
     → IsSound (creates + 1) (created_task id creates bytes m p)
 created_sound id creates bytes m p named opens digest = record {
   named = named;
@@ -192,12 +254,19 @@ created_sound id creates bytes m p named opens digest = record {
 -- ---- contents
 
 -- the content that a digest names has it
-pub content_named : (digest bytes : List ℕ) (cs : List Content) → Each IsContent cs → content_in cs digest ≡ Some bytes → digest ≡ digest_of bytes
+pub content_named :
+    (digest bytes : List ℕ) (cs : List Content) → Each IsContent cs → content_in cs digest ≡ Some bytes
+    → digest ≡ digest_of bytes
 content_named digest bytes [] each h = absurd (none_is_not bytes h)
 content_named digest bytes (c ∷ cs) each h =
     by_id c.digest digest
-    (λ y same_y. sym same_y ∙ (each.0.digest ∙ ap digest_of (some_is c.bytes bytes (cond_true (bytes_eq c.digest digest) (Some c.bytes) (content_in cs digest) (Some bytes) y h))))
-    (λ n other_n. content_named digest bytes cs each.1 (cond_false (bytes_eq c.digest digest) (Some c.bytes) (content_in cs digest) (Some bytes) n h))
+    (λ y same_y. sym same_y
+    ∙ (each.0.digest
+    ∙ ap digest_of
+    (some_is c.bytes bytes
+    (cond_true (bytes_eq c.digest digest) (Some c.bytes) (content_in cs digest) (Some bytes) y h))))
+    (λ n other_n. content_named digest bytes cs each.1
+    (cond_false (bytes_eq c.digest digest) (Some c.bytes) (content_in cs digest) (Some bytes) n h))
 
 -- ---- what happens to a task leaves it sound
 
@@ -209,7 +278,9 @@ pub record IsStanding (x : Standing) (e : ExecutionState) : Type 0 where
   pub goes : is_going x.0 ≡ true → ended e ≡ None
 
 -- a task that is idle in a fitting way
-pub idle_sound : (creates : ℕ) (t : Task) (x : Standing) → is_id t.id ≡ true → t.incarnation < creates → Openable t.bytes t.process t.module → t.process.module ≡ digest_of t.bytes
+pub idle_sound :
+    (creates : ℕ) (t : Task) (x : Standing) → is_id t.id ≡ true → t.incarnation < creates
+    → Openable t.bytes t.process t.module → t.process.module ≡ digest_of t.bytes
     → IsStanding x (execution_at t t.turns) → IsSound creates (idle_task t x)
 idle_sound creates t x named earlier opens digest standing = record {
   named = named;
@@ -232,8 +303,11 @@ standing_begun None false e is = record { begun = λ h. cc; resting = λ h. cc; 
 
 pub started_sound : (creates : ℕ) (t : Task) → IsSound creates t → IsSound creates (started t)
 started_sound creates t h =
-    idle_sound creates t (standing_at_start (ended (execution_at t t.turns)) (at_break t.breaks (execution_at t t.turns))) h.named h.earlier h.opens h.digest
-    (standing_begun (ended (execution_at t t.turns)) (at_break t.breaks (execution_at t t.turns)) (execution_at t t.turns) refl)
+    idle_sound creates t
+    (standing_at_start (ended (execution_at t t.turns)) (at_break t.breaks (execution_at t t.turns))) h.named
+    h.earlier h.opens h.digest
+    (standing_begun (ended (execution_at t t.turns)) (at_break t.breaks (execution_at t t.turns))
+    (execution_at t t.turns) refl)
 
 -- what a pause makes of the status
 pub record IsPausing (out : Option ℕ) (status : Status) : Type 0 where
@@ -278,7 +352,9 @@ resumed_sound creates t h is = record {
   goes = λ x. h.goes (ap is_going is);
 }
 
-killed_sound_by : (creates : ℕ) (signal : Signal) (t : Task) (out : Option ℕ) → t.out ≡ out → IsSound creates t → IsSound creates (killed_while out signal t)
+killed_sound_by :
+    (creates : ℕ) (signal : Signal) (t : Task) (out : Option ℕ) → t.out ≡ out → IsSound creates t
+    → IsSound creates (killed_while out signal t)
 killed_sound_by creates signal t None is h =
     idle_sound creates t (stopped_by (exit.Kill signal)) h.named h.earlier h.opens h.digest
     (record { begun = λ x. cc; resting = λ x. cc; stopped = refl; goes = λ x. cc })
@@ -299,18 +375,23 @@ killed_sound_by creates signal t (Some n) is h = record {
 pub killed_sound : (creates : ℕ) (signal : Signal) (t : Task) → IsSound creates t → IsSound creates (killed signal t)
 killed_sound creates signal t h = killed_sound_by creates signal t t.out refl h
 
-standing_goes_on : (signal : Option Signal) (b : Bool) (e : ExecutionState) → ended e ≡ None → IsStanding (standing_onward signal b) e
+standing_goes_on :
+    (signal : Option Signal) (b : Bool) (e : ExecutionState) → ended e ≡ None → IsStanding (standing_onward signal b) e
 standing_goes_on (Some x) b e is = record { begun = λ h. cc; resting = λ h. cc; stopped = refl; goes = λ h. cc }
 standing_goes_on None true e is = record { begun = λ h. cc; resting = λ h. cc; stopped = refl; goes = λ h. is }
 standing_goes_on None false e is = record { begun = λ h. cc; resting = λ h. cc; stopped = refl; goes = λ h. is }
 
 pub standing_lasts : (x : SliceEnd) (signal : Option Signal) (status : Status) (e : ExecutionState)
-    → (x ≡ slice.Budget → ended e ≡ None) → (x ≡ slice.Break → ended e ≡ None) → IsStanding (standing_after x signal status) e
+    → (x ≡ slice.Budget → ended e ≡ None) → (x ≡ slice.Break → ended e ≡ None)
+    → IsStanding (standing_after x signal status) e
 standing_lasts slice.Budget signal status e f g = standing_goes_on signal (is_pausing status) e (f refl)
 standing_lasts slice.Break signal status e f g = standing_goes_on signal true e (g refl)
-standing_lasts slice.Returned signal status e f g = record { begun = λ h. cc; resting = λ h. cc; stopped = refl; goes = λ h. cc }
-standing_lasts (slice.Exited n) signal status e f g = record { begun = λ h. cc; resting = λ h. cc; stopped = refl; goes = λ h. cc }
-standing_lasts (slice.Trapped x) signal status e f g = record { begun = λ h. cc; resting = λ h. cc; stopped = refl; goes = λ h. cc }
+standing_lasts slice.Returned signal status e f g =
+    record { begun = λ h. cc; resting = λ h. cc; stopped = refl; goes = λ h. cc }
+standing_lasts (slice.Exited n) signal status e f g =
+    record { begun = λ h. cc; resting = λ h. cc; stopped = refl; goes = λ h. cc }
+standing_lasts (slice.Trapped x) signal status e f g =
+    record { begun = λ h. cc; resting = λ h. cc; stopped = refl; goes = λ h. cc }
 
 no_own_budget : (e : End) → own_end e ≡ slice.Budget → ⊥
 no_own_budget own.Returned h = cc
@@ -331,5 +412,7 @@ not_ended_by bs k e None is h = is
 pub advanced_sound : (creates : ℕ) (t : Task) (k : ℕ) → IsSound creates t → IsSound creates (advanced t k)
 advanced_sound creates t k h =
     let e = execution_at t (t.turns + k) in
-    idle_sound creates (record t { turns = t.turns + k }) (standing_after (end_at t.breaks k e) t.signal t.status) h.named h.earlier h.opens h.digest
-    (standing_lasts (end_at t.breaks k e) t.signal t.status e (λ x. not_ended_by t.breaks k e (ended e) refl (inl x)) (λ x. not_ended_by t.breaks k e (ended e) refl (inr x)))
+    idle_sound creates (record t { turns = t.turns + k }) (standing_after (end_at t.breaks k e) t.signal t.status)
+    h.named h.earlier h.opens h.digest
+    (standing_lasts (end_at t.breaks k e) t.signal t.status e (λ x. not_ended_by t.breaks k e (ended e) refl (inl x))
+    (λ x. not_ended_by t.breaks k e (ended e) refl (inr x)))

@@ -30,7 +30,8 @@ use Rattle.task_board.proofs.SoundLemmas.{change_sound, put_sound, created_sound
 
 -- ---- the task with an id
 
-found_by : (o : Option (ℕ × Task)) (t : Task) → option_map (λ (e : ℕ × Task). e.1) o ≡ Some t → (k : ℕ) × (o ≡ Some (k, t))
+found_by :
+    (o : Option (ℕ × Task)) (t : Task) → option_map (λ (e : ℕ × Task). e.1) o ≡ Some t → (k : ℕ) × (o ≡ Some (k, t))
 found_by None t h = absurd (none_is_not t h)
 found_by (Some e) t h = (e.0, ap (λ (u : Task). Some (e.0, u)) (some_is e.1 t h))
 
@@ -51,15 +52,19 @@ pub changed_sound : (s : BoardState) (id : List ℕ) (old new : Task) → IsBoar
     → new.id ≡ old.id → new.incarnation ≡ old.incarnation → IsSound s.creates new → IsBoard (with_task s new)
 changed_sound s id old new b h same number sound =
     let f = found id s.tasks old h in
-    change_sound s f.0 old new b (ap (λ (x : List ℕ). entry_of x s.tasks) (same ∙ task_named id s.tasks old h) ∙ f.1) number sound
+    change_sound s f.0 old new b
+    (ap (λ (x : List ℕ). entry_of x s.tasks) (same ∙ task_named id s.tasks old h) ∙ f.1) number sound
 
 -- ---- refusals
 
-pub decided : (o : Option Refusal) (E : Type 0) (s : BoardState) (r : Answer) (s' : BoardState) → DecidedBy o E s r s' → (s' ≡ s) ⊎ ((o ≡ None) × E)
+pub decided :
+    (o : Option Refusal) (E : Type 0) (s : BoardState) (r : Answer) (s' : BoardState) → DecidedBy o E s r s'
+    → (s' ≡ s) ⊎ ((o ≡ None) × E)
 decided None E s r s' d = inr (refl, d)
 decided (Some e) E s r s' d = inl d.1
 
-pub none_first : (b : Bool) (e : Refusal) (rest : Option Refusal) → cond b (Some e) rest ≡ None → (b ≡ false) × (rest ≡ None)
+pub none_first :
+    (b : Bool) (e : Refusal) (rest : Option Refusal) → cond b (Some e) rest ≡ None → (b ≡ false) × (rest ≡ None)
 none_first true e rest h = absurd (none_is_not e (sym h))
 none_first false e rest h = (refl, h)
 
@@ -77,7 +82,9 @@ neither_of : (a b : Bool) → (a || b) ≡ false → (a ≡ false) × (b ≡ fal
 neither_of true b h = cc
 neither_of false b h = (refl, h)
 
-pub create_leaves : (s : BoardState) (config id : List ℕ) (r : Answer) (s' : BoardState) → IsBoard s → first_refusal (create_refusals s config id) ≡ None
+pub create_leaves :
+    (s : BoardState) (config id : List ℕ) (r : Answer) (s' : BoardState) → IsBoard s
+    → first_refusal (create_refusals s config id) ≡ None
     → Creates s config id r s' → IsBoard s'
 create_leaves s config id (Err e) s' b none effect = subst IsBoard (sym effect.4.1) b
 create_leaves s config id (Ok r) s' b none effect =
@@ -94,8 +101,11 @@ create_leaves s config id (Ok r) s' b none effect =
     let opened = effect.4 in
     let digest : p.module ≡ digest_of bytes = content_named p.module bytes s.store.contents b.contents effect.3 in
     let t = created_task id s.creates bytes opened.0 p in
-    let sound : IsSound (s.creates + 1) t = created_sound id s.creates bytes opened.0 p (not_true (is_id id) n.0) opened.1 digest in
-    subst IsBoard (sym opened.3.2) (put_sound s opened.3.0 t b opened.3.1 (no_task (task_of id s.tasks) x.0) refl sound few low)
+    let sound :
+    IsSound (s.creates + 1) t =
+    created_sound id s.creates bytes opened.0 p (not_true (is_id id) n.0) opened.1 digest in
+    subst IsBoard (sym opened.3.2)
+    (put_sound s opened.3.0 t b opened.3.1 (no_task (task_of id s.tasks) x.0) refl sound few low)
 
 -- ---- slices
 
@@ -113,7 +123,9 @@ both_of false b h = cc
 budget_of : (n budget : ℕ) → (1 ≤ budget) × (budget ≤ max_budget) → Some budget ≡ Some n → (1 ≤ n) × (n ≤ max_budget)
 budget_of n budget h is = subst (λ (x : ℕ). (1 ≤ x) × (x ≤ max_budget)) (some_is budget n is) h
 
-lent_sound_by : (creates : ℕ) (t : Task) (budget : ℕ) → IsSound creates t → t.status ≡ Running → (1 ≤ budget) × (budget ≤ max_budget) → IsSound creates (lent t budget)
+lent_sound_by :
+    (creates : ℕ) (t : Task) (budget : ℕ) → IsSound creates t → t.status ≡ Running
+    → (1 ≤ budget) × (budget ≤ max_budget) → IsSound creates (lent t budget)
 lent_sound_by creates t budget h is low = record {
   named = h.named;
   earlier = h.earlier;
@@ -128,8 +140,11 @@ lent_sound_by creates t budget h is low = record {
   goes = h.goes;
 }
 
-pub lent_sound : (creates : ℕ) (t : Task) (budget : ℕ) → IsSound creates t → can_lend t ≡ true → (1 ≤ budget) × (budget ≤ max_budget) → IsSound creates (lent t budget)
-lent_sound creates t budget h can low = lent_sound_by creates t budget h (running_only t.status (both_of (is_running t.status) (is_none t.out) can).0) low
+pub lent_sound :
+    (creates : ℕ) (t : Task) (budget : ℕ) → IsSound creates t → can_lend t ≡ true → (1 ≤ budget) × (budget ≤ max_budget)
+    → IsSound creates (lent t budget)
+lent_sound creates t budget h can low =
+    lent_sound_by creates t budget h (running_only t.status (both_of (is_running t.status) (is_none t.out) can).0) low
 
 pub in_range : (budget : ℕ) → (1 ≤ budget) × (budget ≤ max_budget) → is_budget budget ≡ true
 in_range budget h =
@@ -140,15 +155,21 @@ in_range budget h =
     rw (a, b) refl
 
 -- a task in a slot is the one with its id
-pub of_slot : (s : BoardState) (k : ℕ) (t : Task) → IsBoard s → task_in k s.tasks ≡ Some t → task_of t.id s.tasks ≡ Some t
+pub of_slot :
+    (s : BoardState) (k : ℕ) (t : Task) → IsBoard s → task_in k s.tasks ≡ Some t → task_of t.id s.tasks ≡ Some t
 of_slot s k t b h = ap (option_map (λ (e : ℕ × Task). e.1)) (entry_at k t s.tasks b.ids h)
 
-pub lends_sound : (s : BoardState) (k : ℕ) (t : Task) (budget : ℕ) → IsBoard s → task_in k s.tasks ≡ Some t → can_lend t ≡ true → (1 ≤ budget) × (budget ≤ max_budget)
+pub lends_sound :
+    (s : BoardState) (k : ℕ) (t : Task) (budget : ℕ) → IsBoard s → task_in k s.tasks ≡ Some t → can_lend t ≡ true
+    → (1 ≤ budget) × (budget ≤ max_budget)
     → IsBoard (with_task s (lent t budget))
 lends_sound s k t budget b there can low =
-    changed_sound s t.id t (lent t budget) b (of_slot s k t b there) refl refl (lent_sound s.creates t budget (each_in (IsSound s.creates) k t s.tasks b.tasks there) can low)
+    changed_sound s t.id t (lent t budget) b (of_slot s k t b there) refl refl
+    (lent_sound s.creates t budget (each_in (IsSound s.creates) k t s.tasks b.tasks there) can low)
 
-pub takes : (s : BoardState) (k : ℕ) (t : Task) (id : List ℕ) (budget : ℕ) → IsBoard s → task_in k s.tasks ≡ Some t → can_lend t ≡ true → (1 ≤ budget) × (budget ≤ max_budget)
+pub takes :
+    (s : BoardState) (k : ℕ) (t : Task) (id : List ℕ) (budget : ℕ) → IsBoard s → task_in k s.tasks ≡ Some t
+    → can_lend t ≡ true → (1 ≤ budget) × (budget ≤ max_budget)
     → id ≡ t.id → taken s id budget ≡ Some (with_task s (lent t budget))
 takes s k t id budget b there can low same =
     cond_is_true (is_budget budget) (option_and_then (lends s budget) (task_of id s.tasks)) None (in_range budget low)
@@ -158,7 +179,9 @@ takes s k t id budget b there can low same =
 -- ---- create
 
 -- a create that is accepted finds room
-pub few_tasks : (s : BoardState) (config id : List ℕ) → first_refusal (create_refusals s config id) ≡ None → length s.tasks < max_tasks
+pub few_tasks :
+    (s : BoardState) (config id : List ℕ) → first_refusal (create_refusals s config id) ≡ None
+    → length s.tasks < max_tasks
 few_tasks s config id none =
     let n = none_first (not (is_id id)) refusal.BadId _ none in
     let x = none_first (is_some (task_of id s.tasks)) refusal.Exists _ n.1 in
@@ -167,13 +190,22 @@ few_tasks s config id none =
     let few_off = both.0 in
     grind (arith, nat_tests, few_off)
 
-pub create_answers : (s : BoardState) (r : Request) (t : Task) (id : List ℕ) (key : ℕ) (s' : BoardState) → CreatePrepared s r t id
+pub create_answers :
+    (s : BoardState) (r : Request) (t : Task) (id : List ℕ) (key : ℕ) (s' : BoardState) → CreatePrepared s r t id
     → task_in key s.tasks ≡ None → s' ≡ with_new_task s key t → Answers s r (Ok (reply.Create id Created)) s'
 create_answers s r t id key s' p free leaves =
-    let made : s' ≡ with_new_task s key (created_task id s.creates t.bytes t.module t.process) = leaves ∙ ap (with_new_task s key) p.created in
-    let effect : Creates s p.config id (Ok (reply.Create id Created)) s' = (t.process, t.bytes, p.read, p.content, (t.module, p.openable, refl, (key, free, made))) in
-    let P : Option Refusal → Type 0 = λ o. DecidedBy o (Creates s p.config id (Ok (reply.Create id Created)) s') s (Ok (reply.Create id Created)) s' in
-    let done : Answers s (request.Create p.config id) (Ok (reply.Create id Created)) s' = subst P (sym p.accepted) effect in
+    let made :
+    s' ≡ with_new_task s key (created_task id s.creates t.bytes t.module t.process) =
+    leaves ∙ ap (with_new_task s key) p.created in
+    let effect :
+    Creates s p.config id (Ok (reply.Create id Created)) s' =
+    (t.process, t.bytes, p.read, p.content, (t.module, p.openable, refl, (key, free, made))) in
+    let P :
+    Option Refusal → Type 0 =
+    λ o. DecidedBy o (Creates s p.config id (Ok (reply.Create id Created)) s') s (Ok (reply.Create id Created)) s'
+    in
+    let done :
+    Answers s (request.Create p.config id) (Ok (reply.Create id Created)) s' = subst P (sym p.accepted) effect in
     subst (λ (q : Request). Answers s q (Ok (reply.Create id Created)) s') (sym p.is) done
 
 -- ---- return
@@ -195,7 +227,9 @@ StopFirst = (m : Module) (p : ProcessConfig) (n : ℕ) (bs : List Place) (budget
     → 1 ≤ j → j < turns_made m p n bs budget → ends_slice bs (after m p (n + j)).state ≡ false
 
 -- a slice of a sound task that is out advances it legally
-pub slice_advances : (creates : ℕ) (t : Task) (budget : ℕ) → GoForward → StopFirst → IsSound creates t → t.out ≡ Some budget → MayAdvance t (slice_turns t budget)
+pub slice_advances :
+    (creates : ℕ) (t : Task) (budget : ℕ) → GoForward → StopFirst → IsSound creates t → t.out ≡ Some budget
+    → MayAdvance t (slice_turns t budget)
 slice_advances creates t budget forward first h out =
     let status : takes_turns t.status ≡ true = h.out (ap (is_some {T = ℕ}) out) in
     let goes = h.goes (going t.status status) in
@@ -207,47 +241,68 @@ slice_advances creates t budget forward first h out =
     }
 
 -- the task of a slot comes back from its slice
-pub returns : (s : BoardState) (k : ℕ) (t : Task) (id : List ℕ) (budget : ℕ) (s' : BoardState) → GoForward → StopFirst → IsBoard s → task_in k s.tasks ≡ Some t → id ≡ t.id
+pub returns :
+    (s : BoardState) (k : ℕ) (t : Task) (id : List ℕ) (budget : ℕ) (s' : BoardState) → GoForward → StopFirst → IsBoard s
+    → task_in k s.tasks ≡ Some t → id ≡ t.id
     → t.out ≡ Some budget → s' ≡ with_task s (advanced t (slice_turns t budget)) → Returns s (task_of id s.tasks) s'
 returns s k t id budget s' forward first b there same out leaves =
     let at : task_of id s.tasks ≡ Some t = ap (λ (x : List ℕ). task_of x s.tasks) same ∙ of_slot s k t b there in
-    let legal = slice_advances s.creates t budget forward first (each_in (IsSound s.creates) k t s.tasks b.tasks there) out in
-    let back : HasReturned t (advanced t (slice_turns t budget)) = record { budget = budget; out = out; legal = legal; advances = refl } in
+    let legal =
+    slice_advances s.creates t budget forward first (each_in (IsSound s.creates) k t s.tasks b.tasks there) out in
+    let back :
+    HasReturned t (advanced t (slice_turns t budget)) =
+    record { budget = budget; out = out; legal = legal; advances = refl } in
     subst (λ (o : Option Task). Returns s o s') (sym at) (advanced t (slice_turns t budget), back, leaves)
 
-pub returned_sound : (s : BoardState) (k : ℕ) (t : Task) (n : ℕ) → IsBoard s → task_in k s.tasks ≡ Some t → IsBoard (with_task s (advanced t n))
+pub returned_sound :
+    (s : BoardState) (k : ℕ) (t : Task) (n : ℕ) → IsBoard s → task_in k s.tasks ≡ Some t
+    → IsBoard (with_task s (advanced t n))
 returned_sound s k t n b there =
-    changed_sound s t.id t (advanced t n) b (of_slot s k t b there) refl refl (advanced_sound s.creates t n (each_in (IsSound s.creates) k t s.tasks b.tasks there))
+    changed_sound s t.id t (advanced t n) b (of_slot s k t b there) refl refl
+    (advanced_sound s.creates t n (each_in (IsSound s.creates) k t s.tasks b.tasks there))
 
 -- ---- refusals of a create
 
 first_append : (cs ds : Refusals) (e : Refusal) → first_refusal cs ≡ Some e → first_refusal (cs ++ ds) ≡ Some e
 first_append [] ds e h = absurd (none_is_not e h)
-first_append (x ∷ cs) ds e h = by_head x.0 x.1 (first_refusal cs) (first_refusal (cs ++ ds)) e (λ k. first_append cs ds e k) h
+first_append (x ∷ cs) ds e h =
+    by_head x.0 x.1 (first_refusal cs) (first_refusal (cs ++ ds)) e (λ k. first_append cs ds e k) h
   where
-    by_head : (b : Bool) (y : Refusal) (o p : Option Refusal) (e : Refusal) → (o ≡ Some e → p ≡ Some e) → cond b (Some y) o ≡ Some e → cond b (Some y) p ≡ Some e
+    by_head :
+        (b : Bool) (y : Refusal) (o p : Option Refusal) (e : Refusal) → (o ≡ Some e → p ≡ Some e)
+        → cond b (Some y) o ≡ Some e → cond b (Some y) p ≡ Some e
     by_head true y o p e f h = h
     by_head false y o p e f h = f h
 
 -- a refusal of the id is one of the create
-pub id_refused : (s : BoardState) (config id : List ℕ) (e : Refusal) (E : Type 0) → first_refusal (id_refusals s id) ≡ Some e → DecidedBy (first_refusal (create_refusals s config id)) E s (Err e) s
+pub id_refused :
+    (s : BoardState) (config id : List ℕ) (e : Refusal) (E : Type 0) → first_refusal (id_refusals s id) ≡ Some e
+    → DecidedBy (first_refusal (create_refusals s config id)) E s (Err e) s
 id_refused s config id e E h =
     let all : first_refusal (create_refusals s config id) ≡ Some e =
-    first_append (id_refusals s id) ((is_none (process_read config), refusal.BadConfig) ∷ (is_none (named_bytes s config), refusal.NoContent) ∷ []) e h in
+    first_append (id_refusals s id)
+    ((is_none (process_read config), refusal.BadConfig) ∷ (is_none (named_bytes s config), refusal.NoContent) ∷ [])
+    e h in
     subst (λ (o : Option Refusal). DecidedBy o E s (Err e) s) (sym all) (refl, refl)
 
-not_memory : (a b c : Bool) (e : Refusal) → cond a (Some refusal.BadId) (cond b (Some refusal.Exists) (cond c (Some refusal.TooMany) None)) ≡ Some e → e ≢ refusal.NoMemory
+not_memory :
+    (a b c : Bool) (e : Refusal)
+    → cond a (Some refusal.BadId) (cond b (Some refusal.Exists) (cond c (Some refusal.TooMany) None)) ≡ Some e
+    → e ≢ refusal.NoMemory
 not_memory true b c e h is = cc
 not_memory false true c e h is = cc
 not_memory false false true e h is = cc
 not_memory false false false e h is = cc
 
-pub id_refusal_known : (s : BoardState) (id : List ℕ) (e : Refusal) → first_refusal (id_refusals s id) ≡ Some e → e ≢ refusal.NoMemory
+pub id_refusal_known :
+    (s : BoardState) (id : List ℕ) (e : Refusal) → first_refusal (id_refusals s id) ≡ Some e → e ≢ refusal.NoMemory
 id_refusal_known s id e h = not_memory (not (is_id id)) (is_some (task_of id s.tasks)) (is_full s) e h
 
 -- ---- a create that none of the refusals of its id concerns
 
-rest_of : (a b c : Bool) (o : Option Refusal) → cond a (Some refusal.BadId) (cond b (Some refusal.Exists) (cond c (Some refusal.TooMany) None)) ≡ None
+rest_of :
+    (a b c : Bool) (o : Option Refusal)
+    → cond a (Some refusal.BadId) (cond b (Some refusal.Exists) (cond c (Some refusal.TooMany) None)) ≡ None
     → cond a (Some refusal.BadId) (cond b (Some refusal.Exists) (cond c (Some refusal.TooMany) o)) ≡ o
 rest_of true b c o h = cc
 rest_of false true c o h = cc
@@ -256,7 +311,11 @@ rest_of false false false o h = refl
 
 -- then the config and its content decide
 pub create_rest : (s : BoardState) (config id : List ℕ) → first_refusal (id_refusals s id) ≡ None
-    → first_refusal (create_refusals s config id) ≡ first_refusal ((is_none (process_read config), refusal.BadConfig) ∷ (is_none (named_bytes s config), refusal.NoContent) ∷ [])
+    → first_refusal (create_refusals s config id)
+    ≡ first_refusal
+    ((is_none (process_read config), refusal.BadConfig) ∷ (is_none (named_bytes s config), refusal.NoContent) ∷ [])
 create_rest s config id h =
     rest_of (not (is_id id)) (is_some (task_of id s.tasks)) (is_full s)
-    (first_refusal ((is_none (process_read config), refusal.BadConfig) ∷ (is_none (named_bytes s config), refusal.NoContent) ∷ [])) h
+    (first_refusal
+    ((is_none (process_read config), refusal.BadConfig) ∷ (is_none (named_bytes s config), refusal.NoContent) ∷ []))
+    h

@@ -24,37 +24,60 @@ use Rattle.task_board.specs.Inside.Shown.{board_state_of, board_of}
 use Rattle.task_board.proofs.SoundLemmas.{length_append}
 
 -- the effect, if no refusal's condition holds
-accepted_store : (s : BoardState) (refusals : Refusals) (rep : Reply) (new : StoreState) → first_refusal refusals ≡ None → OnStore s refusals rep new (Ok rep) (with_store s new)
+accepted_store :
+    (s : BoardState) (refusals : Refusals) (rep : Reply) (new : StoreState) → first_refusal refusals ≡ None
+    → OnStore s refusals rep new (Ok rep) (with_store s new)
 accepted_store s refusals rep new none =
     let a : Answer = Ok rep in
-    let P : Option Refusal → Type 0 = λ x. DecidedBy x ((a ≡ Ok rep) × (with_store s new ≡ with_store s new)) s a (with_store s new) in
+    let P :
+    Option Refusal → Type 0 =
+    λ x. DecidedBy x ((a ≡ Ok rep) × (with_store s new ≡ with_store s new)) s a (with_store s new) in
     subst P (sym none) (refl, refl)
 
-pub store_answers : (s : BoardState) (room : Room) (c : StoreChange) → StorePrepared s room c → Answers s (store_request c) (Ok (store_reply c)) (with_store s (store_after s.store c))
+pub store_answers :
+    (s : BoardState) (room : Room) (c : StoreChange) → StorePrepared s room c
+    → Answers s (store_request c) (Ok (store_reply c)) (with_store s (store_after s.store c))
 store_answers s room (change.Put key bytes digest) p =
     let new = with_content s.store (arc_value bytes) in
     let size = length (arc_value bytes) in
-    let done = accepted_store s (put_refusals s.store (arc_value bytes)) (reply.Put (digest_of (arc_value bytes)) size) new p.accepted in
-    subst (λ (x : List ℕ). OnStore s (put_refusals s.store (arc_value bytes)) (reply.Put (digest_of (arc_value bytes)) size) new (Ok (reply.Put x size)) (with_store s new)) (sym p.fitted.1) done
-store_answers s room (change.Remove digest) p = accepted_store s (remove_refusals (used_by s.tasks) s.store digest) (reply.Remove digest) (without_content s.store digest) p.accepted
-store_answers s room (change.LeaseCreate key members id) p = accepted_store s (lease_create_refusals s.store id) (reply.LeaseCreate id) (with_lease s.store id) p.accepted
-store_answers s room (change.LeaseAdd key digest id) p = accepted_store s (lease_add_refusals s.store digest id) (reply.LeaseAdd digest id) (with_member s.store digest id) p.accepted
-store_answers s room (change.LeaseDelete id) p = accepted_store s (lease_delete_refusals s.store id) (reply.LeaseDelete id) (without_lease s.store id) p.accepted
+    let done =
+    accepted_store s (put_refusals s.store (arc_value bytes)) (reply.Put (digest_of (arc_value bytes)) size)
+    new p.accepted in
+    subst
+    (λ (x : List ℕ). OnStore s (put_refusals s.store (arc_value bytes))
+    (reply.Put (digest_of (arc_value bytes)) size) new (Ok (reply.Put x size)) (with_store s new))
+    (sym p.fitted.1) done
+store_answers s room (change.Remove digest) p =
+    accepted_store s (remove_refusals (used_by s.tasks) s.store digest) (reply.Remove digest)
+    (without_content s.store digest) p.accepted
+store_answers s room (change.LeaseCreate key members id) p =
+    accepted_store s (lease_create_refusals s.store id) (reply.LeaseCreate id) (with_lease s.store id) p.accepted
+store_answers s room (change.LeaseAdd key digest id) p =
+    accepted_store s (lease_add_refusals s.store digest id) (reply.LeaseAdd digest id)
+    (with_member s.store digest id) p.accepted
+store_answers s room (change.LeaseDelete id) p =
+    accepted_store s (lease_delete_refusals s.store id) (reply.LeaseDelete id) (without_lease s.store id) p.accepted
 store_answers s room (change.Gc used removed) p =
     let gone = unheld (used_by s.tasks) s.store in
     let new : List (List ℕ) → StoreState = λ u. collected u s.store in
     let done = accepted_store s [] (reply.Gc gone) (new (used_by s.tasks)) refl in
-    let P : List (List ℕ) → List (List ℕ) → Type 0 = λ u r. OnStore s [] (reply.Gc gone) (new (used_by s.tasks)) (Ok (reply.Gc r)) (with_store s (new u)) in
-    subst (λ (u : List (List ℕ)). P u removed) (sym p.fitted.0) (subst (λ (r : List (List ℕ)). P (used_by s.tasks) r) (sym p.fitted.1) done)
+    let P :
+    List (List ℕ) → List (List ℕ) → Type 0 =
+    λ u r. OnStore s [] (reply.Gc gone) (new (used_by s.tasks)) (Ok (reply.Gc r)) (with_store s (new u)) in
+    subst (λ (u : List (List ℕ)). P u removed) (sym p.fitted.0)
+    (subst (λ (r : List (List ℕ)). P (used_by s.tasks) r) (sym p.fitted.1) done)
 
 -- ---- the request for which a change is made
 
 -- the change is the request's own, or it stores the bytes of a text
 pub data MadeFor (r : Request) (c : StoreChange) : Type 0 where
   own : r ≡ store_request c → MadeFor r c
-  of_text : (text bytes : List ℕ) → IsAssembled text bytes → store_request c ≡ request.Put bytes → r ≡ request.PutText text → MadeFor r c
+  of_text :
+      (text bytes : List ℕ) → IsAssembled text bytes → store_request c ≡ request.Put bytes
+      → r ≡ request.PutText text → MadeFor r c
 
-made_for_text : (text : List ℕ) (c : StoreChange) → IsMadeFor (request.PutText text) c → MadeFor (request.PutText text) c
+made_for_text :
+    (text : List ℕ) (c : StoreChange) → IsMadeFor (request.PutText text) c → MadeFor (request.PutText text) c
 made_for_text text (change.Put key bytes digest) is = of_text text (arc_value bytes) is refl refl
 made_for_text text (change.Remove digest) is = absurd is
 made_for_text text (change.LeaseCreate key members id) is = absurd is
@@ -80,21 +103,29 @@ made_for (request.State id) c is = own is
 made_for (request.Wait id) c is = own is
 made_for (request.Output id stream) c is = own is
 
-answers_made_for : (s : BoardState) (r : Request) (c : StoreChange) (a : Answer) (s' : BoardState) → MadeFor r c → Answers s (store_request c) a s' → Answers s r a s'
+answers_made_for :
+    (s : BoardState) (r : Request) (c : StoreChange) (a : Answer) (s' : BoardState) → MadeFor r c
+    → Answers s (store_request c) a s' → Answers s r a s'
 answers_made_for s r c a s' (own is) done = subst (λ (q : Request). Answers s q a s') (sym is) done
 answers_made_for s r c a s' (of_text text bytes is put asked) done =
     let puts : Puts s bytes a s' = subst (λ (q : Request). Answers s q a s') put done in
     subst (λ (q : Request). Answers s q a s') (sym asked) (stored bytes is puts)
 
 -- what answers the change's own request answers each for which it is made
-pub made_answers : (s : BoardState) (r : Request) (c : StoreChange) (a : Answer) (s' : BoardState) → IsMadeFor r c → Answers s (store_request c) a s' → Answers s r a s'
+pub made_answers :
+    (s : BoardState) (r : Request) (c : StoreChange) (a : Answer) (s' : BoardState) → IsMadeFor r c
+    → Answers s (store_request c) a s' → Answers s r a s'
 made_answers s r c a s' is done = answers_made_for s r c a s' (made_for r c is) done
 
-pub can_take : (b : tables.Inside) (c : StoreChange) → StorePrepared (board_state_of b) (board_of b).room c → CanTake b.store c
-can_take b (change.Put key bytes digest) p = (p.fitted.2, p.fitted.0, put_new b.store.state (arc_value bytes) p.accepted)
+pub can_take :
+    (b : tables.Inside) (c : StoreChange) → StorePrepared (board_state_of b) (board_of b).room c → CanTake b.store c
+can_take b (change.Put key bytes digest) p =
+    (p.fitted.2, p.fitted.0, put_new b.store.state (arc_value bytes) p.accepted)
 can_take b (change.Remove digest) p = tt
-can_take b (change.LeaseCreate key members id) p = (p.fitted.2, p.fitted.0, p.fitted.1, create_new b.store.state id p.accepted)
-can_take b (change.LeaseAdd key digest id) p = let t = add_takes b.store.state digest id p.accepted in (p.fitted, t.0, t.1, t.2, t.3)
+can_take b (change.LeaseCreate key members id) p =
+    (p.fitted.2, p.fitted.0, p.fitted.1, create_new b.store.state id p.accepted)
+can_take b (change.LeaseAdd key digest id) p =
+    let t = add_takes b.store.state digest id p.accepted in (p.fitted, t.0, t.1, t.2, t.3)
 can_take b (change.LeaseDelete id) p = tt
 can_take b (change.Gc used removed) p = tt
 
@@ -102,10 +133,15 @@ can_take b (change.Gc used removed) p = tt
 
 -- the tables with another store
 abbrev pub with_shelf : tables.Inside → StoreValue → List OpenedModule → tables.Inside
-with_shelf b store opened = record { store = store; opened = opened; tasks = b.tasks; creates = b.creates; waiting = b.waiting }
+with_shelf b store opened =
+    record { store = store; opened = opened; tasks = b.tasks; creates = b.creates; waiting = b.waiting }
 
-contents_more : (s : StoreState) (c : StoreChange) → contents_added c ≤ length (store_after s c).contents - length s.contents
-contents_more s (change.Put key bytes digest) = let more = length_append s.contents (record { digest = digest_of (arc_value bytes); bytes = arc_value bytes }) in omega (arith, more)
+contents_more :
+    (s : StoreState) (c : StoreChange) → contents_added c ≤ length (store_after s c).contents - length s.contents
+contents_more s (change.Put key bytes digest) =
+    let more =
+    length_append s.contents (record { digest = digest_of (arc_value bytes); bytes = arc_value bytes })
+    in omega (arith, more)
 contents_more s (change.Remove digest) = omega arith
 contents_more s (change.LeaseCreate key members id) = omega arith
 contents_more s (change.LeaseAdd key digest id) = omega arith
@@ -115,16 +151,23 @@ contents_more s (change.Gc used removed) = omega arith
 leases_more : (s : StoreState) (c : StoreChange) → leases_added c ≤ length (store_after s c).leases - length s.leases
 leases_more s (change.Put key bytes digest) = omega arith
 leases_more s (change.Remove digest) = omega arith
-leases_more s (change.LeaseCreate key members id) = let more = length_append s.leases (record { name = id; members = [] }) in omega (arith, more)
+leases_more s (change.LeaseCreate key members id) =
+    let more = length_append s.leases (record { name = id; members = [] }) in omega (arith, more)
 leases_more s (change.LeaseAdd key digest id) = omega arith
 leases_more s (change.LeaseDelete id) = omega arith
 leases_more s (change.Gc used removed) = omega arith
 
-pub store_keeps : (b : tables.Inside) (c : StoreChange) (new : StoreValue) (opened : List OpenedModule) → new.state ≡ store_after b.store.state c → UsesRoom (contents_added c) (leases_added c) b.store new
+pub store_keeps :
+    (b : tables.Inside) (c : StoreChange) (new : StoreValue) (opened : List OpenedModule)
+    → new.state ≡ store_after b.store.state c → UsesRoom (contents_added c) (leases_added c) b.store new
     → KeepsRoom (board_of b) (board_of (with_shelf b new opened))
 store_keeps b c new opened is uses =
-    let contents = subst (λ (s : StoreState). contents_added c ≤ length s.contents - length b.store.state.contents) (sym is) (contents_more b.store.state c) in
-    let leases = subst (λ (s : StoreState). leases_added c ≤ length s.leases - length b.store.state.leases) (sym is) (leases_more b.store.state c) in
+    let contents =
+    subst (λ (s : StoreState). contents_added c ≤ length s.contents - length b.store.state.contents) (sym is)
+    (contents_more b.store.state c) in
+    let leases =
+    subst (λ (s : StoreState). leases_added c ≤ length s.leases - length b.store.state.leases) (sym is)
+    (leases_more b.store.state c) in
     record {
       contents = omega (arith, contents, uses.0);
       leases = omega (arith, leases, uses.1);

@@ -37,73 +37,104 @@ with_write b k t = with_slab b (with_value b.tasks k t) b.waiting
 
 -- ---- a write in a slot
 
-pub there : (b : tables.Inside) (k : ℕ) (t : Task) → get b.tasks k ≡ Some t → task_in k (board_state_of b).tasks ≡ Some t
+pub there :
+    (b : tables.Inside) (k : ℕ) (t : Task) → get b.tasks k ≡ Some t → task_in k (board_state_of b).tasks ≡ Some t
 there b k t h = in_slab b.tasks k ∙ h
 
-pub nothing_there : (b : tables.Inside) (k : ℕ) (t : Task) → get b.tasks k ≡ None → task_in k (board_state_of b).tasks ≡ Some t → ⊥
+pub nothing_there :
+    (b : tables.Inside) (k : ℕ) (t : Task) → get b.tasks k ≡ None → task_in k (board_state_of b).tasks ≡ Some t → ⊥
 nothing_there b k t h is = none_is_not t (sym h ∙ (sym (in_slab b.tasks k) ∙ is))
 
-pub same_there : (b : tables.Inside) (k : ℕ) (t u : Task) → get b.tasks k ≡ Some t → task_in k (board_state_of b).tasks ≡ Some u → t ≡ u
+pub same_there :
+    (b : tables.Inside) (k : ℕ) (t u : Task) → get b.tasks k ≡ Some t
+    → task_in k (board_state_of b).tasks ≡ Some u → t ≡ u
 same_there b k t u h is = some_is t u (sym h ∙ (sym (in_slab b.tasks k) ∙ is))
 
-pub written : (b : tables.Inside) (k : ℕ) (old new : Task) → IsBoard (board_state_of b) → get b.tasks k ≡ Some old → old.id ≡ new.id
+pub written :
+    (b : tables.Inside) (k : ℕ) (old new : Task) → IsBoard (board_state_of b) → get b.tasks k ≡ Some old
+    → old.id ≡ new.id
     → board_state_of (with_write b k new) ≡ with_task (board_state_of b) new
-written b k old new sound h same = ap (λ (es : Entries). record (board_state_of b) { tasks = es }) (sym (changed b.tasks k old new h same sound.ids))
+written b k old new sound h same =
+    ap (λ (es : Entries). record (board_state_of b) { tasks = es }) (sym (changed b.tasks k old new h same sound.ids))
 
 -- those that wait still do, if the task keeps its id and incarnation
-pub written_waits : (b : tables.Inside) (k : ℕ) (old new : Task) → IsBoard (board_state_of b) → AreWaiting (board_state_of b).tasks b.waiting → get b.tasks k ≡ Some old → old.id ≡ new.id
+pub written_waits :
+    (b : tables.Inside) (k : ℕ) (old new : Task) → IsBoard (board_state_of b)
+    → AreWaiting (board_state_of b).tasks b.waiting → get b.tasks k ≡ Some old → old.id ≡ new.id
     → new.incarnation ≡ old.incarnation → AreWaiting (board_state_of (with_write b k new)).tasks b.waiting
 written_waits b k old new sound waits h same number =
     let s = board_state_of b in
-    let entry : entry_of new.id s.tasks ≡ Some (k, old) = ap (λ (x : List ℕ). entry_of x s.tasks) (sym same) ∙ entry_at k old s.tasks sound.ids (there b k old h) in
+    let entry :
+    entry_of new.id s.tasks ≡ Some (k, old) =
+    ap (λ (x : List ℕ). entry_of x s.tasks) (sym same) ∙ entry_at k old s.tasks sound.ids (there b k old h) in
     let Q : BoardState → Type 0 = λ x. AreWaiting x.tasks b.waiting in
     subst Q (sym (written b k old new sound h same)) (stay_changed s k old new b.waiting entry number waits)
 
-pub write_keeps : (b : tables.Inside) (k : ℕ) (new : Task) → board_state_of (with_write b k new) ≡ with_task (board_state_of b) new
+pub write_keeps :
+    (b : tables.Inside) (k : ℕ) (new : Task) → board_state_of (with_write b k new) ≡ with_task (board_state_of b) new
     → KeepsRoom (board_of b) (board_of (with_write b k new))
 write_keeps b k new is = record {
   contents = omega arith;
   leases = omega arith;
   tasks =
-      let same : length (entries (with_value b.tasks k new)) ≡ length (entries b.tasks) = ap (λ (s : BoardState). length s.tasks) is ∙ change_length new (entries b.tasks) in
+      let same :
+      length (entries (with_value b.tasks k new)) ≡ length (entries b.tasks) =
+      ap (λ (s : BoardState). length s.tasks) is ∙ change_length new (entries b.tasks) in
       ap (λ (n : ℕ). n + (b.tasks.capacity - n)) same;
 }
 
 -- ---- take
 
-pub lent_from : (b : tables.Inside) (ticket : Ticket) (budget : ℕ) (t new : Task) (l : Lent) → IsBoard (board_state_of b) → get b.tasks ticket.slot ≡ Some t
+pub lent_from :
+    (b : tables.Inside) (ticket : Ticket) (budget : ℕ) (t new : Task) (l : Lent) → IsBoard (board_state_of b)
+    → get b.tasks ticket.slot ≡ Some t
     → t.incarnation ≡ ticket.incarnation → can_lend t ≡ true → l ≡ loan_of ticket.slot budget t → new ≡ lent t budget
     → Lends (board_state_of b) ticket budget l (board_state_of (with_write b ticket.slot new))
 lent_from b ticket budget t new l sound h of can loan is = record {
   task = t;
   can = record { there = there b ticket.slot t h; of = of; ready = can };
   loan = loan;
-  leaves = written b ticket.slot t new sound h (ap (λ (u : Task). u.id) (sym is)) ∙ ap (with_task (board_state_of b)) is;
+  leaves =
+      written b ticket.slot t new sound h (ap (λ (u : Task). u.id) (sym is)) ∙ ap (with_task (board_state_of b)) is;
 }
 
-pub lends_keeps_sound : (s : BoardState) (ticket : Ticket) (budget : ℕ) (l : Lent) (s' : BoardState) → IsBoard s → (1 ≤ budget) × (budget ≤ max_budget)
+pub lends_keeps_sound :
+    (s : BoardState) (ticket : Ticket) (budget : ℕ) (l : Lent) (s' : BoardState) → IsBoard s
+    → (1 ≤ budget) × (budget ≤ max_budget)
     → Lends s ticket budget l s' → IsBoard s'
 lends_keeps_sound s ticket budget l s' b low is =
     subst IsBoard (sym is.leaves) (lends_sound s ticket.slot is.task budget b is.can.there is.can.ready low)
 
-pub lends_is_taken : (s : BoardState) (ticket : Ticket) (budget : ℕ) (l : Lent) (s' : BoardState) → IsBoard s → (1 ≤ budget) × (budget ≤ max_budget)
+pub lends_is_taken :
+    (s : BoardState) (ticket : Ticket) (budget : ℕ) (l : Lent) (s' : BoardState) → IsBoard s
+    → (1 ≤ budget) × (budget ≤ max_budget)
     → Lends s ticket budget l s' → taken s l.id budget ≡ Some s'
 lends_is_taken s ticket budget l s' b low is =
-    takes s ticket.slot is.task l.id budget b is.can.there is.can.ready low (ap (λ (x : Lent). x.id) is.loan) ∙ ap (λ (x : BoardState). Some x) (sym is.leaves)
+    takes s ticket.slot is.task l.id budget b is.can.there is.can.ready low (ap (λ (x : Lent). x.id) is.loan)
+    ∙ ap (λ (x : BoardState). Some x) (sym is.leaves)
 
 -- ---- changes
 
-pub call_there : (b : tables.Inside) (own : Task → Refusals) (slot : ℕ) (id : List ℕ) → IsBoard (board_state_of b) → (p : CallPrepared (board_state_of b) own slot id) → get b.tasks slot ≡ Some p.task
-call_there b own slot id sound p = sym (in_slab b.tasks slot) ∙ in_slot id (slot, p.task) (board_state_of b).tasks sound.slots p.found
+pub call_there :
+    (b : tables.Inside) (own : Task → Refusals) (slot : ℕ) (id : List ℕ) → IsBoard (board_state_of b)
+    → (p : CallPrepared (board_state_of b) own slot id) → get b.tasks slot ≡ Some p.task
+call_there b own slot id sound p =
+    sym (in_slab b.tasks slot) ∙ in_slot id (slot, p.task) (board_state_of b).tasks sound.slots p.found
 
 -- what a change in a slot does
 pub record IsChangedThere (b : tables.Inside) (c : Change) (slot : ℕ) (id : List ℕ) (new : Task) : Type 0 where
-  pub answers : Answers (board_state_of b) (change_request c id) (Ok (change_reply c id new.status)) (board_state_of (with_write b slot new))
-  pub ticket : running_ticket id (board_state_of (with_write b slot new)).tasks ≡ ticket_in slot (board_state_of (with_write b slot new)).tasks
+  pub answers :
+      Answers (board_state_of b) (change_request c id) (Ok (change_reply c id new.status))
+      (board_state_of (with_write b slot new))
+  pub ticket :
+      running_ticket id (board_state_of (with_write b slot new)).tasks
+      ≡ ticket_in slot (board_state_of (with_write b slot new)).tasks
   pub waiting : AreWaiting (board_state_of (with_write b slot new)).tasks b.waiting
   pub room : KeepsRoom (board_of b) (board_of (with_write b slot new))
 
-pub changed_there : (b : tables.Inside) (c : Change) (slot : ℕ) (id : List ℕ) (old new : Task) → IsBoard (board_state_of b) → AreWaiting (board_state_of b).tasks b.waiting → (p : CallPrepared (board_state_of b) (change_refusals c) slot id)
+pub changed_there :
+    (b : tables.Inside) (c : Change) (slot : ℕ) (id : List ℕ) (old new : Task) → IsBoard (board_state_of b)
+    → AreWaiting (board_state_of b).tasks b.waiting → (p : CallPrepared (board_state_of b) (change_refusals c) slot id)
     → get b.tasks slot ≡ Some old → new ≡ changed_by c old → IsChangedThere b c slot id new
 changed_there b c slot id old new sound waits p here is =
     let s = board_state_of b in
@@ -115,12 +146,21 @@ changed_there b c slot id old new sound waits p here is =
     let s' = board_state_of (with_write b slot new) in
     let done = change_answers c s id p.task s' at p.accepted (leaves ∙ ap (with_task s) by_task) in
     let name : p.task.id ≡ id = named id s.tasks (slot, p.task) p.found in
-    let own = subst (λ (x : List ℕ). Answers s (change_request c id) (Ok (change_reply c x (changed_by c p.task).status)) s') name done in
-    let answers = subst (λ (u : Task). Answers s (change_request c id) (Ok (change_reply c id u.status)) s') (sym by_task) own in
-    let after = subst IsBoard leaves (answers_sound s (change_request c id) (Ok (change_reply c id new.status)) s' sound answers) in
+    let own =
+    subst
+    (λ (x : List ℕ). Answers s (change_request c id) (Ok (change_reply c x (changed_by c p.task).status)) s')
+    name done in
+    let answers =
+    subst (λ (u : Task). Answers s (change_request c id) (Ok (change_reply c id u.status)) s') (sym by_task) own in
+    let after =
+    subst IsBoard leaves
+    (answers_sound s (change_request c id) (Ok (change_reply c id new.status)) s' sound answers) in
     let own_id : id ≡ new.id = sym name ∙ (ap (λ (u : Task). u.id) (sym same) ∙ keeps) in
-    let number : new.incarnation ≡ p.task.incarnation = ap (λ (u : Task). u.incarnation) by_task ∙ change_incarnation c p.task in
-    let entry : entry_of new.id s.tasks ≡ Some (slot, p.task) = ap (λ (x : List ℕ). entry_of x s.tasks) (sym own_id) ∙ p.found in
+    let number :
+    new.incarnation ≡ p.task.incarnation = ap (λ (u : Task). u.incarnation) by_task ∙ change_incarnation c p.task in
+    let entry :
+    entry_of new.id s.tasks ≡ Some (slot, p.task) =
+    ap (λ (x : List ℕ). entry_of x s.tasks) (sym own_id) ∙ p.found in
     let P : BoardState → Type 0 = λ x. running_ticket id x.tasks ≡ ticket_in slot x.tasks in
     let Q : BoardState → Type 0 = λ x. AreWaiting x.tasks b.waiting in
     record {
@@ -133,33 +173,58 @@ changed_there b c slot id old new sound waits p here is =
 -- ---- delete
 
 -- what a removal from a slot does
-pub record IsRemovedThere (b : tables.Inside) (slot : ℕ) (id : List ℕ) (new : Slab Task) (waiting : List Ticket) (old : Task) : Type 0 where
-  pub answers : Answers (board_state_of b) (request.Delete id) (Ok (reply.Delete (state_of old))) (board_state_of (with_slab b new waiting))
+pub record IsRemovedThere (b : tables.Inside) (slot : ℕ) (id : List ℕ) (new : Slab Task) (waiting : List Ticket)
+    (old : Task) : Type 0 where
+  pub answers :
+      Answers (board_state_of b) (request.Delete id) (Ok (reply.Delete (state_of old)))
+      (board_state_of (with_slab b new waiting))
   pub room : KeepsRoom (board_of b) (board_of (with_slab b new waiting))
 
-pub removed_there : (b : tables.Inside) (slot : ℕ) (id : List ℕ) (new : Slab Task) (waiting : List Ticket) (old : Task) → 64 ≤ b.tasks.capacity → IsBoard (board_state_of b)
-    → (p : CallPrepared (board_state_of b) delete_refusals slot id) → get b.tasks slot ≡ Some old → new.slots ≡ slice_set b.tasks.slots slot None → new.capacity ≡ b.tasks.capacity
+pub removed_there :
+    (b : tables.Inside) (slot : ℕ) (id : List ℕ) (new : Slab Task) (waiting : List Ticket) (old : Task)
+    → 64 ≤ b.tasks.capacity → IsBoard (board_state_of b)
+    → (p : CallPrepared (board_state_of b) delete_refusals slot id) → get b.tasks slot ≡ Some old
+    → new.slots ≡ slice_set b.tasks.slots slot None → new.capacity ≡ b.tasks.capacity
     → IsRemovedThere b slot id new waiting old
 removed_there b slot id new waiting old room sound p here slots capacity =
     let s = board_state_of b in
     let same : old ≡ p.task = some_is old p.task (sym here ∙ call_there b delete_refusals slot id sound p) in
-    let left : entries new ≡ remove_task old.id (entries b.tasks) = ap (λ (xs : List (Option Task)). entries_from 0 xs) slots ∙ removed b.tasks slot old here sound.ids in
-    let leaves : board_state_of (with_slab b new waiting) ≡ without_task s old.id = ap (λ (es : Entries). record s { tasks = es }) left in
+    let left :
+    entries new ≡ remove_task old.id (entries b.tasks) =
+    ap (λ (xs : List (Option Task)). entries_from 0 xs) slots ∙ removed b.tasks slot old here sound.ids in
+    let leaves :
+    board_state_of (with_slab b new waiting) ≡ without_task s old.id =
+    ap (λ (es : Entries). record s { tasks = es }) left in
     let at : task_of id s.tasks ≡ Some p.task = ap (option_map (λ (e : ℕ × Task). e.1)) p.found in
-    let done = delete_answers s id p.task (board_state_of (with_slab b new waiting)) at p.accepted (leaves ∙ ap (λ (u : Task). without_task s u.id) same) in
+    let done =
+    delete_answers s id p.task (board_state_of (with_slab b new waiting)) at p.accepted
+    (leaves ∙ ap (λ (u : Task). without_task s u.id) same) in
     let name : p.task.id ≡ id = named id s.tasks (slot, p.task) p.found in
-    let own : entry_of old.id s.tasks ≡ Some (slot, p.task) = ap (λ (x : List ℕ). entry_of x s.tasks) (ap (λ (u : Task). u.id) same ∙ name) ∙ p.found in
+    let own :
+    entry_of old.id s.tasks ≡ Some (slot, p.task) =
+    ap (λ (x : List ℕ). entry_of x s.tasks) (ap (λ (u : Task). u.id) same ∙ name) ∙ p.found in
     let less = remove_length old.id (slot, p.task) s.tasks own in
-    let fewer : length (entries new) ≡ length (remove_task old.id (entries b.tasks)) = ap (λ (es : Entries). length es) left in
+    let fewer :
+    length (entries new) ≡ length (remove_task old.id (entries b.tasks)) = ap (λ (es : Entries). length es) left in
     let few = sound.few_tasks in
     record {
-      answers = subst (λ (u : Task). Answers s (request.Delete id) (Ok (reply.Delete (state_of u))) (board_state_of (with_slab b new waiting))) (sym same) done;
-      room = record { contents = omega arith; leases = omega arith; tasks = omega (arith, less, fewer, few, room, capacity) };
+      answers =
+          subst
+          (λ (u : Task). Answers s (request.Delete id) (Ok (reply.Delete (state_of u)))
+          (board_state_of (with_slab b new waiting))) (sym same) done;
+      room =
+          record {
+            contents = omega arith;
+            leases = omega arith;
+            tasks = omega (arith, less, fewer, few, room, capacity);
+          };
     }
 
 -- ---- create
 
-pub room_for_task : (b : tables.Inside) (r : Request) (t : Task) (id : List ℕ) → 64 ≤ b.tasks.capacity → CreatePrepared (board_state_of b) r t id → HasRoomFor b.tasks 1
+pub room_for_task :
+    (b : tables.Inside) (r : Request) (t : Task) (id : List ℕ) → 64 ≤ b.tasks.capacity
+    → CreatePrepared (board_state_of b) r t id → HasRoomFor b.tasks 1
 room_for_task b r t id room p =
     let few = few_tasks (board_state_of b) p.config id p.accepted in
     let n = count b.tasks in
@@ -169,38 +234,57 @@ room_for_task b r t id room p =
 abbrev pub with_insert : tables.Inside → Slab Task → tables.Inside
 with_insert b s = record { store = b.store; opened = b.opened; tasks = s; creates = b.creates + 1; waiting = b.waiting }
 
-pub inserted_leaves : (b : tables.Inside) (new : Slab Task) (key : ℕ) (t : Task) → get b.tasks key ≡ None → Updates b.tasks new key (Some t)
+pub inserted_leaves :
+    (b : tables.Inside) (new : Slab Task) (key : ℕ) (t : Task) → get b.tasks key ≡ None
+    → Updates b.tasks new key (Some t)
     → board_state_of (with_insert b new) ≡ with_new_task (board_state_of b) key t
 inserted_leaves b new key t free updates =
-    ap (λ (es : Entries). record (board_state_of b) { tasks = es; creates = b.creates + 1 }) (inserted b.tasks new key t free updates)
+    ap (λ (es : Entries). record (board_state_of b) { tasks = es; creates = b.creates + 1 })
+    (inserted b.tasks new key t free updates)
 
-pub inserted_waits : (b : tables.Inside) (new : Slab Task) (key : ℕ) (t : Task) → AreWaiting (board_state_of b).tasks b.waiting → get b.tasks key ≡ None → Updates b.tasks new key (Some t)
+pub inserted_waits :
+    (b : tables.Inside) (new : Slab Task) (key : ℕ) (t : Task) → AreWaiting (board_state_of b).tasks b.waiting
+    → get b.tasks key ≡ None → Updates b.tasks new key (Some t)
     → AreWaiting (board_state_of (with_insert b new)).tasks b.waiting
 inserted_waits b new key t waits free updates =
     let Q : BoardState → Type 0 = λ x. AreWaiting x.tasks b.waiting in
-    subst Q (sym (inserted_leaves b new key t free updates)) (stay_more (board_state_of b) key t b.waiting (in_slab b.tasks key ∙ free) waits)
+    subst Q (sym (inserted_leaves b new key t free updates))
+    (stay_more (board_state_of b) key t b.waiting (in_slab b.tasks key ∙ free) waits)
 
-pub inserted_answers : (b : tables.Inside) (new : Slab Task) (key : ℕ) (t : Task) (r : Request) (id : List ℕ) → get b.tasks key ≡ None → Updates b.tasks new key (Some t)
-    → CreatePrepared (board_state_of b) r t id → Answers (board_state_of b) r (Ok (reply.Create id Created)) (board_state_of (with_insert b new))
+pub inserted_answers :
+    (b : tables.Inside) (new : Slab Task) (key : ℕ) (t : Task) (r : Request) (id : List ℕ) → get b.tasks key ≡ None
+    → Updates b.tasks new key (Some t)
+    → CreatePrepared (board_state_of b) r t id
+    → Answers (board_state_of b) r (Ok (reply.Create id Created)) (board_state_of (with_insert b new))
 inserted_answers b new key t r id free updates p =
-    create_answers (board_state_of b) r t id key (board_state_of (with_insert b new)) p (in_slab b.tasks key ∙ free) (inserted_leaves b new key t free updates)
+    create_answers (board_state_of b) r t id key (board_state_of (with_insert b new)) p (in_slab b.tasks key ∙ free)
+    (inserted_leaves b new key t free updates)
 
-pub insert_keeps : (b : tables.Inside) (new : Slab Task) (key : ℕ) (t : Task) → get b.tasks key ≡ None → Updates b.tasks new key (Some t)
+pub insert_keeps :
+    (b : tables.Inside) (new : Slab Task) (key : ℕ) (t : Task) → get b.tasks key ≡ None
+    → Updates b.tasks new key (Some t)
     → HasRoomFor b.tasks 1 → new.capacity ≡ b.tasks.capacity → KeepsRoom (board_of b) (board_of (with_insert b new))
 insert_keeps b new key t free updates room capacity = record {
   contents = omega arith;
   leases = omega arith;
   tasks =
-      let more : length (entries new) ≡ suc (length (entries b.tasks)) = ap (λ (es : Entries). length es) (inserted b.tasks new key t free updates) ∙ put_length key t (entries b.tasks) in
+      let more :
+      length (entries new) ≡ suc (length (entries b.tasks)) =
+      ap (λ (es : Entries). length es) (inserted b.tasks new key t free updates)
+      ∙ put_length key t (entries b.tasks) in
       let n = count b.tasks in
       omega (arith, more, n, room, capacity);
 }
 
 -- ---- the loan of a task
 
-pub fits_there : (b : tables.Inside) (l : Lent) (t : Task) (r : Bool) → get b.tasks l.slot ≡ Some t → IsTrue r ↔ FitsTask l t → IsTrue r ↔ Fits l (board_state_of b).tasks
-fits_there b l t r here is =
-    (λ yes. (t, there b l.slot t here, is.0 yes), λ f. is.1 (subst (FitsTask l) (sym (same_there b l.slot t f.0 here f.1)) f.2))
+pub fits_there :
+    (b : tables.Inside) (l : Lent) (t : Task) (r : Bool) → get b.tasks l.slot ≡ Some t → IsTrue r ↔ FitsTask l t
+    → IsTrue r ↔ Fits l (board_state_of b).tasks
+fits_there b l t r here is = (
+  λ yes. (t, there b l.slot t here, is.0 yes),
+  λ f. is.1 (subst (FitsTask l) (sym (same_there b l.slot t f.0 here f.1)) f.2),
+)
 
 pub fits_nowhere : (b : tables.Inside) (l : Lent) → get b.tasks l.slot ≡ None → Fits l (board_state_of b).tasks → ⊥
 fits_nowhere b l none f = nothing_there b l.slot f.0 none f.1
@@ -210,25 +294,35 @@ fits_nowhere b l none f = nothing_there b l.slot f.0 none f.1
 -- what a return in a slot does
 pub record IsBackThere (b : tables.Inside) (l : Lent) (new : Task) : Type 0 where
   pub leaves : board_state_of (with_write b l.slot new) ≡ with_task (board_state_of b) new
-  pub home : Returns (board_state_of b) (task_of l.id (board_state_of b).tasks) (board_state_of (with_write b l.slot new))
+  pub home :
+      Returns (board_state_of b) (task_of l.id (board_state_of b).tasks) (board_state_of (with_write b l.slot new))
   pub sound : IsBoard (board_state_of (with_write b l.slot new))
   pub there : task_in l.slot (board_state_of (with_write b l.slot new)).tasks ≡ Some new
 
-pub back_there : (b : tables.Inside) (l : Lent) (t new : Task) → GoForward → StopFirst → IsBoard (board_state_of b) → get b.tasks l.slot ≡ Some t → FitsTask l t
+pub back_there :
+    (b : tables.Inside) (l : Lent) (t new : Task) → GoForward → StopFirst → IsBoard (board_state_of b)
+    → get b.tasks l.slot ≡ Some t → FitsTask l t
     → new ≡ advanced t (slice_turns t l.budget) → IsBackThere b l new
 back_there b l t new forward first sound here fits is =
     let s = board_state_of b in
     let at = there b l.slot t here in
     let same_id : t.id ≡ new.id = ap (λ (u : Task). u.id) (sym is) in
     let leaves = written b l.slot t new sound here same_id in
-    let by_turns : board_state_of (with_write b l.slot new) ≡ with_task s (advanced t (slice_turns t l.budget)) = leaves ∙ ap (with_task s) is in
+    let by_turns :
+    board_state_of (with_write b l.slot new) ≡ with_task s (advanced t (slice_turns t l.budget)) =
+    leaves ∙ ap (with_task s) is in
     record {
       leaves = leaves;
-      home = returns s l.slot t l.id l.budget (board_state_of (with_write b l.slot new)) forward first sound at (ap (λ (x : Lent). x.id) fits.0) fits.1 by_turns;
+      home =
+          returns s l.slot t l.id l.budget (board_state_of (with_write b l.slot new)) forward first sound at
+          (ap (λ (x : Lent). x.id) fits.0) fits.1 by_turns;
       sound = subst IsBoard (sym by_turns) (returned_sound s l.slot t (slice_turns t l.budget) sound at);
-      there = ap (λ (x : BoardState). task_in l.slot x.tasks) leaves ∙ changed_in new t l.slot s.tasks sound.ids at same_id;
+      there =
+          ap (λ (x : BoardState). task_in l.slot x.tasks) leaves ∙ changed_in new t l.slot s.tasks sound.ids at same_id;
     }
 
 -- the task that a loan fits is the one in its slot
-pub fits_here : (b : tables.Inside) (l : Lent) (t : Task) → get b.tasks l.slot ≡ Some t → Fits l (board_state_of b).tasks → FitsTask l t
+pub fits_here :
+    (b : tables.Inside) (l : Lent) (t : Task) → get b.tasks l.slot ≡ Some t
+    → Fits l (board_state_of b).tasks → FitsTask l t
 fits_here b l t here f = subst (FitsTask l) (sym (same_there b l.slot t f.0 here f.1)) f.2

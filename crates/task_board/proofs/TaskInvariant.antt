@@ -37,10 +37,13 @@ away_by t (Some n) placed = placed
 
 -- a task that takes no turns has its machine
 pub not_away : (t : Task) (o : Option Checkout) → IsKept t o → takes_turns t.status ≡ false → o ≡ None → ⊥
-not_away t o kept quiet none = true≢false (sym (away_by t t.out (subst (λ (x : Option Checkout). IsPlaced t x t.out) none kept.1)) ∙ quiet)
+not_away t o kept quiet none =
+    true≢false (sym (away_by t t.out (subst (λ (x : Option Checkout). IsPlaced t x t.out) none kept.1)) ∙ quiet)
 
 -- a task with its machine stays one with another standing
-pub kept_idle : (t : Task) (c : Checkout) (x : Standing) → Openable t.bytes t.process t.module → IsMachine c.machine.value t.module t.process t.turns
+pub kept_idle :
+    (t : Task) (c : Checkout) (x : Standing) → Openable t.bytes t.process t.module
+    → IsMachine c.machine.value t.module t.process t.turns
     → IsOwn c t.id t.bytes t.module t.process t.breaks → IsKept (idle_task t x) (Some c)
 kept_idle t c x opens machine own = (opens, (machine, own))
 
@@ -51,10 +54,17 @@ pub lent_own : (t : Task) (c : Checkout) (slot budget : ℕ) → IsOwn c t.id t.
     → lent_with slot t.incarnation t.turns budget c ≡ loan_of slot budget t
 lent_own t c slot budget own =
     ap (λ (x : List ℕ). record (lent_with slot t.incarnation t.turns budget c) { id = x }) own.same_id
-    ∙ (ap (λ (x : List ℕ). record (lent_with slot t.incarnation t.turns budget c) { id = t.id; bytes = x }) own.same_bytes
-    ∙ (ap (λ (x : Module). record (lent_with slot t.incarnation t.turns budget c) { id = t.id; bytes = t.bytes; «module» = x }) own.same_module
-    ∙ (ap (λ (x : ProcessConfig). record (lent_with slot t.incarnation t.turns budget c) { id = t.id; bytes = t.bytes; «module» = t.module; process = x }) own.same_process
-    ∙ ap (λ (x : _). record (lent_with slot t.incarnation t.turns budget c) { id = t.id; bytes = t.bytes; «module» = t.module; process = t.process; breaks = x }) own.same_breaks)))
+    ∙ (ap
+    (λ (x : List ℕ). record (lent_with slot t.incarnation t.turns budget c) { id = t.id; bytes = x }) own.same_bytes
+    ∙ (ap
+    (λ (x : Module). record (lent_with slot t.incarnation t.turns budget c)
+    { id = t.id; bytes = t.bytes; «module» = x }) own.same_module
+    ∙ (ap
+    (λ (x : ProcessConfig). record (lent_with slot t.incarnation t.turns budget c)
+    { id = t.id; bytes = t.bytes; «module» = t.module; process = x }) own.same_process
+    ∙ ap
+    (λ (x : _). record (lent_with slot t.incarnation t.turns budget c)
+    { id = t.id; bytes = t.bytes; «module» = t.module; process = t.process; breaks = x }) own.same_breaks)))
 
 pub loan_kept : (t : Task) (c : Checkout) (slot budget : ℕ) → Openable t.bytes t.process t.module → IsIdle t c
     → IsLoan (lent_with slot t.incarnation t.turns budget c) c.machine.value None
@@ -83,26 +93,37 @@ pub back : (l : Lent) (t : Task) (c : Checkout) (e : SliceEnd) → IsLoan l c.ma
 back l t c e loan own fits = back_by l t c e fits.0 loan own l.budget refl
 
 -- the count of the machine that came back
-pub counted : (t : Task) (c : Checkout) (e : SliceEnd) (budget turns : ℕ) → IsBack t c e budget → turns ≡ c.machine.value.turns
+pub counted :
+    (t : Task) (c : Checkout) (e : SliceEnd) (budget turns : ℕ) → IsBack t c e budget → turns ≡ c.machine.value.turns
     → turns ≡ t.turns + slice_turns t budget
 counted t c e budget turns is same = same ∙ ap (λ (r : MachineView). r.turns) is.machine
 
 -- the task as its slice leaves it
-pub landed : (t : Task) (c : Checkout) (e : SliceEnd) (budget turns : ℕ) (x : Standing) → IsBack t c e budget → turns ≡ c.machine.value.turns
-    → x ≡ standing_after e t.signal t.status → idle_task (record t { turns = turns }) x ≡ advanced t (slice_turns t budget)
+pub landed :
+    (t : Task) (c : Checkout) (e : SliceEnd) (budget turns : ℕ) (x : Standing) → IsBack t c e budget
+    → turns ≡ c.machine.value.turns
+    → x ≡ standing_after e t.signal t.status
+    → idle_task (record t { turns = turns }) x ≡ advanced t (slice_turns t budget)
 landed t c e budget turns x is same lands =
     ap₂ (λ (n : ℕ) (y : Standing). idle_task (record t { turns = n }) y) (counted t c e budget turns is same)
     (lands ∙ ap (λ (z : SliceEnd). standing_after z t.signal t.status) is.ends)
 
-pub kept_back : (t : Task) (c : Checkout) (e : SliceEnd) (budget turns : ℕ) (x : Standing) → IsBack t c e budget → turns ≡ c.machine.value.turns
+pub kept_back :
+    (t : Task) (c : Checkout) (e : SliceEnd) (budget turns : ℕ) (x : Standing) → IsBack t c e budget
+    → turns ≡ c.machine.value.turns
     → IsKept (idle_task (record t { turns = turns }) x) (Some c)
 kept_back t c e budget turns x is same =
-    let at : IsMachine c.machine.value t.module t.process turns = subst (λ (n : ℕ). IsMachine c.machine.value t.module t.process n) (sym (counted t c e budget turns is same)) is.machine in
+    let at :
+    IsMachine c.machine.value t.module t.process turns =
+    subst (λ (n : ℕ). IsMachine c.machine.value t.module t.process n)
+    (sym (counted t c e budget turns is same)) is.machine in
     (is.opens, (at, is.own))
 
 -- ---- which loan fits
 
-pub fits_numbered : (l : Lent) (t : Task) → FitsTask l t → (l.incarnation ≡ t.incarnation) × (l.turns ≡ t.turns) × (t.out ≡ Some l.budget)
+pub fits_numbered :
+    (l : Lent) (t : Task) → FitsTask l t
+    → (l.incarnation ≡ t.incarnation) × (l.turns ≡ t.turns) × (t.out ≡ Some l.budget)
 fits_numbered l t f = (ap (λ (x : Lent). x.incarnation) f.0, ap (λ (x : Lent). x.turns) f.0, f.1)
 
 pub fits_parts : (l : Lent) (t : Task) → l.incarnation ≡ t.incarnation → l.turns ≡ t.turns → t.out ≡ Some l.budget
@@ -112,9 +133,28 @@ fits_parts l t n k out id bytes m p bs = (
       ∙ (ap (λ (x : _). record l { incarnation = t.incarnation; id = x }) id
       ∙ (ap (λ (x : _). record l { incarnation = t.incarnation; id = t.id; bytes = x }) bytes
       ∙ (ap (λ (x : _). record l { incarnation = t.incarnation; id = t.id; bytes = t.bytes; «module» = x }) m
-      ∙ (ap (λ (x : _). record l { incarnation = t.incarnation; id = t.id; bytes = t.bytes; «module» = t.module; process = x }) p
-      ∙ (ap (λ (x : _). record l { incarnation = t.incarnation; id = t.id; bytes = t.bytes; «module» = t.module; process = t.process; turns = x }) k
-      ∙ ap (λ (x : _). record l { incarnation = t.incarnation; id = t.id; bytes = t.bytes; «module» = t.module; process = t.process; turns = t.turns; breaks = x }) bs))))),
+      ∙ (ap
+      (λ (x : _). record l
+      { incarnation = t.incarnation; id = t.id; bytes = t.bytes; «module» = t.module; process = x }) p
+      ∙ (ap
+      (λ (x : _). record l {
+        incarnation = t.incarnation;
+        id = t.id;
+        bytes = t.bytes;
+        «module» = t.module;
+        process = t.process;
+        turns = x;
+      }) k
+      ∙ ap
+      (λ (x : _). record l {
+        incarnation = t.incarnation;
+        id = t.id;
+        bytes = t.bytes;
+        «module» = t.module;
+        process = t.process;
+        turns = t.turns;
+        breaks = x;
+      }) bs))))),
   out,
 )
 
@@ -126,7 +166,9 @@ same_module l m bytes p one mine other same =
     one bytes l.module m (subst (λ (bs : List ℕ). Spells bs l.module) same mine.spelled.spells) other.spelled.spells
 
 -- a loan fits a task exactly if its numbers agree, it is the task's own budget, and it shares what the task has
-pub fits_shared : (l : Lent) (t : task.Inside) (r : Bool) → (l.incarnation ≡ t.incarnation) × (l.turns ≡ t.turns) × (t.out ≡ Some l.budget)
+pub fits_shared :
+    (l : Lent) (t : task.Inside) (r : Bool)
+    → (l.incarnation ≡ t.incarnation) × (l.turns ≡ t.turns) × (t.out ≡ Some l.budget)
     → (l.bytes ≡ arc_value (arc_value t.shared).bytes → l.module ≡ (arc_value t.shared).flat)
     → IsTrue r ↔ SharesWith l (arc_value t.shared) (arc_value t.breaks) → IsTrue r ↔ FitsTask l (task_of t)
 fits_shared l t r numbers one is = (

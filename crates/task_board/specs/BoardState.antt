@@ -25,13 +25,14 @@ pub record Task : Type 0 where
   pub breaks : List Place
   -- the budget of its slice, while that is out
   pub out : Option ℕ
-  -- the signal that will end it, while its slice is out
+  -- the pending signal, while its slice is out; it ends the task then, unless its own end comes first
   pub signal : Option Signal
   -- how it ended
   pub end : Option ExitRecord
 
 -- a task as it was created, with nothing done yet
-abbrev pub created_task : (id : List ℕ) → (incarnation : ℕ) → (bytes : List ℕ) → Module → ProcessConfig → Task
+abbrev pub created_task :
+    (id : List ℕ) → (incarnation : ℕ) → (bytes : List ℕ) → Module → ProcessConfig → Task
 created_task id incarnation bytes m p = record {
   id = id;
   incarnation = incarnation;

@@ -19,6 +19,8 @@ pub record BoardValue : Type 0 where
 -- what was added used room that was there, and no other room is lost
 pub record KeepsRoom (b b' : BoardValue) : Type 0 where
   pub contents :
-      b.room.contents ≤ b'.room.contents + (length b'.state.store.contents - length b.state.store.contents)
-  pub leases : b.room.leases ≤ b'.room.leases + (length b'.state.store.leases - length b.state.store.leases)
+      b.room.contents
+      ≤ b'.room.contents + (length b'.state.store.contents - length b.state.store.contents)
+  pub leases :
+      b.room.leases ≤ b'.room.leases + (length b'.state.store.leases - length b.state.store.leases)
   pub tasks : length b'.state.tasks + b'.room.tasks ≡ length b.state.tasks + b.room.tasks

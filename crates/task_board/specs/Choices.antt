@@ -18,7 +18,9 @@ IsDetermined other = Unit {0}
 
 -- one of the two is BadModule and the other Limit
 abbrev pub AreEither : Refusal → Refusal → Type 0
-AreEither e e' = ((e ≡ refusal.BadModule) × (e' ≡ refusal.Limit)) ⊎ ((e ≡ refusal.Limit) × (e' ≡ refusal.BadModule))
+AreEither e e' =
+    ((e ≡ refusal.BadModule) × (e' ≡ refusal.Limit))
+    ⊎ ((e ≡ refusal.Limit) × (e' ≡ refusal.BadModule))
 
 -- two refusals of one create: the same; or BadModule and Limit, of bytes that spell no module and pass a
 -- limit
@@ -30,11 +32,12 @@ AgreeOnRefusal e e' = (e ≡ e') ⊎ AreEither e e'
 abbrev pub AgreeOnCreate : BoardState → Answer → BoardState → Answer → BoardState → Type 0
 AgreeOnCreate s (Err e) s1 (Err e') s2 = (s1 ≡ s) × (s2 ≡ s) × AgreeOnRefusal e e'
 AgreeOnCreate s (Ok r) s1 (Ok r') s2 =
-    (r ≡ r') × (t : Task) × (k : ℕ) × (k' : ℕ) × (s1 ≡ with_new_task s k t) × (s2 ≡ with_new_task s k' t)
+    (r ≡ r') × (t : Task) × (k : ℕ) × (k' : ℕ) × (s1 ≡ with_new_task s k t)
+    × (s2 ≡ with_new_task s k' t)
 AgreeOnCreate s r s1 r' s2 = ⊥
 
--- how a text that denotes no module may be refused: at any line and column; and as Limit, if more than 256 blocks are
--- open in it
+-- how a text that denotes no module may be refused: at any line and column; and as Limit, if more
+-- than 256 blocks are open in it
 abbrev pub IsFaultOf : (text : List ℕ) → Answer → Type 0
 IsFaultOf text (Err (refusal.BadText line column)) = Unit {0}
 IsFaultOf text (Err refusal.Limit) = IsTooDeep text

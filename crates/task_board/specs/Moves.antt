@@ -12,7 +12,8 @@ pub data Moves (t t' : Task) : Type 0 where
   starts : allowed call.Start t.status ≡ true → t' ≡ started t → Moves t t'
   pauses : allowed call.Pause t.status ≡ true → t' ≡ paused t → Moves t t'
   resumes : allowed call.Resume t.status ≡ true → t' ≡ resumed t → Moves t t'
-  is_killed : (signal : Signal) → allowed call.Kill t.status ≡ true → t' ≡ killed signal t → Moves t t'
+  is_killed :
+      (signal : Signal) → allowed call.Kill t.status ≡ true → t' ≡ killed signal t → Moves t t'
   -- its slice is taken, which only that of a running idle task is; its turns stay
   is_taken : (budget : ℕ) → can_lend t ≡ true → t' ≡ lent t budget → Moves t t'
   returns : HasReturned t t' → Moves t t'

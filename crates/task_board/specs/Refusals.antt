@@ -29,7 +29,9 @@ is_full s = nat_le max_tasks (length s.tasks) || nat_le max_creates s.creates
 
 -- the stored bytes of the module that a config names
 abbrev pub named_bytes : BoardState → (config : List ℕ) → Option (List ℕ)
-named_bytes s config = option_and_then (λ (p : ProcessConfig). content_in s.store.contents p.module) (process_read config)
+named_bytes s config =
+    option_and_then (λ (p : ProcessConfig). content_in s.store.contents p.module)
+    (process_read config)
 
 -- those before the bytes are read
 abbrev pub create_refusals : BoardState → (config id : List ℕ) → Refusals
@@ -58,7 +60,8 @@ pub data CannotOpen (bytes : List ℕ) (p : ProcessConfig) : Refusal → Type 0 
       (m : Module) → IsSpelled bytes m → (ValidModule m → ⊥) → CannotOpen bytes p refusal.Invalid
   -- a valid module that cannot be instantiated under the process
   refused :
-      (m : Module) → (e : Refusal) → IsSpelled bytes m → ValidModule m → instantiation_refusal m p ≡ Some e
+      (m : Module) → (e : Refusal) → IsSpelled bytes m → ValidModule m
+      → instantiation_refusal m p ≡ Some e
       → CannotOpen bytes p e
 
 -- the bytes spell a valid module that can be instantiated under the process
@@ -80,7 +83,8 @@ resume_refusals t = (not (allowed call.Resume t.status), refusal.WrongStatus) �
 
 abbrev pub kill_refusals : (signal : ℕ) → Task → Refusals
 kill_refusals signal t =
-    (is_none (signal_of signal), refusal.OutOfRange) ∷ (not (allowed call.Kill t.status), refusal.WrongStatus) ∷ []
+    (is_none (signal_of signal), refusal.OutOfRange)
+    ∷ (not (allowed call.Kill t.status), refusal.WrongStatus) ∷ []
 
 abbrev pub delete_refusals : Task → Refusals
 delete_refusals t = (not (allowed call.Delete t.status), refusal.WrongStatus) ∷ []

@@ -31,7 +31,8 @@ abbrev pub Answer : Type 0
 Answer = Result Reply Refusal
 
 -- refused, and the board stays; or not, and the effect is as stated
-abbrev pub DecidedBy : Option Refusal → (Effect : Type 0) → BoardState → Answer → BoardState → Type 0
+abbrev pub DecidedBy :
+    Option Refusal → (Effect : Type 0) → BoardState → Answer → BoardState → Type 0
 DecidedBy (Some e) Effect s r s' = (r ≡ Err e) × (s' ≡ s)
 DecidedBy None Effect s r s' = Effect
 
@@ -41,12 +42,14 @@ Decided refusals Effect s r s' = DecidedBy (first_refusal refusals) Effect s r s
 
 -- a request to the store: its refusals, what it is answered, and the store that it leaves
 abbrev pub OnStore : BoardState → Refusals → Reply → StoreState → Answer → BoardState → Type 0
-OnStore s refusals reply new r s' = Decided refusals ((r ≡ Ok reply) × (s' ≡ with_store s new)) s r s'
+OnStore s refusals reply new r s' =
+    Decided refusals ((r ≡ Ok reply) × (s' ≡ with_store s new)) s r s'
 
 -- a put of bytes
 abbrev pub Puts : BoardState → (bytes : List ℕ) → Answer → BoardState → Type 0
 Puts s bytes r s' =
-    OnStore s (put_refusals s.store bytes) (reply.Put (digest_of bytes) (length bytes)) (with_content s.store bytes)
+    OnStore s (put_refusals s.store bytes) (reply.Put (digest_of bytes) (length bytes))
+    (with_content s.store bytes)
     r s'
 
 -- a put of a text is refused if no bytes are stored of it, and else is a put of those bytes
@@ -56,7 +59,8 @@ pub data PutsText (s : BoardState) (text : List ℕ) (r : Answer) (s' : BoardSta
 
 -- a request to the task with an id, if there is one: the request's own refusals, what it is answered,
 -- and the board that it leaves
-abbrev pub OnFound : (id : List ℕ) → (own : Task → Refusals) → (Task → Reply) → (Task → BoardState) → Option Task
+abbrev pub OnFound :
+    (id : List ℕ) → (own : Task → Refusals) → (Task → Reply) → (Task → BoardState) → Option Task
     → BoardState → Answer → BoardState → Type 0
 OnFound id own reply new None s r s' = Decided (task_refusals id own None) ⊥ s r s'
 OnFound id own reply new (Some t) s r s' =
@@ -98,27 +102,37 @@ Answers s (request.Remove digest) r s' =
 Answers s (request.LeaseCreate id) r s' =
     OnStore s (lease_create_refusals s.store id) (reply.LeaseCreate id) (with_lease s.store id) r s'
 Answers s (request.LeaseAdd digest id) r s' =
-    OnStore s (lease_add_refusals s.store digest id) (reply.LeaseAdd digest id) (with_member s.store digest id) r s'
+    OnStore s (lease_add_refusals s.store digest id) (reply.LeaseAdd digest id)
+    (with_member s.store digest id) r s'
 Answers s (request.LeaseDelete id) r s' =
-    OnStore s (lease_delete_refusals s.store id) (reply.LeaseDelete id) (without_lease s.store id) r s'
+    OnStore s (lease_delete_refusals s.store id) (reply.LeaseDelete id)
+    (without_lease s.store id) r s'
 Answers s request.Gc r s' =
-    OnStore s [] (reply.Gc (unheld (used_by s.tasks) s.store)) (collected (used_by s.tasks) s.store) r s'
-Answers s (request.Create config id) r s' = Decided (create_refusals s config id) (Creates s config id r s') s r s'
+    OnStore s [] (reply.Gc (unheld (used_by s.tasks) s.store))
+    (collected (used_by s.tasks) s.store) r s'
+Answers s (request.Create config id) r s' =
+    Decided (create_refusals s config id) (Creates s config id r s') s r s'
 Answers s (request.Start id) r s' =
-    OnTask id start_refusals (λ t. reply.Start t.id (started t).status) (λ t. with_task s (started t)) s r s'
+    OnTask id start_refusals (λ t. reply.Start t.id (started t).status)
+    (λ t. with_task s (started t)) s r s'
 Answers s (request.Pause id) r s' =
-    OnTask id pause_refusals (λ t. reply.Pause t.id (paused t).status) (λ t. with_task s (paused t)) s r s'
+    OnTask id pause_refusals (λ t. reply.Pause t.id (paused t).status)
+    (λ t. with_task s (paused t)) s r s'
 Answers s (request.Resume id) r s' =
-    OnTask id resume_refusals (λ t. reply.Resume t.id (resumed t).status) (λ t. with_task s (resumed t)) s r s'
+    OnTask id resume_refusals (λ t. reply.Resume t.id (resumed t).status)
+    (λ t. with_task s (resumed t)) s r s'
 Answers s (request.Kill id signal) r s' =
     OnTask id (kill_refusals signal) (λ t. reply.Kill t.id (killed_by (signal_of signal) t).status)
     (λ t. with_task s (killed_by (signal_of signal) t)) s r s'
 Answers s (request.Delete id) r s' =
     OnTask id delete_refusals (λ t. reply.Delete (state_of t)) (λ t. without_task s t.id) s r s'
-Answers s (request.State id) r s' = OnTask id state_refusals (λ t. reply.State (state_of t)) (λ t. s) s r s'
-Answers s (request.Wait id) r s' = OnTask id wait_refusals (λ t. reply.Wait (state_of t)) (λ t. s) s r s'
+Answers s (request.State id) r s' =
+    OnTask id state_refusals (λ t. reply.State (state_of t)) (λ t. s) s r s'
+Answers s (request.Wait id) r s' =
+    OnTask id wait_refusals (λ t. reply.Wait (state_of t)) (λ t. s) s r s'
 Answers s (request.Output id stream) r s' =
-    OnTask id (output_refusals stream) (λ t. output_reply t.id (output_of (stream_of stream) t)) (λ t. s) s r s'
+    OnTask id (output_refusals stream)
+    (λ t. output_reply t.id (output_of (stream_of stream) t)) (λ t. s) s r s'
 
 -- ---- slices
 
@@ -131,7 +145,8 @@ lends s budget t = if can_lend t then Some (with_task s (lent t budget)) else No
 
 -- a slice is taken of a task that is there, running and idle, for a budget from 1 to 1,000,000
 abbrev pub taken : BoardState → (id : List ℕ) → (budget : ℕ) → Option BoardState
-taken s id budget = if is_budget budget then option_and_then (lends s budget) (task_of id s.tasks) else None
+taken s id budget =
+    if is_budget budget then option_and_then (lends s budget) (task_of id s.tasks) else None
 
 abbrev pub is_out : Option Task → Bool
 is_out None = false
@@ -144,12 +159,13 @@ Returns s (Some t) s' = (t' : Task) × HasReturned t t' × (s' ≡ with_task s t
 
 -- ---- events
 
--- what an event may be answered on a board, and the board that it leaves; no event is answered as
--- another is
+-- what an event may be answered on a board, and the board that it leaves; an answer of another kind
+-- of event is impossible
 abbrev pub Step : BoardState → Event → EventReply → BoardState → Type 0
 Step s (event.Call r) (answer.Called a) s' = Answers s r a s'
 Step s (event.Take id budget) (answer.Taken true) s' = taken s id budget ≡ Some s'
 Step s (event.Take id budget) (answer.Taken false) s' = (taken s id budget ≡ None) × (s' ≡ s)
 Step s (event.Return id) (answer.Returned true) s' = Returns s (task_of id s.tasks) s'
-Step s (event.Return id) (answer.Returned false) s' = (is_out (task_of id s.tasks) ≡ false) × (s' ≡ s)
+Step s (event.Return id) (answer.Returned false) s' =
+    (is_out (task_of id s.tasks) ≡ false) × (s' ≡ s)
 Step s e a s' = ⊥

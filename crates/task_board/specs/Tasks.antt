@@ -62,7 +62,9 @@ standing_at_start None false = going Running
 
 abbrev pub started : Task → Task
 started t =
-    idle_task t (standing_at_start (ended (execution_at t t.turns)) (at_break t.breaks (execution_at t t.turns)))
+    idle_task t
+    (standing_at_start (ended (execution_at t t.turns))
+    (at_break t.breaks (execution_at t t.turns)))
 
 -- ---- pause, resume, kill
 

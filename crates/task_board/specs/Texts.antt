@@ -20,7 +20,8 @@ DenotesNone text = (m : Module) → Denotes text m → ⊥
 -- why no bytes are stored of a text
 pub data CannotAssemble (text : List ℕ) : Refusal → Type 0 where
   -- it denotes no module; which line and column are told is open
-  bad_text : (line column : ℕ) → DenotesNone text → CannotAssemble text (refusal.BadText line column)
+  bad_text :
+      (line column : ℕ) → DenotesNone text → CannotAssemble text (refusal.BadText line column)
   -- it denotes a module that passes a limit
   too_much : (m : Module) → Denotes text m → (FitsLimits m → ⊥) → CannotAssemble text refusal.Limit
   -- more than 256 blocks are open at one word, so that it denotes no module within the limits

@@ -20,7 +20,8 @@ pub record CanLend (ticket : Ticket) (ts : Entries) (t : Task) : Type 0 where
   pub ready : can_lend t ≡ true
 
 -- the ticket's task is lent with this loan
-pub record Lends (s : BoardState) (ticket : Ticket) (budget : ℕ) (l : Lent) (s' : BoardState) : Type 0 where
+pub record Lends (s : BoardState) (ticket : Ticket) (budget : ℕ) (l : Lent) (s' : BoardState) :
+    Type 0 where
   pub task : Task
   pub can : CanLend ticket s.tasks task
   pub loan : l ≡ loan_of ticket.slot budget task

@@ -38,10 +38,11 @@ enter_again ts ticket ws = if is_present ts ticket then enter ticket ws else ws
 
 -- a ticket of the task with an id, if that is running
 abbrev pub running_ticket : (id : List ℕ) → Entries → Option Ticket
-running_ticket id ts = option_and_then (λ (e : ℕ × Task). ticket_if_running e.0 e.1) (entry_of id ts)
+running_ticket id ts =
+    option_and_then (λ (e : ℕ × Task). ticket_if_running e.0 e.1) (entry_of id ts)
 
--- those that wait after a request that was accepted and left these tasks: start and resume enter a task that is
--- running then, and a deleted task leaves
+-- those that wait after a request that was accepted and left these tasks: start and resume enter a
+-- task that is running then, and a deleted task leaves
 abbrev pub waiting_after_call : Request → Entries → List Ticket → List Ticket
 waiting_after_call (request.Start id) ts ws = enter_if (running_ticket id ts) ws
 waiting_after_call (request.Resume id) ts ws = enter_if (running_ticket id ts) ws

@@ -120,7 +120,8 @@ impl Board {
     // What a lease's creation is prepared as.
     fn prepare_lease_create(&mut self, id: Text) -> Result<Plan, AllocError>
         ensures same { (self.new.state ≡ self.old.state) × (self.new.waiting ≡ self.old.waiting) }
-        ensures ok { IfOk result (λ p. Plans self.new.state self.new.room (request.LeaseCreate id) p) }
+        ensures ok { IfOk result
+            (λ p. Plans self.new.state self.new.room (request.LeaseCreate id) p) }
     {
         if let Some(refusal) = self.tables.refusal_of_lease_create(id.as_str()) {
             return Ok(Plan::Refused(refusal));
@@ -301,8 +302,8 @@ impl Board {
     }
 
     /// Answers a request, by preparing and applying it. `NoMemory` if an allocation failed, and then
-    /// nothing has changed; of the requests only put, put_text, lease_create, lease_add, gc, create and output
-    /// allocate, and no other is ever answered so.
+    /// nothing has changed; of the requests only put, put_text, lease_create, lease_add, gc, create
+    /// and output allocate, and no other is ever answered so.
     pub fn call(&mut self, request: Request) -> Result<Reply, Refusal>
         ensures answers { result ≢ Err Refusal.NoMemory
             → Answers self.old.state request result self.new.state }

@@ -41,8 +41,8 @@ pub fn boards_are_sound()
 {}
 
 /// Only a delete removes a task, and only a stopped one. What another event makes of a task is that it stays
-/// as it is, that it is started, paused, resumed or killed, each only if its status allows it, that its slice is
-/// taken, which only that of a running idle one is, or that its slice returns.
+/// as it is, that it is started, paused, resumed or killed, each only if its status allows it, that
+/// its slice is taken, which only that of a running idle one is, or that its slice returns.
 pub fn tasks_move()
     ensures { (s : BoardState) (e : Event) (r : EventReply) (s' : BoardState)
         → AreRising (slots_of s.tasks)
@@ -122,9 +122,9 @@ pub fn events_are_determined()
         → Happens s e r s1 → Happens s e r' s2 → (r ≡ r') × (s1 ≡ s2) }
 {}
 
-/// Whether a create is accepted is determined, and so are its task and its refusal, but for the choices that are
-/// open: the slot of the task, and whether bytes that encode no module and pass a limit are refused as `BadModule`
-/// or as `Limit`.
+/// Whether a create is accepted is determined, and so are its task and its refusal, but for the
+/// choices that are open: the slot of the task, and whether bytes that encode no module and pass a
+/// limit are refused as `BadModule` or as `Limit`.
 pub fn creates_are_determined()
     ensures { (s : BoardState) (config id : List ℕ)
         (r : Answer) (s1 : BoardState) (r' : Answer) (s2 : BoardState)
@@ -134,7 +134,8 @@ pub fn creates_are_determined()
     spells_one();
 }
 
-/// A text that denotes a module within the limits is answered as a put of the canonical encoding of that module.
+/// A text that denotes a module within the limits is answered as a put of the canonical encoding of
+/// that module.
 pub fn texts_are_put()
     ensures { (s : BoardState) (text : List ℕ) (m : Module) (r : Answer) (s' : BoardState)
         → Denotes text m → FitsLimits m
@@ -160,9 +161,9 @@ pub fn bad_texts_are_refused()
     denotes_one();
 }
 
-/// The answer to a put of a text is determined but for the choices that are open: the line and the column of a
-/// fault, and whether a text that denotes no module, with more than 256 blocks open, is refused as `BadText` or
-/// as `Limit`. The board that it leaves is determined.
+/// The answer to a put of a text is determined but for the choices that are open: the line and the
+/// column of a fault, and whether a text that denotes no module, with more than 256 blocks open, is
+/// refused as `BadText` or as `Limit`. The board that it leaves is determined.
 pub fn texts_are_determined()
     ensures { (s : BoardState) (text : List ℕ)
         (r : Answer) (s1 : BoardState) (r' : Answer) (s2 : BoardState)
@@ -173,8 +174,8 @@ pub fn texts_are_determined()
     too_deep_denotes_none_within();
 }
 
-/// Only put, put_text, lease_create, lease_add, gc, create and output allocate: no other request, no take and no
-/// return may be left out for lack of memory.
+/// Only put, put_text, lease_create, lease_add, gc, create and output allocate: no other request,
+/// no take and no return may be left out for lack of memory.
 pub fn few_requests_allocate()
     ensures remove { (digest : List ℕ) → takes_memory (request.Remove digest) ≡ false }
     ensures lease_delete { (id : List ℕ) → takes_memory (request.LeaseDelete id) ≡ false }
@@ -185,7 +186,8 @@ pub fn few_requests_allocate()
     ensures delete { (id : List ℕ) → takes_memory (request.Delete id) ≡ false }
     ensures state { (id : List ℕ) → takes_memory (request.State id) ≡ false }
     ensures wait { (id : List ℕ) → takes_memory (request.Wait id) ≡ false }
-    ensures take { (id : List ℕ) (n : ℕ) (r : EventReply) → met_no_memory (event.Take id n) r ≡ false }
+    ensures take { (id : List ℕ) (n : ℕ) (r : EventReply)
+        → met_no_memory (event.Take id n) r ≡ false }
     ensures give_back { (id : List ℕ) (r : EventReply) → met_no_memory (event.Return id) r ≡ false }
 {}
 

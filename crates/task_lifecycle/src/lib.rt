@@ -1,5 +1,5 @@
-//! The lifecycle of a task: its statuses, which call is allowed in which of them and where it leads, and how a
-//! task ended.
+//! The lifecycle of a task: its statuses, which call is allowed in which of them and where it
+//! leads, and how a task ended.
 #![tactic(auto)]
 
 pub mod laws;

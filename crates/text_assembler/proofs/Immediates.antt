@@ -11,7 +11,9 @@ last_is [] n = refl
 last_is (m ∷ []) n = refl
 last_is (m ∷ k ∷ ns) n = rw (last_is (k ∷ ns) n) refl
 
-pub tries_on : (n i : ℕ) → i < 32 → exponent_from (32 - i) i n ≡ (if n == 2 ^ i then Ok i else exponent_from (32 - (i + 1)) (i + 1) n)
+pub tries_on :
+    (n i : ℕ) → i < 32
+    → exponent_from (32 - i) i n ≡ (if n == 2 ^ i then Ok i else exponent_from (32 - (i + 1)) (i + 1) n)
 unfolding exponent_from
 tries_on n i lt = let k : 32 - i ≡ suc (32 - (i + 1)) = omega arith in rw k refl
 
@@ -22,7 +24,8 @@ tries_end n i le = let k : 32 - i ≡ 0 = omega arith in rw k refl
 pub found_at : (n i : ℕ) → i < 32 → n ≡ 2 ^ i → exponent_from (32 - i) i n ≡ Ok i
 found_at n i lt e = tries_on n i lt ∙ rw (eq-eqb n (2 ^ i) e) refl
 
-pub missed_at : (n i : ℕ) → i < 32 → (n ≡ 2 ^ i → ⊥) → exponent_from (32 - i) i n ≡ exponent_from (32 - (i + 1)) (i + 1) n
+pub missed_at :
+    (n i : ℕ) → i < 32 → (n ≡ 2 ^ i → ⊥) → exponent_from (32 - i) i n ≡ exponent_from (32 - (i + 1)) (i + 1) n
 missed_at n i lt ne = tries_on n i lt ∙ rw (ne_eqb n (2 ^ i) ne) refl
 
 pub shifted : (i : ℕ) → i < 32 → (1 * 2 ^ i) % 4294967296 ≡ 2 ^ i

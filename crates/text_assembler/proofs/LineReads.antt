@@ -43,14 +43,22 @@ not_past : (n : ℕ) (ts : Tokens) → n < 2 ^ 32 → is_past_indices (word n �
 unfolding begins_index
 not_past n ts fits = let k = spelled n (omega (arith, fits)) in ap not (digits_index (decimal n) k.1 k.0)
 
-table_read : (ids : Ids) (ns : List ℕ) (m : ℕ) → All IsU32 ns → m < 2 ^ 32 → read_some is_past_indices (one_index ids) (length (words ns m)) (words ns m) ≡ Ok (ns ++ m ∷ [], [])
+table_read :
+    (ids : Ids) (ns : List ℕ) (m : ℕ) → All IsU32 ns → m < 2 ^ 32
+    → read_some is_past_indices (one_index ids) (length (words ns m)) (words ns m) ≡ Ok (ns ++ m ∷ [], [])
 unfolding read_some begins_index
 table_read ids [] m all fits = rw (not_past m [] fits, one_read ids m [] fits) refl
 table_read ids (n ∷ ns) m all fits =
     let small = All-head IsU32 n ns all in
-    rw (not_past n (words ns m) small, one_read ids n (words ns m) small, table_read ids ns m (All-tail IsU32 n ns all) fits) refl
+    rw (
+      not_past n (words ns m) small,
+      one_read ids n (words ns m) small,
+      table_read ids ns m (All-tail IsU32 n ns all) fits,
+    ) refl
 
-br_table_read : (ids : Ids) (ns : List ℕ) (m : ℕ) → All IsU32 ns → m < 2 ^ 32 → read_br_table ids (words ns m) ≡ Ok (instr.BrTable ns m, [])
+br_table_read :
+    (ids : Ids) (ns : List ℕ) (m : ℕ) → All IsU32 ns → m < 2 ^ 32
+    → read_br_table ids (words ns m) ≡ Ok (instr.BrTable ns m, [])
 unfolding read_br_table read_indices read_parts
 br_table_read ids ns m all fits = rw (table_read ids ns m all fits, last_is ns m) refl
 
@@ -63,7 +71,8 @@ nameless (suc k) = nameless k
 
 type_read : (s : Scopes) (n : ℕ) (t : Option FuncType) → n < 2 ^ 32 → slice_get s.signatures n ≡ t → (t ≡ None → ⊥)
     → read_call_indirect s (Open ∷ Word (codes "type") ∷ word n ∷ Close ∷ []) ≡ Ok (instr.CallIndirect n, [])
-unfolding read_call_indirect read_use read_type_index skip_group skip_open skip_word begins_word read_index take_word skip_close read_bindings read_results read_parts read_some begins_group params_of_use
+unfolding read_call_indirect read_use read_type_index skip_group skip_open skip_word begins_word read_index take_word
+    skip_close read_bindings read_results read_parts read_some begins_group params_of_use
 type_read s n (Some t) fits e some = rw (index_is s.types n fits, e, nameless (length t.params)) refl
 type_read s n None fits e some = absurd (some refl)
 
@@ -77,14 +86,18 @@ is_within (t ∷ ts) (suc n) lt e = is_within ts n (omega (arith, lt)) e
 other_sign : (c e : ℕ) → is_between 0x30 0x39 c ≡ true → is_between 0x30 0x39 e ≡ false → (c == e) ≡ false
 other_sign c e h k = ne_eqb c e (λ p. true≢false (sym h ∙ ap (is_between 0x30 0x39) p ∙ k))
 
-plain_constant : (bits : ℕ) (ds : List ℕ) (n : ℕ) → are_digits ds ≡ true → is_empty ds ≡ false → number ds ≡ Ok n → n < 2 ^ bits → constant bits ds ≡ Ok n
+plain_constant :
+    (bits : ℕ) (ds : List ℕ) (n : ℕ) → are_digits ds ≡ true → is_empty ds ≡ false → number ds ≡ Ok n → n < 2 ^ bits
+    → constant bits ds ≡ Ok n
 unfolding constant
 plain_constant bits [] n h e m fits = cc
 plain_constant bits (c ∷ ds) n h e m fits =
     let k = (both (is_between 0x30 0x39 c) (are_digits ds) h).0 in
     rw (other_sign c plus k refl, other_sign c minus k refl, m, lt-ltb n (2 ^ bits) fits) refl
 
-minus_constant : (bits n m : ℕ) → n < 2 ^ bits → 2 ^ (bits - 1) ≤ n → 2 ^ bits ≡ 2 * 2 ^ (bits - 1) → m ≡ 2 ^ bits - n → m < 2 ^ 64 → constant bits (codes "-" ++ decimal m) ≡ Ok n
+minus_constant :
+    (bits n m : ℕ) → n < 2 ^ bits → 2 ^ (bits - 1) ≤ n → 2 ^ bits ≡ 2 * 2 ^ (bits - 1) → m ≡ 2 ^ bits - n → m < 2 ^ 64
+    → constant bits (codes "-" ++ decimal m) ≡ Ok n
 unfolding constant
 minus_constant bits n m fits le twice e small =
     let half : m ≤ 2 ^ (bits - 1) = omega (arith, e, twice, le) in
@@ -92,9 +105,12 @@ minus_constant bits n m fits le twice e small =
     let back : 2 ^ bits - m ≡ n = omega (arith, e, fits) in
     rw (number_is m small, le-leb m (2 ^ (bits - 1)) half, ne_eqb m 0 positive, back) refl
 
-constant_by : (bits n : ℕ) (b : Bool) → nat_lt n (2 ^ (bits - 1)) ≡ b → n < 2 ^ bits → n < 2 ^ 64 → 2 ^ bits ≡ 2 * 2 ^ (bits - 1) → (2 ^ (bits - 1) ≤ n → 2 ^ bits - n < 2 ^ 64)
+constant_by :
+    (bits n : ℕ) (b : Bool) → nat_lt n (2 ^ (bits - 1)) ≡ b → n < 2 ^ bits → n < 2 ^ 64 → 2 ^ bits ≡ 2 * 2 ^ (bits - 1)
+    → (2 ^ (bits - 1) ≤ n → 2 ^ bits - n < 2 ^ 64)
     → constant bits (if b then decimal n else codes "-" ++ decimal (2 ^ bits - n)) ≡ Ok n
-constant_by bits n true h fits wide twice small = let k = spelled n wide in plain_constant bits (decimal n) n k.0 k.1 (number_is n wide) fits
+constant_by bits n true h fits wide twice small =
+    let k = spelled n wide in plain_constant bits (decimal n) n k.0 k.1 (number_is n wide) fits
 constant_by bits n false h fits wide twice small =
     let le = ltb-false n (2 ^ (bits - 1)) h in
     minus_constant bits n (2 ^ bits - n) fits le twice refl (small le)
@@ -118,7 +134,9 @@ is_same (Err f) m h = cc
 
 exponent_is : (a : ℕ) → a < 32 → exponent_from 32 0 (2 ^ a) ≡ Ok a
 unfolding same exponent_from
-exponent_is a lt = is_same (exponent_from 32 0 (2 ^ a)) a (agree_below_at (λ k. same (exponent_from 32 0 (2 ^ k)) k) (λ k. true) 32 a refl lt)
+exponent_is a lt =
+    is_same (exponent_from 32 0 (2 ^ a)) a
+    (agree_below_at (λ k. same (exponent_from 32 0 (2 ^ k)) k) (λ k. true) 32 a refl lt)
 
 access_by : (natural a o : ℕ) (b c : Bool) → a < 32 → o < 2 ^ 32 → (o == 0) ≡ b → (2 ^ a == natural) ≡ c
     → read_mem_arg natural (offset_words b o ++ align_words c (2 ^ a)) ≡ Ok (record { align = a; offset = o }, [])
@@ -134,8 +152,11 @@ access_by natural a o false false lt fits z e =
     let p : 2 ^ a < 2 ^ 32 = pow-lt lt in
     rw (small_is o fits, small_is (2 ^ a) p, exponent_is a lt) refl
 
-access_read : (natural : ℕ) (at : MemArg) → at.align < 32 → at.offset < 2 ^ 32 → read_mem_arg natural (access_words natural at) ≡ Ok (at, [])
-access_read natural at lt fits = access_by natural at.align at.offset (at.offset == 0) (2 ^ at.align == natural) lt fits refl refl
+access_read :
+    (natural : ℕ) (at : MemArg) → at.align < 32 → at.offset < 2 ^ 32
+    → read_mem_arg natural (access_words natural at) ≡ Ok (at, [])
+access_read natural at lt fits =
+    access_by natural at.align at.offset (at.offset == 0) (2 ^ at.align == natural) lt fits refl refl
 
 -- ---- all instructions
 
@@ -149,7 +170,8 @@ immediates_read s locals labels (instr.BrIf label) r h w = index_read labels ins
 immediates_read s locals labels (instr.BrTable ns other) r h w = br_table_read labels ns other r.0 r.1
 immediates_read s locals labels instr.Return r h w = refl
 immediates_read s locals labels (instr.Call func) r h w = index_read s.funcs instr.Call func r
-immediates_read s locals labels (instr.CallIndirect index) r h w = type_read s index (slice_get s.signatures index) r refl (λ e. is_within s.signatures index w e)
+immediates_read s locals labels (instr.CallIndirect index) r h w =
+    type_read s index (slice_get s.signatures index) r refl (λ e. is_within s.signatures index w e)
 immediates_read s locals labels instr.Drop r h w = refl
 immediates_read s locals labels instr.Select r h w = refl
 immediates_read s locals labels (instr.Local op index) r h w = index_read locals (instr.Local op) index r
@@ -166,19 +188,26 @@ immediates_read s locals labels (instr.Test t op) r h w = refl
 immediates_read s locals labels (instr.Compare t op) r h w = refl
 immediates_read s locals labels (instr.Convert op) r h w = refl
 
-op_read : (s : Scopes) (locals : Ids) (inner : Result Bodies Fault) (labels : Ids) (i : Simple) → RangedSimple i → HasAlignment i → IsWritten s i
+op_read :
+    (s : Scopes) (locals : Ids) (inner : Result Bodies Fault) (labels : Ids) (i : Simple) → RangedSimple i
+    → HasAlignment i → IsWritten s i
     → read_op s locals inner labels (Word (keyword_word (keyword_for i)) ∷ operand_words i) ≡ Ok (simple i, [])
 unfolding read_op take_word read_simple
 op_read s locals inner labels i r h w =
     let k = is_read_back (keyword_for i) in
     rw (k.simple, k.found, immediates_read s locals labels i r h w) refl
 
-line_scans : (i : Simple) → RangedSimple i → HasAlignment i → tokens_of (line_of (simple i)) ≡ Ok (Word (keyword_word (keyword_for i)) ∷ operand_words i)
+line_scans :
+    (i : Simple) → RangedSimple i → HasAlignment i
+    → tokens_of (line_of (simple i)) ≡ Ok (Word (keyword_word (keyword_for i)) ∷ operand_words i)
 line_scans i r h =
     let k = is_read_back (keyword_for i) in
     scans_all (line_of (simple i)) (Word (keyword_word (keyword_for i)) ∷ operand_words i)
-    (after_word_of (keyword_word (keyword_for i)) (operands i) (operand_words i) k.nonempty k.wordlike (operands_apart i) (operands_scan i r h))
+    (after_word_of (keyword_word (keyword_for i)) (operands i) (operand_words i) k.nonempty k.wordlike
+    (operands_apart i) (operands_scan i r h))
 
-pub line_read : (i : Simple) (s : Scopes) (locals : Ids) (inner : Result Bodies Fault) (labels : Ids) → RangedSimple i → HasAlignment i → IsWritten s i
+pub line_read :
+    (i : Simple) (s : Scopes) (locals : Ids) (inner : Result Bodies Fault) (labels : Ids) → RangedSimple i
+    → HasAlignment i → IsWritten s i
     → read_instr_line s locals inner labels (line_of (simple i)) ≡ Ok (simple i, [])
 line_read i s locals inner labels r h w = rw (line_scans i r h) (op_read s locals inner labels i r h w)

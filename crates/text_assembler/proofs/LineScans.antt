@@ -35,7 +35,8 @@ align_words true n = []
 align_words false n = Word (codes "align=" ++ decimal n) ∷ []
 
 abbrev pub access_words : (natural : ℕ) → MemArg → List Lexeme
-access_words natural at = offset_words (at.offset == 0) at.offset ++ align_words (2 ^ at.align == natural) (2 ^ at.align)
+access_words natural at =
+    offset_words (at.offset == 0) at.offset ++ align_words (2 ^ at.align == natural) (2 ^ at.align)
 
 -- the tokens of the operands
 abbrev pub operand_words : Simple → List Lexeme
@@ -57,30 +58,40 @@ operand_words other = []
 pub decimal_wordlike : (n : ℕ) → n < 2 ^ 64 → is_wordlike (decimal n) ≡ true
 decimal_wordlike n fits = digits_wordlike (decimal n) (spelled n fits).0
 
-number_then : (n : ℕ) (rest : List ℕ) (ts : List Lexeme) → n < 2 ^ 64 → is_apart rest ≡ true → Scans rest ts → Scans (0x20 ∷ decimal n ++ rest) (word n ∷ ts)
+number_then :
+    (n : ℕ) (rest : List ℕ) (ts : List Lexeme) → n < 2 ^ 64 → is_apart rest ≡ true → Scans rest ts
+    → Scans (0x20 ∷ decimal n ++ rest) (word n ∷ ts)
 number_then n rest ts fits a s =
-    after_space (decimal n ++ rest) (word n ∷ ts) (after_word_of (decimal n) rest ts (spelled n fits).1 (decimal_wordlike n fits) a s)
+    after_space (decimal n ++ rest) (word n ∷ ts)
+    (after_word_of (decimal n) rest ts (spelled n fits).1 (decimal_wordlike n fits) a s)
 
 last_word : (w : List ℕ) → is_empty w ≡ false → is_wordlike w ≡ true → Scans (0x20 ∷ w) (Word w ∷ [])
 unfolding is_apart
-last_word w e h = after_space w (Word w ∷ []) (subst (λ (text : List ℕ). Scans text (Word w ∷ [])) (append-nil w) (after_word_of w [] [] e h refl ended))
+last_word w e h =
+    after_space w (Word w ∷ [])
+    (subst (λ (text : List ℕ). Scans text (Word w ∷ [])) (append-nil w) (after_word_of w [] [] e h refl ended))
 
 number_scans : (n : ℕ) → n < 2 ^ 32 → Scans (numbered n) (word n ∷ [])
-number_scans n fits = let k = spelled n (omega (arith, fits)) in last_word (decimal n) k.1 (decimal_wordlike n (omega (arith, fits)))
+number_scans n fits =
+    let k = spelled n (omega (arith, fits)) in last_word (decimal n) k.1 (decimal_wordlike n (omega (arith, fits)))
 
 table_apart : (ns : List ℕ) (m : ℕ) → is_apart (flat_map numbered ns ++ numbered m) ≡ true
 unfolding is_apart
 table_apart [] m = refl
 table_apart (n ∷ ns) m = refl
 
-table_scans : (ns : List ℕ) (m : ℕ) → All IsU32 ns → m < 2 ^ 32 → Scans (flat_map numbered ns ++ numbered m) (words ns m)
+table_scans :
+    (ns : List ℕ) (m : ℕ) → All IsU32 ns → m < 2 ^ 32 → Scans (flat_map numbered ns ++ numbered m) (words ns m)
 table_scans [] m all fits = number_scans m fits
 table_scans (n ∷ ns) m all fits =
     let small : n < 2 ^ 64 = omega (arith, All-head IsU32 n ns all) in
     rw (append_assoc (decimal n) (flat_map numbered ns) (numbered m))
-    (number_then n (flat_map numbered ns ++ numbered m) (words ns m) small (table_apart ns m) (table_scans ns m (All-tail IsU32 n ns all) fits))
+    (number_then n (flat_map numbered ns ++ numbered m) (words ns m) small (table_apart ns m)
+    (table_scans ns m (All-tail IsU32 n ns all) fits))
 
-type_scans : (n : ℕ) → n < 2 ^ 32 → Scans (codes " (type " ++ decimal n ++ codes ")") (Open ∷ Word (codes "type") ∷ word n ∷ Close ∷ [])
+type_scans :
+    (n : ℕ) → n < 2 ^ 32
+    → Scans (codes " (type " ++ decimal n ++ codes ")") (Open ∷ Word (codes "type") ∷ word n ∷ Close ∷ [])
 unfolding is_apart
 type_scans n fits =
     let number = number_then n (codes ")") (Close ∷ []) (omega (arith, fits)) refl (after_close [] [] ended) in
@@ -90,7 +101,10 @@ type_scans n fits =
 
 -- ---- constants
 
-signed_word : (bits n : ℕ) (b : Bool) → n < 2 ^ 64 → (b ≡ false → 2 ^ bits - n < 2 ^ 64) → (is_empty (if b then decimal n else codes "-" ++ decimal (2 ^ bits - n)) ≡ false) × (is_wordlike (if b then decimal n else codes "-" ++ decimal (2 ^ bits - n)) ≡ true)
+signed_word :
+    (bits n : ℕ) (b : Bool) → n < 2 ^ 64 → (b ≡ false → 2 ^ bits - n < 2 ^ 64)
+    → (is_empty (if b then decimal n else codes "-" ++ decimal (2 ^ bits - n)) ≡ false)
+    × (is_wordlike (if b then decimal n else codes "-" ++ decimal (2 ^ bits - n)) ≡ true)
 signed_word bits n true fits small = ((spelled n fits).1, decimal_wordlike n fits)
 signed_word bits n false fits small = (refl, decimal_wordlike (2 ^ bits - n) (small refl))
 
@@ -106,18 +120,27 @@ align_apart true n = refl
 align_apart false n = refl
 
 access_by : (b c : Bool) (n m : ℕ) → n < 2 ^ 64 → m < 2 ^ 64
-    → Scans ((if b then [] else codes " offset=" ++ decimal n) ++ (if c then [] else codes " align=" ++ decimal m)) (offset_words b n ++ align_words c m)
+    → Scans ((if b then [] else codes " offset=" ++ decimal n) ++ (if c then [] else codes " align=" ++ decimal m))
+    (offset_words b n ++ align_words c m)
 access_by true c n m small fits = align_scans c m fits
 access_by false c n m small fits =
-    after_space (codes "offset=" ++ decimal n ++ (if c then [] else codes " align=" ++ decimal m)) (Word (codes "offset=" ++ decimal n) ∷ align_words c m)
-    (after_word_of (codes "offset=" ++ decimal n) (if c then [] else codes " align=" ++ decimal m) (align_words c m) refl (decimal_wordlike n small) (align_apart c m) (align_scans c m fits))
+    after_space (codes "offset=" ++ decimal n ++ (if c then [] else codes " align=" ++ decimal m))
+    (Word (codes "offset=" ++ decimal n) ∷ align_words c m)
+    (after_word_of (codes "offset=" ++ decimal n) (if c then [] else codes " align=" ++ decimal m) (align_words c m)
+    refl (decimal_wordlike n small) (align_apart c m) (align_scans c m fits))
 
-access_scans : (natural : ℕ) (at : MemArg) → at.align < 32 → at.offset < 2 ^ 32 → Scans (offset_part at ++ align_part natural at) (access_words natural at)
+access_scans :
+    (natural : ℕ) (at : MemArg) → at.align < 32 → at.offset < 2 ^ 32
+    → Scans (offset_part at ++ align_part natural at) (access_words natural at)
 access_scans natural at lt fits =
     let p : 2 ^ at.align < 2 ^ 32 = pow-lt lt in
-    access_by (at.offset == 0) (2 ^ at.align == natural) at.offset (2 ^ at.align) (omega (arith, fits)) (omega (arith, p))
+    access_by (at.offset == 0) (2 ^ at.align == natural) at.offset (2 ^ at.align) (omega (arith, fits))
+    (omega (arith, p))
 
-apart_by : (b c : Bool) (n m : ℕ) → is_apart ((if b then [] else codes " offset=" ++ decimal n) ++ (if c then [] else codes " align=" ++ decimal m)) ≡ true
+apart_by :
+    (b c : Bool) (n m : ℕ)
+    → is_apart ((if b then [] else codes " offset=" ++ decimal n) ++ (if c then [] else codes " align=" ++ decimal m))
+    ≡ true
 unfolding is_apart
 apart_by true c n m = align_apart c m
 apart_by false c n m = refl
@@ -144,8 +167,13 @@ operands_scan (instr.Load op at) r h = access_scans (load_bytes op) at h r.1
 operands_scan (instr.Store op at) r h = access_scans (store_bytes op) at h r.1
 operands_scan instr.MemorySize r h = ended
 operands_scan instr.MemoryGrow r h = ended
-operands_scan (instr.Const (I32 n)) r h = let k = signed_word 32 n (nat_lt n (2 ^ (32 - 1))) (omega (arith, r)) (λ e. omega arith) in last_word (signed 32 n) k.0 k.1
-operands_scan (instr.Const (I64 n)) r h = let k = signed_word 64 n (nat_lt n (2 ^ (64 - 1))) r (λ e. let le : 2 ^ 63 ≤ n = ltb-false n (2 ^ 63) e in omega (arith, le)) in last_word (signed 64 n) k.0 k.1
+operands_scan (instr.Const (I32 n)) r h =
+    let k =
+    signed_word 32 n (nat_lt n (2 ^ (32 - 1))) (omega (arith, r)) (λ e. omega arith) in last_word (signed 32 n) k.0 k.1
+operands_scan (instr.Const (I64 n)) r h =
+    let k =
+    signed_word 64 n (nat_lt n (2 ^ (64 - 1))) r
+    (λ e. let le : 2 ^ 63 ≤ n = ltb-false n (2 ^ 63) e in omega (arith, le)) in last_word (signed 64 n) k.0 k.1
 operands_scan (instr.Unary t op) r h = ended
 operands_scan (instr.Binary t op) r h = ended
 operands_scan (instr.Test t op) r h = ended

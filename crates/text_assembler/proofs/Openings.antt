@@ -17,7 +17,9 @@ use Rattle.text_assembler.specs.Lines.{line_of, read_instr_line}
 use Rattle.text_assembler.proofs.OpenBlocks.{body_is}
 
 -- a body that ends at once
-body_ends : (s : Scopes) (locals : Ids) (more : ℕ) (labels : Ids) → read_body s locals more labels (Word (codes "end") ∷ []) ≡ Ok ([], Word (codes "end") ∷ [])
+body_ends :
+    (s : Scopes) (locals : Ids) (more : ℕ) (labels : Ids)
+    → read_body s locals more labels (Word (codes "end") ∷ []) ≡ Ok ([], Word (codes "end") ∷ [])
 unfolding read_parts read_some is_end
 body_ends s locals more labels = body_is s locals more labels (Word (codes "end") ∷ []) ∙ refl
 
@@ -25,47 +27,77 @@ abbrev type_words : BlockType → List Lexeme
 type_words Empty = []
 type_words (One t) = Open ∷ Word (codes "result") ∷ Word (type_word t) ∷ Close ∷ []
 
-block_tokens : (t : BlockType) (body : Ops) → tokens_of (line_of (block t body) ++ codes " end") ≡ Ok (Word (codes "block") ∷ type_words t ++ Word (codes "end") ∷ [])
+block_tokens :
+    (t : BlockType) (body : Ops)
+    → tokens_of (line_of (block t body) ++ codes " end")
+    ≡ Ok (Word (codes "block") ∷ type_words t ++ Word (codes "end") ∷ [])
 unfolding tokens_of read_parts read_some read_token read_word read_open is_apart
 block_tokens Empty body = refl
 block_tokens (One type.I32) body = refl
 block_tokens (One type.I64) body = refl
 
-block_reads : (t : BlockType) (s : Scopes) (locals labels : Ids) (more : ℕ) → read_op s locals (Ok (read_body s locals more)) labels (Word (codes "block") ∷ type_words t ++ Word (codes "end") ∷ []) ≡ Ok (block t stop, [])
-unfolding read_op take_word read_nested read_enclosed read_if read_else id_of after_id begins_id is_id read_block_type begins_group begins_word skip_group skip_open skip_word read_val_type val_type_of skip_close skip_end skip_label
+block_reads :
+    (t : BlockType) (s : Scopes) (locals labels : Ids) (more : ℕ)
+    → read_op s locals (Ok (read_body s locals more)) labels
+    (Word (codes "block") ∷ type_words t ++ Word (codes "end") ∷ []) ≡ Ok (block t stop, [])
+unfolding read_op take_word read_nested read_enclosed read_if read_else id_of after_id begins_id is_id read_block_type
+    begins_group begins_word skip_group skip_open skip_word read_val_type val_type_of skip_close skip_end skip_label
 block_reads Empty s locals labels more = rw (body_ends s locals more) refl
 block_reads (One type.I32) s locals labels more = rw (body_ends s locals more) refl
 block_reads (One type.I64) s locals labels more = rw (body_ends s locals more) refl
 
-pub block_opens : (t : BlockType) (body : Ops) (s : Scopes) (locals labels : Ids) (more : ℕ) → read_instr_line s locals (Ok (read_body s locals more)) labels (line_of (block t body) ++ codes " end") ≡ Ok (block t stop, [])
+pub block_opens :
+    (t : BlockType) (body : Ops) (s : Scopes) (locals labels : Ids) (more : ℕ)
+    → read_instr_line s locals (Ok (read_body s locals more)) labels (line_of (block t body) ++ codes " end")
+    ≡ Ok (block t stop, [])
 block_opens t body s locals labels more = rw (block_tokens t body) (block_reads t s locals labels more)
 
-loop_tokens : (t : BlockType) (body : Ops) → tokens_of (line_of (loop t body) ++ codes " end") ≡ Ok (Word (codes "loop") ∷ type_words t ++ Word (codes "end") ∷ [])
+loop_tokens :
+    (t : BlockType) (body : Ops)
+    → tokens_of (line_of (loop t body) ++ codes " end")
+    ≡ Ok (Word (codes "loop") ∷ type_words t ++ Word (codes "end") ∷ [])
 unfolding tokens_of read_parts read_some read_token read_word read_open is_apart
 loop_tokens Empty body = refl
 loop_tokens (One type.I32) body = refl
 loop_tokens (One type.I64) body = refl
 
-loop_reads : (t : BlockType) (s : Scopes) (locals labels : Ids) (more : ℕ) → read_op s locals (Ok (read_body s locals more)) labels (Word (codes "loop") ∷ type_words t ++ Word (codes "end") ∷ []) ≡ Ok (loop t stop, [])
-unfolding read_op take_word read_nested read_enclosed read_if read_else id_of after_id begins_id is_id read_block_type begins_group begins_word skip_group skip_open skip_word read_val_type val_type_of skip_close skip_end skip_label
+loop_reads :
+    (t : BlockType) (s : Scopes) (locals labels : Ids) (more : ℕ)
+    → read_op s locals (Ok (read_body s locals more)) labels
+    (Word (codes "loop") ∷ type_words t ++ Word (codes "end") ∷ []) ≡ Ok (loop t stop, [])
+unfolding read_op take_word read_nested read_enclosed read_if read_else id_of after_id begins_id is_id read_block_type
+    begins_group begins_word skip_group skip_open skip_word read_val_type val_type_of skip_close skip_end skip_label
 loop_reads Empty s locals labels more = rw (body_ends s locals more) refl
 loop_reads (One type.I32) s locals labels more = rw (body_ends s locals more) refl
 loop_reads (One type.I64) s locals labels more = rw (body_ends s locals more) refl
 
-pub loop_opens : (t : BlockType) (body : Ops) (s : Scopes) (locals labels : Ids) (more : ℕ) → read_instr_line s locals (Ok (read_body s locals more)) labels (line_of (loop t body) ++ codes " end") ≡ Ok (loop t stop, [])
+pub loop_opens :
+    (t : BlockType) (body : Ops) (s : Scopes) (locals labels : Ids) (more : ℕ)
+    → read_instr_line s locals (Ok (read_body s locals more)) labels (line_of (loop t body) ++ codes " end")
+    ≡ Ok (loop t stop, [])
 loop_opens t body s locals labels more = rw (loop_tokens t body) (loop_reads t s locals labels more)
 
-if_tokens : (t : BlockType) (first second : Ops) → tokens_of (line_of (if' t first second) ++ codes " end") ≡ Ok (Word (codes "if") ∷ type_words t ++ Word (codes "end") ∷ [])
+if_tokens :
+    (t : BlockType) (first second : Ops)
+    → tokens_of (line_of (if' t first second) ++ codes " end")
+    ≡ Ok (Word (codes "if") ∷ type_words t ++ Word (codes "end") ∷ [])
 unfolding tokens_of read_parts read_some read_token read_word read_open is_apart
 if_tokens Empty first second = refl
 if_tokens (One type.I32) first second = refl
 if_tokens (One type.I64) first second = refl
 
-if_reads : (t : BlockType) (s : Scopes) (locals labels : Ids) (more : ℕ) → read_op s locals (Ok (read_body s locals more)) labels (Word (codes "if") ∷ type_words t ++ Word (codes "end") ∷ []) ≡ Ok (if' t stop stop, [])
-unfolding read_op take_word read_nested read_enclosed read_if read_else id_of after_id begins_id is_id read_block_type begins_group begins_word skip_group skip_open skip_word read_val_type val_type_of skip_close skip_end skip_label
+if_reads :
+    (t : BlockType) (s : Scopes) (locals labels : Ids) (more : ℕ)
+    → read_op s locals (Ok (read_body s locals more)) labels
+    (Word (codes "if") ∷ type_words t ++ Word (codes "end") ∷ []) ≡ Ok (if' t stop stop, [])
+unfolding read_op take_word read_nested read_enclosed read_if read_else id_of after_id begins_id is_id read_block_type
+    begins_group begins_word skip_group skip_open skip_word read_val_type val_type_of skip_close skip_end skip_label
 if_reads Empty s locals labels more = rw (body_ends s locals more) refl
 if_reads (One type.I32) s locals labels more = rw (body_ends s locals more) refl
 if_reads (One type.I64) s locals labels more = rw (body_ends s locals more) refl
 
-pub if_opens : (t : BlockType) (first second : Ops) (s : Scopes) (locals labels : Ids) (more : ℕ) → read_instr_line s locals (Ok (read_body s locals more)) labels (line_of (if' t first second) ++ codes " end") ≡ Ok (if' t stop stop, [])
+pub if_opens :
+    (t : BlockType) (first second : Ops) (s : Scopes) (locals labels : Ids) (more : ℕ)
+    → read_instr_line s locals (Ok (read_body s locals more)) labels (line_of (if' t first second) ++ codes " end")
+    ≡ Ok (if' t stop stop, [])
 if_opens t first second s locals labels more = rw (if_tokens t first second) (if_reads t s locals labels more)

@@ -62,65 +62,123 @@ is_read_back (keyword.Store store.I64To8) = record { found = refl; simple = refl
 is_read_back (keyword.Store store.I64To16) = record { found = refl; simple = refl; wordlike = refl; nonempty = refl }
 is_read_back (keyword.Store store.I64To32) = record { found = refl; simple = refl; wordlike = refl; nonempty = refl }
 is_read_back (keyword.Const type.I32) = record { found = refl; simple = refl; wordlike = refl; nonempty = refl }
-is_read_back (keyword.Unary type.I32 unary.Clz) = record { found = refl; simple = refl; wordlike = refl; nonempty = refl }
-is_read_back (keyword.Unary type.I32 unary.Ctz) = record { found = refl; simple = refl; wordlike = refl; nonempty = refl }
-is_read_back (keyword.Unary type.I32 unary.Popcnt) = record { found = refl; simple = refl; wordlike = refl; nonempty = refl }
-is_read_back (keyword.Binary type.I32 binary.Add) = record { found = refl; simple = refl; wordlike = refl; nonempty = refl }
-is_read_back (keyword.Binary type.I32 binary.Sub) = record { found = refl; simple = refl; wordlike = refl; nonempty = refl }
-is_read_back (keyword.Binary type.I32 binary.Mul) = record { found = refl; simple = refl; wordlike = refl; nonempty = refl }
-is_read_back (keyword.Binary type.I32 binary.DivS) = record { found = refl; simple = refl; wordlike = refl; nonempty = refl }
-is_read_back (keyword.Binary type.I32 binary.DivU) = record { found = refl; simple = refl; wordlike = refl; nonempty = refl }
-is_read_back (keyword.Binary type.I32 binary.RemS) = record { found = refl; simple = refl; wordlike = refl; nonempty = refl }
-is_read_back (keyword.Binary type.I32 binary.RemU) = record { found = refl; simple = refl; wordlike = refl; nonempty = refl }
-is_read_back (keyword.Binary type.I32 binary.And) = record { found = refl; simple = refl; wordlike = refl; nonempty = refl }
-is_read_back (keyword.Binary type.I32 binary.Or) = record { found = refl; simple = refl; wordlike = refl; nonempty = refl }
-is_read_back (keyword.Binary type.I32 binary.Xor) = record { found = refl; simple = refl; wordlike = refl; nonempty = refl }
-is_read_back (keyword.Binary type.I32 binary.Shl) = record { found = refl; simple = refl; wordlike = refl; nonempty = refl }
-is_read_back (keyword.Binary type.I32 binary.ShrS) = record { found = refl; simple = refl; wordlike = refl; nonempty = refl }
-is_read_back (keyword.Binary type.I32 binary.ShrU) = record { found = refl; simple = refl; wordlike = refl; nonempty = refl }
-is_read_back (keyword.Binary type.I32 binary.Rotl) = record { found = refl; simple = refl; wordlike = refl; nonempty = refl }
-is_read_back (keyword.Binary type.I32 binary.Rotr) = record { found = refl; simple = refl; wordlike = refl; nonempty = refl }
+is_read_back (keyword.Unary type.I32 unary.Clz) =
+    record { found = refl; simple = refl; wordlike = refl; nonempty = refl }
+is_read_back (keyword.Unary type.I32 unary.Ctz) =
+    record { found = refl; simple = refl; wordlike = refl; nonempty = refl }
+is_read_back (keyword.Unary type.I32 unary.Popcnt) =
+    record { found = refl; simple = refl; wordlike = refl; nonempty = refl }
+is_read_back (keyword.Binary type.I32 binary.Add) =
+    record { found = refl; simple = refl; wordlike = refl; nonempty = refl }
+is_read_back (keyword.Binary type.I32 binary.Sub) =
+    record { found = refl; simple = refl; wordlike = refl; nonempty = refl }
+is_read_back (keyword.Binary type.I32 binary.Mul) =
+    record { found = refl; simple = refl; wordlike = refl; nonempty = refl }
+is_read_back (keyword.Binary type.I32 binary.DivS) =
+    record { found = refl; simple = refl; wordlike = refl; nonempty = refl }
+is_read_back (keyword.Binary type.I32 binary.DivU) =
+    record { found = refl; simple = refl; wordlike = refl; nonempty = refl }
+is_read_back (keyword.Binary type.I32 binary.RemS) =
+    record { found = refl; simple = refl; wordlike = refl; nonempty = refl }
+is_read_back (keyword.Binary type.I32 binary.RemU) =
+    record { found = refl; simple = refl; wordlike = refl; nonempty = refl }
+is_read_back (keyword.Binary type.I32 binary.And) =
+    record { found = refl; simple = refl; wordlike = refl; nonempty = refl }
+is_read_back (keyword.Binary type.I32 binary.Or) =
+    record { found = refl; simple = refl; wordlike = refl; nonempty = refl }
+is_read_back (keyword.Binary type.I32 binary.Xor) =
+    record { found = refl; simple = refl; wordlike = refl; nonempty = refl }
+is_read_back (keyword.Binary type.I32 binary.Shl) =
+    record { found = refl; simple = refl; wordlike = refl; nonempty = refl }
+is_read_back (keyword.Binary type.I32 binary.ShrS) =
+    record { found = refl; simple = refl; wordlike = refl; nonempty = refl }
+is_read_back (keyword.Binary type.I32 binary.ShrU) =
+    record { found = refl; simple = refl; wordlike = refl; nonempty = refl }
+is_read_back (keyword.Binary type.I32 binary.Rotl) =
+    record { found = refl; simple = refl; wordlike = refl; nonempty = refl }
+is_read_back (keyword.Binary type.I32 binary.Rotr) =
+    record { found = refl; simple = refl; wordlike = refl; nonempty = refl }
 is_read_back (keyword.Test type.I32 test.Eqz) = record { found = refl; simple = refl; wordlike = refl; nonempty = refl }
-is_read_back (keyword.Compare type.I32 relation.Eq) = record { found = refl; simple = refl; wordlike = refl; nonempty = refl }
-is_read_back (keyword.Compare type.I32 relation.Ne) = record { found = refl; simple = refl; wordlike = refl; nonempty = refl }
-is_read_back (keyword.Compare type.I32 relation.LtS) = record { found = refl; simple = refl; wordlike = refl; nonempty = refl }
-is_read_back (keyword.Compare type.I32 relation.LtU) = record { found = refl; simple = refl; wordlike = refl; nonempty = refl }
-is_read_back (keyword.Compare type.I32 relation.GtS) = record { found = refl; simple = refl; wordlike = refl; nonempty = refl }
-is_read_back (keyword.Compare type.I32 relation.GtU) = record { found = refl; simple = refl; wordlike = refl; nonempty = refl }
-is_read_back (keyword.Compare type.I32 relation.LeS) = record { found = refl; simple = refl; wordlike = refl; nonempty = refl }
-is_read_back (keyword.Compare type.I32 relation.LeU) = record { found = refl; simple = refl; wordlike = refl; nonempty = refl }
-is_read_back (keyword.Compare type.I32 relation.GeS) = record { found = refl; simple = refl; wordlike = refl; nonempty = refl }
-is_read_back (keyword.Compare type.I32 relation.GeU) = record { found = refl; simple = refl; wordlike = refl; nonempty = refl }
+is_read_back (keyword.Compare type.I32 relation.Eq) =
+    record { found = refl; simple = refl; wordlike = refl; nonempty = refl }
+is_read_back (keyword.Compare type.I32 relation.Ne) =
+    record { found = refl; simple = refl; wordlike = refl; nonempty = refl }
+is_read_back (keyword.Compare type.I32 relation.LtS) =
+    record { found = refl; simple = refl; wordlike = refl; nonempty = refl }
+is_read_back (keyword.Compare type.I32 relation.LtU) =
+    record { found = refl; simple = refl; wordlike = refl; nonempty = refl }
+is_read_back (keyword.Compare type.I32 relation.GtS) =
+    record { found = refl; simple = refl; wordlike = refl; nonempty = refl }
+is_read_back (keyword.Compare type.I32 relation.GtU) =
+    record { found = refl; simple = refl; wordlike = refl; nonempty = refl }
+is_read_back (keyword.Compare type.I32 relation.LeS) =
+    record { found = refl; simple = refl; wordlike = refl; nonempty = refl }
+is_read_back (keyword.Compare type.I32 relation.LeU) =
+    record { found = refl; simple = refl; wordlike = refl; nonempty = refl }
+is_read_back (keyword.Compare type.I32 relation.GeS) =
+    record { found = refl; simple = refl; wordlike = refl; nonempty = refl }
+is_read_back (keyword.Compare type.I32 relation.GeU) =
+    record { found = refl; simple = refl; wordlike = refl; nonempty = refl }
 is_read_back (keyword.Const type.I64) = record { found = refl; simple = refl; wordlike = refl; nonempty = refl }
-is_read_back (keyword.Unary type.I64 unary.Clz) = record { found = refl; simple = refl; wordlike = refl; nonempty = refl }
-is_read_back (keyword.Unary type.I64 unary.Ctz) = record { found = refl; simple = refl; wordlike = refl; nonempty = refl }
-is_read_back (keyword.Unary type.I64 unary.Popcnt) = record { found = refl; simple = refl; wordlike = refl; nonempty = refl }
-is_read_back (keyword.Binary type.I64 binary.Add) = record { found = refl; simple = refl; wordlike = refl; nonempty = refl }
-is_read_back (keyword.Binary type.I64 binary.Sub) = record { found = refl; simple = refl; wordlike = refl; nonempty = refl }
-is_read_back (keyword.Binary type.I64 binary.Mul) = record { found = refl; simple = refl; wordlike = refl; nonempty = refl }
-is_read_back (keyword.Binary type.I64 binary.DivS) = record { found = refl; simple = refl; wordlike = refl; nonempty = refl }
-is_read_back (keyword.Binary type.I64 binary.DivU) = record { found = refl; simple = refl; wordlike = refl; nonempty = refl }
-is_read_back (keyword.Binary type.I64 binary.RemS) = record { found = refl; simple = refl; wordlike = refl; nonempty = refl }
-is_read_back (keyword.Binary type.I64 binary.RemU) = record { found = refl; simple = refl; wordlike = refl; nonempty = refl }
-is_read_back (keyword.Binary type.I64 binary.And) = record { found = refl; simple = refl; wordlike = refl; nonempty = refl }
-is_read_back (keyword.Binary type.I64 binary.Or) = record { found = refl; simple = refl; wordlike = refl; nonempty = refl }
-is_read_back (keyword.Binary type.I64 binary.Xor) = record { found = refl; simple = refl; wordlike = refl; nonempty = refl }
-is_read_back (keyword.Binary type.I64 binary.Shl) = record { found = refl; simple = refl; wordlike = refl; nonempty = refl }
-is_read_back (keyword.Binary type.I64 binary.ShrS) = record { found = refl; simple = refl; wordlike = refl; nonempty = refl }
-is_read_back (keyword.Binary type.I64 binary.ShrU) = record { found = refl; simple = refl; wordlike = refl; nonempty = refl }
-is_read_back (keyword.Binary type.I64 binary.Rotl) = record { found = refl; simple = refl; wordlike = refl; nonempty = refl }
-is_read_back (keyword.Binary type.I64 binary.Rotr) = record { found = refl; simple = refl; wordlike = refl; nonempty = refl }
+is_read_back (keyword.Unary type.I64 unary.Clz) =
+    record { found = refl; simple = refl; wordlike = refl; nonempty = refl }
+is_read_back (keyword.Unary type.I64 unary.Ctz) =
+    record { found = refl; simple = refl; wordlike = refl; nonempty = refl }
+is_read_back (keyword.Unary type.I64 unary.Popcnt) =
+    record { found = refl; simple = refl; wordlike = refl; nonempty = refl }
+is_read_back (keyword.Binary type.I64 binary.Add) =
+    record { found = refl; simple = refl; wordlike = refl; nonempty = refl }
+is_read_back (keyword.Binary type.I64 binary.Sub) =
+    record { found = refl; simple = refl; wordlike = refl; nonempty = refl }
+is_read_back (keyword.Binary type.I64 binary.Mul) =
+    record { found = refl; simple = refl; wordlike = refl; nonempty = refl }
+is_read_back (keyword.Binary type.I64 binary.DivS) =
+    record { found = refl; simple = refl; wordlike = refl; nonempty = refl }
+is_read_back (keyword.Binary type.I64 binary.DivU) =
+    record { found = refl; simple = refl; wordlike = refl; nonempty = refl }
+is_read_back (keyword.Binary type.I64 binary.RemS) =
+    record { found = refl; simple = refl; wordlike = refl; nonempty = refl }
+is_read_back (keyword.Binary type.I64 binary.RemU) =
+    record { found = refl; simple = refl; wordlike = refl; nonempty = refl }
+is_read_back (keyword.Binary type.I64 binary.And) =
+    record { found = refl; simple = refl; wordlike = refl; nonempty = refl }
+is_read_back (keyword.Binary type.I64 binary.Or) =
+    record { found = refl; simple = refl; wordlike = refl; nonempty = refl }
+is_read_back (keyword.Binary type.I64 binary.Xor) =
+    record { found = refl; simple = refl; wordlike = refl; nonempty = refl }
+is_read_back (keyword.Binary type.I64 binary.Shl) =
+    record { found = refl; simple = refl; wordlike = refl; nonempty = refl }
+is_read_back (keyword.Binary type.I64 binary.ShrS) =
+    record { found = refl; simple = refl; wordlike = refl; nonempty = refl }
+is_read_back (keyword.Binary type.I64 binary.ShrU) =
+    record { found = refl; simple = refl; wordlike = refl; nonempty = refl }
+is_read_back (keyword.Binary type.I64 binary.Rotl) =
+    record { found = refl; simple = refl; wordlike = refl; nonempty = refl }
+is_read_back (keyword.Binary type.I64 binary.Rotr) =
+    record { found = refl; simple = refl; wordlike = refl; nonempty = refl }
 is_read_back (keyword.Test type.I64 test.Eqz) = record { found = refl; simple = refl; wordlike = refl; nonempty = refl }
-is_read_back (keyword.Compare type.I64 relation.Eq) = record { found = refl; simple = refl; wordlike = refl; nonempty = refl }
-is_read_back (keyword.Compare type.I64 relation.Ne) = record { found = refl; simple = refl; wordlike = refl; nonempty = refl }
-is_read_back (keyword.Compare type.I64 relation.LtS) = record { found = refl; simple = refl; wordlike = refl; nonempty = refl }
-is_read_back (keyword.Compare type.I64 relation.LtU) = record { found = refl; simple = refl; wordlike = refl; nonempty = refl }
-is_read_back (keyword.Compare type.I64 relation.GtS) = record { found = refl; simple = refl; wordlike = refl; nonempty = refl }
-is_read_back (keyword.Compare type.I64 relation.GtU) = record { found = refl; simple = refl; wordlike = refl; nonempty = refl }
-is_read_back (keyword.Compare type.I64 relation.LeS) = record { found = refl; simple = refl; wordlike = refl; nonempty = refl }
-is_read_back (keyword.Compare type.I64 relation.LeU) = record { found = refl; simple = refl; wordlike = refl; nonempty = refl }
-is_read_back (keyword.Compare type.I64 relation.GeS) = record { found = refl; simple = refl; wordlike = refl; nonempty = refl }
-is_read_back (keyword.Compare type.I64 relation.GeU) = record { found = refl; simple = refl; wordlike = refl; nonempty = refl }
+is_read_back (keyword.Compare type.I64 relation.Eq) =
+    record { found = refl; simple = refl; wordlike = refl; nonempty = refl }
+is_read_back (keyword.Compare type.I64 relation.Ne) =
+    record { found = refl; simple = refl; wordlike = refl; nonempty = refl }
+is_read_back (keyword.Compare type.I64 relation.LtS) =
+    record { found = refl; simple = refl; wordlike = refl; nonempty = refl }
+is_read_back (keyword.Compare type.I64 relation.LtU) =
+    record { found = refl; simple = refl; wordlike = refl; nonempty = refl }
+is_read_back (keyword.Compare type.I64 relation.GtS) =
+    record { found = refl; simple = refl; wordlike = refl; nonempty = refl }
+is_read_back (keyword.Compare type.I64 relation.GtU) =
+    record { found = refl; simple = refl; wordlike = refl; nonempty = refl }
+is_read_back (keyword.Compare type.I64 relation.LeS) =
+    record { found = refl; simple = refl; wordlike = refl; nonempty = refl }
+is_read_back (keyword.Compare type.I64 relation.LeU) =
+    record { found = refl; simple = refl; wordlike = refl; nonempty = refl }
+is_read_back (keyword.Compare type.I64 relation.GeS) =
+    record { found = refl; simple = refl; wordlike = refl; nonempty = refl }
+is_read_back (keyword.Compare type.I64 relation.GeU) =
+    record { found = refl; simple = refl; wordlike = refl; nonempty = refl }
 is_read_back (keyword.Convert convert.Wrap) = record { found = refl; simple = refl; wordlike = refl; nonempty = refl }
-is_read_back (keyword.Convert convert.ExtendS) = record { found = refl; simple = refl; wordlike = refl; nonempty = refl }
-is_read_back (keyword.Convert convert.ExtendU) = record { found = refl; simple = refl; wordlike = refl; nonempty = refl }
+is_read_back (keyword.Convert convert.ExtendS) =
+    record { found = refl; simple = refl; wordlike = refl; nonempty = refl }
+is_read_back (keyword.Convert convert.ExtendU) =
+    record { found = refl; simple = refl; wordlike = refl; nonempty = refl }

@@ -12,29 +12,40 @@ use Rattle.text_assembler.specs.Tokens.{is_apart, read_word, read_open, read_tok
 
 -- ---- more steps than are needed
 
-no_more : (b : Bool) (text : List ℕ) (other : Read ℕ (List Lexeme)) (r : List Lexeme × List ℕ) → need b (Ok ([], text)) ≡ Ok r → (if b then Ok ([], text) else other) ≡ Ok r
+no_more :
+    (b : Bool) (text : List ℕ) (other : Read ℕ (List Lexeme)) (r : List Lexeme × List ℕ) → need b (Ok ([], text)) ≡ Ok r
+    → (if b then Ok ([], text) else other) ≡ Ok r
 no_more true text other r h = h
 no_more false text other r h = cc
 
-then_same : (found : List Lexeme) (first second : Read ℕ (List Lexeme)) (r : List Lexeme × List ℕ) → ((q : List Lexeme × List ℕ) → first ≡ Ok q → second ≡ Ok q)
+then_same :
+    (found : List Lexeme) (first second : Read ℕ (List Lexeme)) (r : List Lexeme × List ℕ)
+    → ((q : List Lexeme × List ℕ) → first ≡ Ok q → second ≡ Ok q)
     → (first >>= λ xs. Ok (found ++ xs.0, xs.1)) ≡ Ok r → (second >>= λ xs. Ok (found ++ xs.0, xs.1)) ≡ Ok r
 then_same found (Ok q) second r same h = rw (same q refl) h
 then_same found (Err f) second r same h = cc
 
 step_same : (b : Bool) (text : List ℕ) (read : Read ℕ (List Lexeme)) (m n : ℕ) (r : List Lexeme × List ℕ)
-    → ((rest : List ℕ) (q : List Lexeme × List ℕ) → read_some is_empty read_token n rest ≡ Ok q → read_some is_empty read_token m rest ≡ Ok q)
-    → (if b then Ok ([], text) else (read >>= λ x. read_some is_empty read_token n x.1 >>= λ xs. Ok (x.0 ++ xs.0, xs.1))) ≡ Ok r
-    → (if b then Ok ([], text) else (read >>= λ x. read_some is_empty read_token m x.1 >>= λ xs. Ok (x.0 ++ xs.0, xs.1))) ≡ Ok r
+    → ((rest : List ℕ) (q : List Lexeme × List ℕ) → read_some is_empty read_token n rest ≡ Ok q
+    → read_some is_empty read_token m rest ≡ Ok q)
+    → (if b then Ok ([], text)
+    else (read >>= λ x. read_some is_empty read_token n x.1 >>= λ xs. Ok (x.0 ++ xs.0, xs.1))) ≡ Ok r
+    → (if b then Ok ([], text)
+    else (read >>= λ x. read_some is_empty read_token m x.1 >>= λ xs. Ok (x.0 ++ xs.0, xs.1))) ≡ Ok r
 step_same true text read m n r same h = h
-step_same false text (Ok x) m n r same h = then_same x.0 (read_some is_empty read_token n x.1) (read_some is_empty read_token m x.1) r (same x.1) h
+step_same false text (Ok x) m n r same h =
+    then_same x.0 (read_some is_empty read_token n x.1) (read_some is_empty read_token m x.1) r (same x.1) h
 step_same false text (Err f) m n r same h = cc
 
-enough : (n m : ℕ) (text : List ℕ) (r : List Lexeme × List ℕ) → n ≤ m → read_some is_empty read_token n text ≡ Ok r → read_some is_empty read_token m text ≡ Ok r
+enough :
+    (n m : ℕ) (text : List ℕ) (r : List Lexeme × List ℕ) → n ≤ m → read_some is_empty read_token n text ≡ Ok r
+    → read_some is_empty read_token m text ≡ Ok r
 unfolding read_some
 enough zero zero text r le h = h
 enough zero (suc m) text r le h = no_more (is_empty text) text _ r h
 enough (suc n) zero text r le h = absurd (omega (arith, le))
-enough (suc n) (suc m) text r le h = step_same (is_empty text) text (read_token text) m n r (λ rest q e. enough n m rest q (omega (arith, le)) e) h
+enough (suc n) (suc m) text r le h =
+    step_same (is_empty text) text (read_token text) m n r (λ rest q e. enough n m rest q (omega (arith, le)) e) h
 
 -- ---- texts that have these tokens
 
@@ -49,7 +60,9 @@ pub ended : Scans [] []
 unfolding read_some
 ended = (0, omega arith, refl)
 
-stepped : (text rest : List ℕ) (found ts : List Lexeme) → is_empty text ≡ false → read_token text ≡ Ok (found, rest) → length rest < length text → Scans rest ts → Scans text (found ++ ts)
+stepped :
+    (text rest : List ℕ) (found ts : List Lexeme) → is_empty text ≡ false → read_token text ≡ Ok (found, rest)
+    → length rest < length text → Scans rest ts → Scans text (found ++ ts)
 unfolding read_some
 stepped text rest found ts e t lt h = (suc h.0, omega (arith, lt, h.1), rw (e, t, h.2) refl)
 
@@ -61,7 +74,9 @@ pub after_close : (rest : List ℕ) (ts : List Lexeme) → Scans rest ts → Sca
 unfolding read_token
 after_close rest ts h = stepped (0x29 ∷ rest) rest (Close ∷ []) ts refl refl (omega arith) h
 
-pub after_open : (c : ℕ) (rest : List ℕ) (ts : List Lexeme) → (c == semicolon) ≡ false → Scans (c ∷ rest) ts → Scans (0x28 ∷ c ∷ rest) (Open ∷ ts)
+pub after_open :
+    (c : ℕ) (rest : List ℕ) (ts : List Lexeme) → (c == semicolon) ≡ false → Scans (c ∷ rest) ts
+    → Scans (0x28 ∷ c ∷ rest) (Open ∷ ts)
 unfolding read_token read_open
 after_open c rest ts e h = stepped (0x28 ∷ c ∷ rest) (c ∷ rest) (Open ∷ []) ts refl (rw e refl) (omega arith) h
 
@@ -79,15 +94,18 @@ both false c h = cc
 no_word : (rest : List ℕ) → is_apart rest ≡ true → prefix_len is_word_char rest ≡ 0
 unfolding is_apart
 no_word [] h = refl
-no_word (c ∷ rest) h = rw ((or_parts (is_word_char c) (c == quote) (not-true (is_word_char c || (c == quote)) h)).0) refl
+no_word (c ∷ rest) h =
+    rw ((or_parts (is_word_char c) (c == quote) (not-true (is_word_char c || (c == quote)) h)).0) refl
 
-word_len : (w rest : List ℕ) → is_wordlike w ≡ true → is_apart rest ≡ true → prefix_len is_word_char (w ++ rest) ≡ length w
+word_len :
+    (w rest : List ℕ) → is_wordlike w ≡ true → is_apart rest ≡ true → prefix_len is_word_char (w ++ rest) ≡ length w
 word_len [] rest h a = no_word rest a
 word_len (c ∷ w) rest h a =
     let k = both (is_word_char c) (is_wordlike w) h in
     rw (k.0, word_len w rest k.1 a) (omega arith)
 
-pub word_read : (w rest : List ℕ) → is_wordlike w ≡ true → is_apart rest ≡ true → read_word (w ++ rest) ≡ Ok (Word w ∷ [], rest)
+pub word_read :
+    (w rest : List ℕ) → is_wordlike w ≡ true → is_apart rest ≡ true → read_word (w ++ rest) ≡ Ok (Word w ∷ [], rest)
 unfolding read_word
 word_read w rest h a = rw (word_len w rest h a, take-append_seam w rest, drop-append_seam w rest, a) refl
 
@@ -97,10 +115,23 @@ other_char c d h k = ne_eqb c d (λ e. true≢false (sym h ∙ ap is_word_char e
 word_token : (c : ℕ) (cs : List ℕ) → is_word_char c ≡ true → read_token (c ∷ cs) ≡ read_word (c ∷ cs)
 unfolding read_token
 word_token c cs h =
-    rw (other_char c 0x09 h refl, other_char c 0x0A h refl, other_char c 0x0D h refl, other_char c 0x20 h refl, other_char c 0x28 h refl, other_char c 0x29 h refl, other_char c 0x3B h refl, other_char c 0x22 h refl, h) refl
+    rw (
+      other_char c 0x09 h refl,
+      other_char c 0x0A h refl,
+      other_char c 0x0D h refl,
+      other_char c 0x20 h refl,
+      other_char c 0x28 h refl,
+      other_char c 0x29 h refl,
+      other_char c 0x3B h refl,
+      other_char c 0x22 h refl,
+      h,
+    ) refl
 
-pub after_word_of : (w rest : List ℕ) (ts : List Lexeme) → is_empty w ≡ false → is_wordlike w ≡ true → is_apart rest ≡ true → Scans rest ts → Scans (w ++ rest) (Word w ∷ ts)
+pub after_word_of :
+    (w rest : List ℕ) (ts : List Lexeme) → is_empty w ≡ false → is_wordlike w ≡ true → is_apart rest ≡ true
+    → Scans rest ts → Scans (w ++ rest) (Word w ∷ ts)
 after_word_of [] rest ts e h a s = cc
 after_word_of (c ∷ w) rest ts e h a s =
     let lt : length rest < suc (length (w ++ rest)) = omega (arith, length-append w rest) in
-    stepped (c ∷ w ++ rest) rest (Word (c ∷ w) ∷ []) ts refl (word_token c (w ++ rest) (both (is_word_char c) (is_wordlike w) h).0 ∙ word_read (c ∷ w) rest h a) lt s
+    stepped (c ∷ w ++ rest) rest (Word (c ∷ w) ∷ []) ts refl
+    (word_token c (w ++ rest) (both (is_word_char c) (is_wordlike w) h).0 ∙ word_read (c ∷ w) rest h a) lt s

@@ -1,5 +1,5 @@
--- The characters of the text format (6.2, 6.3), each given by its code. Characters beyond ASCII are in strings and
--- comments alone, so a text is read by the bytes of its UTF-8.
+-- The characters of the text format (6.2, 6.3), each given by its code. Characters beyond ASCII are
+-- in strings and comments alone, so a text is read by the bytes of its UTF-8.
 use Rattle.std.specs.Prelude.{ℕ, ◌-◌, Bool, ◌&&◌, ◌||◌, not, nat_lt, nat_le, ◌==◌, if◌then◌else◌, Option, Some, None}
 
 abbrev pub is_between : (low high : ℕ) → ℕ → Bool
@@ -60,8 +60,8 @@ dollar = 0x24
 abbrev pub is_space : ℕ → Bool
 is_space c = c == 0x09 || c == line_feed || c == 0x0D || c == 0x20
 
--- The characters of words (6.3.5): the printable ones of ASCII but space, quote, comma, semicolon, parentheses,
--- brackets and braces.
+-- The characters of words (6.3.5): the printable ones of ASCII but space, quote, comma, semicolon,
+-- parentheses, brackets and braces.
 abbrev pub is_word_char : ℕ → Bool
 is_word_char c =
     c == 0x21 || is_between 0x23 0x27 c || is_between 0x2A 0x2B c || is_between 0x2D 0x3A c

@@ -1,5 +1,5 @@
--- Instructions (6.5), read from the front of the tokens. What they name is in the scopes of the module, in the
--- locals of the function, and in the labels of the open blocks, the innermost first.
+-- Instructions (6.5), read from the front of the tokens. What they name is in the scopes of the
+-- module, in the locals of the function, and in the labels of the open blocks, the innermost first.
 use Rattle.std.specs.Prelude.{ℕ, zero, suc, ◌+◌, ◌^◌, List, [], ◌∷◌, length, take, drop, replicate, Bool, true, false, ◌&&◌, ◌||◌, ◌==◌, if◌then◌else◌, Result, Ok, Err, Option, Some, None, codes, bytes_eq, slice_get}
 use Rattle.wasm_ast.specs.declared.values.ValType.{ValType}
 use Rattle.wasm_ast.specs.declared.values.ValType.TheVariants as type
@@ -36,7 +36,8 @@ is_unwritten params results = length params == 0 && length results == 0
 
 -- parameters and results, where any is written, are those of the type
 unfoldable pub fits_signature : FuncType → List Binding → List ValType → Bool
-fits_signature t params results = same_types t.params (types_of params) && same_types t.results results
+fits_signature t params results =
+    same_types t.params (types_of params) && same_types t.results results
 
 -- the parameters of a use as locals
 unfoldable pub params_of_use : FuncType → List Binding → List ValType → Result Ids Fault
@@ -112,8 +113,10 @@ read_mem_arg natural ts = do
   Ok (record { align = exponent; offset = offset.0 }, align.1)
 
 unfoldable pub read_const : ValType → Reader Simple
-read_const type.I32 ts = take_word ts >>= λ w. constant 32 w.0 >>= λ n. Ok (instr.Const (value.I32 n), w.1)
-read_const type.I64 ts = take_word ts >>= λ w. constant 64 w.0 >>= λ n. Ok (instr.Const (value.I64 n), w.1)
+read_const type.I32 ts =
+    take_word ts >>= λ w. constant 32 w.0 >>= λ n. Ok (instr.Const (value.I32 n), w.1)
+read_const type.I64 ts =
+    take_word ts >>= λ w. constant 64 w.0 >>= λ n. Ok (instr.Const (value.I64 n), w.1)
 
 -- an index, and the instruction that has it
 unfoldable pub with_index : Ids → (ℕ → Simple) → Reader Simple
@@ -159,7 +162,8 @@ read_block_type ts =
 
 -- an identifier after `else` or `end` is that of the block
 unfoldable pub skip_label : Option Name → Tokens → Result Tokens Fault
-skip_label label (Word w ∷ ts) = if is_id w then need (is_named w label) (Ok ts) else Ok (Word w ∷ ts)
+skip_label label (Word w ∷ ts) =
+    if is_id w then need (is_named w label) (Ok ts) else Ok (Word w ∷ ts)
 skip_label label ts = Ok ts
 
 unfoldable pub skip_end : Option Name → Tokens → Result Tokens Fault
@@ -195,7 +199,8 @@ read_if bodies labels ts = do
   Ok (if' t.0 (ops_of then_arm.0) (ops_of else_arm.0), rest)
 
 abbrev pub opens_block : List ℕ → Bool
-opens_block word = bytes_eq word (codes "block") || bytes_eq word (codes "loop") || bytes_eq word (codes "if")
+opens_block word =
+    bytes_eq word (codes "block") || bytes_eq word (codes "loop") || bytes_eq word (codes "if")
 
 -- what follows the word of an instruction that has bodies
 unfoldable pub read_nested : Bodies → (word : List ℕ) → Ids → Reader Op
@@ -216,7 +221,8 @@ read_op s locals inner labels ts = take_word ts >>= λ w.
     if opens_block w.0 then (inner >>= λ bodies. read_nested bodies w.0 labels w.1)
     else read_simple s locals labels w.0 w.1
 
-unfoldable pub one_op : Scopes → (locals : Ids) → Result Bodies Fault → (labels : Ids) → Reader (List Op)
+unfoldable pub one_op :
+    Scopes → (locals : Ids) → Result Bodies Fault → (labels : Ids) → Reader (List Op)
 one_op s locals inner labels ts = read_op s locals inner labels ts >>= λ o. Ok (o.0 ∷ [], o.1)
 
 -- whether instructions end here: `)`, `end` or `else` is next
@@ -228,7 +234,8 @@ is_end ts = false
 -- instructions up to their end, where this many more blocks may be open
 unfoldable pub read_body : Scopes → (locals : Ids) → (more : ℕ) → Bodies
 read_body s locals zero labels ts = read_parts is_end (one_op s locals (Err TooDeep) labels) ts
-read_body s locals (suc more) labels ts = read_parts is_end (one_op s locals (Ok (read_body s locals more)) labels) ts
+read_body s locals (suc more) labels ts =
+    read_parts is_end (one_op s locals (Ok (read_body s locals more)) labels) ts
 
 -- how bodies inside are read
 unfoldable pub inner_of : Scopes → (locals : Ids) → (more : ℕ) → Result Bodies Fault

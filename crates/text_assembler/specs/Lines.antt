@@ -1,5 +1,6 @@
--- An instruction as one line of text (6.5), and of one that has bodies its opening line: numbers for indices, decimal
--- constants with their sign, an offset that is not 0, and an alignment that is not natural; one space between words.
+-- An instruction as one line of text (6.5), and of one that has bodies its opening line: numbers
+-- for indices, decimal constants with their sign, an offset that is not 0, and an alignment that is
+-- not natural; one space between words.
 use Rattle.std.specs.Prelude.{ℕ, ◌-◌, ◌^◌, ◌<◌, List, [], ◌++◌, length, codes, decimal, nat_lt, ◌==◌, if◌then◌else◌, Result}
 use Rattle.std.specs.List.{flat_map}
 use Rattle.wasm_ast.specs.declared.values.Value.TheVariants.{I32, I64}
@@ -59,7 +60,8 @@ abbrev pub offset_part : MemArg → List ℕ
 offset_part at = if at.offset == 0 then [] else codes " offset=" ++ decimal at.offset
 
 abbrev pub align_part : (natural : ℕ) → MemArg → List ℕ
-align_part natural at = if 2 ^ at.align == natural then [] else codes " align=" ++ decimal (2 ^ at.align)
+align_part natural at =
+    if 2 ^ at.align == natural then [] else codes " align=" ++ decimal (2 ^ at.align)
 
 -- what follows the keyword
 abbrev pub operands : Simple → List ℕ
@@ -104,5 +106,8 @@ IsWritten s (instr.CallIndirect index) = index < length s.signatures
 IsWritten s other = Unit {0}
 
 -- what is read of a line as an instruction, in these scopes and with these labels, where bodies are read so
-abbrev pub read_instr_line : Scopes → (locals : Ids) → Result Bodies Fault → (labels : Ids) → List ℕ → Result (Op × Tokens) Fault
-read_instr_line s locals inner labels line = tokens_of line >>= λ ts. read_op s locals inner labels ts
+abbrev pub read_instr_line :
+    Scopes → (locals : Ids) → Result Bodies Fault → (labels : Ids) → List ℕ
+    → Result (Op × Tokens) Fault
+read_instr_line s locals inner labels line =
+    tokens_of line >>= λ ts. read_op s locals inner labels ts

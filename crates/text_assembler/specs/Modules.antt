@@ -1,5 +1,5 @@
--- Fields and modules (6.6), read from the front of the tokens. A field may name what a later one declares: so all
--- declarations are collected first.
+-- Fields and modules (6.6), read from the front of the tokens. A field may name what a later one
+-- declares: so all declarations are collected first.
 use Rattle.std.specs.Prelude.{◌≡◌, ℕ, zero, suc, ◌+◌, ◌-◌, List, [], ◌∷◌, ◌++◌, length, Bool, ◌&&◌, ◌==◌, if◌then◌else◌, Result, Ok, Err, Option, Some, None, is_none, codes, bytes_eq}
 use Rattle.wasm_ast.specs.declared.values.ValType.{ValType}
 use Rattle.wasm_ast.specs.declared.values.FuncType.{FuncType}
@@ -160,16 +160,22 @@ read_defined nesting s word ts =
     if bytes_eq word (codes "func") then (read_func nesting s ts >>= λ f. Ok (field.Func f.0, f.1))
     else if bytes_eq word (codes "table") then (read_table ts >>= λ t. Ok (field.Table t.0, t.1))
     else if bytes_eq word (codes "memory") then (read_memory ts >>= λ m. Ok (field.Memory m.0, m.1))
-    else need (bytes_eq word (codes "global")) (read_global nesting s ts >>= λ g. Ok (field.Global g.0, g.1))
+    else need (bytes_eq word (codes "global"))
+    (read_global nesting s ts >>= λ g. Ok (field.Global g.0, g.1))
 
 unfoldable pub read_contents : (nesting : ℕ) → Scopes → (word : List ℕ) → Reader Field
 read_contents nesting s word ts =
     if bytes_eq word (codes "type") then (read_type ts >>= λ t. Ok (field.Type t.0, t.1))
-    else if bytes_eq word (codes "import") then (read_import s ts >>= λ i. Ok (field.Import i.0, i.1))
-    else if bytes_eq word (codes "export") then (read_export s ts >>= λ e. Ok (field.Export e.0, e.1))
-    else if bytes_eq word (codes "start") then (read_index s.funcs ts >>= λ f. Ok (field.Start f.0, f.1))
-    else if bytes_eq word (codes "elem") then (read_element nesting s ts >>= λ e. Ok (field.Element e.0, e.1))
-    else if bytes_eq word (codes "data") then (read_segment nesting s ts >>= λ d. Ok (field.Segment d.0, d.1))
+    else if bytes_eq word (codes "import")
+    then (read_import s ts >>= λ i. Ok (field.Import i.0, i.1))
+    else if bytes_eq word (codes "export")
+    then (read_export s ts >>= λ e. Ok (field.Export e.0, e.1))
+    else if bytes_eq word (codes "start")
+    then (read_index s.funcs ts >>= λ f. Ok (field.Start f.0, f.1))
+    else if bytes_eq word (codes "elem")
+    then (read_element nesting s ts >>= λ e. Ok (field.Element e.0, e.1))
+    else if bytes_eq word (codes "data")
+    then (read_segment nesting s ts >>= λ d. Ok (field.Segment d.0, d.1))
     else read_defined nesting s word ts
 
 unfoldable pub read_field : (nesting : ℕ) → Scopes → Reader Field
@@ -257,13 +263,15 @@ declare_field s ts = take_word ts >>= λ word. declare_as s word.0 word.1
 unfoldable pub declare_fields : (depth : ℕ) → Scopes → Tokens → Result Scopes Fault
 declare_fields depth s [] = Ok s
 declare_fields depth s (Open ∷ ts) =
-    if depth == 1 then (declare_field s ts >>= λ more. declare_fields 2 more ts) else declare_fields (depth + 1) s ts
+    if depth == 1 then (declare_field s ts >>= λ more. declare_fields 2 more ts)
+    else declare_fields (depth + 1) s ts
 declare_fields depth s (Close ∷ ts) = declare_fields (depth - 1) s ts
 declare_fields depth s (Word w ∷ ts) = declare_fields depth s ts
 declare_fields depth s (Text bytes ∷ ts) = declare_fields depth s ts
 
 abbrev pub no_scopes : Scopes
-no_scopes = record { types = []; signatures = []; funcs = []; tables = []; memories = []; globals = [] }
+no_scopes =
+    record { types = []; signatures = []; funcs = []; tables = []; memories = []; globals = [] }
 
 -- ---- modules
 
@@ -288,16 +296,18 @@ no_fields = module_from [] [] [] [] [] [] [] None [] []
 
 -- no function, table, memory or global is defined yet
 abbrev pub is_undefined : Module → Bool
-is_undefined m = length m.funcs == 0 && length m.tables == 0 && length m.memories == 0 && length m.globals == 0
+is_undefined m =
+    length m.funcs == 0 && length m.tables == 0 && length m.memories == 0 && length m.globals == 0
 
--- One more field, at the end of those of its kind. Imports come before functions, tables, memories and globals, and
--- there is at most one start function (6.6.13).
+-- One more field, at the end of those of its kind. Imports come before functions, tables, memories
+-- and globals, and there is at most one start function (6.6.13).
 unfoldable pub add_field : Module → Field → Result Module Fault
 add_field m (field.Type t) =
     Ok (module_from (m.types ++ t ∷ []) m.imports m.funcs m.tables m.memories m.globals
     m.exports m.start m.elements m.segments)
 add_field m (field.Import i) =
-    need (is_undefined m) (Ok (module_from m.types (m.imports ++ i ∷ []) m.funcs m.tables m.memories m.globals
+    need (is_undefined m)
+    (Ok (module_from m.types (m.imports ++ i ∷ []) m.funcs m.tables m.memories m.globals
     m.exports m.start m.elements m.segments))
 add_field m (field.Func f) =
     Ok (module_from m.types m.imports (m.funcs ++ f ∷ []) m.tables m.memories m.globals
@@ -326,7 +336,8 @@ add_field m (field.Segment d) =
 
 -- a field, added to a module
 unfoldable pub one_field : (nesting : ℕ) → Scopes → Module → Reader Module
-one_field nesting s m ts = read_field nesting s ts >>= λ f. add_field m f.0 >>= λ more. Ok (more, f.1)
+one_field nesting s m ts =
+    read_field nesting s ts >>= λ f. add_field m f.0 >>= λ more. Ok (more, f.1)
 
 -- at most this many fields, up to `)`, added to a module
 unfoldable pub read_fields : (nesting : ℕ) → Scopes → (most : ℕ) → Module → Reader Module

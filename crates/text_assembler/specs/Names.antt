@@ -1,4 +1,5 @@
--- Identifiers and the index spaces that they name entries of (6.3.5, 6.6.1). An identifier is written with its `$`.
+-- Identifiers and the index spaces that they name entries of (6.3.5, 6.6.1). An identifier is
+-- written with its `$`.
 use Rattle.std.specs.Prelude.{ℕ, ◌+◌, ◌^◌, List, [], ◌∷◌, ◌++◌, Bool, true, false, ◌||◌, nat_lt, ◌==◌, if◌then◌else◌, Result, Ok, Err, Option, Some, None, bytes_eq}
 use Rattle.text_assembler.specs.declared.fault.Fault.{Fault}
 use Rattle.text_assembler.specs.declared.fault.Fault.TheVariants.{Malformed}
@@ -39,9 +40,11 @@ with_id ids (Some name) = if is_declared name ids then Err Malformed else Ok (id
 -- the place of the first entry with this name, with this many entries before the list
 unfoldable pub position : (before : ℕ) → Name → Ids → Result ℕ Fault
 position before name [] = Err Malformed
-position before name (id ∷ ids) = if is_named name id then Ok before else position (before + 1) name ids
+position before name (id ∷ ids) =
+    if is_named name id then Ok before else position (before + 1) name ids
 
 -- the index that a word is in this space: an identifier of an entry, or a number
 unfoldable pub index_of : Ids → List ℕ → Result ℕ Fault
 index_of ids word =
-    if is_id word then (position 0 word ids >>= λ n. need (nat_lt n (2 ^ 32)) (Ok n)) else small_number word
+    if is_id word then (position 0 word ids >>= λ n. need (nat_lt n (2 ^ 32)) (Ok n))
+    else small_number word

@@ -12,10 +12,11 @@ given (Some x) = Ok x
 
 -- the number n with one more digit
 unfoldable pub with_digit : (base n : ℕ) → ℕ → Result ℕ Fault
-with_digit base n c = given (digit base c) >>= λ d. need (nat_lt (base * n + d) (2 ^ 64)) (Ok (base * n + d))
+with_digit base n c =
+    given (digit base c) >>= λ d. need (nat_lt (base * n + d) (2 ^ 64)) (Ok (base * n + d))
 
--- The number that digits after the number n give. One `_` may be between two digits: a digit is due at the front
--- and after each `_`.
+-- The number that digits after the number n give. One `_` may be between two digits: a digit is due
+-- at the front and after each `_`.
 unfoldable pub more_digits : (base n : ℕ) → (due : Bool) → List ℕ → Result ℕ Fault
 more_digits base n due [] = if due then Err Malformed else Ok n
 more_digits base n due (c ∷ cs) =
@@ -36,11 +37,12 @@ small_number word = number word >>= λ n. need (nat_lt n (2 ^ 32)) (Ok n)
 abbrev pub negated : (bits n : ℕ) → ℕ
 negated bits n = if n == 0 then 0 else 2 ^ bits - n
 
--- A constant of this many bits. Without a sign its number is below 2^bits; with one its value is from -2^(bits-1)
--- to 2^(bits-1) - 1.
+-- A constant of this many bits. Without a sign its number is below 2^bits; with one its value is
+-- from -2^(bits-1) to 2^(bits-1) - 1.
 unfoldable pub constant : (bits : ℕ) → List ℕ → Result ℕ Fault
 constant bits [] = Err Malformed
 constant bits (c ∷ cs) =
     if c == plus then (number cs >>= λ n. need (nat_lt n (2 ^ (bits - 1))) (Ok n))
-    else if c == minus then (number cs >>= λ n. need (nat_le n (2 ^ (bits - 1))) (Ok (negated bits n)))
+    else if c == minus
+    then (number cs >>= λ n. need (nat_le n (2 ^ (bits - 1))) (Ok (negated bits n)))
     else (number (c ∷ cs) >>= λ n. need (nat_lt n (2 ^ bits)) (Ok n))

@@ -106,7 +106,8 @@ read_indices ids ts = read_parts is_past_indices (one_index ids) ts
 
 unfoldable pub val_type_of : List ℕ → Result ValType Fault
 val_type_of word =
-    if bytes_eq word (codes "i32") then Ok type.I32 else need (bytes_eq word (codes "i64")) (Ok type.I64)
+    if bytes_eq word (codes "i32") then Ok type.I32
+    else need (bytes_eq word (codes "i64")) (Ok type.I64)
 
 unfoldable pub read_val_type : Reader ValType
 read_val_type ts = take_word ts >>= λ w. val_type_of w.0 >>= λ t. Ok (t, w.1)
@@ -131,7 +132,9 @@ one_nameless ts = read_val_type ts >>= λ t. Ok (record { name = None; val_type 
 -- what follows the keyword of `( param id t )` or `( param t* )`
 unfoldable pub read_bound : Reader (List Binding)
 read_bound ts =
-    if begins_id ts then (read_val_type (after_id ts) >>= λ t. Ok (record { name = id_of ts; val_type = t.0 } ∷ [], t.1))
+    if begins_id ts
+    then (read_val_type (after_id ts)
+    >>= λ t. Ok (record { name = id_of ts; val_type = t.0 } ∷ [], t.1))
     else read_parts is_close one_nameless ts
 
 -- parameters, or locals, of one group with this keyword
@@ -159,5 +162,6 @@ same_types ts us = false
 -- a first size, and a largest one if there is one (6.4.5)
 unfoldable pub read_limits : Reader Limits
 read_limits ts = read_number ts >>= λ min.
-    if begins_index min.1 then (read_number min.1 >>= λ max. Ok (record { min = min.0; max = Some max.0 }, max.1))
+    if begins_index min.1
+    then (read_number min.1 >>= λ max. Ok (record { min = min.0; max = Some max.0 }, max.1))
     else Ok (record { min = min.0; max = None }, min.1)

@@ -17,7 +17,8 @@ abbrev pub need : {A : Type 0} → Bool → Result A Fault → Result A Fault
 need b read = if b then read else Err Malformed
 
 -- parts up to an end, and what each of them gives joined; at most this many
-unfoldable pub read_some : {I X : Type 0} → (ends : List I → Bool) → (part : List I → Read I (List X)) →
+unfoldable pub read_some :
+    {I X : Type 0} → (ends : List I → Bool) → (part : List I → Read I (List X)) →
     (most : ℕ) → List I → Read I (List X)
 read_some ends part zero input = need (ends input) (Ok ([], input))
 read_some ends part (suc n) input =
@@ -25,6 +26,7 @@ read_some ends part (suc n) input =
     else (part input >>= λ x. read_some ends part n x.1 >>= λ xs. Ok (x.0 ++ xs.0, xs.1))
 
 -- parts up to an end: as each has at least one item of the input, no more than there are items
-unfoldable pub read_parts : {I X : Type 0} → (ends : List I → Bool) → (part : List I → Read I (List X)) →
+unfoldable pub read_parts :
+    {I X : Type 0} → (ends : List I → Bool) → (part : List I → Read I (List X)) →
     List I → Read I (List X)
 read_parts ends part input = read_some ends part (length input) input

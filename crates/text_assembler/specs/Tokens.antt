@@ -27,7 +27,8 @@ opens_comment c d = c == open_paren && d == semicolon
 unfoldable pub closes_comment : ℕ → ℕ → Bool
 closes_comment c d = c == semicolon && d == close_paren
 
--- what follows comments that begin with `(;`, of which this many, at least one, are open, one inside the other
+-- what follows comments that begin with `(;`, of which this many, at least one, are open, one
+-- inside the other
 unfoldable pub after_comment : (depth : ℕ) → List ℕ → Result (List ℕ) Fault
 after_comment depth [] = Err Malformed
 after_comment depth (c ∷ []) = Err Malformed
@@ -51,7 +52,8 @@ unfoldable pub more_code : (n : ℕ) → List ℕ → Read ℕ ℕ
 more_code n [] = Err Malformed
 more_code n (c ∷ cs) =
     if c == close_brace then Ok (n, cs)
-    else (given (hex_digit c) >>= λ d. need (nat_lt (16 * n + d) 0x110000) (more_code (16 * n + d) cs))
+    else (given (hex_digit c)
+    >>= λ d. need (nat_lt (16 * n + d) 0x110000) (more_code (16 * n + d) cs))
 
 -- a character by its code: `{`, at least one digit, and `}`; no surrogate (2.2.4)
 unfoldable pub read_code : List ℕ → Read ℕ (List ℕ)
@@ -73,7 +75,8 @@ read_escape (c ∷ cs) = if c == 0x75 then read_code cs else read_escaped (escap
 -- a character or an escape, as its bytes
 unfoldable pub read_element : List ℕ → Read ℕ (List ℕ)
 read_element [] = Err Malformed
-read_element (c ∷ cs) = if c == backslash then read_escape cs else need (is_string_char c) (Ok (c ∷ [], cs))
+read_element (c ∷ cs) =
+    if c == backslash then read_escape cs else need (is_string_char c) (Ok (c ∷ [], cs))
 
 -- ---- tokens
 
@@ -89,7 +92,8 @@ read_closing bytes (c ∷ cs) = need (is_apart cs) (Ok (Text bytes ∷ [], cs))
 
 -- what follows the opening quote of a string
 unfoldable pub read_string : List ℕ → Read ℕ (List Lexeme)
-read_string cs = read_parts (begins_with quote) read_element cs >>= λ bytes. read_closing bytes.0 bytes.1
+read_string cs =
+    read_parts (begins_with quote) read_element cs >>= λ bytes. read_closing bytes.0 bytes.1
 
 -- the longest run of characters of words
 abbrev pub word_of : List ℕ → List ℕ
@@ -105,7 +109,8 @@ read_word cs = need (is_apart (after_word cs)) (Ok (Word (word_of cs) ∷ [], af
 unfoldable pub read_open : List ℕ → Read ℕ (List Lexeme)
 read_open [] = Ok (Open ∷ [], [])
 read_open (c ∷ cs) =
-    if c == semicolon then (after_comment 1 cs >>= λ rest. Ok ([], rest)) else Ok (Open ∷ [], c ∷ cs)
+    if c == semicolon then (after_comment 1 cs >>= λ rest. Ok ([], rest))
+    else Ok (Open ∷ [], c ∷ cs)
 
 -- what follows `;`
 unfoldable pub read_line : List ℕ → Read ℕ (List Lexeme)

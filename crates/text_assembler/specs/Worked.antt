@@ -13,7 +13,14 @@ use Rattle.text_assembler.specs.Modules.{module_from}
 abbrev pub worked : Module
 worked =
     module_from (record { params = []; results = [] } ∷ []) []
-    (record { type_index = 0; locals = []; body = ops_of (block Empty (ops_of (block Empty (ops_of (simple (Br 1) ∷ simple (Call 1) ∷ [])) ∷ [])) ∷ []) }
+    (record {
+      type_index = 0;
+      locals = [];
+      body =
+          ops_of
+          (block Empty (ops_of (block Empty (ops_of (simple (Br 1) ∷ simple (Call 1) ∷ [])) ∷ []))
+          ∷ []);
+    }
     ∷ record { type_index = 0; locals = []; body = ops_of [] } ∷ []) [] [] [] [] (Some 1) [] []
 
 -- an offset, an alignment, and a constant with a sign
@@ -23,5 +30,8 @@ worked_access =
     (record {
       val_type = type.I32;
       mutability = Var;
-      init = ops_of (simple (Const (I32 4294967295)) ∷ simple (Load load.I32From16U (record { align = 0; offset = 4 })) ∷ []);
+      init =
+          ops_of
+          (simple (Const (I32 4294967295))
+          ∷ simple (Load load.I32From16U (record { align = 0; offset = 4 })) ∷ []);
     } ∷ []) [] None [] []

@@ -107,13 +107,15 @@ pub fn texts_have_tokens()
         ≡ Ok (lexeme.Text (codes "bJ") ∷ []) }
     ensures touching { tokens_of (codes "a" ++ 0x22 ∷ 0x22 ∷ []) ≡ Err Malformed }
     ensures strings { tokens_of (0x22 ∷ 0x22 ∷ 0x22 ∷ 0x22 ∷ []) ≡ Err Malformed }
-    ensures line { tokens_of (0x3B ∷ 0x3B ∷ 0x0D ∷ 0x0A ∷ codes "a") ≡ Ok (lexeme.Word (codes "a") ∷ []) }
+    ensures line { tokens_of (0x3B ∷ 0x3B ∷ 0x0D ∷ 0x0A ∷ codes "a")
+        ≡ Ok (lexeme.Word (codes "a") ∷ []) }
 {}
 
 /// Names are looked up in their space, the first of a name first (6.6.1).
 #[tactic(auto, unfolding(crate::specs::Names::index_of, crate::specs::Names::position, crate::specs::Names::is_id, crate::specs::Names::with_id, crate::specs::Names::is_declared))]
 pub fn names_are_indices()
-    ensures found { index_of (None ∷ Some (codes "$a") ∷ Some (codes "$a") ∷ []) (codes "$a") ≡ Ok 1 }
+    ensures found { index_of (None ∷ Some (codes "$a") ∷ Some (codes "$a") ∷ []) (codes "$a")
+        ≡ Ok 1 }
     ensures missing { index_of (Some (codes "$a") ∷ []) (codes "$b") ≡ Err Malformed }
     ensures twice { with_id (Some (codes "$a") ∷ []) (Some (codes "$a")) ≡ Err Malformed }
     ensures nameless { with_id (None ∷ []) None ≡ Ok (None ∷ None ∷ []) }
@@ -123,20 +125,31 @@ pub fn names_are_indices()
 /// blocks, and a memory access; and texts that denote nothing (6.5, 6.6).
 #[tactic(auto, unfolding(crate::specs::Reading::read_some, crate::specs::Reading::read_parts, crate::specs::Numbers::with_digit, crate::specs::Numbers::more_digits, crate::specs::Numbers::number, crate::specs::Numbers::small_number, crate::specs::Numbers::constant, crate::specs::Tokens::after_line, crate::specs::Tokens::opens_comment, crate::specs::Tokens::closes_comment, crate::specs::Tokens::after_comment, crate::specs::Tokens::read_byte, crate::specs::Tokens::more_code, crate::specs::Tokens::read_code, crate::specs::Tokens::read_escaped, crate::specs::Tokens::read_escape, crate::specs::Tokens::read_element, crate::specs::Tokens::is_apart, crate::specs::Tokens::read_closing, crate::specs::Tokens::read_string, crate::specs::Tokens::read_word, crate::specs::Tokens::read_open, crate::specs::Tokens::read_line, crate::specs::Tokens::read_token, crate::specs::Tokens::tokens_of, crate::specs::Words::find_word, crate::specs::Words::keyword_of, crate::specs::Names::is_id, crate::specs::Names::is_index, crate::specs::Names::is_declared, crate::specs::Names::with_id, crate::specs::Names::position, crate::specs::Names::index_of, crate::specs::Phrases::is_close, crate::specs::Phrases::skip_close, crate::specs::Phrases::skip_open, crate::specs::Phrases::take_word, crate::specs::Phrases::take_text, crate::specs::Phrases::begins_word, crate::specs::Phrases::skip_word, crate::specs::Phrases::begins_group, crate::specs::Phrases::skip_group, crate::specs::Phrases::read_name, crate::specs::Phrases::begins_id, crate::specs::Phrases::id_of, crate::specs::Phrases::after_id, crate::specs::Phrases::read_number, crate::specs::Phrases::begins_index, crate::specs::Phrases::read_index, crate::specs::Phrases::one_index, crate::specs::Phrases::read_indices, crate::specs::Phrases::val_type_of, crate::specs::Phrases::read_val_type, crate::specs::Phrases::one_type, crate::specs::Phrases::read_result, crate::specs::Phrases::read_results, crate::specs::Phrases::one_nameless, crate::specs::Phrases::read_bound, crate::specs::Phrases::read_group, crate::specs::Phrases::read_bindings, crate::specs::Phrases::same_types, crate::specs::Phrases::read_limits, crate::specs::Instructions::declare_all, crate::specs::Instructions::fits_signature, crate::specs::Instructions::params_of_use, crate::specs::Instructions::read_type_index, crate::specs::Instructions::read_use, crate::specs::Instructions::are_nameless, crate::specs::Instructions::read_call_indirect, crate::specs::Instructions::last_of, crate::specs::Instructions::read_br_table, crate::specs::Instructions::exponent_from, crate::specs::Instructions::digits_after, crate::specs::Instructions::with_digits, crate::specs::Instructions::read_option, crate::specs::Instructions::read_mem_arg, crate::specs::Instructions::read_const, crate::specs::Instructions::with_index, crate::specs::Instructions::read_immediates, crate::specs::Instructions::read_block_type, crate::specs::Instructions::skip_label, crate::specs::Instructions::skip_end, crate::specs::Instructions::read_enclosed, crate::specs::Instructions::read_else, crate::specs::Instructions::read_if, crate::specs::Instructions::read_nested, crate::specs::Instructions::read_simple, crate::specs::Instructions::read_op, crate::specs::Instructions::one_op, crate::specs::Instructions::is_end, crate::specs::Instructions::read_body, crate::specs::Instructions::inner_of, crate::specs::Modules::read_type, crate::specs::Modules::read_imported, crate::specs::Modules::read_import, crate::specs::Modules::read_func, crate::specs::Modules::read_table, crate::specs::Modules::read_memory, crate::specs::Modules::read_global_type, crate::specs::Modules::read_expression, crate::specs::Modules::read_global, crate::specs::Modules::kind_of, crate::specs::Modules::read_exported, crate::specs::Modules::read_export, crate::specs::Modules::read_offset, crate::specs::Modules::read_element, crate::specs::Modules::read_segment, crate::specs::Modules::read_defined, crate::specs::Modules::read_contents, crate::specs::Modules::read_field, crate::specs::Modules::declare_as, crate::specs::Modules::declare_field, crate::specs::Modules::declare_fields, crate::specs::Modules::add_field, crate::specs::Modules::one_field, crate::specs::Modules::read_fields, crate::specs::Modules::read_module, crate::specs::Modules::read_tokens, crate::specs::Modules::read_text))]
 pub fn worked_texts()
-    ensures module { read_text 2 (codes "(module(type $t(func))(func(type $t)block $a block $b br $a call $f end $b end)(func $f(type 0)(param))(start $f))")
+    ensures module { read_text 2
+        (codes
+        "(module(type $t(func))(func(type $t)block $a block $b br $a call $f end $b end)(func $f(type 0)(param))(start $f))")
         ≡ Ok worked }
-    ensures access { read_text 0 (codes "(module(memory 1 2)(global $g(mut i32)i32.const -1 i32.load16_u offset=4 align=1))")
+    ensures access { read_text 0
+        (codes "(module(memory 1 2)(global $g(mut i32)i32.const -1 i32.load16_u offset=4 align=1))")
         ≡ Ok worked_access }
-    ensures too_deep { read_text 1 (codes "(module(type(func))(func(type 0)block block end end))") ≡ Err TooDeep }
-    ensures other_label { read_text 2 (codes "(module(type(func))(func(type 0)if $a else $b end))") ≡ Err Malformed }
-    ensures late_import { read_text 0 (codes "(module(memory 1)(type(func))(import(func(type 0))))") ≡ Err Malformed }
+    ensures too_deep { read_text 1 (codes "(module(type(func))(func(type 0)block block end end))")
+        ≡ Err TooDeep }
+    ensures other_label { read_text 2 (codes "(module(type(func))(func(type 0)if $a else $b end))")
+        ≡ Err Malformed }
+    ensures late_import { read_text 0 (codes "(module(memory 1)(type(func))(import(func(type 0))))")
+        ≡ Err Malformed }
     ensures two_starts { read_text 0 (codes "(module(start 0)(start 0))") ≡ Err Malformed }
     ensures twice { read_text 0 (codes "(module(memory $m 1)(memory $m 1))") ≡ Err Malformed }
     ensures unwritten { read_text 0 (codes "(module(func(type 0)))") ≡ Err Malformed }
-    ensures results_alone { read_text 0 (codes "(module(type(func(param i32)(result i32)))(func(type 0)(result i32)))") ≡ Err Malformed }
-    ensures named_param { read_text 0 (codes "(module(type(func(param i32)))(func(type 0)call_indirect(type 0)(param $x i32)))") ≡ Err Malformed }
+    ensures results_alone { read_text 0
+        (codes "(module(type(func(param i32)(result i32)))(func(type 0)(result i32)))")
+        ≡ Err Malformed }
+    ensures named_param { read_text 0
+        (codes "(module(type(func(param i32)))(func(type 0)call_indirect(type 0)(param $x i32)))")
+        ≡ Err Malformed }
     ensures no_power { read_text 0 (codes "(module(global i32 i32.load align=3))") ≡ Err Malformed }
-    ensures align_first { read_text 0 (codes "(module(global i32 i32.load align=4 offset=1))") ≡ Err Malformed }
+    ensures align_first { read_text 0 (codes "(module(global i32 i32.load align=4 offset=1))")
+        ≡ Err Malformed }
     ensures after_module { read_text 0 (codes "(module)(module)") ≡ Err Malformed }
     ensures cut { read_text 0 (codes "(module(memory 1)") ≡ Err Malformed }
 {}

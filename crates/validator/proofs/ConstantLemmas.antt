@@ -11,7 +11,8 @@ longer : (t : ValType) (o p : Op) (os : Ops) → false ≡ is_constant t (next o
 longer t (simple (instr.Const value)) p os = refl
 longer t _ p os = refl
 
-pub no_constant : (t : ValType) (is : List Instr) (os : Ops) → 2 ≤ length is → ops_of (map op_of is) ≡ os → false ≡ is_constant t os
+pub no_constant :
+    (t : ValType) (is : List Instr) (os : Ops) → 2 ≤ length is → ops_of (map op_of is) ≡ os → false ≡ is_constant t os
 no_constant t [] os h same = absurd (omega arith)
 no_constant t (i ∷ []) os h same = absurd (omega arith)
 no_constant t (i ∷ j ∷ is) os h same = longer t (op_of i) (op_of j) (ops_of (map op_of is)) ∙ ap (is_constant t) same

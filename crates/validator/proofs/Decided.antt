@@ -59,7 +59,8 @@ different_sound (x ∷ xs) h =
 different_exact : (xs : List (List ℕ)) → AllDifferent xs → are_different xs ≡ true
 different_exact [] h = refl
 different_exact (x ∷ xs) h =
-    and_both (are_all (is_other x) xs) (are_different xs) (hold_all (λ y. x ≢ y) (is_other x) (other_exact x) xs h.0) (different_exact xs h.1)
+    and_both (are_all (is_other x) xs) (are_different xs) (hold_all (λ y. x ≢ y) (is_other x) (other_exact x) xs h.0)
+    (different_exact xs h.1)
 
 -- ---- modules
 
@@ -71,10 +72,13 @@ is_valid m = declares_validly m && defines_validly m && are_different (names_of 
 
 pub valid_by : (m : Module) → is_valid m ≡ true → ValidModule m
 valid_by m h =
-    let three = both (declares_validly m && defines_validly m && are_different (names_of m)) (are_all (is_valid_func m) m.funcs) h in
+    let three =
+    both (declares_validly m && defines_validly m && are_different (names_of m))
+    (are_all (is_valid_func m) m.funcs) h in
     let two = both (declares_validly m && defines_validly m) (are_different (names_of m)) three.0 in
     let one = both (declares_validly m) (defines_validly m) two.0 in
-    module_valid m one.0 one.1 (different_sound (names_of m) two.1) (all_hold (ValidFunc m) (is_valid_func m) (func_sound m) m.funcs three.1)
+    module_valid m one.0 one.1 (different_sound (names_of m) two.1)
+    (all_hold (ValidFunc m) (is_valid_func m) (func_sound m) m.funcs three.1)
 
 pub valid_only : (m : Module) → ValidModule m → is_valid m ≡ true
 valid_only m v =

@@ -18,15 +18,22 @@ use Rattle.std.proofs.lemmas.List.Elements.{All-head, All-tail}
 abbrev pub Seen : BTreeMap (Bor (List ℕ)) (Unit {0}) → List ℕ → Type 0
 Seen m x = tree.get_by (λ k. slice_cmp nat_cmp x k.now) m ≡ Some tt
 
-pub different_push : (xs : List (List ℕ)) (b : List ℕ) → AllDifferent xs → All (λ x. x ≢ b) xs → AllDifferent (xs ++ b ∷ [])
+pub different_push :
+    (xs : List (List ℕ)) (b : List ℕ) → AllDifferent xs → All (λ x. x ≢ b) xs → AllDifferent (xs ++ b ∷ [])
 different_push [] b d h = (λ k e l. absurd (omega arith), tt)
-different_push (x ∷ xs) b d h =
-    (All-push (λ y. x ≢ y) xs b d.0 (All-head (λ y. y ≢ b) x xs h), different_push xs b d.1 (All-tail (λ y. y ≢ b) x xs h))
+different_push (x ∷ xs) b d h = (
+  All-push (λ y. x ≢ y) xs b d.0 (All-head (λ y. y ≢ b) x xs h),
+  different_push xs b d.1 (All-tail (λ y. y ≢ b) x xs h),
+)
 
 -- a text that is not among the keys differs from each that is
-pub unlike : (m : BTreeMap (Bor (List ℕ)) (Unit {0})) (xs : List (List ℕ)) (b : List ℕ) → All (Seen m) xs → tree.get_by (λ k. slice_cmp nat_cmp b k.now) m ≡ None → All (λ x. x ≢ b) xs
+pub unlike :
+    (m : BTreeMap (Bor (List ℕ)) (Unit {0})) (xs : List (List ℕ)) (b : List ℕ) → All (Seen m) xs
+    → tree.get_by (λ k. slice_cmp nat_cmp b k.now) m ≡ None → All (λ x. x ≢ b) xs
 unlike m xs b all none = λ k d l e.
-    let there : tree.get_by (λ k. slice_cmp nat_cmp b k.now) m ≡ Some tt = ap (λ y. tree.get_by (λ k. slice_cmp nat_cmp y k.now) m) (sym e) ∙ all k d l in
+    let there :
+    tree.get_by (λ k. slice_cmp nat_cmp b k.now) m ≡ Some tt =
+    ap (λ y. tree.get_by (λ k. slice_cmp nat_cmp y k.now) m) (sym e) ∙ all k d l in
     let clash : None ≡ Some tt = sym none ∙ there in
     cc
 
@@ -36,23 +43,27 @@ kept false o h = h
 
 -- the keys after an insertion
 pub seen_push : (m n : BTreeMap (Bor (List ℕ)) (Unit {0})) (xs : List (List ℕ)) (b : List ℕ) → All (Seen m) xs
-    → tree.UpdatesBy (λ x y. slice_cmp nat_cmp x.now y.now) (λ k. slice_cmp nat_cmp b k.now) m n (Some tt) → All (Seen n) (xs ++ b ∷ [])
+    → tree.UpdatesBy (λ x y. slice_cmp nat_cmp x.now y.now) (λ k. slice_cmp nat_cmp b k.now) m n (Some tt)
+    → All (Seen n) (xs ++ b ∷ [])
 seen_push m n xs b all u =
     All-push (Seen n) xs b
     (λ k d l. btree_map_updates_str b m n (Some tt) u (get_or xs k d) ∙ kept (bytes_eq b (get_or xs k d)) _ (all k d l))
-    (btree_map_updates_str b m n (Some tt) u b ∙ ap (λ t. cond t (Some tt) (tree.get_by (λ k. slice_cmp nat_cmp b k.now) m)) ((bytes_eq-Decides b b).1 refl))
+    (btree_map_updates_str b m n (Some tt) u b
+    ∙ ap (λ t. cond t (Some tt) (tree.get_by (λ k. slice_cmp nat_cmp b k.now) m)) ((bytes_eq-Decides b b).1 refl))
 
 pub nothing_there : (o : Option (Unit {0})) → is_some o ≡ false → o ≡ None
 nothing_there None h = refl
 nothing_there (Some u) h = absurd (true≢false h)
 
 -- the names of one export more
-pub one_more : (exports : List Export) (i : ℕ) (e : Export) (b : List ℕ) → i < length exports → e ≡ get_or exports i e → b ≡ e.name
+pub one_more :
+    (exports : List Export) (i : ℕ) (e : Export) (b : List ℕ) → i < length exports → e ≡ get_or exports i e → b ≡ e.name
     → map (λ (x : Export). x.name) (take (i + 1) exports) ≡ map (λ (x : Export). x.name) (take i exports) ++ b ∷ []
 one_more exports i e b h is named =
     ap (map (λ (x : Export). x.name)) (take_more exports i e h)
     ∙ (map-append (λ (x : Export). x.name) (take i exports) (get_or exports i e ∷ [])
-    ∙ ap (λ (n : List ℕ). map (λ (x : Export). x.name) (take i exports) ++ n ∷ []) (ap (λ (x : Export). x.name) (sym is) ∙ sym named))
+    ∙ ap (λ (n : List ℕ). map (λ (x : Export). x.name) (take i exports) ++ n ∷ [])
+    (ap (λ (x : Export). x.name) (sym is) ∙ sym named))
 
 -- ---- a name that is there twice
 
@@ -70,14 +81,21 @@ among_last [] x = inl refl
 among_last (y ∷ xs) x = inr (among_last xs x)
 
 -- the keys after an insertion are those before it and the new one
-pub among_push : (m n : BTreeMap (Bor (List ℕ)) (Unit {0})) (xs : List (List ℕ)) (b : List ℕ) → ((x : List ℕ) → Seen m x → Among xs x)
-    → tree.UpdatesBy (λ x y. slice_cmp nat_cmp x.now y.now) (λ k. slice_cmp nat_cmp b k.now) m n (Some tt) → (x : List ℕ) → Seen n x → Among (xs ++ b ∷ []) x
+pub among_push :
+    (m n : BTreeMap (Bor (List ℕ)) (Unit {0})) (xs : List (List ℕ)) (b : List ℕ)
+    → ((x : List ℕ) → Seen m x → Among xs x)
+    → tree.UpdatesBy (λ x y. slice_cmp nat_cmp x.now y.now) (λ k. slice_cmp nat_cmp b k.now) m n (Some tt)
+    → (x : List ℕ) → Seen n x → Among (xs ++ b ∷ []) x
 among_push m n xs b known u x h = by_test (bytes_eq b x) refl
   where
     by_test : (t : Bool) → bytes_eq b x ≡ t → Among (xs ++ b ∷ []) x
-    by_test true e = let same : b ≡ x = (bytes_eq-Decides b x).0 e in subst (λ y. Among (xs ++ b ∷ []) y) same (among_last xs b)
+    by_test true e =
+        let same : b ≡ x = (bytes_eq-Decides b x).0 e in subst (λ y. Among (xs ++ b ∷ []) y) same (among_last xs b)
     by_test false e =
-        let before : Seen m x = sym (btree_map_updates_str b m n (Some tt) u x ∙ ap (λ t. cond t (Some tt) (tree.get_by (λ k. slice_cmp nat_cmp x k.now) m)) e) ∙ h in
+        let before :
+        Seen m x =
+        sym (btree_map_updates_str b m n (Some tt) u x
+        ∙ ap (λ t. cond t (Some tt) (tree.get_by (λ k. slice_cmp nat_cmp x k.now) m)) e) ∙ h in
         among_left xs (b ∷ []) x (known x before)
 
 pub something_there : (o : Option (Unit {0})) → is_some o ≡ true → o ≡ Some tt
@@ -94,7 +112,8 @@ twice (x ∷ xs) ys b (inl e) d = differs xs ys b d.0 e
 twice (x ∷ xs) ys b (inr h) d = twice xs ys b h d.1
 
 -- a name among those of the exports before it
-pub there_twice : (exports : List Export) (i : ℕ) (e : Export) (b : List ℕ) → i < length exports → e ≡ get_or exports i e → b ≡ e.name
+pub there_twice :
+    (exports : List Export) (i : ℕ) (e : Export) (b : List ℕ) → i < length exports → e ≡ get_or exports i e → b ≡ e.name
     → Among (map (λ (x : Export). x.name) (take i exports)) b → AllDifferent (map (λ (x : Export). x.name) exports) → ⊥
 there_twice exports i e b h is named known differ =
     let name : Export → List ℕ = λ x. x.name in

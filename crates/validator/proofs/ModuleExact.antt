@@ -26,7 +26,9 @@ use Rattle.validator.specs.Inside.ModuleTests.{has_few_results, is_typed_import,
 use Rattle.validator.proofs.StackMatching.{same, itself, both}
 use Rattle.validator.proofs.SequenceExact.{body_sound, body_exact, ops_sound, ops_exact}
 
-pub all_hold : {X : Type 0} (P : X → Type 0) (test : X → Bool) → ((x : X) → test x ≡ true → P x) → (xs : List X) → are_all test xs ≡ true → All P xs
+pub all_hold :
+    {X : Type 0} (P : X → Type 0) (test : X → Bool) → ((x : X) → test x ≡ true → P x) → (xs : List X)
+    → are_all test xs ≡ true → All P xs
 all_hold P test one [] h = All-nil P
 all_hold P test one (x ∷ xs) h =
     let parts = both (test x) (are_all test xs) h in
@@ -35,7 +37,9 @@ all_hold P test one (x ∷ xs) h =
 pub and_both : (a b : Bool) → a ≡ true → b ≡ true → (a && b) ≡ true
 and_both a b h k = ap (λ c. c && b) h ∙ k
 
-pub hold_all : {X : Type 0} (P : X → Type 0) (test : X → Bool) → ((x : X) → P x → test x ≡ true) → (xs : List X) → All P xs → are_all test xs ≡ true
+pub hold_all :
+    {X : Type 0} (P : X → Type 0) (test : X → Bool) → ((x : X) → P x → test x ≡ true) → (xs : List X) → All P xs
+    → are_all test xs ≡ true
 hold_all P test one [] h = refl
 hold_all P test one (x ∷ xs) h =
     and_both (test x) (are_all test xs) (one x (All-head P x xs h)) (hold_all P test one xs (All-tail P x xs h))
@@ -62,7 +66,8 @@ max_sound range min (Some max) h =
 
 max_exact : (range min : ℕ) (max : Option ℕ) → ValidMax range min max → is_valid_max range min max ≡ true
 max_exact range min None h = refl
-max_exact range min (Some max) h = and_both (nat_le max range) (nat_le min max) (within max range h.0) (within min max h.1)
+max_exact range min (Some max) h =
+    and_both (nat_le max range) (nat_le min max) (within max range h.0) (within min max h.1)
 
 limits_sound : (range : ℕ) (l : Limits) → are_valid_limits range l ≡ true → ValidLimits range l
 limits_sound range l h =
@@ -70,7 +75,9 @@ limits_sound range l h =
     (at_most l.min range parts.0, max_sound range l.min l.max parts.1)
 
 limits_exact : (range : ℕ) (l : Limits) → ValidLimits range l → are_valid_limits range l ≡ true
-limits_exact range l h = and_both (nat_le l.min range) (is_valid_max range l.min l.max) (within l.min range h.0) (max_exact range l.min l.max h.1)
+limits_exact range l h =
+    and_both (nat_le l.min range) (is_valid_max range l.min l.max) (within l.min range h.0)
+    (max_exact range l.min l.max h.1)
 
 -- ---- constant expressions
 
@@ -81,7 +88,8 @@ constant_sound t _ h = cc
 
 constant_exact : (t : ValType) (os : Ops) → IsConstant t os → is_constant t os ≡ true
 constant_exact t stop h = absurd h
-constant_exact t (next (simple (instr.Const value)) stop) h = subst (λ (u : ValType). is_same (type_of value) u ≡ true) h (itself (type_of value))
+constant_exact t (next (simple (instr.Const value)) stop) h =
+    subst (λ (u : ValType). is_same (type_of value) u ≡ true) h (itself (type_of value))
 constant_exact t _ h = absurd h
 
 -- ---- what indices name
@@ -138,13 +146,19 @@ both_of_three a b c h =
 
 element_sound : (m : Module) (e : Element) → is_valid_element m e ≡ true → ValidElement m e
 element_sound m e h =
-    let parts = both_of_three (nat_lt e.table (length m.tables)) (is_constant I32 e.offset) (are_all (is_function m) e.funcs) h in
-    (below e.table (length m.tables) parts.0, constant_sound I32 e.offset parts.1, all_hold (IsFunction m) (is_function m) (function_sound m) e.funcs parts.2)
+    let parts =
+    both_of_three (nat_lt e.table (length m.tables)) (is_constant I32 e.offset) (are_all (is_function m) e.funcs) h
+    in (
+      below e.table (length m.tables) parts.0,
+      constant_sound I32 e.offset parts.1,
+      all_hold (IsFunction m) (is_function m) (function_sound m) e.funcs parts.2,
+    )
 
 element_exact : (m : Module) (e : Element) → ValidElement m e → is_valid_element m e ≡ true
 element_exact m e h =
     and_both (nat_lt e.table (length m.tables) && is_constant I32 e.offset) (are_all (is_function m) e.funcs)
-    (and_both (nat_lt e.table (length m.tables)) (is_constant I32 e.offset) (under e.table (length m.tables) h.0) (constant_exact I32 e.offset h.1))
+    (and_both (nat_lt e.table (length m.tables)) (is_constant I32 e.offset) (under e.table (length m.tables) h.0)
+    (constant_exact I32 e.offset h.1))
     (hold_all (IsFunction m) (is_function m) (function_exact m) e.funcs h.2)
 
 segment_sound : (m : Module) (s : Segment) → is_valid_segment m s ≡ true → ValidSegment m s
@@ -154,7 +168,8 @@ segment_sound m s h =
 
 segment_exact : (m : Module) (s : Segment) → ValidSegment m s → is_valid_segment m s ≡ true
 segment_exact m s h =
-    and_both (nat_lt s.memory (length m.memories)) (is_constant I32 s.offset) (under s.memory (length m.memories) h.0) (constant_exact I32 s.offset h.1)
+    and_both (nat_lt s.memory (length m.memories)) (is_constant I32 s.offset) (under s.memory (length m.memories) h.0)
+    (constant_exact I32 s.offset h.1)
 
 -- ---- functions
 
@@ -162,19 +177,26 @@ segment_exact m s h =
 abbrev pub passes_func : Module → FuncType → Func → Bool
 passes_func m t f = ends t.results (check_ops (body_context m t f) f.body (start []))
 
-pub func_valid : (m : Module) (t : FuncType) (f : Func) → slice_get m.types f.type_index ≡ Some t → passes_func m t f ≡ true → ValidFunc m f
+pub func_valid :
+    (m : Module) (t : FuncType) (f : Func) → slice_get m.types f.type_index ≡ Some t
+    → passes_func m t f ≡ true → ValidFunc m f
 func_valid m t f is h =
     record {
       type = t;
       is_type = is;
-      typed = body_sound (body_context m t f) f.body (record { params = []; results = t.results }) (ops_sound (body_context m t f) f.body) h;
+      typed =
+          body_sound (body_context m t f) f.body (record { params = []; results = t.results })
+          (ops_sound (body_context m t f) f.body) h;
     }
 
-pub func_passes : (m : Module) (t : FuncType) (f : Func) → slice_get m.types f.type_index ≡ Some t → ValidFunc m f → passes_func m t f ≡ true
+pub func_passes :
+    (m : Module) (t : FuncType) (f : Func) → slice_get m.types f.type_index ≡ Some t → ValidFunc m f
+    → passes_func m t f ≡ true
 func_passes m t f is v =
     let same : v.type ≡ t = some_same v.type t (sym v.is_type ∙ is) in
     subst (λ (t : FuncType). passes_func m t f ≡ true) same
-    (body_exact (body_context m v.type f) f.body (record { params = []; results = v.type.results }) (ops_exact (body_context m v.type f) f.body) v.typed)
+    (body_exact (body_context m v.type f) f.body (record { params = []; results = v.type.results })
+    (ops_exact (body_context m v.type f) f.body) v.typed)
   where
     some_same : (t u : FuncType) → Some t ≡ Some u → t ≡ u
     some_same t u h = cc
@@ -193,7 +215,9 @@ OfGlobals g = IsConstant g.val_type g.init
 abbrev OfExports : Module → Export → Type 0
 OfExports m e = IsThere m e.kind e.index
 
-pub module_valid : (m : Module) → declares_validly m ≡ true → defines_validly m ≡ true → AllDifferent (map (λ (e : Export). e.name) m.exports)
+pub module_valid :
+    (m : Module) → declares_validly m ≡ true → defines_validly m ≡ true
+    → AllDifferent (map (λ (e : Export). e.name) m.exports)
     → All (ValidFunc m) m.funcs → ValidModule m
 module_valid m declared defined names funcs =
     let types = are_all has_few_results m.types in
@@ -213,12 +237,15 @@ module_valid m declared defined names funcs =
     let e2 = both_of_three globals exports (is_valid_start m m.start) e3.0 in
     record {
       types = all_hold OfTypes has_few_results (λ t. at_most (length t.results) 1) m.types d2.0;
-      imports = all_hold (OfImports m) (is_typed_import m.types) (λ i. below i.type_index (length m.types)) m.imports d2.1;
+      imports =
+          all_hold (OfImports m) (is_typed_import m.types) (λ i. below i.type_index (length m.types)) m.imports d2.1;
       funcs = funcs;
       one_table = at_most (length m.tables) 1 d2.2;
       tables = all_hold (ValidLimits (2 ^ 32)) (are_valid_limits (2 ^ 32)) (limits_sound (2 ^ 32)) m.tables d3.1;
       one_memory = at_most (length m.memories) 1 d4.1;
-      memories = all_hold (ValidLimits standard_pages) (are_valid_limits standard_pages) (limits_sound standard_pages) m.memories d5.1;
+      memories =
+          all_hold (ValidLimits standard_pages) (are_valid_limits standard_pages) (limits_sound standard_pages)
+          m.memories d5.1;
       globals = all_hold OfGlobals is_valid_global (λ g. constant_sound g.val_type g.init) m.globals e2.0;
       exports = all_hold (OfExports m) (is_valid_export m) (λ e. there_sound m e.kind e.index) m.exports e2.1;
       names = names;
@@ -243,7 +270,8 @@ module_declares m v =
     (within (length m.tables) 1 v.one_table))
     (hold_all (ValidLimits (2 ^ 32)) (are_valid_limits (2 ^ 32)) (limits_exact (2 ^ 32)) m.tables v.tables))
     (within (length m.memories) 1 v.one_memory))
-    (hold_all (ValidLimits standard_pages) (are_valid_limits standard_pages) (limits_exact standard_pages) m.memories v.memories)
+    (hold_all (ValidLimits standard_pages) (are_valid_limits standard_pages) (limits_exact standard_pages)
+    m.memories v.memories)
 
 pub module_defines : (m : Module) → ValidModule m → defines_validly m ≡ true
 module_defines m v =
@@ -262,8 +290,14 @@ module_defines m v =
     (hold_all (ValidSegment m) (is_valid_segment m) (segment_exact m) m.segments v.segments)
 
 -- the same check with what the code passes on
-pub passes_at : (m : Module) (t : FuncType) (f : Func) (labels : List (List ValType)) (results : List ValType) → labels ≡ [] → results ≡ t.results
-    → ends results (check_ops (record (body_context m t f) { labels = results ∷ labels }) f.body (start [])) ≡ passes_func m t f
+pub passes_at :
+    (m : Module) (t : FuncType) (f : Func) (labels : List (List ValType)) (results : List ValType) → labels ≡ []
+    → results ≡ t.results
+    → ends results (check_ops (record (body_context m t f) { labels = results ∷ labels }) f.body (start []))
+    ≡ passes_func m t f
 passes_at m t f labels results none same =
-    ap (λ (ls : List (List ValType)). ends results (check_ops (record (body_context m t f) { labels = results ∷ ls }) f.body (start []))) none
-    ∙ ap (λ (rs : List ValType). ends rs (check_ops (record (body_context m t f) { labels = rs ∷ [] }) f.body (start []))) same
+    ap (λ (ls : List (List ValType)). ends results
+    (check_ops (record (body_context m t f) { labels = results ∷ ls }) f.body (start []))) none
+    ∙ ap
+    (λ (rs : List ValType). ends rs
+    (check_ops (record (body_context m t f) { labels = rs ∷ [] }) f.body (start []))) same

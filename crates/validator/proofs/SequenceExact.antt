@@ -34,21 +34,28 @@ ends_sound ts e h =
 ends_exact : (ts : List ValType) (e : Stack) → Matches e (reverse ts) → ends ts (Some e) ≡ true
 ends_exact ts e m =
     let b = e.unreachable in
-    let found = pops_exact b (reverse ts) e.types [] (subst (λ (us : List ValType). Matches e us) (sym (append-nil (reverse ts))) m) in
+    let found =
+    pops_exact b (reverse ts) e.types []
+    (subst (λ (us : List ValType). Matches e us) (sym (append-nil (reverse ts))) m) in
     ap is_empty (found.1 ∙ ap Some (matches_none b found.0 found.2))
 
 start_matches : (ts : List ValType) → Matches (start ts) (reverse ts)
 start_matches ts =
     let both : MatchTypes false (knowns (reverse ts) ++ []) (reverse ts ++ []) = put_on false (reverse ts) [] [] refl in
     subst (λ (us : List ValType). Matches (start ts) us) (append-nil (reverse ts))
-    (subst (λ (xs : List (Option ValType)). MatchTypes false xs (reverse ts ++ [])) (append-nil (knowns (reverse ts))) both)
+    (subst (λ (xs : List (Option ValType)). MatchTypes false xs (reverse ts ++ []))
+    (append-nil (knowns (reverse ts))) both)
 
 start_is : (ts us : List ValType) → Matches (start ts) us → us ≡ reverse ts
 start_is ts us m =
-    let found = taken_off false (reverse ts) [] us (subst (λ (xs : List (Option ValType)). MatchTypes false xs us) (sym (append-nil (knowns (reverse ts)))) m) in
+    let found =
+    taken_off false (reverse ts) [] us
+    (subst (λ (xs : List (Option ValType)). MatchTypes false xs us) (sym (append-nil (knowns (reverse ts)))) m)
+    in
     found.1 ∙ (ap (λ (vs : List ValType). reverse ts ++ vs) found.2 ∙ append-nil (reverse ts))
 
-ended : (ts : List ValType) (o : Option Stack) → ends ts o ≡ true → (e : Stack) × (o ≡ Some e) × (ends ts (Some e) ≡ true)
+ended :
+    (ts : List ValType) (o : Option Stack) → ends ts o ≡ true → (e : Stack) × (o ≡ Some e) × (ends ts (Some e) ≡ true)
 ended ts None h = cc
 ended ts (Some e) h = (e, refl, h)
 
@@ -59,13 +66,17 @@ BodyTyped c os t = Typed c os (reverse t.params) (reverse t.results)
 abbrev passes_body : Context → Ops → FuncType → Bool
 passes_body c os t = ends t.results (check_ops c os (start t.params))
 
-pub body_sound : (c : Context) (os : Ops) (t : FuncType) → Sound (check_ops c os) (Typed c os) → passes_body c os t ≡ true → BodyTyped c os t
+pub body_sound :
+    (c : Context) (os : Ops) (t : FuncType) → Sound (check_ops c os) (Typed c os) → passes_body c os t ≡ true
+    → BodyTyped c os t
 body_sound c os t sound h =
     let end = ended t.results (check_ops c os (start t.params)) h in
     let found = sound (start t.params) end.0 (reverse t.results) end.1 (ends_sound t.results end.0 end.2) in
     subst (λ (us : List ValType). Typed c os us (reverse t.results)) (start_is t.params found.0 found.1) found.2
 
-pub body_exact : (c : Context) (os : Ops) (t : FuncType) → Exact (check_ops c os) (Typed c os) → BodyTyped c os t → passes_body c os t ≡ true
+pub body_exact :
+    (c : Context) (os : Ops) (t : FuncType) → Exact (check_ops c os) (Typed c os) → BodyTyped c os t
+    → passes_body c os t ≡ true
 body_exact c os t exact h =
     let found = exact (start t.params) (reverse t.params) (reverse t.results) (start_matches t.params) h in
     ap (ends t.results) found.1 ∙ ends_exact t.results found.0 found.2
@@ -81,7 +92,8 @@ encloses_sound t bodies s e new h m =
     let found = passed (pops s.unreachable (reverse t.params) s.types) (closes t bodies s) e h in
     let inside = given bodies (Some (with_types s (knowns (reverse t.results) ++ found.0))) e found.2 in
     let whole : replaced t.params t.results s ≡ Some e =
-    passes (pops s.unreachable (reverse t.params) s.types) (λ xs. Some (with_types s (knowns (reverse t.results) ++ xs))) found.0 found.1 ∙ inside.1 in
+    passes (pops s.unreachable (reverse t.params) s.types)
+    (λ xs. Some (with_types s (knowns (reverse t.results) ++ xs))) found.0 found.1 ∙ inside.1 in
     let old = replaced_sound t.params t.results s e new whole m in
     (old.0, old.1, (inside.0, old.2))
 
@@ -90,18 +102,34 @@ encloses_exact t bodies s old new m h =
     let found = replaced_exact t.params t.results s old new m h.1 in
     (found.0, ap (λ b. encloses t b s) h.0 ∙ found.1, found.2)
 
-block_sound : (c : Context) (b : BlockType) (bodies : FuncType → Bool) → Sound (λ s. and_then (block_type c.types b) (λ t. encloses t (bodies t) s)) (λ old new. (t : FuncType) × (block_type c.types b ≡ Some t) × Encloses t (bodies t) old new)
-block_sound c b bodies = named_sound (block_type c.types b) (λ t. encloses t (bodies t)) (λ t. Encloses t (bodies t)) (λ t. encloses_sound t (bodies t))
+block_sound :
+    (c : Context) (b : BlockType) (bodies : FuncType → Bool)
+    → Sound (λ s. and_then (block_type c.types b) (λ t. encloses t (bodies t) s))
+    (λ old new. (t : FuncType) × (block_type c.types b ≡ Some t) × Encloses t (bodies t) old new)
+block_sound c b bodies =
+    named_sound (block_type c.types b) (λ t. encloses t (bodies t)) (λ t. Encloses t (bodies t))
+    (λ t. encloses_sound t (bodies t))
 
-block_exact : (c : Context) (b : BlockType) (bodies : FuncType → Bool) → Exact (λ s. and_then (block_type c.types b) (λ t. encloses t (bodies t) s)) (λ old new. (t : FuncType) × (block_type c.types b ≡ Some t) × Encloses t (bodies t) old new)
-block_exact c b bodies = named_exact (block_type c.types b) (λ t. encloses t (bodies t)) (λ t. Encloses t (bodies t)) (λ t. encloses_exact t (bodies t))
+block_exact :
+    (c : Context) (b : BlockType) (bodies : FuncType → Bool)
+    → Exact (λ s. and_then (block_type c.types b) (λ t. encloses t (bodies t) s))
+    (λ old new. (t : FuncType) × (block_type c.types b ≡ Some t) × Encloses t (bodies t) old new)
+block_exact c b bodies =
+    named_exact (block_type c.types b) (λ t. encloses t (bodies t)) (λ t. Encloses t (bodies t))
+    (λ t. encloses_exact t (bodies t))
 
-if_sound : (c : Context) (b : BlockType) (bodies : FuncType → Bool) → Sound (λ s. and_then (block_type c.types b) (λ t. after_i32 (encloses t (bodies t)) s)) (λ old new. (t : FuncType) × (block_type c.types b ≡ Some t) × AfterI32 (Encloses t (bodies t)) old new)
+if_sound :
+    (c : Context) (b : BlockType) (bodies : FuncType → Bool)
+    → Sound (λ s. and_then (block_type c.types b) (λ t. after_i32 (encloses t (bodies t)) s))
+    (λ old new. (t : FuncType) × (block_type c.types b ≡ Some t) × AfterI32 (Encloses t (bodies t)) old new)
 if_sound c b bodies =
     named_sound (block_type c.types b) (λ t. after_i32 (encloses t (bodies t))) (λ t. AfterI32 (Encloses t (bodies t)))
     (λ t. after_i32_sound (encloses t (bodies t)) (Encloses t (bodies t)) (encloses_sound t (bodies t)))
 
-if_exact : (c : Context) (b : BlockType) (bodies : FuncType → Bool) → Exact (λ s. and_then (block_type c.types b) (λ t. after_i32 (encloses t (bodies t)) s)) (λ old new. (t : FuncType) × (block_type c.types b ≡ Some t) × AfterI32 (Encloses t (bodies t)) old new)
+if_exact :
+    (c : Context) (b : BlockType) (bodies : FuncType → Bool)
+    → Exact (λ s. and_then (block_type c.types b) (λ t. after_i32 (encloses t (bodies t)) s))
+    (λ old new. (t : FuncType) × (block_type c.types b ≡ Some t) × AfterI32 (Encloses t (bodies t)) old new)
 if_exact c b bodies =
     named_exact (block_type c.types b) (λ t. after_i32 (encloses t (bodies t))) (λ t. AfterI32 (Encloses t (bodies t)))
     (λ t. after_i32_exact (encloses t (bodies t)) (Encloses t (bodies t)) (encloses_exact t (bodies t)))
@@ -119,14 +147,32 @@ mutual
   op_sound c (simple i) s e new h m = simple_sound c i s e new h m
   op_sound c (block b body) s e new h m =
       let found = block_sound c b (λ t. passes_body (under c t.results) body t) s e new h m in
-      let t = found.2.0 in
-      (found.0, found.1, (t, found.2.1, found.2.2.1, body_sound (under c t.results) body t (ops_sound (under c t.results) body) found.2.2.0))
+      let t = found.2.0 in (
+        found.0,
+        found.1,
+        (
+          t,
+          found.2.1,
+          found.2.2.1,
+          body_sound (under c t.results) body t (ops_sound (under c t.results) body) found.2.2.0,
+        ),
+      )
   op_sound c (loop b body) s e new h m =
       let found = block_sound c b (λ t. passes_body (under c t.params) body t) s e new h m in
-      let t = found.2.0 in
-      (found.0, found.1, (t, found.2.1, found.2.2.1, body_sound (under c t.params) body t (ops_sound (under c t.params) body) found.2.2.0))
+      let t = found.2.0 in (
+        found.0,
+        found.1,
+        (
+          t,
+          found.2.1,
+          found.2.2.1,
+          body_sound (under c t.params) body t (ops_sound (under c t.params) body) found.2.2.0,
+        ),
+      )
   op_sound c (if' b first second) s e new h m =
-      let found = if_sound c b (λ t. passes_body (under c t.results) first t && passes_body (under c t.results) second t) s e new h m in
+      let found =
+      if_sound c b
+      (λ t. passes_body (under c t.results) first t && passes_body (under c t.results) second t) s e new h m in
       let t = found.2.0 in
       let p = found.2.2 in
       let arms = both (passes_body (under c t.results) first t) (passes_body (under c t.results) second t) p.2.0 in (
@@ -165,5 +211,6 @@ mutual
       let t = h.0 in
       let one = body_exact (under c t.results) first t (ops_exact (under c t.results) first) h.5 in
       let two = body_exact (under c t.results) second t (ops_exact (under c t.results) second) h.6 in
-      if_exact c b (λ t. passes_body (under c t.results) first t && passes_body (under c t.results) second t) s old new m
+      if_exact c b
+      (λ t. passes_body (under c t.results) first t && passes_body (under c t.results) second t) s old new m
       (t, h.3, (h.1, h.2, (ap (λ b. b && passes_body (under c t.results) second t) one ∙ two, h.4)))

@@ -37,15 +37,19 @@ guarded_exact b check P exact s old new m h =
     let rest = exact s old new m h.1 in
     (rest.0, gives b (check s) h.0 ∙ rest.1, rest.2)
 
-pub named_sound : {A : Type 0} (o : Option A) (check : A → Stack → Option Stack) (P : A → List ValType → List ValType → Type 0)
-    → ((x : A) → Sound (check x) (P x)) → Sound (λ s. and_then o (λ x. check x s)) (λ old new. (x : A) × (o ≡ Some x) × P x old new)
+pub named_sound :
+    {A : Type 0} (o : Option A) (check : A → Stack → Option Stack) (P : A → List ValType → List ValType → Type 0)
+    → ((x : A) → Sound (check x) (P x))
+    → Sound (λ s. and_then o (λ x. check x s)) (λ old new. (x : A) × (o ≡ Some x) × P x old new)
 named_sound o check P sound s e new h m =
     let found = passed o (λ x. check x s) e h in
     let rest = sound found.0 s e new found.2 m in
     (rest.0, rest.1, (found.0, found.1, rest.2))
 
-pub named_exact : {A : Type 0} (o : Option A) (check : A → Stack → Option Stack) (P : A → List ValType → List ValType → Type 0)
-    → ((x : A) → Exact (check x) (P x)) → Exact (λ s. and_then o (λ x. check x s)) (λ old new. (x : A) × (o ≡ Some x) × P x old new)
+pub named_exact :
+    {A : Type 0} (o : Option A) (check : A → Stack → Option Stack) (P : A → List ValType → List ValType → Type 0)
+    → ((x : A) → Exact (check x) (P x))
+    → Exact (λ s. and_then o (λ x. check x s)) (λ old new. (x : A) × (o ≡ Some x) × P x old new)
 named_exact o check P exact s old new m h =
     let rest = exact h.0 s old new m h.2 in
     (rest.0, passes o (λ x. check x s) h.0 h.1 ∙ rest.1, rest.2)
@@ -58,7 +62,8 @@ drops_sound s e new h m =
     let after : with_types s found.0.1 ≡ e = cc in
     let any = some_type found.0.0 in (
       any.0 ∷ new,
-      pop_any_sound s.unreachable s.types found.0.1 found.0.0 any.0 new found.1 any.1 (subst (λ (s : Stack). Matches s new) (sym after) m),
+      pop_any_sound s.unreachable s.types found.0.1 found.0.0 any.0 new found.1 any.1
+          (subst (λ (s : Stack). Matches s new) (sym after) m),
       (any.0, (new, refl, refl)),
     )
 
@@ -67,8 +72,11 @@ drops_exact s old new m h =
     let t = h.0 in
     let rest = h.1.0 in
     let found = pop_any_exact s.unreachable s.types t rest (subst (λ (ts : List ValType). Matches s ts) h.1.1 m) in
-    let end = with_types s found.1 in
-    (end, passes (pop_any s.unreachable s.types) (λ p. Some (with_types s p.1)) (found.0, found.1) found.2, subst (λ (ts : List ValType). Matches end ts) (sym h.1.2) found.4)
+    let end = with_types s found.1 in (
+      end,
+      passes (pop_any s.unreachable s.types) (λ p. Some (with_types s p.1)) (found.0, found.1) found.2,
+      subst (λ (ts : List ValType). Matches end ts) (sym h.1.2) found.4,
+    )
 
 join_sound : (x y z : Option ValType) (t : ValType) → join x y ≡ Some z → IsOf z t → IsOf x t × IsOf y t
 join_sound None y z t h is = let e : y ≡ z = cc in (tt, subst (λ (o : Option ValType). IsOf o t) (sym e) is)
@@ -78,15 +86,18 @@ join_sound (Some u) y z t h is =
     let first : u ≡ t = subst (λ (o : Option ValType). IsOf o t) (sym e) is in
     (first, subst (λ (v : ValType). IsOf y v) first (can_be_of u y found.0))
 
-join_exact : (x y : Option ValType) (t : ValType) → IsOf x t → IsOf y t → (z : Option ValType) × (join x y ≡ Some z) × IsOf z t
+join_exact :
+    (x y : Option ValType) (t : ValType) → IsOf x t → IsOf y t → (z : Option ValType) × (join x y ≡ Some z) × IsOf z t
 join_exact None y t one two = (y, refl, two)
-join_exact (Some u) y t one two = (Some u, gives (can_be u y) (Some (Some u)) (of_can_be u y (subst (λ (v : ValType). IsOf y v) (sym one) two)), one)
+join_exact (Some u) y t one two =
+    (Some u, gives (can_be u y) (Some (Some u)) (of_can_be u y (subst (λ (v : ValType). IsOf y v) (sym one) two)), one)
 
 -- two operands of a type are replaced by one
 abbrev Joins : List ValType → List ValType → Type 0
 Joins old new = (t : ValType) × (rest : List ValType) × (old ≡ t ∷ t ∷ rest) × (new ≡ t ∷ rest)
 
-abbrev joins_with : Stack → Option ValType × List (Option ValType) → Option ValType × List (Option ValType) → Option Stack
+abbrev joins_with :
+    Stack → Option ValType × List (Option ValType) → Option ValType × List (Option ValType) → Option Stack
 joins_with s p q = and_then (join p.0 q.0) (λ t. Some (with_types s (t ∷ q.1)))
 
 abbrev joins_to : Stack → Option ValType × List (Option ValType) → Option Stack
@@ -101,13 +112,17 @@ joins_sound s e new h m =
     let after : with_types s (three.0 ∷ two.0.1) ≡ e = cc in
     from one.0 two.0 three.0 one.1 two.1 three.1 new (subst (λ (s : Stack). Matches s new) (sym after) m)
   where
-    from : (p q : Option ValType × List (Option ValType)) (z : Option ValType) → pop_any s.unreachable s.types ≡ Some p → pop_any s.unreachable p.1 ≡ Some q
-        → join p.0 q.0 ≡ Some z → (new : List ValType) → Matches (with_types s (z ∷ q.1)) new → (old : List ValType) × Matches s old × Joins old new
+    from :
+        (p q : Option ValType × List (Option ValType)) (z : Option ValType) → pop_any s.unreachable s.types ≡ Some p
+        → pop_any s.unreachable p.1 ≡ Some q
+        → join p.0 q.0 ≡ Some z → (new : List ValType) → Matches (with_types s (z ∷ q.1)) new
+        → (old : List ValType) × Matches s old × Joins old new
     from p q z one two three [] m = absurd m
     from p q z one two three (t ∷ rest) m =
         let types = join_sound p.0 q.0 z t three m.0 in (
           t ∷ t ∷ rest,
-          pop_any_sound s.unreachable s.types p.1 p.0 t (t ∷ rest) one types.0 (pop_any_sound s.unreachable p.1 q.1 q.0 t rest two types.1 m.1),
+          pop_any_sound s.unreachable s.types p.1 p.0 t (t ∷ rest) one types.0
+              (pop_any_sound s.unreachable p.1 q.1 q.0 t rest two types.1 m.1),
           (t, rest, refl, refl),
         )
 
@@ -129,23 +144,29 @@ joins_exact s old new m h =
 
 -- ---- labels
 
-label_sound : (labels : List (List ValType)) (ts : List ValType) (k : ℕ) → is_label labels ts k ≡ true → slice_get labels k ≡ Some ts
+label_sound :
+    (labels : List (List ValType)) (ts : List ValType) (k : ℕ) → is_label labels ts k ≡ true
+    → slice_get labels k ≡ Some ts
 label_sound labels ts k h = of (slice_get labels k) h
   where
     of : (o : Option (List ValType)) → takes_types ts o ≡ true → o ≡ Some ts
     of None h = cc
     of (Some us) h = ap Some (sym (all_same ts us h))
 
-label_exact : (labels : List (List ValType)) (ts : List ValType) (k : ℕ) → slice_get labels k ≡ Some ts → is_label labels ts k ≡ true
+label_exact :
+    (labels : List (List ValType)) (ts : List ValType) (k : ℕ) → slice_get labels k ≡ Some ts
+    → is_label labels ts k ≡ true
 label_exact labels ts k h = ap (takes_types ts) h ∙ themselves ts
 
-labels_sound : (c : Context) (ts : List ValType) (ks : List ℕ) → are_all (is_label c.labels ts) ks ≡ true → All (IsLabel c ts) ks
+labels_sound :
+    (c : Context) (ts : List ValType) (ks : List ℕ) → are_all (is_label c.labels ts) ks ≡ true → All (IsLabel c ts) ks
 labels_sound c ts [] h = All-nil (IsLabel c ts)
 labels_sound c ts (k ∷ ks) h =
     let parts = both (is_label c.labels ts k) (are_all (is_label c.labels ts) ks) h in
     All-cons (IsLabel c ts) k ks (label_sound c.labels ts k parts.0) (labels_sound c ts ks parts.1)
 
-labels_exact : (c : Context) (ts : List ValType) (ks : List ℕ) → All (IsLabel c ts) ks → are_all (is_label c.labels ts) ks ≡ true
+labels_exact :
+    (c : Context) (ts : List ValType) (ks : List ℕ) → All (IsLabel c ts) ks → are_all (is_label c.labels ts) ks ≡ true
 labels_exact c ts [] h = refl
 labels_exact c ts (k ∷ ks) h =
     let first = label_exact c.labels ts k (All-head (IsLabel c ts) k ks h) in
@@ -200,13 +221,16 @@ variable_exact v h = ap is_variable h
 global_sound : (op : GlobalOp) (g : Global) → Sound (check_global op g) (GlobalTyped op g)
 global_sound global.Get g = replaced_sound [] (g.val_type ∷ [])
 global_sound global.Set g = λ s e new h m.
-    let found = guarded_sound (is_variable g.mutability) (replaced (g.val_type ∷ []) []) (Replaces (g.val_type ∷ []) []) (replaced_sound (g.val_type ∷ []) []) s e new h m in
+    let found =
+    guarded_sound (is_variable g.mutability) (replaced (g.val_type ∷ []) []) (Replaces (g.val_type ∷ []) [])
+    (replaced_sound (g.val_type ∷ []) []) s e new h m in
     (found.0, found.1, (variable_sound g.mutability found.2.0, found.2.1))
 
 global_exact : (op : GlobalOp) (g : Global) → Exact (check_global op g) (GlobalTyped op g)
 global_exact global.Get g = replaced_exact [] (g.val_type ∷ [])
 global_exact global.Set g = λ s old new m h.
-    guarded_exact (is_variable g.mutability) (replaced (g.val_type ∷ []) []) (Replaces (g.val_type ∷ []) []) (replaced_exact (g.val_type ∷ []) []) s old new m
+    guarded_exact (is_variable g.mutability) (replaced (g.val_type ∷ []) []) (Replaces (g.val_type ∷ []) [])
+    (replaced_exact (g.val_type ∷ []) []) s old new m
     (variable_exact g.mutability h.0, h.1)
 
 branch_if_sound : (ts : List ValType) → Sound (after_i32 (replaced ts ts)) (AfterI32 (Replaces ts ts))
@@ -218,13 +242,17 @@ branch_if_exact ts = after_i32_exact (replaced ts ts) (Replaces ts ts) (replaced
 abbrev Branches : Context → List ℕ → List ValType → (old new : List ValType) → Type 0
 Branches c labels ts old new = (are_all (is_label c.labels ts) labels ≡ true) × AfterI32 (Takes ts) old new
 
-branches_sound : (c : Context) (labels : List ℕ) (ts : List ValType) → Sound (branches c.labels labels ts) (Branches c labels ts)
+branches_sound :
+    (c : Context) (labels : List ℕ) (ts : List ValType) → Sound (branches c.labels labels ts) (Branches c labels ts)
 branches_sound c labels ts =
-    guarded_sound (are_all (is_label c.labels ts) labels) (after_i32 (leaves ts)) (AfterI32 (Takes ts)) (after_i32_sound (leaves ts) (Takes ts) (leaves_sound ts))
+    guarded_sound (are_all (is_label c.labels ts) labels) (after_i32 (leaves ts)) (AfterI32 (Takes ts))
+    (after_i32_sound (leaves ts) (Takes ts) (leaves_sound ts))
 
-branches_exact : (c : Context) (labels : List ℕ) (ts : List ValType) → Exact (branches c.labels labels ts) (Branches c labels ts)
+branches_exact :
+    (c : Context) (labels : List ℕ) (ts : List ValType) → Exact (branches c.labels labels ts) (Branches c labels ts)
 branches_exact c labels ts =
-    guarded_exact (are_all (is_label c.labels ts) labels) (after_i32 (leaves ts)) (AfterI32 (Takes ts)) (after_i32_exact (leaves ts) (Takes ts) (leaves_exact ts))
+    guarded_exact (are_all (is_label c.labels ts) labels) (after_i32 (leaves ts)) (AfterI32 (Takes ts))
+    (after_i32_exact (leaves ts) (Takes ts) (leaves_exact ts))
 
 abbrev Indirect : FuncType → (old new : List ValType) → Type 0
 Indirect t = AfterI32 (Replaces t.params t.results)
@@ -241,52 +269,77 @@ IndirectThere c type old new = (is_some_there c.tables ≡ true) × IndirectOf c
 indirect_sound : (c : Context) (type : ℕ) → Sound (call_indirect c.types c.tables type) (IndirectThere c type)
 indirect_sound c type =
     guarded_sound (is_some_there c.tables) (indirect c type) (IndirectOf c type)
-    (named_sound (slice_get c.types type) (λ t. after_i32 (applies t)) Indirect (λ t. after_i32_sound (applies t) (Replaces t.params t.results) (replaced_sound t.params t.results)))
+    (named_sound (slice_get c.types type) (λ t. after_i32 (applies t)) Indirect
+    (λ t. after_i32_sound (applies t) (Replaces t.params t.results) (replaced_sound t.params t.results)))
 
 indirect_exact : (c : Context) (type : ℕ) → Exact (call_indirect c.types c.tables type) (IndirectThere c type)
 indirect_exact c type =
     guarded_exact (is_some_there c.tables) (indirect c type) (IndirectOf c type)
-    (named_exact (slice_get c.types type) (λ t. after_i32 (applies t)) Indirect (λ t. after_i32_exact (applies t) (Replaces t.params t.results) (replaced_exact t.params t.results)))
+    (named_exact (slice_get c.types type) (λ t. after_i32 (applies t)) Indirect
+    (λ t. after_i32_exact (applies t) (Replaces t.params t.results) (replaced_exact t.params t.results)))
 
 accessing_sound : (c : Context) (align bytes : ℕ) (takes gives : List ValType)
-    → Sound (access c.memories align bytes takes gives) (λ old new. Accesses c align bytes × Replaces takes gives old new)
+    → Sound (access c.memories align bytes takes gives)
+    (λ old new. Accesses c align bytes × Replaces takes gives old new)
 accessing_sound c align bytes takes gives s e new h m =
-    let found = guarded_sound (accesses c align bytes) (replaced takes gives) (Replaces takes gives) (replaced_sound takes gives) s e new h m in
+    let found =
+    guarded_sound (accesses c align bytes) (replaced takes gives) (Replaces takes gives)
+    (replaced_sound takes gives) s e new h m in
     (found.0, found.1, (accesses_sound c align bytes found.2.0, found.2.1))
 
 accessing_exact : (c : Context) (align bytes : ℕ) (takes gives : List ValType)
-    → Exact (access c.memories align bytes takes gives) (λ old new. Accesses c align bytes × Replaces takes gives old new)
+    → Exact (access c.memories align bytes takes gives)
+    (λ old new. Accesses c align bytes × Replaces takes gives old new)
 accessing_exact c align bytes takes gives s old new m h =
-    guarded_exact (accesses c align bytes) (replaced takes gives) (Replaces takes gives) (replaced_exact takes gives) s old new m (accesses_exact c align bytes h.0, h.1)
+    guarded_exact (accesses c align bytes) (replaced takes gives) (Replaces takes gives) (replaced_exact takes gives) s
+    old new m (accesses_exact c align bytes h.0, h.1)
 
 memory_op_sound : (c : Context) (takes gives : List ValType)
     → Sound (with_memory c.memories takes gives) (λ old new. (0 < length c.memories) × Replaces takes gives old new)
 memory_op_sound c takes gives s e new h m =
-    let found = guarded_sound (is_some_there c.memories) (replaced takes gives) (Replaces takes gives) (replaced_sound takes gives) s e new h m in
+    let found =
+    guarded_sound (is_some_there c.memories) (replaced takes gives) (Replaces takes gives)
+    (replaced_sound takes gives) s e new h m in
     (found.0, found.1, (there_sound c.memories found.2.0, found.2.1))
 
 memory_op_exact : (c : Context) (takes gives : List ValType)
     → Exact (with_memory c.memories takes gives) (λ old new. (0 < length c.memories) × Replaces takes gives old new)
 memory_op_exact c takes gives s old new m h =
-    guarded_exact (is_some_there c.memories) (replaced takes gives) (Replaces takes gives) (replaced_exact takes gives) s old new m (there_exact c.memories h.0, h.1)
+    guarded_exact (is_some_there c.memories) (replaced takes gives) (Replaces takes gives) (replaced_exact takes gives)
+    s old new m (there_exact c.memories h.0, h.1)
 
 pub simple_sound : (c : Context) (i : Simple) → Sound (check_simple c i) (SimpleTyped c i)
 simple_sound c instr.Unreachable s e new h m = let any = some_types s.unreachable s.types in (any.0, any.1, tt)
-simple_sound c instr.Nop s e new h m = let same : s ≡ e = cc in (new, subst (λ (s : Stack). Matches s new) (sym same) m, refl)
+simple_sound c instr.Nop s e new h m =
+    let same : s ≡ e = cc in (new, subst (λ (s : Stack). Matches s new) (sym same) m, refl)
 simple_sound c (instr.Br label) s e new h m =
     let found = named_sound (slice_get c.labels label) leaves Takes leaves_sound s e new h m in
     (found.0, found.1, (found.2.0, found.2.2.0, found.2.1, found.2.2.1))
 simple_sound c (instr.BrIf label) s e new h m =
-    let found = named_sound (slice_get c.labels label) (λ ts. after_i32 (replaced ts ts)) (λ ts. AfterI32 (Replaces ts ts)) branch_if_sound s e new h m in
+    let found =
+    named_sound (slice_get c.labels label) (λ ts. after_i32 (replaced ts ts)) (λ ts. AfterI32 (Replaces ts ts))
+    branch_if_sound s e new h m in
     let p = found.2.2 in
     (found.0, found.1, (found.2.0, p.2.0, found.2.1, p.1 ∙ ap (λ (ts : List ValType). I32 ∷ ts) p.2.1, p.2.2))
 simple_sound c (instr.BrTable labels other) s e new h m =
-    let found = named_sound (slice_get c.labels other) (branches c.labels labels) (Branches c labels) (branches_sound c labels) s e new h m in
-    let p = found.2.2 in
-    (found.0, found.1, (found.2.0, p.1.2.0, labels_sound c found.2.0 labels p.0, found.2.1, p.1.1 ∙ ap (λ (ts : List ValType). I32 ∷ ts) p.1.2.1))
+    let found =
+    named_sound (slice_get c.labels other) (branches c.labels labels) (Branches c labels)
+    (branches_sound c labels) s e new h m in
+    let p = found.2.2 in (
+      found.0,
+      found.1,
+      (
+        found.2.0,
+        p.1.2.0,
+        labels_sound c found.2.0 labels p.0,
+        found.2.1,
+        p.1.1 ∙ ap (λ (ts : List ValType). I32 ∷ ts) p.1.2.1,
+      ),
+    )
 simple_sound c instr.Return s e new h m = leaves_sound c.results s e new h m
 simple_sound c (instr.Call func) s e new h m =
-    named_sound (type_at c.funcs func) applies (λ (t : FuncType). Replaces t.params t.results) (λ t. replaced_sound t.params t.results) s e new h m
+    named_sound (type_at c.funcs func) applies (λ (t : FuncType). Replaces t.params t.results)
+    (λ t. replaced_sound t.params t.results) s e new h m
 simple_sound c (instr.CallIndirect type) s e new h m =
     let found = indirect_sound c type s e new h m in
     let p = found.2.1 in
@@ -296,10 +349,14 @@ simple_sound c instr.Select s e new h m =
     let found = after_i32_sound joins Joins joins_sound s e new h m in
     let p = found.2 in
     (found.0, found.1, (p.2.0, (p.2.1, p.1 ∙ ap (λ (ts : List ValType). I32 ∷ ts) p.2.2, p.2.3)))
-simple_sound c (instr.Local op index) s e new h m = named_sound (slice_get c.locals index) (check_local op) (LocalTyped op) (local_sound op) s e new h m
-simple_sound c (instr.Global op index) s e new h m = named_sound (slice_get c.globals index) (check_global op) (GlobalTyped op) (global_sound op) s e new h m
-simple_sound c (instr.Load op at) s e new h m = accessing_sound c at.align (load_bytes op) (I32 ∷ []) (load_type op ∷ []) s e new h m
-simple_sound c (instr.Store op at) s e new h m = accessing_sound c at.align (store_bytes op) (I32 ∷ store_type op ∷ []) [] s e new h m
+simple_sound c (instr.Local op index) s e new h m =
+    named_sound (slice_get c.locals index) (check_local op) (LocalTyped op) (local_sound op) s e new h m
+simple_sound c (instr.Global op index) s e new h m =
+    named_sound (slice_get c.globals index) (check_global op) (GlobalTyped op) (global_sound op) s e new h m
+simple_sound c (instr.Load op at) s e new h m =
+    accessing_sound c at.align (load_bytes op) (I32 ∷ []) (load_type op ∷ []) s e new h m
+simple_sound c (instr.Store op at) s e new h m =
+    accessing_sound c at.align (store_bytes op) (I32 ∷ store_type op ∷ []) [] s e new h m
 simple_sound c instr.MemorySize s e new h m = memory_op_sound c [] (I32 ∷ []) s e new h m
 simple_sound c instr.MemoryGrow s e new h m = memory_op_sound c (I32 ∷ []) (I32 ∷ []) s e new h m
 simple_sound c (instr.Const value) s e new h m = replaced_sound [] (type_of value ∷ []) s e new h m
@@ -312,24 +369,33 @@ simple_sound c (instr.Convert op) s e new h m = replaced_sound (source_of op ∷
 pub simple_exact : (c : Context) (i : Simple) → Exact (check_simple c i) (SimpleTyped c i)
 simple_exact c instr.Unreachable s old new m h = (nowhere, refl, tt)
 simple_exact c instr.Nop s old new m h = (s, refl, subst (λ (ts : List ValType). Matches s ts) h m)
-simple_exact c (instr.Br label) s old new m h = named_exact (slice_get c.labels label) leaves Takes leaves_exact s old new m (h.0, h.2, (h.1, h.3))
+simple_exact c (instr.Br label) s old new m h =
+    named_exact (slice_get c.labels label) leaves Takes leaves_exact s old new m (h.0, h.2, (h.1, h.3))
 simple_exact c (instr.BrIf label) s old new m h =
-    named_exact (slice_get c.labels label) (λ ts. after_i32 (replaced ts ts)) (λ ts. AfterI32 (Replaces ts ts)) branch_if_exact s old new m
+    named_exact (slice_get c.labels label) (λ ts. after_i32 (replaced ts ts)) (λ ts. AfterI32 (Replaces ts ts))
+    branch_if_exact s old new m
     (h.0, h.2, (on_top h.0 h.1, h.3, (h.1, refl, h.4)))
 simple_exact c (instr.BrTable labels other) s old new m h =
-    named_exact (slice_get c.labels other) (branches c.labels labels) (Branches c labels) (branches_exact c labels) s old new m
+    named_exact (slice_get c.labels other) (branches c.labels labels) (Branches c labels)
+    (branches_exact c labels) s old new m
     (h.0, h.3, (labels_exact c h.0 labels h.2, (on_top h.0 h.1, h.4, (h.1, refl))))
 simple_exact c instr.Return s old new m h = leaves_exact c.results s old new m h
 simple_exact c (instr.Call func) s old new m h =
-    named_exact (type_at c.funcs func) applies (λ (t : FuncType). Replaces t.params t.results) (λ t. replaced_exact t.params t.results) s old new m h
-simple_exact c (instr.CallIndirect type) s old new m h = indirect_exact c type s old new m (there_exact c.tables h.2, (h.0, h.3, (h.1, h.4, h.5)))
+    named_exact (type_at c.funcs func) applies (λ (t : FuncType). Replaces t.params t.results)
+    (λ t. replaced_exact t.params t.results) s old new m h
+simple_exact c (instr.CallIndirect type) s old new m h =
+    indirect_exact c type s old new m (there_exact c.tables h.2, (h.0, h.3, (h.1, h.4, h.5)))
 simple_exact c instr.Drop s old new m h = drops_exact s old new m h
 simple_exact c instr.Select s old new m h =
     after_i32_exact joins Joins joins_exact s old new m (h.0 ∷ h.0 ∷ h.1.0, h.1.1, (h.0, h.1.0, refl, h.1.2))
-simple_exact c (instr.Local op index) s old new m h = named_exact (slice_get c.locals index) (check_local op) (LocalTyped op) (local_exact op) s old new m h
-simple_exact c (instr.Global op index) s old new m h = named_exact (slice_get c.globals index) (check_global op) (GlobalTyped op) (global_exact op) s old new m h
-simple_exact c (instr.Load op at) s old new m h = accessing_exact c at.align (load_bytes op) (I32 ∷ []) (load_type op ∷ []) s old new m h
-simple_exact c (instr.Store op at) s old new m h = accessing_exact c at.align (store_bytes op) (I32 ∷ store_type op ∷ []) [] s old new m h
+simple_exact c (instr.Local op index) s old new m h =
+    named_exact (slice_get c.locals index) (check_local op) (LocalTyped op) (local_exact op) s old new m h
+simple_exact c (instr.Global op index) s old new m h =
+    named_exact (slice_get c.globals index) (check_global op) (GlobalTyped op) (global_exact op) s old new m h
+simple_exact c (instr.Load op at) s old new m h =
+    accessing_exact c at.align (load_bytes op) (I32 ∷ []) (load_type op ∷ []) s old new m h
+simple_exact c (instr.Store op at) s old new m h =
+    accessing_exact c at.align (store_bytes op) (I32 ∷ store_type op ∷ []) [] s old new m h
 simple_exact c instr.MemorySize s old new m h = memory_op_exact c [] (I32 ∷ []) s old new m h
 simple_exact c instr.MemoryGrow s old new m h = memory_op_exact c (I32 ∷ []) (I32 ∷ []) s old new m h
 simple_exact c (instr.Const value) s old new m h = replaced_exact [] (type_of value ∷ []) s old new m h

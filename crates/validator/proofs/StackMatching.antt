@@ -23,7 +23,8 @@ Matches s ts = MatchTypes s.unreachable s.types ts
 -- a check that passes has a typing that leads to each stack that its end represents
 abbrev pub Sound : (Stack → Option Stack) → (List ValType → List ValType → Type 0) → Type 0
 Sound check P =
-    (s e : Stack) (new : List ValType) → check s ≡ Some e → Matches e new → (old : List ValType) × Matches s old × P old new
+    (s e : Stack) (new : List ValType) → check s ≡ Some e → Matches e new
+    → (old : List ValType) × Matches s old × P old new
 
 -- a check passes where there is a typing, and its end represents where that leads to
 abbrev pub Exact : (Stack → Option Stack) → (List ValType → List ValType → Type 0) → Type 0
@@ -32,14 +33,17 @@ Exact check P =
 
 -- ---- steps that may fail
 
-pub passed : {A B : Type 0} (o : Option A) (f : A → Option B) (y : B) → and_then o f ≡ Some y → (x : A) × (o ≡ Some x) × (f x ≡ Some y)
+pub passed :
+    {A B : Type 0} (o : Option A) (f : A → Option B) (y : B) → and_then o f ≡ Some y
+    → (x : A) × (o ≡ Some x) × (f x ≡ Some y)
 passed None f y h = cc
 passed (Some x) f y h = (x, refl, h)
 
 pub passes : {A B : Type 0} (o : Option A) (f : A → Option B) (x : A) → o ≡ Some x → and_then o f ≡ f x
 passes o f x h = ap (λ p. and_then p f) h
 
-pub given : {A : Type 0} (b : Bool) (o : Option A) (y : A) → (if b then o else None) ≡ Some y → (b ≡ true) × (o ≡ Some y)
+pub given :
+    {A : Type 0} (b : Bool) (o : Option A) (y : A) → (if b then o else None) ≡ Some y → (b ≡ true) × (o ≡ Some y)
 given true o y h = (refl, h)
 given false o y h = cc
 
@@ -115,7 +119,9 @@ pop_any_sound b (y ∷ xs) ys x t rest h is m =
     )
 
 pub pop_any_exact : (b : Bool) (xs : List (Option ValType)) (t : ValType) (rest : List ValType)
-    → MatchTypes b xs (t ∷ rest) → (x : Option ValType) × (ys : List (Option ValType)) × (pop_any b xs ≡ Some (x, ys)) × IsOf x t × MatchTypes b ys rest
+    → MatchTypes b xs (t ∷ rest)
+    → (x : Option ValType) × (ys : List (Option ValType)) × (pop_any b xs ≡ Some (x, ys)) × IsOf x t
+    × MatchTypes b ys rest
 pop_any_exact true [] t rest m = (None, [], refl, tt, tt)
 pop_any_exact false [] t rest m = cc
 pop_any_exact b (y ∷ xs) t rest m = (y, xs, refl, m.0, m.1)
@@ -132,14 +138,19 @@ pop_sound b t xs ys rest h m =
 pub pop_exact : (b : Bool) (t : ValType) (xs : List (Option ValType)) (rest : List ValType)
     → MatchTypes b xs (t ∷ rest) → (ys : List (Option ValType)) × (pop b t xs ≡ Some ys) × MatchTypes b ys rest
 pop_exact b t xs rest m =
-    let found = pop_any_exact b xs t rest m in
-    (found.1, passes (pop_any b xs) (below_type t) (found.0, found.1) found.2 ∙ gives (can_be t found.0) (Some found.1) (of_can_be t found.0 found.3), found.4)
+    let found = pop_any_exact b xs t rest m in (
+      found.1,
+      passes (pop_any b xs) (below_type t) (found.0, found.1) found.2
+          ∙ gives (can_be t found.0) (Some found.1) (of_can_be t found.0 found.3),
+      found.4,
+    )
 
 -- ---- several operands
 
 pub pops_sound : (b : Bool) (ts : List ValType) (xs ys : List (Option ValType)) (rest : List ValType)
     → pops b ts xs ≡ Some ys → MatchTypes b ys rest → MatchTypes b xs (ts ++ rest)
-pops_sound b [] xs ys rest h m = let others : xs ≡ ys = cc in subst (λ (os : List (Option ValType)). MatchTypes b os rest) (sym others) m
+pops_sound b [] xs ys rest h m =
+    let others : xs ≡ ys = cc in subst (λ (os : List (Option ValType)). MatchTypes b os rest) (sym others) m
 pops_sound b (t ∷ ts) xs ys rest h m =
     let found = passed (pop b t xs) (pops b ts) ys h in
     pop_sound b t xs found.0 (ts ++ rest) found.1 (pops_sound b ts found.0 ys rest found.2 m)
@@ -192,15 +203,19 @@ replaced_sound takes gives s e new h m =
     let put : List (Option ValType) → Option Stack = λ xs. Some (with_types s (knowns (reverse gives) ++ xs)) in
     let found = passed (pops b (reverse takes) s.types) put e h in
     let after : with_types s (knowns (reverse gives) ++ found.0) ≡ e = cc in
-    let below = taken_off b (reverse gives) found.0 new (subst (λ (s : Stack). Matches s new) (sym after) m) in
-    (on_top takes below.0, pops_sound b (reverse takes) s.types found.0 below.0 found.1 below.2, on_rest takes gives below.0 new below.1)
+    let below = taken_off b (reverse gives) found.0 new (subst (λ (s : Stack). Matches s new) (sym after) m) in (
+      on_top takes below.0,
+      pops_sound b (reverse takes) s.types found.0 below.0 found.1 below.2,
+      on_rest takes gives below.0 new below.1,
+    )
 
 pub replaced_exact : (takes gives : List ValType) → Exact (replaced takes gives) (Replaces takes gives)
 replaced_exact takes gives s old new m h =
     let b = s.unreachable in
     let rest = h.0 in
     let put : List (Option ValType) → Option Stack = λ xs. Some (with_types s (knowns (reverse gives) ++ xs)) in
-    let below = pops_exact b (reverse takes) s.types rest (subst (λ (ts : List ValType). MatchTypes b s.types ts) h.1 m) in
+    let below =
+    pops_exact b (reverse takes) s.types rest (subst (λ (ts : List ValType). MatchTypes b s.types ts) h.1 m) in
     let end = with_types s (knowns (reverse gives) ++ below.0) in (
       end,
       passes (pops b (reverse takes) s.types) put below.0 below.1,
@@ -221,20 +236,25 @@ leaves_sound takes s e new h m =
 pub leaves_exact : (takes : List ValType) → Exact (leaves takes) (Takes takes)
 leaves_exact takes s old new m h =
     let b = s.unreachable in
-    let below = pops_exact b (reverse takes) s.types h.0 (subst (λ (ts : List ValType). MatchTypes b s.types ts) h.1 m) in
+    let below =
+    pops_exact b (reverse takes) s.types h.0 (subst (λ (ts : List ValType). MatchTypes b s.types ts) h.1 m) in
     (nowhere, passes (pops b (reverse takes) s.types) (λ xs. Some nowhere) below.0 below.1, tt)
 
 -- an i32 on top, and then
 abbrev pub AfterI32 : (List ValType → List ValType → Type 0) → (old new : List ValType) → Type 0
 AfterI32 P old new = (between : List ValType) × (old ≡ I32 ∷ between) × P between new
 
-pub after_i32_sound : (check : Stack → Option Stack) (P : List ValType → List ValType → Type 0) → Sound check P → Sound (after_i32 check) (AfterI32 P)
+pub after_i32_sound :
+    (check : Stack → Option Stack) (P : List ValType → List ValType → Type 0) → Sound check P
+    → Sound (after_i32 check) (AfterI32 P)
 after_i32_sound check P sound s e new h m =
     let found = passed (pop s.unreachable I32 s.types) (λ xs. check (with_types s xs)) e h in
     let rest = sound (with_types s found.0) e new found.2 m in
     (I32 ∷ rest.0, pop_sound s.unreachable I32 s.types found.0 rest.0 found.1 rest.1, (rest.0, refl, rest.2))
 
-pub after_i32_exact : (check : Stack → Option Stack) (P : List ValType → List ValType → Type 0) → Exact check P → Exact (after_i32 check) (AfterI32 P)
+pub after_i32_exact :
+    (check : Stack → Option Stack) (P : List ValType → List ValType → Type 0) → Exact check P
+    → Exact (after_i32 check) (AfterI32 P)
 after_i32_exact check P exact s old new m h =
     let first = pop_exact s.unreachable I32 s.types h.0 (subst (λ (ts : List ValType). Matches s ts) h.1 m) in
     let rest = exact (with_types s first.0) h.0 new first.2 h.2 in

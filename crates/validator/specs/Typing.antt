@@ -48,7 +48,8 @@ on_top ts rest = reverse ts ++ rest
 
 -- the stack has the first types on top, and then the second in their place
 abbrev pub Replaces : (takes gives : List ValType) → (old new : List ValType) → Type 0
-Replaces takes gives old new = (rest : List ValType) × (old ≡ on_top takes rest) × (new ≡ on_top gives rest)
+Replaces takes gives old new =
+    (rest : List ValType) × (old ≡ on_top takes rest) × (new ≡ on_top gives rest)
 
 abbrev pub Applies : FuncType → (old new : List ValType) → Type 0
 Applies t old new = Replaces t.params t.results old new
@@ -64,7 +65,8 @@ LocalTyped local.Tee t old new = Replaces (t ∷ []) (t ∷ []) old new
 -- of this global; only a variable one may be set (3.3.3)
 abbrev pub GlobalTyped : GlobalOp → Global → (old new : List ValType) → Type 0
 GlobalTyped global.Get g old new = Replaces [] (g.val_type ∷ []) old new
-GlobalTyped global.Set g old new = (g.mutability ≡ mutability.Var) × Replaces (g.val_type ∷ []) [] old new
+GlobalTyped global.Set g old new =
+    (g.mutability ≡ mutability.Var) × Replaces (g.val_type ∷ []) [] old new
 
 -- there is a memory, and the alignment is at most the number of bytes that are accessed (3.3.4)
 abbrev pub Accesses : Context → (align bytes : ℕ) → Type 0
@@ -91,24 +93,31 @@ SimpleTyped c instr.Nop old new = old ≡ new
 SimpleTyped c (instr.Br label) old new =
     (ts : List ValType) × (rest : List ValType) × IsLabel c ts label × (old ≡ on_top ts rest)
 SimpleTyped c (instr.BrIf label) old new =
-    (ts : List ValType) × (rest : List ValType) × IsLabel c ts label × (old ≡ I32 ∷ on_top ts rest) × (new ≡ on_top ts rest)
+    (ts : List ValType) × (rest : List ValType) × IsLabel c ts label × (old ≡ I32 ∷ on_top ts rest)
+    × (new ≡ on_top ts rest)
 SimpleTyped c (instr.BrTable labels other) old new =
-    (ts : List ValType) × (rest : List ValType) × All (IsLabel c ts) labels × IsLabel c ts other × (old ≡ I32 ∷ on_top ts rest)
+    (ts : List ValType) × (rest : List ValType) × All (IsLabel c ts) labels × IsLabel c ts other
+    × (old ≡ I32 ∷ on_top ts rest)
 SimpleTyped c instr.Return old new = (rest : List ValType) × (old ≡ on_top c.results rest)
-SimpleTyped c (instr.Call func) old new = (t : FuncType) × (type_at c.funcs func ≡ Some t) × Applies t old new
+SimpleTyped c (instr.Call func) old new =
+    (t : FuncType) × (type_at c.funcs func ≡ Some t) × Applies t old new
 SimpleTyped c (instr.CallIndirect type) old new =
-    (t : FuncType) × (between : List ValType) × (0 < length c.tables) × (slice_get c.types type ≡ Some t)
+    (t : FuncType) × (between : List ValType) × (0 < length c.tables)
+    × (slice_get c.types type ≡ Some t)
     × (old ≡ I32 ∷ between) × Applies t between new
 SimpleTyped c instr.Drop old new = (t : ValType) × Replaces (t ∷ []) [] old new
 SimpleTyped c instr.Select old new = (t : ValType) × Replaces (t ∷ t ∷ I32 ∷ []) (t ∷ []) old new
-SimpleTyped c (instr.Local op index) old new = (t : ValType) × (slice_get c.locals index ≡ Some t) × LocalTyped op t old new
-SimpleTyped c (instr.Global op index) old new = (g : Global) × (slice_get c.globals index ≡ Some g) × GlobalTyped op g old new
+SimpleTyped c (instr.Local op index) old new =
+    (t : ValType) × (slice_get c.locals index ≡ Some t) × LocalTyped op t old new
+SimpleTyped c (instr.Global op index) old new =
+    (g : Global) × (slice_get c.globals index ≡ Some g) × GlobalTyped op g old new
 SimpleTyped c (instr.Load op at) old new =
     Accesses c at.align (load_bytes op) × Replaces (I32 ∷ []) (load_type op ∷ []) old new
 SimpleTyped c (instr.Store op at) old new =
     Accesses c at.align (store_bytes op) × Replaces (I32 ∷ store_type op ∷ []) [] old new
 SimpleTyped c instr.MemorySize old new = (0 < length c.memories) × Replaces [] (I32 ∷ []) old new
-SimpleTyped c instr.MemoryGrow old new = (0 < length c.memories) × Replaces (I32 ∷ []) (I32 ∷ []) old new
+SimpleTyped c instr.MemoryGrow old new =
+    (0 < length c.memories) × Replaces (I32 ∷ []) (I32 ∷ []) old new
 SimpleTyped c (instr.Const value) old new = Replaces [] (type_of value ∷ []) old new
 SimpleTyped c (instr.Unary t op) old new = Replaces (t ∷ []) (t ∷ []) old new
 SimpleTyped c (instr.Binary t op) old new = Replaces (t ∷ t ∷ []) (t ∷ []) old new
@@ -121,7 +130,8 @@ SimpleTyped c (instr.Convert op) old new = Replaces (source_of op ∷ []) (targe
 abbrev mutual
   pub Typed : Context → Ops → (old new : List ValType) → Type 0
   Typed c stop old new = old ≡ new
-  Typed c (next o os) old new = (between : List ValType) × OpTyped c o old between × Typed c os between new
+  Typed c (next o os) old new =
+      (between : List ValType) × OpTyped c o old between × Typed c os between new
 
   pub OpTyped : Context → Op → (old new : List ValType) → Type 0
   OpTyped c (simple s) old new = SimpleTyped c s old new
@@ -132,7 +142,8 @@ abbrev mutual
       (t : FuncType) × (block_type c.types b ≡ Some t) × Applies t old new
       × Typed (under c t.params) body (reverse t.params) (reverse t.results)
   OpTyped c (if' b then_arm else_arm) old new =
-      (t : FuncType) × (between : List ValType) × (old ≡ I32 ∷ between) × (block_type c.types b ≡ Some t) × Applies t between new
+      (t : FuncType) × (between : List ValType) × (old ≡ I32 ∷ between)
+      × (block_type c.types b ≡ Some t) × Applies t between new
       × Typed (under c t.results) then_arm (reverse t.params) (reverse t.results)
       × Typed (under c t.results) else_arm (reverse t.params) (reverse t.results)
 
@@ -193,7 +204,8 @@ ValidStart m (Some func) = type_at (func_types m) func ≡ Some (record { params
 
 -- a segment of functions for a table (3.4.5)
 abbrev pub ValidElement : Module → Element → Type 0
-ValidElement m e = (e.table < length m.tables) × IsConstant I32 e.offset × All (IsFunction m) e.funcs
+ValidElement m e =
+    (e.table < length m.tables) × IsConstant I32 e.offset × All (IsFunction m) e.funcs
 
 -- a segment of bytes for a memory (3.4.6)
 abbrev pub ValidSegment : Module → Segment → Type 0

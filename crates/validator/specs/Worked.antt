@@ -124,7 +124,8 @@ abbrev pub func_type : (params results : List ValType) → FuncType
 func_type params results = record { params = params; results = results }
 
 abbrev pub func : (type_index : ℕ) → (locals : List ValType) → (body : List Op) → Func
-func type_index locals body = record { type_index = type_index; locals = locals; body = ops_of body }
+func type_index locals body =
+    record { type_index = type_index; locals = locals; body = ops_of body }
 
 abbrev pub limits : ℕ → Option ℕ → Limits
 limits min max = record { min = min; max = max }
@@ -145,7 +146,12 @@ abbrev pub segment : (memory : ℕ) → (offset : List Op) → Segment
 segment memory offset = record { memory = memory; offset = ops_of offset; bytes = 1 ∷ [] }
 
 abbrev pub import_of : (type_index : ℕ) → Import
-import_of type_index = record { «module» = codes "wasi_snapshot_preview1"; name = codes "proc_exit"; type_index = type_index }
+import_of type_index =
+    record {
+      «module» = codes "wasi_snapshot_preview1";
+      name = codes "proc_exit";
+      type_index = type_index;
+    }
 
 -- ---- modules
 
@@ -154,7 +160,9 @@ import_of type_index = record { «module» = codes "wasi_snapshot_preview1"; nam
 -- a memory, a constant i32 and a variable i64
 abbrev pub with_body : FuncType → (locals : List ValType) → (body : List Op) → Module
 with_body t locals body = record {
-  types = t ∷ func_type (type.I32 ∷ []) [] ∷ func_type [] (type.I32 ∷ []) ∷ func_type (type.I32 ∷ type.I64 ∷ []) (type.I64 ∷ []) ∷ [];
+  types =
+      t ∷ func_type (type.I32 ∷ []) [] ∷ func_type [] (type.I32 ∷ [])
+      ∷ func_type (type.I32 ∷ type.I64 ∷ []) (type.I64 ∷ []) ∷ [];
   imports = import_of 1 ∷ [];
   funcs = func 0 locals body ∷ func 2 [] (i32_const 0 ∷ []) ∷ func 3 [] (local_get 1 ∷ []) ∷ [];
   tables = limits 1 None ∷ [];
@@ -179,8 +187,8 @@ abbrev pub reads : ℕ → List ValType → List Op
 reads k [] = []
 reads k (t ∷ ts) = local_get k ∷ reads (suc k) ts
 
--- the instructions lead from operands of the first types, in written order, to operands of the second: they are
--- the body of a function of that type, which first reads its parameters
+-- the instructions lead from operands of the first types, in written order, to operands of the
+-- second: they are the body of a function of that type, which first reads its parameters
 abbrev pub Types : (takes gives : List ValType) → List Op → Type 0
 Types takes gives os = ValidModule (with_body (func_type takes gives) [] (reads 0 takes ++ os))
 
@@ -190,13 +198,17 @@ Gives gives os = Types [] gives os
 
 -- they are a body from nothing to nothing, with locals: parameters i32 and i64, and an i32 and an i64 more
 abbrev pub WithLocals : (gives : List ValType) → List Op → Type 0
-WithLocals gives os = ValidModule (with_body (func_type (type.I32 ∷ type.I64 ∷ []) gives) (type.I32 ∷ type.I64 ∷ []) os)
+WithLocals gives os =
+    ValidModule
+    (with_body (func_type (type.I32 ∷ type.I64 ∷ []) gives) (type.I32 ∷ type.I64 ∷ []) os)
 
 -- the instructions in a module without a memory, and in one without a table
 abbrev pub TypesWithoutMemory : (takes gives : List ValType) → List Op → Type 0
 TypesWithoutMemory takes gives os =
-    ValidModule (record (with_body (func_type takes gives) [] (reads 0 takes ++ os)) { memories = [] })
+    ValidModule
+    (record (with_body (func_type takes gives) [] (reads 0 takes ++ os)) { memories = [] })
 
 abbrev pub TypesWithoutTable : (takes gives : List ValType) → List Op → Type 0
 TypesWithoutTable takes gives os =
-    ValidModule (record (with_body (func_type takes gives) [] (reads 0 takes ++ os)) { tables = [] })
+    ValidModule
+    (record (with_body (func_type takes gives) [] (reads 0 takes ++ os)) { tables = [] })

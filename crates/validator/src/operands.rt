@@ -38,7 +38,8 @@ impl Model for Operands {
 impl Operands {
     /// No operands. No memory is taken.
     pub fn new(alloc: Global) -> Operands
-        ensures { result ≡ record { outside = []; stack = record { unreachable = false; types = [] } } }
+        ensures { result
+            ≡ record { outside = []; stack = record { unreachable = false; types = [] } } }
     {
         Operands {
             types: Vec::new(alloc),

@@ -294,7 +294,8 @@ held_of h args s d (left n answer small same some) =
     subst (λ (t : HostState). Held s.memory t.memory) (sym same) (held_same s.memory)
 
 -- a call by which the task ends changes nothing
-module _ (c : ProcessConfig) (args : List Value) (s : HostState) (d : HostDone) (n : ℕ) (ends : d.answer ≡ end.Exit n) where
+module _ (c : ProcessConfig) (args : List Value) (s : HostState) (d : HostDone) (n : ℕ)
+    (ends : d.answer ≡ end.Exit n) where
   clash : (e : HostDone) (k : ℕ) → e.answer ≡ end.Value k → Some e ≡ Some d → d.state ≡ s
   clash e k value is =
       let same : e ≡ d = cc in
@@ -320,9 +321,12 @@ module _ (c : ProcessConfig) (args : List Value) (s : HostState) (d : HostDone) 
       clash (done_put s w) w.number refl (sym (ap (λ us. host c EnvironGet us s) t.is) ∙ is)
   exit_keeps FdWrite typed is =
       let t = four_args args typed in
-      by_tests t.first t.second t.third t.fourth (sym (ap (λ us. host c FdWrite us s) t.is) ∙ is) (t.first == 1) refl (t.first == 2) refl
+      by_tests t.first t.second t.third t.fourth (sym (ap (λ us. host c FdWrite us s) t.is) ∙ is) (t.first == 1) refl
+      (t.first == 2) refl
     where
-      by_tests : (fd p k q : ℕ) → Some (fd_write s fd p k q) ≡ Some d → (a : Bool) → (fd == 1) ≡ a → (b : Bool) → (fd == 2) ≡ b → d.state ≡ s
+      by_tests :
+          (fd p k q : ℕ) → Some (fd_write s fd p k q) ≡ Some d → (a : Bool) → (fd == 1) ≡ a → (b : Bool)
+          → (fd == 2) ≡ b → d.state ≡ s
       by_tests fd p k q e true ea b eb =
           let w = write_stream s.memory s.out p k q in
           let done : fd_write s fd p k q ≡ done_out s w = rw ea refl in

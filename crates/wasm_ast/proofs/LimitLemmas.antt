@@ -24,11 +24,16 @@ within_func types f w =
     let nesting = w.nesting in
     grind (arith, nat_tests)
 
-all_hold : {X : Type 0} (P : X → Type 0) (test : X → Bool) → ((x : X) → test x ≡ true → P x) → (xs : List X) → are_all test xs ≡ true → All P xs
+all_hold :
+    {X : Type 0} (P : X → Type 0) (test : X → Bool) → ((x : X) → test x ≡ true → P x) → (xs : List X)
+    → are_all test xs ≡ true → All P xs
 all_hold P test one [] h = All-nil P
-all_hold P test one (x ∷ xs) h = All-cons P x xs (one x (grind (arith, nat_tests))) (all_hold P test one xs (grind (arith, nat_tests)))
+all_hold P test one (x ∷ xs) h =
+    All-cons P x xs (one x (grind (arith, nat_tests))) (all_hold P test one xs (grind (arith, nat_tests)))
 
-hold_all : {X : Type 0} (P : X → Type 0) (test : X → Bool) → ((x : X) → P x → test x ≡ true) → (xs : List X) → All P xs → are_all test xs ≡ true
+hold_all :
+    {X : Type 0} (P : X → Type 0) (test : X → Bool) → ((x : X) → P x → test x ≡ true) → (xs : List X) → All P xs
+    → are_all test xs ≡ true
 hold_all P test one [] h = refl
 hold_all P test one (x ∷ xs) h =
     let here = one x (All-head P x xs h) in
@@ -50,21 +55,42 @@ nested os h = grind (arith, nat_tests)
 pub module_within : (m : Module) → is_within m ≡ true → Within m
 module_within m h = record {
   functions = grind (arith, nat_tests);
-  funcs = all_hold (FuncWithin m.types) (is_func_within m.types) (func_within m.types) m.funcs (grind (arith, nat_tests));
-  tables = all_hold (MinWithin max_table_entries) (is_min_within max_table_entries) (min_within max_table_entries) m.tables (grind (arith, nat_tests));
-  memories = all_hold (MinWithin max_memory_pages) (is_min_within max_memory_pages) (min_within max_memory_pages) m.memories (grind (arith, nat_tests));
-  globals = all_hold (λ (g : Global). NestsWithin g.init) (λ (g : Global). nests_within g.init) (λ (g : Global). nests g.init) m.globals (grind (arith, nat_tests));
-  elements = all_hold (λ (e : Element). NestsWithin e.offset) (λ (e : Element). nests_within e.offset) (λ (e : Element). nests e.offset) m.elements (grind (arith, nat_tests));
-  segments = all_hold (λ (s : Segment). NestsWithin s.offset) (λ (s : Segment). nests_within s.offset) (λ (s : Segment). nests s.offset) m.segments (grind (arith, nat_tests));
+  funcs =
+      all_hold (FuncWithin m.types) (is_func_within m.types) (func_within m.types) m.funcs (grind (arith, nat_tests));
+  tables =
+      all_hold (MinWithin max_table_entries) (is_min_within max_table_entries) (min_within max_table_entries) m.tables
+      (grind (arith, nat_tests));
+  memories =
+      all_hold (MinWithin max_memory_pages) (is_min_within max_memory_pages) (min_within max_memory_pages) m.memories
+      (grind (arith, nat_tests));
+  globals =
+      all_hold (λ (g : Global). NestsWithin g.init) (λ (g : Global). nests_within g.init) (λ (g : Global). nests g.init)
+      m.globals (grind (arith, nat_tests));
+  elements =
+      all_hold (λ (e : Element). NestsWithin e.offset) (λ (e : Element). nests_within e.offset)
+      (λ (e : Element). nests e.offset) m.elements (grind (arith, nat_tests));
+  segments =
+      all_hold (λ (s : Segment). NestsWithin s.offset) (λ (s : Segment). nests_within s.offset)
+      (λ (s : Segment). nests s.offset) m.segments (grind (arith, nat_tests));
 }
 
 pub within_module : (m : Module) → Within m → is_within m ≡ true
 within_module m w =
     let functions = w.functions in
     let funcs = hold_all (FuncWithin m.types) (is_func_within m.types) (within_func m.types) m.funcs w.funcs in
-    let tables = hold_all (MinWithin max_table_entries) (is_min_within max_table_entries) (within_min max_table_entries) m.tables w.tables in
-    let memories = hold_all (MinWithin max_memory_pages) (is_min_within max_memory_pages) (within_min max_memory_pages) m.memories w.memories in
-    let globals = hold_all (λ (g : Global). NestsWithin g.init) (λ (g : Global). nests_within g.init) (λ (g : Global). nested g.init) m.globals w.globals in
-    let elements = hold_all (λ (e : Element). NestsWithin e.offset) (λ (e : Element). nests_within e.offset) (λ (e : Element). nested e.offset) m.elements w.elements in
-    let segments = hold_all (λ (s : Segment). NestsWithin s.offset) (λ (s : Segment). nests_within s.offset) (λ (s : Segment). nested s.offset) m.segments w.segments in
+    let tables =
+    hold_all (MinWithin max_table_entries) (is_min_within max_table_entries) (within_min max_table_entries)
+    m.tables w.tables in
+    let memories =
+    hold_all (MinWithin max_memory_pages) (is_min_within max_memory_pages) (within_min max_memory_pages)
+    m.memories w.memories in
+    let globals =
+    hold_all (λ (g : Global). NestsWithin g.init) (λ (g : Global). nests_within g.init)
+    (λ (g : Global). nested g.init) m.globals w.globals in
+    let elements =
+    hold_all (λ (e : Element). NestsWithin e.offset) (λ (e : Element). nests_within e.offset)
+    (λ (e : Element). nested e.offset) m.elements w.elements in
+    let segments =
+    hold_all (λ (s : Segment). NestsWithin s.offset) (λ (s : Segment). nests_within s.offset)
+    (λ (s : Segment). nested s.offset) m.segments w.segments in
     grind (arith, nat_tests)

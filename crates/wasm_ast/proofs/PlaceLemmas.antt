@@ -3,7 +3,9 @@ use Rattle.std.proofs.Common.{◌≡◌, ℕ, zero, suc, ◌+◌, ◌-◌, Bool,
 use Rattle.std.proofs.lemmas.Bool.Decides.{nat_tests}
 use Rattle.wasm_ast.specs.Syntax.{Op, simple, block, loop, if', Ops, stop, next, count, ops_count, op_at, ops_at}
 
-either : (b : Bool) (x y : Option Op) (whole : Bool) → (b ≡ true → is_some x ≡ whole) → (b ≡ false → is_some y ≡ whole) → is_some (cond b x y) ≡ whole
+either :
+    (b : Bool) (x y : Option Op) (whole : Bool) → (b ≡ true → is_some x ≡ whole) → (b ≡ false → is_some y ≡ whole)
+    → is_some (cond b x y) ≡ whole
 either true x y whole f g = f refl
 either false x y whole f g = g refl
 
@@ -19,7 +21,8 @@ mutual
   op_counted (if' type first second) (suc k) =
       let one = ops_counted first k in
       let two = ops_counted second (k - ops_count first) in
-      either (nat_lt k (ops_count first)) (ops_at first k) (ops_at second (k - ops_count first)) (nat_lt (suc k) (1 + ops_count first + ops_count second))
+      either (nat_lt k (ops_count first)) (ops_at first k) (ops_at second (k - ops_count first))
+      (nat_lt (suc k) (1 + ops_count first + ops_count second))
       (λ below. grind (arith, nat_tests)) (λ above. grind (arith, nat_tests))
 
   pub ops_counted : (os : Ops) (k : ℕ) → is_some (ops_at os k) ≡ nat_lt k (ops_count os)

@@ -4,7 +4,8 @@ use Rattle.std.specs.Prelude.{ℕ, List, [], ◌∷◌, Bool, false, ◌||◌, �
 use Rattle.std.specs.List.{list_all}
 
 abbrev pub is_letter_or_digit : ℕ → Bool
-is_letter_or_digit c = (nat_le 48 c && nat_le c 57) || (nat_le 65 c && nat_le c 90) || (nat_le 97 c && nat_le c 122)
+is_letter_or_digit c =
+    (nat_le 48 c && nat_le c 57) || (nat_le 65 c && nat_le c 90) || (nat_le 97 c && nat_le c 122)
 
 -- a letter, a digit, or one of . _ -
 abbrev pub is_id_character : ℕ → Bool
@@ -21,4 +22,6 @@ is_lower_hex c = (nat_le 48 c && nat_le c 57) || (nat_le 97 c && nat_le c 102)
 
 -- sha256: and 64 hexadecimal digits
 abbrev pub is_digest : List ℕ → Bool
-is_digest text = nat_eq (length text) 71 && bytes_eq (take 7 text) (codes "sha256:") && list_all is_lower_hex (drop 7 text)
+is_digest text =
+    nat_eq (length text) 71 && bytes_eq (take 7 text) (codes "sha256:")
+    && list_all is_lower_hex (drop 7 text)

@@ -77,7 +77,8 @@ pub record Within (m : Module) : Type 0 where
 -- the same as a test
 abbrev pub is_func_within : List FuncType → Func → Bool
 is_func_within types f =
-    nat_le (params_of types f.type_index + length f.locals) max_locals && nat_le (ops_depth f.body) max_nesting
+    nat_le (params_of types f.type_index + length f.locals) max_locals
+    && nat_le (ops_depth f.body) max_nesting
 
 abbrev pub are_all : {X : Type 0} → (X → Bool) → List X → Bool
 are_all test [] = true
@@ -91,7 +92,10 @@ nests_within os = nat_le (ops_depth os) max_nesting
 
 abbrev pub is_within : Module → Bool
 is_within m =
-    nat_le (length m.imports + length m.funcs) max_functions && are_all (is_func_within m.types) m.funcs
-    && are_all (is_min_within max_table_entries) m.tables && are_all (is_min_within max_memory_pages) m.memories
-    && are_all (λ (g : Global). nests_within g.init) m.globals && are_all (λ (e : Element). nests_within e.offset) m.elements
+    nat_le (length m.imports + length m.funcs) max_functions
+    && are_all (is_func_within m.types) m.funcs
+    && are_all (is_min_within max_table_entries) m.tables
+    && are_all (is_min_within max_memory_pages) m.memories
+    && are_all (λ (g : Global). nests_within g.init) m.globals
+    && are_all (λ (e : Element). nests_within e.offset) m.elements
     && are_all (λ (s : Segment). nests_within s.offset) m.segments

@@ -38,7 +38,8 @@ abbrev mutual
   op_at (block type body) (suc k) = ops_at body k
   op_at (loop type body) (suc k) = ops_at body k
   op_at (if' type then_arm else_arm) (suc k) =
-      if nat_lt k (ops_count then_arm) then ops_at then_arm k else ops_at else_arm (k - ops_count then_arm)
+      if nat_lt k (ops_count then_arm) then ops_at then_arm k
+      else ops_at else_arm (k - ops_count then_arm)
 
   pub ops_at : Ops → ℕ → Option Op
   ops_at stop k = None

@@ -1,4 +1,5 @@
--- The types of values (4.2.1), and those that a module gives its blocks and its functions (2.3.3, 2.4.5, 2.5.1).
+-- The types of values (4.2.1), and those that a module gives its blocks and its functions (2.3.3,
+-- 2.4.5, 2.5.1).
 use Rattle.std.specs.Prelude.{ℕ, zero, suc, List, [], ◌∷◌, ◌++◌, map, Option, Some, None, slice_get}
 use Rattle.wasm_ast.specs.declared.values.ValType.{ValType}
 use Rattle.wasm_ast.specs.declared.values.ValType.TheVariants as type
@@ -26,7 +27,9 @@ block_type types (One t) = Some (record { params = []; results = t ∷ [] })
 
 -- the types of a module's functions, imports first (2.5.1): none for one whose index names no type
 abbrev pub func_types : Module → List (Option FuncType)
-func_types m = map (λ i. slice_get m.types i.type_index) m.imports ++ map (λ f. slice_get m.types f.type_index) m.funcs
+func_types m =
+    map (λ i. slice_get m.types i.type_index) m.imports
+    ++ map (λ f. slice_get m.types f.type_index) m.funcs
 
 -- the type of a function by its index
 abbrev pub type_at : List (Option FuncType) → ℕ → Option FuncType

@@ -51,7 +51,8 @@ pub fn loads_read_their_bytes()
     ensures i64_8 { (load_bytes load.I64From8S ≡ 1) × (load_bytes load.I64From8U ≡ 1) }
     ensures i64_16 { (load_bytes load.I64From16S ≡ 2) × (load_bytes load.I64From16U ≡ 2) }
     ensures i64_32 { (load_bytes load.I64From32S ≡ 4) × (load_bytes load.I64From32U ≡ 4) }
-    ensures to_i32 { map load_type (load.I32From8S ∷ load.I32From8U ∷ load.I32From16S ∷ load.I32From16U ∷ [])
+    ensures to_i32 { map load_type
+        (load.I32From8S ∷ load.I32From8U ∷ load.I32From16S ∷ load.I32From16U ∷ [])
         ≡ type.I32 ∷ type.I32 ∷ type.I32 ∷ type.I32 ∷ [] }
     ensures to_i64 { map load_type (load.I64From8S ∷ load.I64From8U ∷ load.I64From16S
         ∷ load.I64From16U ∷ load.I64From32S ∷ load.I64From32U ∷ [])
@@ -69,8 +70,10 @@ pub fn stores_write_their_bytes()
         ≡ type.I32 ∷ type.I32 ∷ type.I32 ∷ [] }
     ensures of_i64 { map store_type (store.I64 ∷ store.I64To8 ∷ store.I64To16 ∷ store.I64To32 ∷ [])
         ≡ type.I64 ∷ type.I64 ∷ type.I64 ∷ type.I64 ∷ [] }
-    ensures i32_bytes { map store_bytes (store.I32 ∷ store.I32To8 ∷ store.I32To16 ∷ []) ≡ 4 ∷ 1 ∷ 2 ∷ [] }
-    ensures i64_bytes { map store_bytes (store.I64 ∷ store.I64To8 ∷ store.I64To16 ∷ store.I64To32 ∷ [])
+    ensures i32_bytes { map store_bytes (store.I32 ∷ store.I32To8 ∷ store.I32To16 ∷ [])
+        ≡ 4 ∷ 1 ∷ 2 ∷ [] }
+    ensures i64_bytes { map store_bytes
+        (store.I64 ∷ store.I64To8 ∷ store.I64To16 ∷ store.I64To32 ∷ [])
         ≡ 8 ∷ 1 ∷ 2 ∷ 4 ∷ [] }
 {}
 
@@ -89,7 +92,8 @@ pub fn places_are_in_written_order()
 /// Types of blocks, and the look-up of a type.
 pub fn types_are_looked_up()
     ensures empty { block_type [] Empty ≡ Some (record { params = []; results = [] }) }
-    ensures one { block_type [] (One type.I64) ≡ Some (record { params = []; results = type.I64 ∷ [] }) }
+    ensures one { block_type [] (One type.I64)
+        ≡ Some (record { params = []; results = type.I64 ∷ [] }) }
     ensures second { type_at (None ∷ Some (record { params = []; results = [] }) ∷ []) 1
         ≡ Some (record { params = []; results = [] }) }
     ensures none { type_at (None ∷ []) 0 ≡ None }

@@ -19,4 +19,5 @@ pub mod WriteNumbers
 pub mod Minimality
 pub mod LocalRuns
 pub mod WriteInstrs
+pub mod CanonicalNumbers
 pub mod CanonicalSpells

@@ -33,46 +33,72 @@ above_less : (id j : ℕ) (bytes : List ℕ) → Above id bytes → j ≤ id →
 above_less id j [] h le = tt
 above_less id j (b ∷ bs) h le = omega arith
 
-custom_complete : (x : List ℕ × List ℕ) (bytes rest : List ℕ) → IsCustom bytes x rest → Complete Always rest (skip_custom (drop 1 bytes)) × (begins_with custom_section bytes ≡ true) × (length rest < length bytes)
+custom_complete :
+    (x : List ℕ × List ℕ) (bytes rest : List ℕ) → IsCustom bytes x rest
+    → Complete Always rest (skip_custom (drop 1 bytes)) × (begins_with custom_section bytes ≡ true)
+    × (length rest < length bytes)
 unfolding skip_custom read_custom_name
 custom_complete x bytes rest h =
     let s : IsSized (λ part name left. IsNamed part (name, x.1) left) h.0 x.0 rest = h.2 in (
-      rw h.1 (complete_then _ (sized_complete (λ part name left. IsNamed part (name, x.1) left) Always read_custom_name x.0 (λ part k. complete_then _ (name_complete x.0 part x.1 k.0) (complete_ok refl) always) h.0 rest s) (complete_ok refl) always),
+      rw h.1
+          (complete_then _
+          (sized_complete (λ part name left. IsNamed part (name, x.1) left) Always read_custom_name x.0
+          (λ part k. complete_then _ (name_complete x.0 part x.1 k.0) (complete_ok refl) always) h.0 rest s)
+          (complete_ok refl) always),
       rw h.1 (begins_cons custom_section h.0),
       omega (arith, ap length h.1, sized_takes (λ part name left. IsNamed part (name, x.1) left) h.0 x.0 rest s),
     )
 
-customs_complete : (xs : List (List ℕ × List ℕ)) (most : ℕ) (bytes rest : List ℕ) → AreItems IsCustom bytes xs rest → Above 0 rest → length bytes ≤ most → Complete Always rest (skip_some_customs most bytes)
+customs_complete :
+    (xs : List (List ℕ × List ℕ)) (most : ℕ) (bytes rest : List ℕ) → AreItems IsCustom bytes xs rest → Above 0 rest
+    → length bytes ≤ most → Complete Always rest (skip_some_customs most bytes)
 unfolding skip_some_customs
 customs_complete [] zero bytes rest h above few = complete_ok (sym h)
-customs_complete [] (suc n) bytes rest h above few = complete_second _ (above_not 0 0 bytes (subst (Above 0) h above) (omega arith)) (complete_ok (sym h))
-customs_complete (x ∷ xs) zero bytes rest h above few = let k = custom_complete x bytes h.0 h.1 in absurd (omega (arith, k.2))
+customs_complete [] (suc n) bytes rest h above few =
+    complete_second _ (above_not 0 0 bytes (subst (Above 0) h above) (omega arith)) (complete_ok (sym h))
+customs_complete (x ∷ xs) zero bytes rest h above few =
+    let k = custom_complete x bytes h.0 h.1 in absurd (omega (arith, k.2))
 customs_complete (x ∷ xs) (suc n) bytes rest h above few =
     let k = custom_complete x bytes h.0 h.1 in
     complete_first _ k.1 (complete_then _ k.0 (customs_complete xs n h.0 rest h.2 above (omega (arith, k.2))) always)
 
-pub all_customs_complete : (bytes rest : List ℕ) → AreCustom bytes rest → Above 0 rest → Complete Always rest (skip_customs bytes)
+pub all_customs_complete :
+    (bytes rest : List ℕ) → AreCustom bytes rest → Above 0 rest → Complete Always rest (skip_customs bytes)
 unfolding skip_customs
 all_customs_complete bytes rest h above = customs_complete h.0 (length bytes) bytes rest h.1 above (omega arith)
 
-pub part_complete : {X : Type 0} (id : ℕ) (IsXs : Form X) (W : Type 0) (read : List ℕ → Read X) (empty xs : X) → ((part : List ℕ) → IsXs part xs [] → Complete W (xs, []) (read part))
-    → (bytes rest : List ℕ) → IsPart id IsXs empty bytes xs rest → Above id rest → Complete W (xs, rest) (read_part id read empty bytes)
+pub part_complete :
+    {X : Type 0} (id : ℕ) (IsXs : Form X) (W : Type 0) (read : List ℕ → Read X) (empty xs : X)
+    → ((part : List ℕ) → IsXs part xs [] → Complete W (xs, []) (read part))
+    → (bytes rest : List ℕ) → IsPart id IsXs empty bytes xs rest → Above id rest
+    → Complete W (xs, rest) (read_part id read empty bytes)
 unfolding read_part
 part_complete id IsXs W read empty xs each bytes rest (inl h) above =
     rw h.2 (complete_first _ (begins_cons id h.0)
-    (complete_then _ (sized_complete IsXs W read xs each h.0 h.1 h.3) (complete_then _ (all_customs_complete h.1 rest h.4 (above_less id 0 rest above (omega arith))) (complete_ok refl) always) (λ w. w)))
+    (complete_then _ (sized_complete IsXs W read xs each h.0 h.1 h.3)
+    (complete_then _ (all_customs_complete h.1 rest h.4 (above_less id 0 rest above (omega arith)))
+    (complete_ok refl) always) (λ w. w)))
 part_complete id IsXs W read empty xs each bytes rest (inr h) above =
-    complete_second _ (above_not id id bytes (subst (Above id) h.1 above) (omega arith)) (complete_ok (λ i. (sym h.0 i, sym h.1 i)))
+    complete_second _ (above_not id id bytes (subst (Above id) h.1 above) (omega arith))
+    (complete_ok (λ i. (sym h.0 i, sym h.1 i)))
 
-pub part_above : {X : Type 0} (id j : ℕ) (IsXs : Form X) (empty : X) (bytes : List ℕ) (xs : X) (rest : List ℕ) → IsPart id IsXs empty bytes xs rest → Above id rest → j < id → Above j bytes
+pub part_above :
+    {X : Type 0} (id j : ℕ) (IsXs : Form X) (empty : X) (bytes : List ℕ) (xs : X) (rest : List ℕ)
+    → IsPart id IsXs empty bytes xs rest → Above id rest → j < id → Above j bytes
 part_above id j IsXs empty bytes xs rest (inl h) above lt = rw h.2 lt
-part_above id j IsXs empty bytes xs rest (inr h) above lt = subst (Above j) h.1 (above_less id j rest above (omega arith))
+part_above id j IsXs empty bytes xs rest (inr h) above lt =
+    subst (Above j) h.1 (above_less id j rest above (omega arith))
 
-pub functions_complete : {X : Type 0} (limited : Bool) (before : ℕ) (IsX : Form X) (read : List ℕ → Read X) → ((x : X) (part rest : List ℕ) → IsX part x rest → Complete Always (x, rest) (read part))
-    → (xs : List X) (bytes rest : List ℕ) → IsVector IsX bytes xs rest → Complete (limited ≡ true → before + length xs ≤ max_functions) (xs, rest) (read_functions limited before read bytes)
+pub functions_complete :
+    {X : Type 0} (limited : Bool) (before : ℕ) (IsX : Form X) (read : List ℕ → Read X)
+    → ((x : X) (part rest : List ℕ) → IsX part x rest → Complete Always (x, rest) (read part))
+    → (xs : List X) (bytes rest : List ℕ) → IsVector IsX bytes xs rest
+    → Complete (limited ≡ true → before + length xs ≤ max_functions) (xs, rest)
+    (read_functions limited before read bytes)
 unfolding read_functions
 functions_complete limited before IsX read each xs bytes rest h =
-    complete_then _ (u32_complete bytes (length xs) h.0 h.1) (complete_within (λ w. unlimited limited max_functions (before + length xs) w)
+    complete_then _ (u32_complete bytes (length xs) h.0 h.1)
+    (complete_within (λ w. unlimited limited max_functions (before + length xs) w)
     (complete_weaker (items_complete IsX read each xs h.0 rest h.2) always)) always
 
 -- ---- modules
@@ -82,50 +108,82 @@ unfolding strip_preamble
 preamble_complete bytes rest h = rw h (complete_need refl (complete_ok refl))
 
 -- a section that is a vector
-pub vector_section : {X : Type 0} (limited : Bool) (id : ℕ) (IsX : Form X) (E : X → Type 0) (read : List ℕ → Read X) → ((x : X) (part rest : List ℕ) → IsX part x rest → Complete (limited ≡ true → E x) (x, rest) (read part))
-    → (xs : List X) (bytes rest : List ℕ) → IsSection id IsX bytes xs rest → Above id rest → Complete (limited ≡ true → AllByRecursion E xs) (xs, rest) (read_section id (read_vector read) bytes)
+pub vector_section :
+    {X : Type 0} (limited : Bool) (id : ℕ) (IsX : Form X) (E : X → Type 0) (read : List ℕ → Read X)
+    → ((x : X) (part rest : List ℕ) → IsX part x rest → Complete (limited ≡ true → E x) (x, rest) (read part))
+    → (xs : List X) (bytes rest : List ℕ) → IsSection id IsX bytes xs rest → Above id rest
+    → Complete (limited ≡ true → AllByRecursion E xs) (xs, rest) (read_section id (read_vector read) bytes)
 vector_section limited id IsX E read each xs bytes rest h above =
-    part_complete id (IsVector IsX) (limited ≡ true → AllByRecursion E xs) (read_vector read) [] xs (λ part k. vector_within limited IsX E read each xs part [] k) bytes rest h above
+    part_complete id (IsVector IsX) (limited ≡ true → AllByRecursion E xs) (read_vector read) [] xs
+    (λ part k. vector_within limited IsX E read each xs part [] k) bytes rest h above
 
-pub plain_section : {X : Type 0} (id : ℕ) (IsX : Form X) (read : List ℕ → Read X) → ((x : X) (part rest : List ℕ) → IsX part x rest → Complete Always (x, rest) (read part))
-    → (xs : List X) (bytes rest : List ℕ) → IsSection id IsX bytes xs rest → Above id rest → Complete Always (xs, rest) (read_section id (read_vector read) bytes)
+pub plain_section :
+    {X : Type 0} (id : ℕ) (IsX : Form X) (read : List ℕ → Read X)
+    → ((x : X) (part rest : List ℕ) → IsX part x rest → Complete Always (x, rest) (read part))
+    → (xs : List X) (bytes rest : List ℕ) → IsSection id IsX bytes xs rest → Above id rest
+    → Complete Always (xs, rest) (read_section id (read_vector read) bytes)
 plain_section id IsX read each xs bytes rest h above =
-    part_complete id (IsVector IsX) Always (read_vector read) [] xs (λ part k. vector_complete IsX read each xs part [] k) bytes rest h above
+    part_complete id (IsVector IsX) Always (read_vector read) [] xs
+    (λ part k. vector_complete IsX read each xs part [] k) bytes rest h above
 
-functions_section : {X : Type 0} (limited : Bool) (id before : ℕ) (IsX : Form X) (read : List ℕ → Read X) → ((x : X) (part rest : List ℕ) → IsX part x rest → Complete Always (x, rest) (read part))
-    → (xs : List X) (bytes rest : List ℕ) → IsSection id IsX bytes xs rest → Above id rest → Complete (limited ≡ true → before + length xs ≤ max_functions) (xs, rest) (read_section id (read_functions limited before read) bytes)
+functions_section :
+    {X : Type 0} (limited : Bool) (id before : ℕ) (IsX : Form X) (read : List ℕ → Read X)
+    → ((x : X) (part rest : List ℕ) → IsX part x rest → Complete Always (x, rest) (read part))
+    → (xs : List X) (bytes rest : List ℕ) → IsSection id IsX bytes xs rest → Above id rest
+    → Complete (limited ≡ true → before + length xs ≤ max_functions) (xs, rest)
+    (read_section id (read_functions limited before read) bytes)
 functions_section limited id before IsX read each xs bytes rest h above =
-    part_complete id (IsVector IsX) (limited ≡ true → before + length xs ≤ max_functions) (read_functions limited before read) [] xs (λ part k. functions_complete limited before IsX read each xs part [] k) bytes rest h above
+    part_complete id (IsVector IsX) (limited ≡ true → before + length xs ≤ max_functions)
+    (read_functions limited before read) [] xs
+    (λ part k. functions_complete limited before IsX read each xs part [] k) bytes rest h above
 
-pub above_of : {X : Type 0} (id j : ℕ) (IsX : Form X) (xs : List X) (bytes rest : List ℕ) → IsSection id IsX bytes xs rest → Above id rest → j < id → Above j bytes
+pub above_of :
+    {X : Type 0} (id j : ℕ) (IsX : Form X) (xs : List X) (bytes rest : List ℕ) → IsSection id IsX bytes xs rest
+    → Above id rest → j < id → Above j bytes
 above_of id j IsX xs bytes rest h above lt = part_above id j (IsVector IsX) [] bytes xs rest h above lt
 
 -- the sections of m, each but for limits
-pub types_complete : (m : Module) (bytes rest : List ℕ) → IsSection type_section IsFuncType bytes m.types rest → Above 1 rest
+pub types_complete :
+    (m : Module) (bytes rest : List ℕ) → IsSection type_section IsFuncType bytes m.types rest → Above 1 rest
     → Complete Always (m.types, rest) (read_section type_section (read_vector read_func_type) bytes)
-types_complete m bytes rest h above = plain_section type_section IsFuncType read_func_type func_type_complete m.types bytes rest h above
+types_complete m bytes rest h above =
+    plain_section type_section IsFuncType read_func_type func_type_complete m.types bytes rest h above
 
-pub imports_complete : (limited : Bool) (m : Module) (bytes rest : List ℕ) → IsSection import_section IsImport bytes m.imports rest → Above 2 rest
-    → Complete (limited ≡ true → 0 + length m.imports ≤ max_functions) (m.imports, rest) (read_section import_section (read_functions limited 0 read_import) bytes)
-imports_complete limited m bytes rest h above = functions_section limited import_section 0 IsImport read_import import_complete m.imports bytes rest h above
+pub imports_complete :
+    (limited : Bool) (m : Module) (bytes rest : List ℕ)
+    → IsSection import_section IsImport bytes m.imports rest → Above 2 rest
+    → Complete (limited ≡ true → 0 + length m.imports ≤ max_functions) (m.imports, rest)
+    (read_section import_section (read_functions limited 0 read_import) bytes)
+imports_complete limited m bytes rest h above =
+    functions_section limited import_section 0 IsImport read_import import_complete m.imports bytes rest h above
 
 -- types, imports and type indices of a module
 abbrev pub head_of_module : Module → Head
 head_of_module m = record { types = m.types; imports = m.imports; indices = indices_of m.funcs }
 
-pub head_complete : (limited : Bool) (bytes : List ℕ) (m : Module) (rest : List ℕ) (f : UpToFunctions bytes m rest) → Above 3 rest
-    → Complete (limited ≡ true → length m.imports + length (indices_of m.funcs) ≤ max_functions) (head_of_module m, rest) (read_head limited f.before.before.sections)
+pub head_complete :
+    (limited : Bool) (bytes : List ℕ) (m : Module) (rest : List ℕ) (f : UpToFunctions bytes m rest) → Above 3 rest
+    → Complete (limited ≡ true → length m.imports + length (indices_of m.funcs) ≤ max_functions)
+    (head_of_module m, rest) (read_head limited f.before.before.sections)
 unfolding read_head
 head_complete limited bytes m rest f above =
     let i : UpToImports bytes m f.from_functions = f.before in
     let t : UpToTypes bytes m i.from_imports = i.before in
-    let above2 : Above 2 f.from_functions = above_of 3 2 IsU32 (indices_of m.funcs) f.from_functions rest f.functions above (omega arith) in
-    let above1 : Above 1 i.from_imports = above_of 2 1 IsImport m.imports i.from_imports f.from_functions i.imports above2 (omega arith) in
-    let above0 : Above 0 t.from_types = above_of 1 0 IsFuncType m.types t.from_types i.from_imports t.types above1 (omega arith) in
+    let above2 :
+    Above 2 f.from_functions =
+    above_of 3 2 IsU32 (indices_of m.funcs) f.from_functions rest f.functions above (omega arith) in
+    let above1 :
+    Above 1 i.from_imports =
+    above_of 2 1 IsImport m.imports i.from_imports f.from_functions i.imports above2 (omega arith) in
+    let above0 :
+    Above 0 t.from_types =
+    above_of 1 0 IsFuncType m.types t.from_types i.from_imports t.types above1 (omega arith) in
     complete_then _ (all_customs_complete t.sections t.from_types t.customs above0)
     (complete_then _ (types_complete m t.from_types i.from_imports t.types above1)
     (complete_then _ (imports_complete limited m i.from_imports f.from_functions i.imports above2)
-    (complete_then _ (functions_section limited function_section (length m.imports) IsU32 read_u32 index_complete (indices_of m.funcs) f.from_functions rest f.functions above)
+    (complete_then _
+    (functions_section limited function_section (length m.imports) IsU32 read_u32 index_complete
+    (indices_of m.funcs) f.from_functions rest f.functions above)
     (complete_ok refl)
     (λ w. w))
     (λ w l. let few = w l in omega arith))
@@ -135,37 +193,62 @@ head_complete limited bytes m rest f above =
 abbrev pub Fits : Bool → Module → Type 0
 Fits limited m = limited ≡ true → Within m
 
-pub tables_complete : (limited : Bool) (m : Module) (bytes rest : List ℕ) → IsSection table_section IsTable bytes m.tables rest → Above 4 rest
-    → Complete (Fits limited m) (m.tables, rest) (read_section table_section (read_vector (read_size true limited)) bytes)
+pub tables_complete :
+    (limited : Bool) (m : Module) (bytes rest : List ℕ)
+    → IsSection table_section IsTable bytes m.tables rest → Above 4 rest
+    → Complete (Fits limited m) (m.tables, rest)
+    (read_section table_section (read_vector (read_size true limited)) bytes)
 tables_complete limited m bytes rest h above =
-    complete_weaker (vector_section limited table_section IsTable (MinWithin max_table_entries) (read_size true limited) (table_complete limited) m.tables bytes rest h above)
+    complete_weaker
+    (vector_section limited table_section IsTable (MinWithin max_table_entries) (read_size true limited)
+    (table_complete limited) m.tables bytes rest h above)
     (λ w l. recursion_from_All (MinWithin max_table_entries) m.tables (w l).tables)
 
-pub memories_complete : (limited : Bool) (m : Module) (bytes rest : List ℕ) → IsSection memory_section IsMemory bytes m.memories rest → Above 5 rest
-    → Complete (Fits limited m) (m.memories, rest) (read_section memory_section (read_vector (read_size false limited)) bytes)
+pub memories_complete :
+    (limited : Bool) (m : Module) (bytes rest : List ℕ)
+    → IsSection memory_section IsMemory bytes m.memories rest → Above 5 rest
+    → Complete (Fits limited m) (m.memories, rest)
+    (read_section memory_section (read_vector (read_size false limited)) bytes)
 memories_complete limited m bytes rest h above =
-    complete_weaker (vector_section limited memory_section IsMemory (MinWithin max_memory_pages) (read_size false limited) (memory_complete limited) m.memories bytes rest h above)
+    complete_weaker
+    (vector_section limited memory_section IsMemory (MinWithin max_memory_pages) (read_size false limited)
+    (memory_complete limited) m.memories bytes rest h above)
     (λ w l. recursion_from_All (MinWithin max_memory_pages) m.memories (w l).memories)
 
-globals_complete : (limited : Bool) (m : Module) (bytes rest : List ℕ) → IsSection global_section IsGlobal bytes m.globals rest → Above 6 rest
-    → Complete (Fits limited m) (m.globals, rest) (read_section global_section (read_vector (read_global limited)) bytes)
+globals_complete :
+    (limited : Bool) (m : Module) (bytes rest : List ℕ)
+    → IsSection global_section IsGlobal bytes m.globals rest → Above 6 rest
+    → Complete (Fits limited m) (m.globals, rest)
+    (read_section global_section (read_vector (read_global limited)) bytes)
 globals_complete limited m bytes rest h above =
-    complete_weaker (vector_section limited global_section IsGlobal (λ (g : Global). NestsWithin g.init) (read_global limited) (global_complete limited) m.globals bytes rest h above)
+    complete_weaker
+    (vector_section limited global_section IsGlobal (λ (g : Global). NestsWithin g.init) (read_global limited)
+    (global_complete limited) m.globals bytes rest h above)
     (λ w l. recursion_from_All (λ (g : Global). NestsWithin g.init) m.globals (w l).globals)
 
-elements_complete : (limited : Bool) (m : Module) (bytes rest : List ℕ) → IsSection element_section IsElement bytes m.elements rest → Above 9 rest
-    → Complete (Fits limited m) (m.elements, rest) (read_section element_section (read_vector (read_element limited)) bytes)
+elements_complete :
+    (limited : Bool) (m : Module) (bytes rest : List ℕ)
+    → IsSection element_section IsElement bytes m.elements rest → Above 9 rest
+    → Complete (Fits limited m) (m.elements, rest)
+    (read_section element_section (read_vector (read_element limited)) bytes)
 elements_complete limited m bytes rest h above =
-    complete_weaker (vector_section limited element_section IsElement (λ (e : Element). NestsWithin e.offset) (read_element limited) (element_complete limited) m.elements bytes rest h above)
+    complete_weaker
+    (vector_section limited element_section IsElement (λ (e : Element). NestsWithin e.offset) (read_element limited)
+    (element_complete limited) m.elements bytes rest h above)
     (λ w l. recursion_from_All (λ (e : Element). NestsWithin e.offset) m.elements (w l).elements)
 
-pub exports_complete : (m : Module) (bytes rest : List ℕ) → IsSection export_section IsExport bytes m.exports rest → Above 7 rest
+pub exports_complete :
+    (m : Module) (bytes rest : List ℕ) → IsSection export_section IsExport bytes m.exports rest → Above 7 rest
     → Complete Always (m.exports, rest) (read_section export_section (read_vector read_export) bytes)
-exports_complete m bytes rest h above = plain_section export_section IsExport read_export export_complete m.exports bytes rest h above
+exports_complete m bytes rest h above =
+    plain_section export_section IsExport read_export export_complete m.exports bytes rest h above
 
-pub start_section_complete : (m : Module) (bytes rest : List ℕ) → IsPart start_section IsStart None bytes m.start rest → Above 8 rest
+pub start_section_complete :
+    (m : Module) (bytes rest : List ℕ) → IsPart start_section IsStart None bytes m.start rest → Above 8 rest
     → Complete Always (m.start, rest) (read_part start_section read_start None bytes)
-start_section_complete m bytes rest h above = part_complete start_section IsStart Always read_start None m.start (λ part k. start_complete m.start part [] k) bytes rest h above
+start_section_complete m bytes rest h above =
+    part_complete start_section IsStart Always read_start None m.start (λ part k. start_complete m.start part [] k)
+    bytes rest h above
 
 -- ---- groups of sections
 
@@ -175,61 +258,101 @@ stores_of_module m = record { tables = m.tables; memories = m.memories; globals 
 abbrev pub middle_of_module : Module → Between
 middle_of_module m = record { exports = m.exports; start = m.start; elements = m.elements }
 
-pub stores_above : (bytes : List ℕ) (m : Module) (rest : List ℕ) (g : UpToGlobals bytes m rest) → Above 6 rest → Above 3 g.before.before.from_tables
+pub stores_above :
+    (bytes : List ℕ) (m : Module) (rest : List ℕ) (g : UpToGlobals bytes m rest) → Above 6 rest
+    → Above 3 g.before.before.from_tables
 stores_above bytes m rest g above =
-    let above5 : Above 5 g.from_globals = above_of 6 5 IsGlobal m.globals g.from_globals rest g.globals above (omega arith) in
-    let above4 : Above 4 g.before.from_memories = above_of 5 4 IsMemory m.memories g.before.from_memories g.from_globals g.before.memories above5 (omega arith) in
-    above_of 4 3 IsTable m.tables g.before.before.from_tables g.before.from_memories g.before.before.tables above4 (omega arith)
+    let above5 :
+    Above 5 g.from_globals = above_of 6 5 IsGlobal m.globals g.from_globals rest g.globals above (omega arith) in
+    let above4 :
+    Above 4 g.before.from_memories =
+    above_of 5 4 IsMemory m.memories g.before.from_memories g.from_globals g.before.memories above5 (omega arith) in
+    above_of 4 3 IsTable m.tables g.before.before.from_tables g.before.from_memories g.before.before.tables
+    above4 (omega arith)
 
-pub stores_complete : (limited : Bool) (bytes : List ℕ) (m : Module) (rest : List ℕ) (g : UpToGlobals bytes m rest) → Above 6 rest
+pub stores_complete :
+    (limited : Bool) (bytes : List ℕ) (m : Module) (rest : List ℕ) (g : UpToGlobals bytes m rest) → Above 6 rest
     → Complete (Fits limited m) (stores_of_module m, rest) (read_stores limited g.before.before.from_tables)
 unfolding read_stores
 stores_complete limited bytes m rest g above =
-    let above5 : Above 5 g.from_globals = above_of 6 5 IsGlobal m.globals g.from_globals rest g.globals above (omega arith) in
-    let above4 : Above 4 g.before.from_memories = above_of 5 4 IsMemory m.memories g.before.from_memories g.from_globals g.before.memories above5 (omega arith) in
-    complete_then _ (tables_complete limited m g.before.before.from_tables g.before.from_memories g.before.before.tables above4)
+    let above5 :
+    Above 5 g.from_globals = above_of 6 5 IsGlobal m.globals g.from_globals rest g.globals above (omega arith) in
+    let above4 :
+    Above 4 g.before.from_memories =
+    above_of 5 4 IsMemory m.memories g.before.from_memories g.from_globals g.before.memories above5 (omega arith) in
+    complete_then _
+    (tables_complete limited m g.before.before.from_tables g.before.from_memories g.before.before.tables above4)
     (complete_then _ (memories_complete limited m g.before.from_memories g.from_globals g.before.memories above5)
-    (complete_then _ (globals_complete limited m g.from_globals rest g.globals above) (complete_ok refl) (λ w. w)) (λ w. w)) (λ w. w)
+    (complete_then _ (globals_complete limited m g.from_globals rest g.globals above) (complete_ok refl) (λ w. w))
+    (λ w. w)) (λ w. w)
 
-pub middle_above : (bytes : List ℕ) (m : Module) (rest : List ℕ) (e : UpToElements bytes m rest) → Above 9 rest → Above 6 e.before.before.from_exports
+pub middle_above :
+    (bytes : List ℕ) (m : Module) (rest : List ℕ) (e : UpToElements bytes m rest) → Above 9 rest
+    → Above 6 e.before.before.from_exports
 middle_above bytes m rest e above =
-    let above8 : Above 8 e.from_elements = above_of 9 8 IsElement m.elements e.from_elements rest e.elements above (omega arith) in
-    let above7 : Above 7 e.before.from_start = part_above 8 7 IsStart None e.before.from_start m.start e.from_elements e.before.start above8 (omega arith) in
-    above_of 7 6 IsExport m.exports e.before.before.from_exports e.before.from_start e.before.before.exports above7 (omega arith)
+    let above8 :
+    Above 8 e.from_elements =
+    above_of 9 8 IsElement m.elements e.from_elements rest e.elements above (omega arith) in
+    let above7 :
+    Above 7 e.before.from_start =
+    part_above 8 7 IsStart None e.before.from_start m.start e.from_elements e.before.start above8 (omega arith) in
+    above_of 7 6 IsExport m.exports e.before.before.from_exports e.before.from_start e.before.before.exports
+    above7 (omega arith)
 
-pub middle_complete : (limited : Bool) (bytes : List ℕ) (m : Module) (rest : List ℕ) (e : UpToElements bytes m rest) → Above 9 rest
+pub middle_complete :
+    (limited : Bool) (bytes : List ℕ) (m : Module) (rest : List ℕ) (e : UpToElements bytes m rest) → Above 9 rest
     → Complete (Fits limited m) (middle_of_module m, rest) (read_middle limited e.before.before.from_exports)
 unfolding read_middle
 middle_complete limited bytes m rest e above =
-    let above8 : Above 8 e.from_elements = above_of 9 8 IsElement m.elements e.from_elements rest e.elements above (omega arith) in
-    let above7 : Above 7 e.before.from_start = part_above 8 7 IsStart None e.before.from_start m.start e.from_elements e.before.start above8 (omega arith) in
+    let above8 :
+    Above 8 e.from_elements =
+    above_of 9 8 IsElement m.elements e.from_elements rest e.elements above (omega arith) in
+    let above7 :
+    Above 7 e.before.from_start =
+    part_above 8 7 IsStart None e.before.from_start m.start e.from_elements e.before.start above8 (omega arith) in
     complete_then _ (exports_complete m e.before.before.from_exports e.before.from_start e.before.before.exports above7)
     (complete_then _ (start_section_complete m e.before.from_start e.from_elements e.before.start above8)
-    (complete_then _ (elements_complete limited m e.from_elements rest e.elements above) (complete_ok refl) (λ w. w)) always) always
+    (complete_then _ (elements_complete limited m e.from_elements rest e.elements above) (complete_ok refl) (λ w. w))
+    always) always
 
-pub funcs_complete : (limited : Bool) (bytes : List ℕ) (m : Module) (rest : List ℕ) (c : UpToCodes bytes m rest) → Above 10 rest
+pub funcs_complete :
+    (limited : Bool) (bytes : List ℕ) (m : Module) (rest : List ℕ) (c : UpToCodes bytes m rest) → Above 10 rest
     → Complete (Fits limited m) (m.funcs, rest) (read_funcs limited m.types (indices_of m.funcs) c.from_codes)
 unfolding read_funcs
 funcs_complete limited bytes m rest c above =
-    complete_then _ (part_complete code_section (IsVector IsEntry) (limited ≡ true → AllByRecursion (FuncWithin m.types) m.funcs) (read_codes limited m.types (indices_of m.funcs)) [] m.funcs
+    complete_then _
+    (part_complete code_section (IsVector IsEntry) (limited ≡ true → AllByRecursion (FuncWithin m.types) m.funcs)
+    (read_codes limited m.types (indices_of m.funcs)) [] m.funcs
     (λ part k. codes_complete limited m.types m.funcs part [] k) c.from_codes rest c.codes above)
-    (complete_need (eq-eqb (length m.funcs) (length (indices_of m.funcs)) (sym (length_indices m.funcs))) (complete_ok refl))
+    (complete_need (eq-eqb (length m.funcs) (length (indices_of m.funcs)) (sym (length_indices m.funcs)))
+    (complete_ok refl))
     (λ w l. recursion_from_All (FuncWithin m.types) m.funcs (w l).funcs)
 
-last_complete : (limited : Bool) (bytes : List ℕ) (m : Module) (s : Spells bytes m) → Complete (Fits limited m) m.segments (read_last limited s.from_segments)
+last_complete :
+    (limited : Bool) (bytes : List ℕ) (m : Module) (s : Spells bytes m)
+    → Complete (Fits limited m) m.segments (read_last limited s.from_segments)
 unfolding read_last
 last_complete limited bytes m s =
-    complete_then _ (vector_section limited data_section IsSegment (λ (d : Segment). NestsWithin d.offset) (read_segment limited) (segment_complete limited) m.segments s.from_segments [] s.segments tt)
-    (complete_need refl (complete_ok refl)) (λ w l. recursion_from_All (λ (d : Segment). NestsWithin d.offset) m.segments (w l).segments)
+    complete_then _
+    (vector_section limited data_section IsSegment (λ (d : Segment). NestsWithin d.offset) (read_segment limited)
+    (segment_complete limited) m.segments s.from_segments [] s.segments tt)
+    (complete_need refl (complete_ok refl))
+    (λ w l. recursion_from_All (λ (d : Segment). NestsWithin d.offset) m.segments (w l).segments)
 
-sections_complete : (limited : Bool) (bytes : List ℕ) (m : Module) (s : Spells bytes m) → Complete (Fits limited m) m (read_sections limited s.before.before.before.before.before.before.before.before.before.before.sections)
+sections_complete :
+    (limited : Bool) (bytes : List ℕ) (m : Module) (s : Spells bytes m)
+    → Complete (Fits limited m) m
+    (read_sections limited s.before.before.before.before.before.before.before.before.before.before.sections)
 unfolding read_sections
 sections_complete limited bytes m s =
     let c : UpToCodes bytes m s.from_segments = s.before in
     let e : UpToElements bytes m c.from_codes = c.before in
     let g : UpToGlobals bytes m e.before.before.from_exports = e.before.before.before in
-    let above10 : Above 10 s.from_segments = above_of 11 10 IsSegment m.segments s.from_segments [] s.segments tt (omega arith) in
-    let above9 : Above 9 c.from_codes = above_of 10 9 IsEntry m.funcs c.from_codes s.from_segments c.codes above10 (omega arith) in
+    let above10 :
+    Above 10 s.from_segments = above_of 11 10 IsSegment m.segments s.from_segments [] s.segments tt (omega arith) in
+    let above9 :
+    Above 9 c.from_codes =
+    above_of 10 9 IsEntry m.funcs c.from_codes s.from_segments c.codes above10 (omega arith) in
     let above6 : Above 6 e.before.before.from_exports = middle_above bytes m c.from_codes e above9 in
     let above3 : Above 3 g.before.before.from_tables = stores_above bytes m e.before.before.from_exports g above6 in
     complete_then _ (head_complete limited bytes m g.before.before.from_tables g.before.before.before above3)
@@ -239,7 +362,9 @@ sections_complete limited bytes m s =
     (complete_then _ (last_complete limited bytes m s) (complete_ok refl) (λ w. w)) (λ w. w)) (λ w. w)) (λ w. w))
     (λ w l. let few = (w l).functions in omega (arith, length_indices m.funcs))
 
-pub read_complete : (limited : Bool) (bytes : List ℕ) (m : Module) → Spells bytes m → Complete (limited ≡ true → Within m × (length bytes ≤ max_module_bytes)) m (read_module limited bytes)
+pub read_complete :
+    (limited : Bool) (bytes : List ℕ) (m : Module) → Spells bytes m
+    → Complete (limited ≡ true → Within m × (length bytes ≤ max_module_bytes)) m (read_module limited bytes)
 unfolding read_module
 read_complete limited bytes m s =
     let t = s.before.before.before.before.before.before.before.before.before.before in

@@ -17,15 +17,23 @@ use Rattle.wasm_binary.proofs.ItemLoop.{with_front, regroup}
 
 -- ---- instructions
 
-pub op_goes_on : (inner : Inner) (front : List Op) (most i : ℕ) (bytes : List ℕ) (o : Op) (after : List ℕ) (total : Read (List Op)) → i < most → is_end bytes ≡ false → read_op inner bytes ≡ Ok (o, after)
-    → with_front front (read_ops inner (most - i) bytes) ≡ total → with_front (front ++ o ∷ []) (read_ops inner (most - (i + 1)) after) ≡ total
+pub op_goes_on :
+    (inner : Inner) (front : List Op) (most i : ℕ) (bytes : List ℕ) (o : Op) (after : List ℕ) (total : Read (List Op))
+    → i < most → is_end bytes ≡ false → read_op inner bytes ≡ Ok (o, after)
+    → with_front front (read_ops inner (most - i) bytes) ≡ total
+    → with_front (front ++ o ∷ []) (read_ops inner (most - (i + 1)) after) ≡ total
 unfolding read_ops
 op_goes_on inner front most i bytes o after total lt e h so_far =
     let k : most - i ≡ suc (most - (i + 1)) = omega arith in
-    let one : with_front front (read_ops inner (most - i) bytes) ≡ with_front (front ++ o ∷ []) (read_ops inner (most - (i + 1)) after) = rw (k, e, h) (regroup front o (read_ops inner (most - (i + 1)) after)) in
+    let one :
+    with_front front (read_ops inner (most - i) bytes)
+    ≡ with_front (front ++ o ∷ []) (read_ops inner (most - (i + 1)) after) =
+    rw (k, e, h) (regroup front o (read_ops inner (most - (i + 1)) after)) in
     sym one ∙ so_far
 
-pub op_fails : (inner : Inner) (e : ReadError) (front : List Op) (most i : ℕ) (bytes : List ℕ) (total : Read (List Op)) → i < most → is_end bytes ≡ false → Fails e (read_op inner bytes)
+pub op_fails :
+    (inner : Inner) (e : ReadError) (front : List Op) (most i : ℕ) (bytes : List ℕ) (total : Read (List Op)) → i < most
+    → is_end bytes ≡ false → Fails e (read_op inner bytes)
     → with_front front (read_ops inner (most - i) bytes) ≡ total → Fails e total
 unfolding read_ops
 op_fails inner errors.Memory front most i bytes total lt b h so_far = tt
@@ -34,12 +42,16 @@ op_fails inner (errors.Fault f) front most i bytes total lt b h so_far =
     let one : with_front front (read_ops inner (most - i) bytes) ≡ Err f = rw (k, b, h) refl in
     sym so_far ∙ one
 
-pub ops_end : (inner : Inner) (front : List Op) (most i : ℕ) (bytes : List ℕ) (total : Read (List Op)) → i < most → is_end bytes ≡ true
+pub ops_end :
+    (inner : Inner) (front : List Op) (most i : ℕ) (bytes : List ℕ) (total : Read (List Op)) → i < most
+    → is_end bytes ≡ true
     → with_front front (read_ops inner (most - i) bytes) ≡ total → total ≡ Ok (front, bytes)
 unfolding read_ops
 ops_end inner front most i bytes total lt b so_far =
     let k : most - i ≡ suc (most - (i + 1)) = omega arith in
-    let one : with_front front (read_ops inner (most - i) bytes) ≡ Ok (front, bytes) = rw (k, b) (ap (λ (os : List Op). Ok (os, bytes)) (append-nil front)) in
+    let one :
+    with_front front (read_ops inner (most - i) bytes) ≡ Ok (front, bytes) =
+    rw (k, b) (ap (λ (os : List Op). Ok (os, bytes)) (append-nil front)) in
     sym so_far ∙ one
 
 pub ops_run_out : (inner : Inner) (front : List Op) (most i : ℕ) (bytes : List ℕ) (total : Read (List Op)) → most ≤ i
@@ -67,31 +79,45 @@ inner_none zero e = refl
 inner_none (suc more) e = absurd (omega arith)
 
 -- where blocks are opened
-pub block_over : (more : ℕ) (bytes : List ℕ) (b : ℕ) (rest : List ℕ) → read_byte bytes ≡ Ok (b, rest) → opens_block b ≡ true → more ≡ 0 → read_op (inner_of more) bytes ≡ Err Over
+pub block_over :
+    (more : ℕ) (bytes : List ℕ) (b : ℕ) (rest : List ℕ) → read_byte bytes ≡ Ok (b, rest) → opens_block b ≡ true
+    → more ≡ 0 → read_op (inner_of more) bytes ≡ Err Over
 unfolding read_op read_with_opcode
 block_over more bytes b rest h o e = rw (h, o, inner_none more e) refl
 
-pub block_read : (more : ℕ) (bytes : List ℕ) (b : ℕ) (rest : List ℕ) → read_byte bytes ≡ Ok (b, rest) → opens_block b ≡ true → 0 < more → read_op (inner_of more) bytes ≡ read_nested (read_body (more - 1)) b rest
+pub block_read :
+    (more : ℕ) (bytes : List ℕ) (b : ℕ) (rest : List ℕ) → read_byte bytes ≡ Ok (b, rest) → opens_block b ≡ true
+    → 0 < more → read_op (inner_of more) bytes ≡ read_nested (read_body (more - 1)) b rest
 unfolding read_op read_with_opcode
 block_read more bytes b rest h o lt = rw (h, o, inner_some more lt) refl
 
 -- ---- runs of locals
 
-regroup_run : (front run : List ValType) (read : Read (List ValType)) → with_front front (read >>= λ x. Ok (run ++ x.0, x.1)) ≡ with_front (front ++ run) read
+regroup_run :
+    (front run : List ValType) (read : Read (List ValType))
+    → with_front front (read >>= λ x. Ok (run ++ x.0, x.1)) ≡ with_front (front ++ run) read
 regroup_run front run (Ok x) = ap (λ (ts : List ValType). Ok (ts, x.1)) (sym (append_assoc front run x.0))
 regroup_run front run (Err f) = refl
 
-pub run_goes_on : (front : List ValType) (before count i : ℕ) (bytes : List ℕ) (n : ℕ) (mid : List ℕ) (t : ValType) (after : List ℕ) (total : Read (List ValType)) → i < count
+pub run_goes_on :
+    (front : List ValType) (before count i : ℕ) (bytes : List ℕ) (n : ℕ) (mid : List ℕ) (t : ValType) (after : List ℕ)
+    (total : Read (List ValType)) → i < count
     → read_u32 bytes ≡ Ok (n, mid) → before + n ≤ max_locals → read_val_type mid ≡ Ok (t, after)
-    → with_front front (read_runs true before (count - i) bytes) ≡ total → with_front (front ++ replicate n t) (read_runs true (before + n) (count - (i + 1)) after) ≡ total
+    → with_front front (read_runs true before (count - i) bytes) ≡ total
+    → with_front (front ++ replicate n t) (read_runs true (before + n) (count - (i + 1)) after) ≡ total
 unfolding read_runs
 run_goes_on front before count i bytes n mid t after total lt a fits b so_far =
     let k : count - i ≡ suc (count - (i + 1)) = omega arith in
-    let one : with_front front (read_runs true before (count - i) bytes) ≡ with_front (front ++ replicate n t) (read_runs true (before + n) (count - (i + 1)) after) =
-    rw (k, a, le-ltb max_locals (before + n) fits, b) (regroup_run front (replicate n t) (read_runs true (before + n) (count - (i + 1)) after)) in
+    let one :
+    with_front front (read_runs true before (count - i) bytes)
+    ≡ with_front (front ++ replicate n t) (read_runs true (before + n) (count - (i + 1)) after) =
+    rw (k, a, le-ltb max_locals (before + n) fits, b)
+    (regroup_run front (replicate n t) (read_runs true (before + n) (count - (i + 1)) after)) in
     sym one ∙ so_far
 
-pub run_count_fails : (e : ReadError) (front : List ValType) (before count i : ℕ) (bytes : List ℕ) (total : Read (List ValType)) → i < count → Fails e (read_u32 bytes)
+pub run_count_fails :
+    (e : ReadError) (front : List ValType) (before count i : ℕ) (bytes : List ℕ) (total : Read (List ValType))
+    → i < count → Fails e (read_u32 bytes)
     → with_front front (read_runs true before (count - i) bytes) ≡ total → Fails e total
 unfolding read_runs
 run_count_fails errors.Memory front before count i bytes total lt h so_far = tt
@@ -100,23 +126,31 @@ run_count_fails (errors.Fault f) front before count i bytes total lt h so_far =
     let one : with_front front (read_runs true before (count - i) bytes) ≡ Err f = rw (k, h) refl in
     sym so_far ∙ one
 
-pub run_over : (front : List ValType) (before count i : ℕ) (bytes : List ℕ) (n : ℕ) (mid : List ℕ) (total : Read (List ValType)) → i < count
+pub run_over :
+    (front : List ValType) (before count i : ℕ) (bytes : List ℕ) (n : ℕ) (mid : List ℕ) (total : Read (List ValType))
+    → i < count
     → read_u32 bytes ≡ Ok (n, mid) → max_locals < before + n
     → with_front front (read_runs true before (count - i) bytes) ≡ total → total ≡ Err Over
 unfolding read_runs
 run_over front before count i bytes n mid total lt a over so_far =
     let k : count - i ≡ suc (count - (i + 1)) = omega arith in
-    let one : with_front front (read_runs true before (count - i) bytes) ≡ Err Over = rw (k, a, lt-ltb max_locals (before + n) over) refl in
+    let one :
+    with_front front (read_runs true before (count - i) bytes) ≡ Err Over =
+    rw (k, a, lt-ltb max_locals (before + n) over) refl in
     sym so_far ∙ one
 
-pub run_type_fails : (e : ReadError) (front : List ValType) (before count i : ℕ) (bytes : List ℕ) (n : ℕ) (mid : List ℕ) (total : Read (List ValType)) → i < count
+pub run_type_fails :
+    (e : ReadError) (front : List ValType) (before count i : ℕ) (bytes : List ℕ) (n : ℕ) (mid : List ℕ)
+    (total : Read (List ValType)) → i < count
     → read_u32 bytes ≡ Ok (n, mid) → before + n ≤ max_locals → Fails e (read_val_type mid)
     → with_front front (read_runs true before (count - i) bytes) ≡ total → Fails e total
 unfolding read_runs
 run_type_fails errors.Memory front before count i bytes n mid total lt a fits h so_far = tt
 run_type_fails (errors.Fault f) front before count i bytes n mid total lt a fits h so_far =
     let k : count - i ≡ suc (count - (i + 1)) = omega arith in
-    let one : with_front front (read_runs true before (count - i) bytes) ≡ Err f = rw (k, a, le-ltb max_locals (before + n) fits, h) refl in
+    let one :
+    with_front front (read_runs true before (count - i) bytes) ≡ Err f =
+    rw (k, a, le-ltb max_locals (before + n) fits, h) refl in
     sym so_far ∙ one
 
 pub runs_done : (front : List ValType) (before count i : ℕ) (bytes : List ℕ) (total : Read (List ValType)) → count ≤ i
@@ -124,7 +158,9 @@ pub runs_done : (front : List ValType) (before count i : ℕ) (bytes : List ℕ)
 unfolding read_runs
 runs_done front before count i bytes total le so_far =
     let k : count - i ≡ 0 = omega arith in
-    let one : with_front front (read_runs true before (count - i) bytes) ≡ Ok (front, bytes) = rw k (ap (λ (ts : List ValType). Ok (ts, bytes)) (append-nil front)) in
+    let one :
+    with_front front (read_runs true before (count - i) bytes) ≡ Ok (front, bytes) =
+    rw k (ap (λ (ts : List ValType). Ok (ts, bytes)) (append-nil front)) in
     sym so_far ∙ one
 
 -- ---- entries
@@ -132,35 +168,53 @@ runs_done front before count i bytes total le so_far =
 abbrev pub entry_at : List FuncType → (index : ℕ) → List ℕ → Read Func
 entry_at types index bytes = read_sized (read_code true (params_of types index) index) bytes
 
-pub code_goes_on : (types : List FuncType) (front : List Func) (indices : List ℕ) (i index : ℕ) (bytes : List ℕ) (f : Func) (after : List ℕ) (total : Read (List Func)) → i < length indices
+pub code_goes_on :
+    (types : List FuncType) (front : List Func) (indices : List ℕ) (i index : ℕ) (bytes : List ℕ) (f : Func)
+    (after : List ℕ) (total : Read (List Func)) → i < length indices
     → index ≡ get_or indices i 0 → entry_at types index bytes ≡ Ok (f, after)
-    → with_front front (read_entries true types (drop i indices) bytes) ≡ total → with_front (front ++ f ∷ []) (read_entries true types (drop (i + 1) indices) after) ≡ total
+    → with_front front (read_entries true types (drop i indices) bytes) ≡ total
+    → with_front (front ++ f ∷ []) (read_entries true types (drop (i + 1) indices) after) ≡ total
 unfolding read_entries
 code_goes_on types front indices i index bytes f after total lt is h so_far =
-    let k : drop i indices ≡ index ∷ drop (i + 1) indices = drop_more indices i 0 lt ∙ ap (λ n. n ∷ drop (i + 1) indices) (sym is) in
-    let one : with_front front (read_entries true types (drop i indices) bytes) ≡ with_front (front ++ f ∷ []) (read_entries true types (drop (i + 1) indices) after) = rw (k, h) (regroup front f (read_entries true types (drop (i + 1) indices) after)) in
+    let k :
+    drop i indices ≡ index ∷ drop (i + 1) indices =
+    drop_more indices i 0 lt ∙ ap (λ n. n ∷ drop (i + 1) indices) (sym is) in
+    let one :
+    with_front front (read_entries true types (drop i indices) bytes)
+    ≡ with_front (front ++ f ∷ []) (read_entries true types (drop (i + 1) indices) after) =
+    rw (k, h) (regroup front f (read_entries true types (drop (i + 1) indices) after)) in
     sym one ∙ so_far
 
-pub code_fails : (types : List FuncType) (e : ReadError) (front : List Func) (indices : List ℕ) (i index : ℕ) (bytes : List ℕ) (total : Read (List Func)) → i < length indices
+pub code_fails :
+    (types : List FuncType) (e : ReadError) (front : List Func) (indices : List ℕ) (i index : ℕ) (bytes : List ℕ)
+    (total : Read (List Func)) → i < length indices
     → index ≡ get_or indices i 0 → Fails e (entry_at types index bytes)
     → with_front front (read_entries true types (drop i indices) bytes) ≡ total → Fails e total
 unfolding read_entries
 code_fails types errors.Memory front indices i index bytes total lt is h so_far = tt
 code_fails types (errors.Fault f) front indices i index bytes total lt is h so_far =
-    let k : drop i indices ≡ index ∷ drop (i + 1) indices = drop_more indices i 0 lt ∙ ap (λ n. n ∷ drop (i + 1) indices) (sym is) in
+    let k :
+    drop i indices ≡ index ∷ drop (i + 1) indices =
+    drop_more indices i 0 lt ∙ ap (λ n. n ∷ drop (i + 1) indices) (sym is) in
     let one : with_front front (read_entries true types (drop i indices) bytes) ≡ Err f = rw (k, h) refl in
     sym so_far ∙ one
 
-pub codes_done : (types : List FuncType) (front : List Func) (indices : List ℕ) (i : ℕ) (bytes : List ℕ) (total : Read (List Func)) → length indices ≤ i
+pub codes_done :
+    (types : List FuncType) (front : List Func) (indices : List ℕ) (i : ℕ) (bytes : List ℕ) (total : Read (List Func))
+    → length indices ≤ i
     → with_front front (read_entries true types (drop i indices) bytes) ≡ total → total ≡ Ok (front, bytes)
 unfolding read_entries
 codes_done types front indices i bytes total le so_far =
-    let one : with_front front (read_entries true types (drop i indices) bytes) ≡ Ok (front, bytes) = rw (drop_all i indices le) (ap (λ (fs : List Func). Ok (fs, bytes)) (append-nil front)) in
+    let one :
+    with_front front (read_entries true types (drop i indices) bytes) ≡ Ok (front, bytes) =
+    rw (drop_all i indices le) (ap (λ (fs : List Func). Ok (fs, bytes)) (append-nil front)) in
     sym so_far ∙ one
 
 -- ---- custom sections
 
-pub custom_goes_on : (most i : ℕ) (bytes after : List ℕ) (total : Result (List ℕ) Fault) → i < most → begins_with custom_section bytes ≡ true → skip_custom (drop 1 bytes) ≡ Ok after
+pub custom_goes_on :
+    (most i : ℕ) (bytes after : List ℕ) (total : Result (List ℕ) Fault) → i < most
+    → begins_with custom_section bytes ≡ true → skip_custom (drop 1 bytes) ≡ Ok after
     → skip_some_customs (most - i) bytes ≡ total → skip_some_customs (most - (i + 1)) after ≡ total
 unfolding skip_some_customs
 custom_goes_on most i bytes after total lt b h so_far =
@@ -168,7 +222,9 @@ custom_goes_on most i bytes after total lt b h so_far =
     let one : skip_some_customs (most - i) bytes ≡ skip_some_customs (most - (i + 1)) after = rw (k, b, h) refl in
     sym one ∙ so_far
 
-pub custom_fails : (e : ReadError) (most i : ℕ) (bytes : List ℕ) (total : Result (List ℕ) Fault) → i < most → begins_with custom_section bytes ≡ true → Fails e (skip_custom (drop 1 bytes))
+pub custom_fails :
+    (e : ReadError) (most i : ℕ) (bytes : List ℕ) (total : Result (List ℕ) Fault) → i < most
+    → begins_with custom_section bytes ≡ true → Fails e (skip_custom (drop 1 bytes))
     → skip_some_customs (most - i) bytes ≡ total → Fails e total
 unfolding skip_some_customs
 custom_fails errors.Memory most i bytes total lt b h so_far = tt
@@ -177,7 +233,8 @@ custom_fails (errors.Fault f) most i bytes total lt b h so_far =
     let one : skip_some_customs (most - i) bytes ≡ Err f = rw (k, b, h) refl in
     sym so_far ∙ one
 
-pub customs_end : (most i : ℕ) (bytes : List ℕ) (total : Result (List ℕ) Fault) → i < most → begins_with custom_section bytes ≡ false
+pub customs_end :
+    (most i : ℕ) (bytes : List ℕ) (total : Result (List ℕ) Fault) → i < most → begins_with custom_section bytes ≡ false
     → skip_some_customs (most - i) bytes ≡ total → total ≡ Ok bytes
 unfolding skip_some_customs
 customs_end most i bytes total lt b so_far =

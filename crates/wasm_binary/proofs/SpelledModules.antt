@@ -21,7 +21,8 @@ use Rattle.wasm_binary.proofs.Powers.{fits}
 unsigned_below : (bits : ℕ) (bytes : List ℕ) (n : ℕ) (rest : List ℕ) → IsUnsigned bits bytes n rest → n < 2 ^ bits
 unsigned_below bits [] n rest h = absurd h
 unsigned_below bits (b ∷ bs) n rest (inl h) = omega (arith, h.1.0, h.1.1)
-unsigned_below bits (b ∷ bs) n rest (inr h) = subst (λ (k : ℕ). k < 2 ^ bits) (sym h.5) (fits bits h.3 b h.2 (unsigned_below (bits - 7) bs h.3 rest h.4) h.1)
+unsigned_below bits (b ∷ bs) n rest (inr h) =
+    subst (λ (k : ℕ). k < 2 ^ bits) (sym h.5) (fits bits h.3 b h.2 (unsigned_below (bits - 7) bs h.3 rest h.4) h.1)
 
 last_below : (bits b n : ℕ) → b < 128 → IsLastSigned bits b n → n < 2 ^ bits
 last_below bits b n lt (inl h) = omega (arith, h.1, h.2)
@@ -30,13 +31,18 @@ last_below bits b n lt (inr h) = omega (arith, h.2)
 signed_below : (bits : ℕ) (bytes : List ℕ) (n : ℕ) (rest : List ℕ) → IsSigned bits bytes n rest → n < 2 ^ bits
 signed_below bits [] n rest h = absurd h
 signed_below bits (b ∷ bs) n rest (inl h) = last_below bits b n h.0 h.1
-signed_below bits (b ∷ bs) n rest (inr h) = subst (λ (k : ℕ). k < 2 ^ bits) (sym h.5) (fits bits h.3 b h.2 (signed_below (bits - 7) bs h.3 rest h.4) h.1)
+signed_below bits (b ∷ bs) n rest (inr h) =
+    subst (λ (k : ℕ). k < 2 ^ bits) (sym h.5) (fits bits h.3 b h.2 (signed_below (bits - 7) bs h.3 rest h.4) h.1)
 
-items_all : {X : Type 0} (IsX : Form X) (P : X → Type 0) → ((x : X) (part rest : List ℕ) → IsX part x rest → P x) → (xs : List X) (bytes rest : List ℕ) → AreItems IsX bytes xs rest → AllByRecursion P xs
+items_all :
+    {X : Type 0} (IsX : Form X) (P : X → Type 0) → ((x : X) (part rest : List ℕ) → IsX part x rest → P x)
+    → (xs : List X) (bytes rest : List ℕ) → AreItems IsX bytes xs rest → AllByRecursion P xs
 items_all IsX P each [] bytes rest h = tt
 items_all IsX P each (x ∷ xs) bytes rest h = (each x bytes h.0 h.1, items_all IsX P each xs h.0 rest h.2)
 
-section_all : {X : Type 0} (id : ℕ) (IsX : Form X) (P : X → Type 0) → ((x : X) (part rest : List ℕ) → IsX part x rest → P x) → (xs : List X) (bytes rest : List ℕ) → IsSection id IsX bytes xs rest → AllByRecursion P xs
+section_all :
+    {X : Type 0} (id : ℕ) (IsX : Form X) (P : X → Type 0) → ((x : X) (part rest : List ℕ) → IsX part x rest → P x)
+    → (xs : List X) (bytes rest : List ℕ) → IsSection id IsX bytes xs rest → AllByRecursion P xs
 section_all id IsX P each xs bytes rest (inl h) = items_all IsX P each xs h.3.4.0 [] h.3.4.2
 section_all id IsX P each xs bytes rest (inr h) = subst (AllByRecursion P) (sym h.0) tt
 
@@ -44,7 +50,8 @@ u32_below : (n : ℕ) (bytes rest : List ℕ) → numbers.IsU32 bytes n rest →
 u32_below n bytes rest h = unsigned_below 32 bytes n rest h
 
 indices_below : (ns : List ℕ) (bytes rest : List ℕ) → IsVector numbers.IsU32 bytes ns rest → All ranged.IsU32 ns
-indices_below ns bytes rest h = All-from_recursion ranged.IsU32 ns (items_all numbers.IsU32 ranged.IsU32 u32_below ns h.0 rest h.2)
+indices_below ns bytes rest h =
+    All-from_recursion ranged.IsU32 ns (items_all numbers.IsU32 ranged.IsU32 u32_below ns h.0 rest h.2)
 
 immediates_below : (s : Simple) (bytes rest : List ℕ) → AreImmediates bytes s rest → RangedSimple s
 immediates_below (Br label) bytes rest h = u32_below label bytes rest h
@@ -54,7 +61,8 @@ immediates_below (Local op index) bytes rest h = u32_below index bytes rest h
 immediates_below (Global op index) bytes rest h = u32_below index bytes rest h
 immediates_below (Load op at) bytes rest h = (u32_below at.align bytes h.0 h.1, u32_below at.offset h.0 rest h.2)
 immediates_below (Store op at) bytes rest h = (u32_below at.align bytes h.0 h.1, u32_below at.offset h.0 rest h.2)
-immediates_below (BrTable labels other) bytes rest h = (indices_below labels bytes h.0 h.1, u32_below other h.0 rest h.2)
+immediates_below (BrTable labels other) bytes rest h =
+    (indices_below labels bytes h.0 h.1, u32_below other h.0 rest h.2)
 immediates_below (CallIndirect index) bytes rest h = u32_below index bytes (reserved_byte ∷ rest) h
 immediates_below (Const (I32 n)) bytes rest h = signed_below 32 bytes n rest h
 immediates_below (Const (I64 n)) bytes rest h = signed_below 64 bytes n rest h
@@ -76,14 +84,17 @@ mutual
   op_below (simple s) bytes rest h = immediates_below s h.0 rest h.2
   op_below (block type body) bytes rest h = ops_below body h.1 (end_byte ∷ rest) h.4
   op_below (loop type body) bytes rest h = ops_below body h.1 (end_byte ∷ rest) h.4
-  op_below (if' type first second) bytes rest (from, mid, e, t, inl h) = (ops_below first mid (end_byte ∷ rest) h.0, subst RangedOps (sym h.1) tt)
-  op_below (if' type first second) bytes rest (from, mid, e, t, inr h) = (ops_below first mid (else_byte ∷ h.0) h.1, ops_below second h.0 (end_byte ∷ rest) h.2)
+  op_below (if' type first second) bytes rest (from, mid, e, t, inl h) =
+      (ops_below first mid (end_byte ∷ rest) h.0, subst RangedOps (sym h.1) tt)
+  op_below (if' type first second) bytes rest (from, mid, e, t, inr h) =
+      (ops_below first mid (else_byte ∷ h.0) h.1, ops_below second h.0 (end_byte ∷ rest) h.2)
 
   ops_below : (os : Ops) (bytes rest : List ℕ) → AreOps bytes os rest → RangedOps os
   ops_below stop bytes rest h = tt
   ops_below (next o os) bytes rest h = (op_below o bytes h.0 h.1, ops_below os h.0 rest h.2)
 
-sizes_below : (min : ℕ) (max : Option ℕ) (bytes rest : List ℕ) → AreSizes bytes min max rest → ranged.IsU32 min × RangedMax max
+sizes_below :
+    (min : ℕ) (max : Option ℕ) (bytes rest : List ℕ) → AreSizes bytes min max rest → ranged.IsU32 min × RangedMax max
 sizes_below min None bytes rest h = (u32_below min h.0 rest h.2, tt)
 sizes_below min (Some max) bytes rest h = (u32_below min h.0 h.1 h.3, u32_below max h.1 rest h.4)
 
@@ -98,7 +109,9 @@ start_below : (x : Option ℕ) (bytes rest : List ℕ) → IsPart start_section 
 start_below x bytes rest (inl h) = given_below x h.3.0 [] h.3.4
 start_below x bytes rest (inr h) = subst RangedStart (sym h.0) tt
 
-funcs_below : (fs : List Func) → AllByRecursion ranged.IsU32 (indices_of fs) → AllByRecursion (λ f. RangedOps f.body) fs → AllByRecursion RangedFunc fs
+funcs_below :
+    (fs : List Func) → AllByRecursion ranged.IsU32 (indices_of fs) → AllByRecursion (λ f. RangedOps f.body) fs
+    → AllByRecursion RangedFunc fs
 funcs_below [] a b = tt
 funcs_below (f ∷ fs) a b = ((a.0, b.0), funcs_below fs a.1 b.1)
 
@@ -114,23 +127,49 @@ spelled_ranged bytes m s =
     let f : UpToFunctions bytes m t.from_tables = t.before in
     let i : UpToImports bytes m f.from_functions = f.before in
     record {
-      imports = All-from_recursion RangedImport m.imports (section_all import_section IsImport RangedImport (λ i part rest h. u32_below i.type_index h.2 rest h.6) m.imports i.from_imports f.from_functions i.imports);
+      imports =
+          All-from_recursion RangedImport m.imports
+          (section_all import_section IsImport RangedImport (λ i part rest h. u32_below i.type_index h.2 rest h.6)
+          m.imports i.from_imports f.from_functions i.imports);
       funcs = All-from_recursion RangedFunc m.funcs (funcs_below m.funcs
-          (section_all function_section numbers.IsU32 ranged.IsU32 u32_below (indices_of m.funcs) f.from_functions t.from_tables f.functions)
-          (section_all code_section IsEntry (λ f. RangedOps f.body) (λ f part rest h. ops_below f.body h.4.0 (end_byte ∷ []) h.4.2) m.funcs c.from_codes s.from_segments c.codes));
-      tables = All-from_recursion RangedLimits m.tables (section_all table_section IsTable RangedLimits (λ l part rest h. limits_below l h.0 rest h.2) m.tables t.from_tables me.from_memories t.tables);
-      memories = All-from_recursion RangedLimits m.memories (section_all memory_section IsMemory RangedLimits limits_below m.memories me.from_memories g.from_globals me.memories);
-      globals = All-from_recursion RangedGlobal m.globals (section_all global_section IsGlobal RangedGlobal (λ g part rest h. ops_below g.init h.1 (end_byte ∷ rest) h.4) m.globals g.from_globals x.from_exports g.globals);
-      exports = All-from_recursion RangedExport m.exports (section_all export_section IsExport RangedExport (λ e part rest h. u32_below e.index h.1 rest h.4) m.exports x.from_exports st.from_start x.exports);
+          (section_all function_section numbers.IsU32 ranged.IsU32 u32_below (indices_of m.funcs) f.from_functions
+          t.from_tables f.functions)
+          (section_all code_section IsEntry (λ f. RangedOps f.body)
+          (λ f part rest h. ops_below f.body h.4.0 (end_byte ∷ []) h.4.2) m.funcs c.from_codes
+          s.from_segments c.codes));
+      tables =
+          All-from_recursion RangedLimits m.tables
+          (section_all table_section IsTable RangedLimits (λ l part rest h. limits_below l h.0 rest h.2) m.tables
+          t.from_tables me.from_memories t.tables);
+      memories =
+          All-from_recursion RangedLimits m.memories
+          (section_all memory_section IsMemory RangedLimits limits_below m.memories me.from_memories
+          g.from_globals me.memories);
+      globals =
+          All-from_recursion RangedGlobal m.globals
+          (section_all global_section IsGlobal RangedGlobal
+          (λ g part rest h. ops_below g.init h.1 (end_byte ∷ rest) h.4) m.globals g.from_globals
+          x.from_exports g.globals);
+      exports =
+          All-from_recursion RangedExport m.exports
+          (section_all export_section IsExport RangedExport (λ e part rest h. u32_below e.index h.1 rest h.4)
+          m.exports x.from_exports st.from_start x.exports);
       start = start_below m.start st.from_start e.from_elements st.start;
       elements = All-from_recursion RangedElement m.elements (section_all element_section IsElement RangedElement
-          (λ e part rest h. (u32_below e.table part h.0 h.2, ops_below e.offset h.0 (end_byte ∷ h.1) h.3, indices_below e.funcs h.1 rest h.4)) m.elements e.from_elements c.from_codes e.elements);
+          (λ e part rest h. (
+            u32_below e.table part h.0 h.2,
+            ops_below e.offset h.0 (end_byte ∷ h.1) h.3,
+            indices_below e.funcs h.1 rest h.4,
+          )) m.elements e.from_elements c.from_codes e.elements);
       segments = All-from_recursion RangedSegment m.segments (section_all data_section IsSegment RangedSegment
-          (λ d part rest h. (u32_below d.memory part h.0 h.2, ops_below d.offset h.0 (end_byte ∷ h.1) h.3)) m.segments s.from_segments [] s.segments);
+          (λ d part rest h. (u32_below d.memory part h.0 h.2, ops_below d.offset h.0 (end_byte ∷ h.1) h.3)) m.segments
+          s.from_segments [] s.segments);
     }
 
 -- fewer than 2^32 locals
 pub spelled_locals : (bytes : List ℕ) (m : Module) → Spells bytes m → All (λ f. length f.locals < 2 ^ 32) m.funcs
 spelled_locals bytes m s =
     let c : UpToCodes bytes m s.from_segments = s.before in
-    All-from_recursion (λ f. length f.locals < 2 ^ 32) m.funcs (section_all code_section IsEntry (λ f. length f.locals < 2 ^ 32) (λ f part rest h. h.4.1.3) m.funcs c.from_codes s.from_segments c.codes)
+    All-from_recursion (λ f. length f.locals < 2 ^ 32) m.funcs
+    (section_all code_section IsEntry (λ f. length f.locals < 2 ^ 32) (λ f part rest h. h.4.1.3) m.funcs
+    c.from_codes s.from_segments c.codes)

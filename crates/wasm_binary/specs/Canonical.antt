@@ -30,7 +30,8 @@ use Rattle.wasm_binary.specs.Grammar.{indices_of}
 -- an unsigned number in the fewest bytes, one and at most this many more
 unfoldable pub canon_unsigned : (more : ℕ) → ℕ → List ℕ
 canon_unsigned zero n = n ∷ []
-canon_unsigned (suc more) n = if nat_lt n 128 then n ∷ [] else (128 + n % 128) ∷ canon_unsigned more (n / 128)
+canon_unsigned (suc more) n =
+    if nat_lt n 128 then n ∷ [] else (128 + n % 128) ∷ canon_unsigned more (n / 128)
 
 -- A signed number is given as its two's complement in that many bits. The last byte of one that is not
 -- below 0 is below 64, and the last byte of one below 0 is from 64 to 127.
@@ -39,12 +40,14 @@ last_signed bits n = if nat_lt (2 * n) (2 ^ bits) then n else (n + 128) - 2 ^ bi
 
 -- whether one byte holds it: it is from -64 to 63
 abbrev pub is_last_signed : (bits : ℕ) → ℕ → Bool
-is_last_signed bits n = if nat_lt (2 * n) (2 ^ bits) then nat_lt n 64 else nat_le (2 ^ bits) (n + 64)
+is_last_signed bits n =
+    if nat_lt (2 * n) (2 ^ bits) then nat_lt n 64 else nat_le (2 ^ bits) (n + 64)
 
 unfoldable pub canon_signed : (more bits : ℕ) → ℕ → List ℕ
 canon_signed zero bits n = last_signed bits n ∷ []
 canon_signed (suc more) bits n =
-    if is_last_signed bits n then last_signed bits n ∷ [] else (128 + n % 128) ∷ canon_signed more (bits - 7) (n / 128)
+    if is_last_signed bits n then last_signed bits n ∷ []
+    else (128 + n % 128) ∷ canon_signed more (bits - 7) (n / 128)
 
 abbrev pub canon_number : ℕ → List ℕ
 canon_number n = canon_unsigned 9 n
@@ -66,7 +69,8 @@ abbrev pub canon_val_type : ValType → List ℕ
 canon_val_type t = type_byte t ∷ []
 
 abbrev pub canon_func_type : FuncType → List ℕ
-canon_func_type t = func_type_byte ∷ (canon_vector canon_val_type t.params ++ canon_vector canon_val_type t.results)
+canon_func_type t =
+    func_type_byte ∷ (canon_vector canon_val_type t.params ++ canon_vector canon_val_type t.results)
 
 abbrev pub canon_block_type : BlockType → List ℕ
 canon_block_type Empty = empty_byte ∷ []
@@ -120,7 +124,8 @@ abbrev mutual
   canon_op (block type body) = block_byte ∷ canon_block_type type ++ canon_ops body ++ end_byte ∷ []
   canon_op (loop type body) = loop_byte ∷ canon_block_type type ++ canon_ops body ++ end_byte ∷ []
   canon_op (if' type then_arm else_arm) =
-      if_byte ∷ canon_block_type type ++ canon_ops then_arm ++ canon_else else_arm ++ canon_ops else_arm ++ end_byte ∷ []
+      if_byte ∷ canon_block_type type ++ canon_ops then_arm ++ canon_else else_arm
+      ++ canon_ops else_arm ++ end_byte ∷ []
 
   pub canon_ops : Ops → List ℕ
   canon_ops stop = []
@@ -147,7 +152,8 @@ runs_of locals = fold add_local [] locals
 abbrev pub AreLongest : List (ℕ × ValType) → Type 0
 AreLongest [] = Unit {0}
 AreLongest (run ∷ []) = 0 < run.0
-AreLongest (run ∷ next_run ∷ runs) = (0 < run.0) × (run.1 ≢ next_run.1) × AreLongest (next_run ∷ runs)
+AreLongest (run ∷ next_run ∷ runs) =
+    (0 < run.0) × (run.1 ≢ next_run.1) × AreLongest (next_run ∷ runs)
 
 abbrev pub canon_run : ℕ × ValType → List ℕ
 canon_run run = canon_number run.0 ++ canon_val_type run.1
@@ -164,7 +170,8 @@ abbrev pub canon_expression : Ops → List ℕ
 canon_expression os = canon_ops os ++ end_byte ∷ []
 
 abbrev pub canon_import : Import → List ℕ
-canon_import i = canon_name i.module ++ canon_name i.name ++ kind_byte kinds.Func ∷ canon_number i.type_index
+canon_import i =
+    canon_name i.module ++ canon_name i.name ++ kind_byte kinds.Func ∷ canon_number i.type_index
 
 abbrev pub canon_table : Limits → List ℕ
 canon_table l = table_type_byte ∷ canon_limits l
@@ -176,7 +183,8 @@ abbrev pub canon_export : Export → List ℕ
 canon_export e = canon_name e.name ++ kind_byte e.kind ∷ canon_number e.index
 
 abbrev pub canon_element : Element → List ℕ
-canon_element e = canon_number e.table ++ (canon_expression e.offset ++ canon_vector canon_number e.funcs)
+canon_element e =
+    canon_number e.table ++ (canon_expression e.offset ++ canon_vector canon_number e.funcs)
 
 abbrev pub canon_segment : Segment → List ℕ
 canon_segment s = canon_number s.memory ++ (canon_expression s.offset ++ canon_sized s.bytes)
@@ -195,13 +203,15 @@ canon_start (Some func) = start_section ∷ canon_sized (canon_number func)
 -- types, imports and the types of functions
 abbrev pub canon_front : Module → List ℕ
 canon_front m =
-    canon_section type_section canon_func_type m.types ++ canon_section import_section canon_import m.imports
+    canon_section type_section canon_func_type m.types
+    ++ canon_section import_section canon_import m.imports
     ++ canon_section function_section canon_number (indices_of m.funcs)
 
 -- tables, memories and globals
 abbrev pub canon_stores : Module → List ℕ
 canon_stores m =
-    canon_section table_section canon_table m.tables ++ canon_section memory_section canon_limits m.memories
+    canon_section table_section canon_table m.tables
+    ++ canon_section memory_section canon_limits m.memories
     ++ canon_section global_section canon_global m.globals
 
 -- exports, start function and element segments
@@ -213,7 +223,8 @@ canon_middle m =
 -- in rising order of ids
 abbrev pub canon : Module → List ℕ
 canon m =
-    preamble ++ canon_front m ++ canon_stores m ++ canon_middle m ++ canon_section code_section canon_entry m.funcs
+    preamble ++ canon_front m ++ canon_stores m ++ canon_middle m
+    ++ canon_section code_section canon_entry m.funcs
     ++ canon_section data_section canon_segment m.segments
 
 -- a module that is within the limits, and its canonical encoding too

@@ -39,7 +39,8 @@ IsVector IsX bytes xs rest = (mid : List ℕ) × IsU32 bytes (length xs) mid × 
 -- a size, and a part of exactly that size
 abbrev pub IsSized : {X : Type 0} → Form X → Form X
 IsSized IsX bytes x rest =
-    (part : List ℕ) × (mid : List ℕ) × IsU32 bytes (length part) mid × (mid ≡ part ++ rest) × IsX part x []
+    (part : List ℕ) × (mid : List ℕ) × IsU32 bytes (length part) mid
+    × (mid ≡ part ++ rest) × IsX part x []
 
 -- a vector of bytes
 abbrev pub AreBytes : Form (List ℕ)
@@ -56,7 +57,8 @@ IsValType bytes t rest = bytes ≡ type_byte t ∷ rest
 
 abbrev pub IsFuncType : Form FuncType
 IsFuncType bytes t rest =
-    (from : List ℕ) × (mid : List ℕ) × (bytes ≡ func_type_byte ∷ from) × IsVector IsValType from t.params mid
+    (from : List ℕ) × (mid : List ℕ) × (bytes ≡ func_type_byte ∷ from)
+    × IsVector IsValType from t.params mid
     × IsVector IsValType mid t.results rest
 
 -- the type of a block (5.4.1)
@@ -68,7 +70,8 @@ IsBlockType bytes (One t) rest = IsValType bytes t rest
 abbrev pub AreSizes : (bytes : List ℕ) → (min : ℕ) → (max : Option ℕ) → (rest : List ℕ) → Type 0
 AreSizes bytes min None rest = (from : List ℕ) × (bytes ≡ min_byte ∷ from) × IsU32 from min rest
 AreSizes bytes min (Some max) rest =
-    (from : List ℕ) × (mid : List ℕ) × (bytes ≡ min_max_byte ∷ from) × IsU32 from min mid × IsU32 mid max rest
+    (from : List ℕ) × (mid : List ℕ) × (bytes ≡ min_max_byte ∷ from) × IsU32 from min mid
+    × IsU32 mid max rest
 
 abbrev pub IsLimits : Form Limits
 IsLimits bytes l rest = AreSizes bytes l.min l.max rest
@@ -138,7 +141,8 @@ locals_of runs = flat_map (λ run. replicate run.0 run.1) runs
 -- the locals of all runs in order, fewer than 2 ^ 32
 abbrev pub AreLocals : Form (List ValType)
 AreLocals bytes locals rest =
-    (runs : List (ℕ × ValType)) × IsVector IsRun bytes runs rest × (locals ≡ locals_of runs) × (length locals < 2 ^ 32)
+    (runs : List (ℕ × ValType)) × IsVector IsRun bytes runs rest × (locals ≡ locals_of runs)
+    × (length locals < 2 ^ 32)
 
 -- locals and a body; the function's type is in the function section
 abbrev pub IsCode : Form Func
@@ -152,8 +156,10 @@ IsEntry = IsSized IsCode
 -- an import of a function (5.5.5); the profile has no other kind
 abbrev pub IsImport : Form Import
 IsImport bytes i rest =
-    (from_name : List ℕ) × (from_kind : List ℕ) × (from_type : List ℕ) × IsName bytes i.module from_name
-    × IsName from_name i.name from_kind × (from_kind ≡ kind_byte kinds.Func ∷ from_type) × IsU32 from_type i.type_index rest
+    (from_name : List ℕ) × (from_kind : List ℕ) × (from_type : List ℕ)
+    × IsName bytes i.module from_name
+    × IsName from_name i.name from_kind × (from_kind ≡ kind_byte kinds.Func ∷ from_type)
+    × IsU32 from_type i.type_index rest
 
 -- a table (5.5.7)
 abbrev pub IsTable : Form Limits
@@ -166,7 +172,8 @@ IsMemory = IsLimits
 -- a global (5.5.9)
 abbrev pub IsGlobal : Form declared_global.Global
 IsGlobal bytes g rest =
-    (from : List ℕ) × (mid : List ℕ) × IsValType bytes g.val_type from × (from ≡ mutability_byte g.mutability ∷ mid)
+    (from : List ℕ) × (mid : List ℕ) × IsValType bytes g.val_type from
+    × (from ≡ mutability_byte g.mutability ∷ mid)
     × IsExpression mid g.init rest
 
 -- an export (5.5.10)
@@ -199,7 +206,8 @@ abbrev pub IsNamed : Form (List ℕ × List ℕ)
 IsNamed bytes x rest = IsName bytes x.0 x.1 × (rest ≡ [])
 
 abbrev pub IsCustom : Form (List ℕ × List ℕ)
-IsCustom bytes x rest = (from : List ℕ) × (bytes ≡ custom_section ∷ from) × IsSized IsNamed from x rest
+IsCustom bytes x rest =
+    (from : List ℕ) × (bytes ≡ custom_section ∷ from) × IsSized IsNamed from x rest
 
 -- any number of custom sections; they mean nothing
 abbrev pub AreCustom : (bytes : List ℕ) → (rest : List ℕ) → Type 0
@@ -208,7 +216,8 @@ AreCustom bytes rest = (xs : List (List ℕ × List ℕ)) × AreItems IsCustom b
 -- the section of this id and the custom sections that follow it; or no byte, which means the empty value
 abbrev pub IsPart : {X : Type 0} → (id : ℕ) → Form X → (empty : X) → Form X
 IsPart id IsX empty bytes x rest =
-    ((from : List ℕ) × (after : List ℕ) × (bytes ≡ id ∷ from) × IsSized IsX from x after × AreCustom after rest)
+    ((from : List ℕ) × (after : List ℕ) × (bytes ≡ id ∷ from) × IsSized IsX from x after
+    × AreCustom after rest)
     ⊎ ((x ≡ empty) × (rest ≡ bytes))
 
 abbrev pub IsSection : {X : Type 0} → (id : ℕ) → Form X → Form (List X)

@@ -1,6 +1,7 @@
 -- Bytes that pass a limit of the profile: they are too many; or their front, read case by case, reaches a
--- number, a sum or a depth over a limit of modules. Nothing is asked of what follows that number. The sizes of
--- the section and of the body that contain it are not checked: what counts is within them and within the bytes.
+-- number, a sum or a depth over a limit of modules. Nothing is asked of what follows that number.
+-- The sizes of the section and of the body that contain it are not checked: what counts is within
+-- them and within the bytes.
 use Rattle.std.specs.Prelude.{◌≡◌, ℕ, zero, suc, ◌+◌, ◌<◌, List, ◌∷◌, length, take, Some, slice_get, ◌⊎◌}
 use Rattle.wasm_ast.specs.declared.values.ValType.{ValType}
 use Rattle.wasm_ast.specs.declared.instr.BlockType.{BlockType}
@@ -24,7 +25,8 @@ abbrev pub InSection : (id : ℕ) → (List ℕ → Type 0) → List ℕ → Typ
 InSection id P bytes = (from : List ℕ) × (bytes ≡ id ∷ from) × WithinSize P from
 
 -- within a vector: some items are whole, and the next one begins so
-abbrev pub InVector : {X : Type 0} → Form X → (P : (count : ℕ) → (xs : List X) → List ℕ → Type 0) → List ℕ → Type 0
+abbrev pub InVector :
+    {X : Type 0} → Form X → (P : (count : ℕ) → (xs : List X) → List ℕ → Type 0) → List ℕ → Type 0
 InVector {X} IsX P bytes =
     (count : ℕ) × (from : List ℕ) × (xs : List X) × (mid : List ℕ)
     × IsU32 bytes count from × AreItems IsX from xs mid × (length xs < count) × P count xs mid
@@ -33,7 +35,8 @@ InVector {X} IsX P bytes =
 
 -- a number that is over the limit together with this many before it
 abbrev pub NumberOver : (limit before : ℕ) → List ℕ → Type 0
-NumberOver limit before bytes = (n : ℕ) × (rest : List ℕ) × IsU32 bytes n rest × (limit < before + n)
+NumberOver limit before bytes =
+    (n : ℕ) × (rest : List ℕ) × IsU32 bytes n rest × (limit < before + n)
 
 -- locals of a function with this many parameters: the parameters are too many by themselves; or some runs
 -- are whole, and the count of the next one makes too many
@@ -45,11 +48,13 @@ LocalsOver params bytes =
 -- limits of a table or a memory, whose first size is over
 abbrev pub LimitsOver : (most : ℕ) → List ℕ → Type 0
 LimitsOver most bytes =
-    (flag : ℕ) × (from : List ℕ) × (bytes ≡ flag ∷ from) × ((flag ≡ min_byte) ⊎ (flag ≡ min_max_byte))
+    (flag : ℕ) × (from : List ℕ) × (bytes ≡ flag ∷ from)
+    × ((flag ≡ min_byte) ⊎ (flag ≡ min_max_byte))
     × NumberOver most 0 from
 
 abbrev pub TableOver : List ℕ → Type 0
-TableOver bytes = (from : List ℕ) × (bytes ≡ table_type_byte ∷ from) × LimitsOver max_table_entries from
+TableOver bytes =
+    (from : List ℕ) × (bytes ≡ table_type_byte ∷ from) × LimitsOver max_table_entries from
 
 abbrev pub MemoryOver : List ℕ → Type 0
 MemoryOver bytes = LimitsOver max_memory_pages bytes
@@ -63,13 +68,15 @@ OpensBlock b = (b ≡ block_byte) ⊎ (b ≡ loop_byte) ⊎ (b ≡ if_byte)
 -- the bytes begin with the opcode and the type of a block, a loop or an if, and its body follows
 abbrev pub BeginsBlock : (bytes : List ℕ) → (body : List ℕ) → Type 0
 BeginsBlock bytes body =
-    (b : ℕ) × (from : List ℕ) × (type : BlockType) × (bytes ≡ b ∷ from) × OpensBlock b × IsBlockType from type body
+    (b : ℕ) × (from : List ℕ) × (type : BlockType) × (bytes ≡ b ∷ from) × OpensBlock b
+    × IsBlockType from type body
 
 -- instructions where this many more blocks may be open, and one more than these opens: after whole
 -- instructions its opcode (its type is not read); or after whole instructions a block, whose body is so, or
 -- whose else arm is so
 unfoldable pub TooDeep : (more : ℕ) → List ℕ → Type 0
-TooDeep zero bytes = (os : Ops) × (b : ℕ) × (rest : List ℕ) × AreOps bytes os (b ∷ rest) × OpensBlock b
+TooDeep zero bytes =
+    (os : Ops) × (b : ℕ) × (rest : List ℕ) × AreOps bytes os (b ∷ rest) × OpensBlock b
 TooDeep (suc more) bytes =
     (os : Ops) × (mid : List ℕ) × (body : List ℕ) × AreOps bytes os mid × BeginsBlock mid body
     × (TooDeep more body
@@ -78,12 +85,14 @@ TooDeep (suc more) bytes =
 
 -- code in which too many blocks are open at once, after its locals
 abbrev pub BlocksOver : (params : ℕ) → List ℕ → Type 0
-BlocksOver params bytes = (locals : List ValType) × (mid : List ℕ) × AreLocals bytes locals mid × TooDeep max_nesting mid
+BlocksOver params bytes =
+    (locals : List ValType) × (mid : List ℕ) × AreLocals bytes locals mid × TooDeep max_nesting mid
 
 -- a global whose first value has too many
 abbrev pub GlobalOver : List ℕ → Type 0
 GlobalOver bytes =
-    (type : ValType) × (mutability : Mutability) × (from : List ℕ) × (mid : List ℕ) × IsValType bytes type from
+    (type : ValType) × (mutability : Mutability) × (from : List ℕ) × (mid : List ℕ)
+    × IsValType bytes type from
     × (from ≡ mutability_byte mutability ∷ mid) × TooDeep max_nesting mid
 
 -- an element segment or a data segment whose offset has too many
@@ -91,9 +100,12 @@ abbrev pub OffsetOver : List ℕ → Type 0
 OffsetOver bytes = (index : ℕ) × (from : List ℕ) × IsU32 bytes index from × TooDeep max_nesting from
 
 -- after whole entries, the code of the next function of m, which is over so with its number of parameters
-abbrev pub EntryOver : (IsCodeOver : (params : ℕ) → List ℕ → Type 0) → (m : Module) → (count : ℕ) → (funcs : List Func) → List ℕ → Type 0
+abbrev pub EntryOver :
+    (IsCodeOver : (params : ℕ) → List ℕ → Type 0) → (m : Module) → (count : ℕ) → (funcs : List Func)
+    → List ℕ → Type 0
 EntryOver IsCodeOver m count funcs bytes =
-    (index : ℕ) × (count ≡ length m.funcs) × (slice_get (indices_of m.funcs) (length funcs) ≡ Some index)
+    (index : ℕ) × (count ≡ length m.funcs)
+    × (slice_get (indices_of m.funcs) (length funcs) ≡ Some index)
     × WithinSize (IsCodeOver (params_of m.types index)) bytes
 
 -- ---- bytes that pass a limit

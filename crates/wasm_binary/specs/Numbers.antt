@@ -13,7 +13,8 @@ abbrev pub IsUnsigned : (bits : ℕ) → (bytes : List ℕ) → (n : ℕ) → (r
 IsUnsigned bits [] n rest = ⊥
 IsUnsigned bits (b ∷ bs) n rest =
     ((b < 128) × IsLastUnsigned bits b n × (rest ≡ bs))
-    ⊎ ((128 ≤ b) × (b < 256) × (7 < bits) × (high : ℕ) × IsUnsigned (bits - 7) bs high rest × (n ≡ 128 * high + (b - 128)))
+    ⊎ ((128 ≤ b) × (b < 256) × (7 < bits) × (high : ℕ) × IsUnsigned (bits - 7) bs high rest
+    × (n ≡ 128 * high + (b - 128)))
 
 -- a signed number in one byte, as its two's complement in that many bits (modulo 2 ^ bits): from 0 up, or
 -- below 0 if bit 6 is set; the bits above are copies of the sign, so the byte is below 2 ^ (bits - 1), or
@@ -27,7 +28,8 @@ abbrev pub IsSigned : (bits : ℕ) → (bytes : List ℕ) → (n : ℕ) → (res
 IsSigned bits [] n rest = ⊥
 IsSigned bits (b ∷ bs) n rest =
     ((b < 128) × IsLastSigned bits b n × (rest ≡ bs))
-    ⊎ ((128 ≤ b) × (b < 256) × (7 < bits) × (high : ℕ) × IsSigned (bits - 7) bs high rest × (n ≡ 128 * high + (b - 128)))
+    ⊎ ((128 ≤ b) × (b < 256) × (7 < bits) × (high : ℕ) × IsSigned (bits - 7) bs high rest
+    × (n ≡ 128 * high + (b - 128)))
 
 abbrev pub IsU32 : (bytes : List ℕ) → (n : ℕ) → (rest : List ℕ) → Type 0
 IsU32 = IsUnsigned 32

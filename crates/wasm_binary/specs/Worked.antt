@@ -15,9 +15,12 @@ one_of_each = record {
   funcs = record { type_index = 0; locals = []; body = stop } ∷ [];
   tables = record { min = 1; max = Some 2 } ∷ [];
   memories = record { min = 1; max = None } ∷ [];
-  globals = record { val_type = type.I64; mutability = Var; init = next (simple (Const (I64 7))) stop } ∷ [];
+  globals =
+      record { val_type = type.I64; mutability = Var; init = next (simple (Const (I64 7))) stop }
+      ∷ [];
   exports = record { name = codes "m"; kind = Memory; index = 0 } ∷ [];
   start = Some 0;
   elements = record { table = 0; offset = next (simple (Const (I32 0))) stop; funcs = 0 ∷ [] } ∷ [];
-  segments = record { memory = 0; offset = next (simple (Const (I32 8))) stop; bytes = 0xFF ∷ [] } ∷ [];
+  segments =
+      record { memory = 0; offset = next (simple (Const (I32 8))) stop; bytes = 0xFF ∷ [] } ∷ [];
 }

@@ -371,7 +371,9 @@ fn module_of(
     funcs: Vec<Func>,
     segments: Vec<Segment>,
 ) -> Module
-    ensures { result ≡ module_of (head_of front) (stored_of stores) (between_of middle) funcs.items segments.items }
+    ensures { result
+        ≡ module_of (head_of front) (stored_of stores) (between_of middle) funcs.items
+        segments.items }
 {
     let Front { types, imports, .. } = front;
     let Stores {

@@ -125,14 +125,7 @@ fn run(rt: &HostRuntime, file: &str, args: &[String]) -> ExitCode {
     };
     let mut out = rt.stdout();
     let mut err = rt.stderr();
-    let ran = run_streams(
-        rt.alloc(),
-        file,
-        bytes.as_slice(),
-        args,
-        &mut out,
-        &mut err,
-    );
+    let ran = run_streams(rt.alloc(), file, bytes.as_slice(), args, &mut out, &mut err);
     finish_run(rt, ran)
 }
 

@@ -8,4 +8,5 @@ use Rattle.task_board.specs.Run.{Happens}
 use Rattle.shim_service.specs.Serving.{Before}
 
 abbrev pub Calls : BoardState → Request → Answer → BoardState → Type 0
-Calls s r a s' = (mid : BoardState) × Before s r mid × Happens mid (event.Call r) (answer.Called a) s'
+Calls s r a s' =
+    (mid : BoardState) × Before s r mid × Happens mid (event.Call r) (answer.Called a) s'

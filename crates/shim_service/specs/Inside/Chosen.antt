@@ -15,4 +15,5 @@ IsShown of other = ⊥
 -- an error of this kind is a fault of the arguments
 abbrev pub IsOfArguments : ErrorKind → CommandError → Type 0
 IsOfArguments of OutOfMemory = Unit {0}
-IsOfArguments of (Arguments text) = (of ≢ kind.OutOfMemory) × (of ≢ kind.DisplayHelp) × (of ≢ kind.DisplayVersion)
+IsOfArguments of (Arguments text) =
+    (of ≢ kind.OutOfMemory) × (of ≢ kind.DisplayHelp) × (of ≢ kind.DisplayVersion)

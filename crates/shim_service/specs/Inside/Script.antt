@@ -11,12 +11,15 @@ use Rattle.shim_service.specs.declared.replay.Mark.TheVariants as mark
 -- what was made of each line, and the events among them in their order
 abbrev pub AreMarked : List (List ℕ) → List Mark → List Event → Type 0
 AreMarked [] [] [] = Unit {0}
-AreMarked (line ∷ lines) (mark.Event ∷ marks) (event ∷ events) = IsEvent line event × AreMarked lines marks events
-AreMarked (line ∷ lines) (mark.Bad ∷ marks) events = ((e : Event) → IsEvent line e → ⊥) × AreMarked lines marks events
+AreMarked (line ∷ lines) (mark.Event ∷ marks) (event ∷ events) =
+    IsEvent line event × AreMarked lines marks events
+AreMarked (line ∷ lines) (mark.Bad ∷ marks) events =
+    ((e : Event) → IsEvent line e → ⊥) × AreMarked lines marks events
 AreMarked lines marks events = ⊥
 
 -- one more line was read: its mark and, if it is one, its event were added
-pub record Adds (line : List ℕ) (old_marks : List Mark) (old_events : List Event) (marks : List Mark) (events : List Event) : Type 0 where
+pub record Adds (line : List ℕ) (old_marks : List Mark) (old_events : List Event)
+    (marks : List Mark) (events : List Event) : Type 0 where
   pub mark : List Mark
   pub event : List Event
   pub marked : marks ≡ old_marks ++ mark
@@ -27,5 +30,7 @@ pub record Adds (line : List ℕ) (old_marks : List Mark) (old_events : List Eve
 abbrev pub replay_text : List Mark → List EventReply → List ℕ
 replay_text [] replies = []
 replay_text (mark.Event ∷ marks) [] = replay_text marks []
-replay_text (mark.Event ∷ marks) (reply ∷ replies) = line_text (event_data reply) ++ replay_text marks replies
-replay_text (mark.Bad ∷ marks) replies = line_text (refusal_data BadRequest) ++ replay_text marks replies
+replay_text (mark.Event ∷ marks) (reply ∷ replies) =
+    line_text (event_data reply) ++ replay_text marks replies
+replay_text (mark.Bad ∷ marks) replies =
+    line_text (refusal_data BadRequest) ++ replay_text marks replies

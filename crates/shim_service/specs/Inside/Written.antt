@@ -20,12 +20,14 @@ use Rattle.shim_service.specs.TaskRun.{ran_to}
 -- why `asm` is refused
 pub data CannotAssemble (bytes : List ℕ) : Refusal → Type 0 where
   no_module : (e : Refusal) → IsNoSource bytes e → CannotAssemble bytes e
-  too_long : (m : Module) → IsSource bytes m → (FitsLimits m → ⊥) → CannotAssemble bytes refusal.Limit
+  too_long :
+      (m : Module) → IsSource bytes m → (FitsLimits m → ⊥) → CannotAssemble bytes refusal.Limit
 
 -- why `check` is refused
 pub data CannotCheck (bytes : List ℕ) : Refusal → Type 0 where
   no_module : (e : Refusal) → IsNoSource bytes e → CannotCheck bytes e
-  invalid : (m : Module) → IsSource bytes m → (ValidModule m → ⊥) → CannotCheck bytes refusal.Invalid
+  invalid :
+      (m : Module) → IsSource bytes m → (ValidModule m → ⊥) → CannotCheck bytes refusal.Invalid
 
 -- the exponents of alignments are below 32, inside blocks too
 abbrev mutual
@@ -42,7 +44,8 @@ abbrev mutual
 -- why a module is no task under a process
 pub data CannotStart (m : Module) (p : ProcessConfig) : Refusal → Type 0 where
   not_valid : (ValidModule m → ⊥) → CannotStart m p refusal.Invalid
-  not_instantiated : (e : Refusal) → ValidModule m → instantiation_refusal m p ≡ Some e → CannotStart m p e
+  not_instantiated :
+      (e : Refusal) → ValidModule m → instantiation_refusal m p ≡ Some e → CannotStart m p e
 
 -- the machine runs the module in a file with these arguments
 pub record IsOpened (bytes : List ℕ) (args : List (List ℕ)) (v : MachineView) : Type 0 where

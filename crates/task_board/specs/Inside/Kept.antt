@@ -16,7 +16,8 @@ use Rattle.task_board.specs.Refusals.{Openable}
 use Rattle.task_board.specs.Inside.Machines.{IsMachine}
 
 -- what goes with a slice is this
-pub record IsOwn (c : Checkout) (id bytes : List ℕ) (m : Module) (p : ProcessConfig) (breaks : List Place) : Type 0 where
+pub record IsOwn (c : Checkout) (id bytes : List ℕ) (m : Module) (p : ProcessConfig)
+    (breaks : List Place) : Type 0 where
   pub same_id : (arc_value c.shared).id ≡ id
   pub same_bytes : arc_value (arc_value c.shared).bytes ≡ bytes
   pub same_module : (arc_value c.shared).flat ≡ m
@@ -26,7 +27,9 @@ pub record IsOwn (c : Checkout) (id bytes : List ℕ) (m : Module) (p : ProcessC
 -- a task is out, and then it is running or pausing; or it is idle, with its machine
 abbrev pub IsPlaced : Task → Option Checkout → (out : Option ℕ) → Type 0
 IsPlaced t None (Some budget) = takes_turns t.status ≡ true
-IsPlaced t (Some c) None = IsMachine c.machine.value t.module t.process t.turns × IsOwn c t.id t.bytes t.module t.process t.breaks
+IsPlaced t (Some c) None =
+    IsMachine c.machine.value t.module t.process t.turns
+    × IsOwn c t.id t.bytes t.module t.process t.breaks
 IsPlaced t c out = ⊥
 
 abbrev pub IsKept : Task → Option Checkout → Type 0
@@ -41,7 +44,8 @@ SharesWith l s breaks =
 abbrev pub IsSlice : Lent → MachineView → Option SliceEnd → Type 0
 IsSlice l r None = IsMachine r l.module l.process l.turns
 IsSlice l r (Some e) =
-    IsMachine r l.module l.process (l.turns + turns_made l.module l.process l.turns l.breaks l.budget)
+    IsMachine r l.module l.process
+    (l.turns + turns_made l.module l.process l.turns l.breaks l.budget)
     × (e ≡ slice_end l.module l.process l.turns l.breaks l.budget)
 
 abbrev pub IsLoan : Lent → MachineView → Option SliceEnd → Type 0

@@ -40,7 +40,9 @@ pub record IsAllowed (s : BoardState) (id : List ℕ) (c : TaskCall) (e : ℕ ×
 -- why a call of the task with this id is refused
 abbrev pub RefusesTask : BoardState → (id : List ℕ) → TaskCall → (refused e : Refusal) → Type 0
 RefusesTask s id c refused e =
-    first_refusal (task_refusals id (λ t. (not (allowed c t.status), refused) ∷ []) (task_of id s.tasks)) ≡ Some e
+    first_refusal
+    (task_refusals id (λ t. (not (allowed c t.status), refused) ∷ []) (task_of id s.tasks))
+    ≡ Some e
 
 -- why a kill of the task with this id by that number is refused
 abbrev pub RefusesKill : BoardState → (id : List ℕ) → (number : ℕ) → (e : Refusal) → Type 0
@@ -70,7 +72,8 @@ pub record CreatePrepared (s : BoardState) (r : Request) (task : Task) (id : Lis
   pub created : task ≡ created_task id s.creates task.bytes task.module task.process
 
 -- the task of an id is in that slot, and a request with these refusals of its own is accepted
-pub record CallPrepared (s : BoardState) (own : Task → Refusals) (slot : ℕ) (id : List ℕ) : Type 0 where
+pub record CallPrepared (s : BoardState) (own : Task → Refusals) (slot : ℕ) (id : List ℕ) :
+    Type 0 where
   pub task : Task
   pub found : entry_of id s.tasks ≡ Some (slot, task)
   pub accepted : first_refusal (task_refusals id own (Some task)) ≡ None
@@ -79,7 +82,8 @@ pub record CallPrepared (s : BoardState) (own : Task → Refusals) (slot : ℕ) 
 abbrev pub PlansTask : BoardState → (id bytes : List ℕ) → ProcessConfig → Plan → Type 0
 PlansTask s id bytes p (plan.Refused e) = (e ≢ refusal.NoMemory) × CannotOpen bytes p e
 PlansTask s id bytes p (plan.Create task answered) =
-    (answered ≡ id) × (m : Module) × Openable bytes p m × (task ≡ created_task id s.creates bytes m p)
+    (answered ≡ id) × (m : Module) × Openable bytes p m
+    × (task ≡ created_task id s.creates bytes m p)
 PlansTask s id bytes p other = ⊥
 
 -- a request that changes nothing
@@ -95,8 +99,10 @@ Plans s room r (plan.Refused e) = (e ≢ refusal.NoMemory) × Answers s r (Err e
 Plans s room r (plan.Answered reply) = IsQuestion r × Answers s r (Ok reply) s
 Plans s room r (plan.Store c) = IsMadeFor r c × StorePrepared s room c
 Plans s room r (plan.Create task id) = CreatePrepared s r task id
-Plans s room r (plan.Change c slot id) = (r ≡ change_request c id) × CallPrepared s (change_refusals c) slot id
-Plans s room r (plan.Delete slot id) = (r ≡ request.Delete id) × CallPrepared s delete_refusals slot id
+Plans s room r (plan.Change c slot id) =
+    (r ≡ change_request c id) × CallPrepared s (change_refusals c) slot id
+Plans s room r (plan.Delete slot id) =
+    (r ≡ request.Delete id) × CallPrepared s delete_refusals slot id
 
 abbrev pub refusal_in : Plan → Option Refusal
 refusal_in (plan.Refused e) = Some e

@@ -26,7 +26,8 @@ lent_with slot incarnation turns budget c = record {
 }
 
 abbrev pub lent_of : loan.Inside → Lent
-lent_of l = record (lent_with l.slot l.incarnation l.turns l.budget l.checkout) { ran = is_some l.outcome }
+lent_of l =
+    record (lent_with l.slot l.incarnation l.turns l.budget l.checkout) { ran = is_some l.outcome }
 
 abbrev pub task_of : task.Inside → Task
 task_of t = record {

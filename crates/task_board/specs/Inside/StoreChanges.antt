@@ -58,10 +58,13 @@ store_refusals s (change.Gc used removed) = []
 -- what is stored and answered is that of the request, and there is room for it
 abbrev pub IsFitted : BoardState → Room → StoreChange → Type 0
 IsFitted s room (change.Put key bytes digest) =
-    (string_bytes key ≡ digest_of (arc_value bytes)) × (digest ≡ digest_of (arc_value bytes)) × (0 < room.contents)
-IsFitted s room (change.LeaseCreate key members id) = (string_bytes key ≡ id) × (members ≡ []) × (0 < room.leases)
+    (string_bytes key ≡ digest_of (arc_value bytes)) × (digest ≡ digest_of (arc_value bytes))
+    × (0 < room.contents)
+IsFitted s room (change.LeaseCreate key members id) =
+    (string_bytes key ≡ id) × (members ≡ []) × (0 < room.leases)
 IsFitted s room (change.LeaseAdd key digest id) = string_bytes key ≡ digest
-IsFitted s room (change.Gc used removed) = (used ≡ used_by s.tasks) × (removed ≡ unheld (used_by s.tasks) s.store)
+IsFitted s room (change.Gc used removed) =
+    (used ≡ used_by s.tasks) × (removed ≡ unheld (used_by s.tasks) s.store)
 IsFitted s room other = Unit {0}
 
 -- a change of the store that may be made
@@ -75,7 +78,8 @@ CanTake b (change.Put key bytes digest) =
     (0 < b.content_room) × (string_bytes key ≡ digest_of (arc_value bytes))
     × (content_in b.state.contents (digest_of (arc_value bytes)) ≡ None)
 CanTake b (change.LeaseCreate key members id) =
-    (0 < b.lease_room) × (string_bytes key ≡ id) × (members ≡ []) × (lease_in b.state.leases id ≡ None)
+    (0 < b.lease_room) × (string_bytes key ≡ id) × (members ≡ [])
+    × (lease_in b.state.leases id ≡ None)
 CanTake b (change.LeaseAdd key digest id) =
     (string_bytes key ≡ digest)
     × (ms : List (List ℕ)) × (lease_in b.state.leases id ≡ Some ms) × (is_among digest ms ≡ false)

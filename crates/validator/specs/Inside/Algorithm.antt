@@ -57,7 +57,8 @@ pop_any false [] = None
 pop_any unreachable (x ∷ xs) = Some (x, xs)
 
 -- those below, if the operand can be of this type
-abbrev pub below_type : ValType → Option ValType × List (Option ValType) → Option (List (Option ValType))
+abbrev pub below_type :
+    ValType → Option ValType × List (Option ValType) → Option (List (Option ValType))
 below_type t p = if can_be t p.0 then Some p.1 else None
 
 abbrev pub pop : Bool → ValType → List (Option ValType) → Option (List (Option ValType))
@@ -78,7 +79,8 @@ with_types s xs = record { unreachable = s.unreachable; types = xs }
 -- operands of the first types, in written order, become operands of the second
 abbrev pub replaced : (takes gives : List ValType) → Stack → Option Stack
 replaced takes gives s =
-    and_then (pops s.unreachable (reverse takes) s.types) (λ xs. Some (with_types s (knowns (reverse gives) ++ xs)))
+    and_then (pops s.unreachable (reverse takes) s.types)
+    (λ xs. Some (with_types s (knowns (reverse gives) ++ xs)))
 
 -- after an instruction that never goes on to the next
 abbrev pub nowhere : Stack
@@ -105,7 +107,8 @@ join (Some t) y = if can_be t y then Some (Some t) else None
 -- the newest operand and one that was taken before become one, if they can have one type
 abbrev pub joins_next : Option ValType → Stack → Option Stack
 joins_next x s =
-    and_then (pop_any s.unreachable s.types) (λ p. and_then (join x p.0) (λ t. Some (with_types s (t ∷ p.1))))
+    and_then (pop_any s.unreachable s.types)
+    (λ p. and_then (join x p.0) (λ t. Some (with_types s (t ∷ p.1))))
 
 -- two operands of one type become one
 abbrev pub joins : Stack → Option Stack
@@ -122,7 +125,8 @@ is_variable mutability.Var = true
 
 abbrev pub check_global : GlobalOp → Global → Stack → Option Stack
 check_global global.Get g s = replaced [] (g.val_type ∷ []) s
-check_global global.Set g s = if is_variable g.mutability then replaced (g.val_type ∷ []) [] s else None
+check_global global.Set g s =
+    if is_variable g.mutability then replaced (g.val_type ∷ []) [] s else None
 
 -- a label that takes these types
 abbrev pub takes_types : List ValType → Option (List ValType) → Bool
@@ -156,7 +160,8 @@ is_some_there xs = nat_lt 0 (length xs)
 
 abbrev pub call_indirect : List FuncType → List Limits → ℕ → Stack → Option Stack
 call_indirect types tables k s =
-    if is_some_there tables then and_then (slice_get types k) (λ t. after_i32 (applies t) s) else None
+    if is_some_there tables
+    then and_then (slice_get types k) (λ t. after_i32 (applies t) s) else None
 
 abbrev pub local_op : List ValType → LocalOp → ℕ → Stack → Option Stack
 local_op locals op k s = and_then (slice_get locals k) (λ t. check_local op t s)
@@ -169,7 +174,8 @@ abbrev pub with_memory : List Limits → (takes gives : List ValType) → Stack 
 with_memory memories takes gives s = if is_some_there memories then replaced takes gives s else None
 
 -- the same for an access that is aligned like this
-abbrev pub access : List Limits → (align bytes : ℕ) → (takes gives : List ValType) → Stack → Option Stack
+abbrev pub access :
+    List Limits → (align bytes : ℕ) → (takes gives : List ValType) → Stack → Option Stack
 access memories align bytes takes gives s =
     if is_some_there memories && nat_le (2 ^ align) bytes then replaced takes gives s else None
 
@@ -186,8 +192,10 @@ check_simple c instr.Drop s = drops s
 check_simple c instr.Select s = after_i32 joins s
 check_simple c (instr.Local op index) s = local_op c.locals op index s
 check_simple c (instr.Global op index) s = global_op c.globals op index s
-check_simple c (instr.Load op at) s = access c.memories at.align (load_bytes op) (I32 ∷ []) (load_type op ∷ []) s
-check_simple c (instr.Store op at) s = access c.memories at.align (store_bytes op) (I32 ∷ store_type op ∷ []) [] s
+check_simple c (instr.Load op at) s =
+    access c.memories at.align (load_bytes op) (I32 ∷ []) (load_type op ∷ []) s
+check_simple c (instr.Store op at) s =
+    access c.memories at.align (store_bytes op) (I32 ∷ store_type op ∷ []) [] s
 check_simple c instr.MemorySize s = with_memory c.memories [] (I32 ∷ []) s
 check_simple c instr.MemoryGrow s = with_memory c.memories (I32 ∷ []) (I32 ∷ []) s
 check_simple c (instr.Const value) s = replaced [] (type_of value ∷ []) s
@@ -227,9 +235,11 @@ abbrev mutual
   pub check_op : Context → Op → Stack → Option Stack
   check_op c (simple i) s = check_simple c i s
   check_op c (block b body) s =
-      and_then (block_type c.types b) (λ t. encloses t (ends t.results (check_ops (under c t.results) body (start t.params))) s)
+      and_then (block_type c.types b)
+      (λ t. encloses t (ends t.results (check_ops (under c t.results) body (start t.params))) s)
   check_op c (loop b body) s =
-      and_then (block_type c.types b) (λ t. encloses t (ends t.results (check_ops (under c t.params) body (start t.params))) s)
+      and_then (block_type c.types b)
+      (λ t. encloses t (ends t.results (check_ops (under c t.params) body (start t.params))) s)
   check_op c (if' b then_arm else_arm) s =
       and_then (block_type c.types b) (λ t. after_i32 (encloses t
       (ends t.results (check_ops (under c t.results) then_arm (start t.params))

@@ -14,7 +14,9 @@ abbrev pub with_operands : Blocks → List (Option ValType) → Blocks
 with_operands o xs = record { outside = o.outside; stack = with_types o.stack xs }
 
 -- operands are taken, or cannot be
-abbrev pub Takes : (took : Bool) → (Bool → List (Option ValType) → Option (List (Option ValType))) → (old new : Blocks) → Type 0
+abbrev pub Takes :
+    (took : Bool) → (Bool → List (Option ValType) → Option (List (Option ValType)))
+    → (old new : Blocks) → Type 0
 Takes true takes old new = takes old.stack.unreachable old.stack.types ≡ Some new.stack.types
 Takes false takes old new = takes old.stack.unreachable old.stack.types ≡ None
 
@@ -28,7 +30,11 @@ Leads check old new = (check old.stack ≡ Some new.stack) × (new.outside ≡ o
 
 -- a block without operands inside all others
 abbrev pub inside : Blocks → Blocks
-inside o = record { outside = o.outside ++ reverse o.stack.types; stack = record { unreachable = false; types = [] } }
+inside o =
+    record {
+      outside = o.outside ++ reverse o.stack.types;
+      stack = record { unreachable = false; types = [] };
+    }
 
 -- what is kept of the block outside
 abbrev pub IsOuter : Outer → Blocks → Type 0

@@ -65,7 +65,8 @@ is_valid_start m None = true
 is_valid_start m (Some func) = is_bare (type_at (func_types m) func)
 
 abbrev pub is_valid_element : Module → Element → Bool
-is_valid_element m e = nat_lt e.table (length m.tables) && is_constant I32 e.offset && are_all (is_function m) e.funcs
+is_valid_element m e =
+    nat_lt e.table (length m.tables) && is_constant I32 e.offset && are_all (is_function m) e.funcs
 
 abbrev pub is_valid_segment : Module → Segment → Bool
 is_valid_segment m s = nat_lt s.memory (length m.memories) && is_constant I32 s.offset
@@ -76,11 +77,14 @@ is_alone xs = nat_le (length xs) 1
 -- types, imports, tables and memories
 abbrev pub declares_validly : Module → Bool
 declares_validly m =
-    are_all has_few_results m.types && are_all (is_typed_import m.types) m.imports && is_alone m.tables
-    && are_all (are_valid_limits (2 ^ 32)) m.tables && is_alone m.memories && are_all (are_valid_limits standard_pages) m.memories
+    are_all has_few_results m.types && are_all (is_typed_import m.types) m.imports
+    && is_alone m.tables
+    && are_all (are_valid_limits (2 ^ 32)) m.tables && is_alone m.memories
+    && are_all (are_valid_limits standard_pages) m.memories
 
 -- globals, exports, the start function and segments
 abbrev pub defines_validly : Module → Bool
 defines_validly m =
-    are_all is_valid_global m.globals && are_all (is_valid_export m) m.exports && is_valid_start m m.start
+    are_all is_valid_global m.globals && are_all (is_valid_export m) m.exports
+    && is_valid_start m m.start
     && are_all (is_valid_element m) m.elements && are_all (is_valid_segment m) m.segments

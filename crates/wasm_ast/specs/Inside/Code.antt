@@ -44,7 +44,8 @@ abbrev mutual
   code_op (block type body) = gcons (gnum 1) (gcons (types.the_row.coded.code type) (code_ops body))
   code_op (loop type body) = gcons (gnum 2) (gcons (types.the_row.coded.code type) (code_ops body))
   code_op (if' type then_arm else_arm) =
-      gcons (gnum 3) (gcons (types.the_row.coded.code type) (gcons (code_ops then_arm) (code_ops else_arm)))
+      gcons (gnum 3)
+      (gcons (types.the_row.coded.code type) (gcons (code_ops then_arm) (code_ops else_arm)))
 
   pub code_ops : Ops → Gv
   code_ops stop = gnil
@@ -58,13 +59,16 @@ mutual
   op-inj (simple s) (if' type then_arm else_arm) p = absurd (subst (AreSame 0) (ap tag p) tt)
   op-inj (block type body) (simple s) p = absurd (subst (AreSame 1) (ap tag p) tt)
   op-inj (block type body) (block other rest) p =
-      λ i. block (types.the_row.coded.inj type other (ap (λ g. head (tail g)) p) i) (ops-inj body rest (ap (λ g. tail (tail g)) p) i)
+      λ i. block (types.the_row.coded.inj type other (ap (λ g. head (tail g)) p) i)
+      (ops-inj body rest (ap (λ g. tail (tail g)) p) i)
   op-inj (block type body) (loop other rest) p = absurd (subst (AreSame 1) (ap tag p) tt)
-  op-inj (block type body) (if' other then_arm else_arm) p = absurd (subst (AreSame 1) (ap tag p) tt)
+  op-inj (block type body) (if' other then_arm else_arm) p =
+      absurd (subst (AreSame 1) (ap tag p) tt)
   op-inj (loop type body) (simple s) p = absurd (subst (AreSame 2) (ap tag p) tt)
   op-inj (loop type body) (block other rest) p = absurd (subst (AreSame 2) (ap tag p) tt)
   op-inj (loop type body) (loop other rest) p =
-      λ i. loop (types.the_row.coded.inj type other (ap (λ g. head (tail g)) p) i) (ops-inj body rest (ap (λ g. tail (tail g)) p) i)
+      λ i. loop (types.the_row.coded.inj type other (ap (λ g. head (tail g)) p) i)
+      (ops-inj body rest (ap (λ g. tail (tail g)) p) i)
   op-inj (loop type body) (if' other then_arm else_arm) p = absurd (subst (AreSame 2) (ap tag p) tt)
   op-inj (if' type first second) (simple s) p = absurd (subst (AreSame 3) (ap tag p) tt)
   op-inj (if' type first second) (block other rest) p = absurd (subst (AreSame 3) (ap tag p) tt)
@@ -78,7 +82,8 @@ mutual
   ops-inj stop stop p = refl
   ops-inj stop (next o os) p = absurd (subst IsCons (sym p) tt)
   ops-inj (next o os) stop p = absurd (subst IsCons p tt)
-  ops-inj (next o os) (next u us) p = λ i. next (op-inj o u (ap head p) i) (ops-inj os us (ap tail p) i)
+  ops-inj (next o os) (next u us) p =
+      λ i. next (op-inj o u (ap head p) i) (ops-inj os us (ap tail p) i)
 
 abbrev pub ops_code : Coded Ops
 ops_code = record { code = code_ops; inj = ops-inj }

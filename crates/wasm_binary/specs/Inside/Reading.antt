@@ -89,7 +89,8 @@ unfoldable pub read_unsigned : (bits : ℕ) → List ℕ → Read ℕ
 read_unsigned bits [] = Err Bad
 read_unsigned bits (b ∷ bs) =
     if nat_lt b 128 then (read_last_unsigned bits b >>= λ n. Ok (n, bs))
-    else need (nat_lt b 256 && nat_lt 7 bits) Bad (read_unsigned (bits - 7) bs >>= λ high. Ok (128 * high.0 + (b - 128), high.1))
+    else need (nat_lt b 256 && nat_lt 7 bits) Bad
+    (read_unsigned (bits - 7) bs >>= λ high. Ok (128 * high.0 + (b - 128), high.1))
 
 unfoldable pub read_last_signed : (bits : ℕ) → ℕ → Result ℕ Fault
 read_last_signed bits b =
@@ -100,7 +101,8 @@ unfoldable pub read_signed : (bits : ℕ) → List ℕ → Read ℕ
 read_signed bits [] = Err Bad
 read_signed bits (b ∷ bs) =
     if nat_lt b 128 then (read_last_signed bits b >>= λ n. Ok (n, bs))
-    else need (nat_lt b 256 && nat_lt 7 bits) Bad (read_signed (bits - 7) bs >>= λ high. Ok (128 * high.0 + (b - 128), high.1))
+    else need (nat_lt b 256 && nat_lt 7 bits) Bad
+    (read_signed (bits - 7) bs >>= λ high. Ok (128 * high.0 + (b - 128), high.1))
 
 unfoldable pub read_u32 : List ℕ → Read ℕ
 read_u32 bytes = read_unsigned 32 bytes
@@ -114,7 +116,8 @@ read_bytes n bytes = if nat_lt (length bytes) n then Err Bad else Ok (take n byt
 -- the rest after a part of this size, of which nothing may be left
 unfoldable pub skip_exact : (size : ℕ) → (left : List ℕ) → List ℕ → Result (List ℕ) Fault
 skip_exact size left bytes =
-    need (length left == 0) Bad (if nat_lt (length bytes) size then Err Bad else Ok (drop size bytes))
+    need (length left == 0) Bad
+    (if nat_lt (length bytes) size then Err Bad else Ok (drop size bytes))
 
 unfoldable pub read_sized : {X : Type 0} → (List ℕ → Read X) → List ℕ → Read X
 read_sized read bytes = do
@@ -136,7 +139,8 @@ read_vector read bytes = do
   read_items read n.0 n.1
 
 -- a vector whose items, with this many before it, are limited as functions are
-unfoldable pub read_functions : {X : Type 0} → (limited : Bool) → (before : ℕ) → (List ℕ → Read X) → List ℕ → Read (List X)
+unfoldable pub read_functions :
+    {X : Type 0} → (limited : Bool) → (before : ℕ) → (List ℕ → Read X) → List ℕ → Read (List X)
 read_functions limited before read bytes = do
   n ← read_u32 bytes
   if limited && nat_lt max_functions (before + n.0) then Err Over else read_items read n.0 n.1
@@ -155,7 +159,9 @@ read_name bytes = do
 -- ---- types
 
 unfoldable pub val_type_of : ℕ → List ℕ → Read ValType
-val_type_of b bs = if b == type_byte type.I32 then Ok (type.I32, bs) else need (b == type_byte type.I64) Bad (Ok (type.I64, bs))
+val_type_of b bs =
+    if b == type_byte type.I32 then Ok (type.I32, bs)
+    else need (b == type_byte type.I64) Bad (Ok (type.I64, bs))
 
 unfoldable pub read_val_type : List ℕ → Read ValType
 read_val_type bytes = read_byte bytes >>= λ b. val_type_of b.0 b.1
@@ -168,15 +174,18 @@ read_func_type bytes = need (begins_with func_type_byte bytes) Bad (do
 
 unfoldable pub read_block_type : List ℕ → Read BlockType
 read_block_type bytes =
-    if begins_with empty_byte bytes then Ok (Empty, drop 1 bytes) else (read_val_type bytes >>= λ t. Ok (One t.0, t.1))
+    if begins_with empty_byte bytes then Ok (Empty, drop 1 bytes)
+    else (read_val_type bytes >>= λ t. Ok (One t.0, t.1))
 
 -- a size that may not be over this limit
 unfoldable pub read_min : (limited : Bool) → (most : ℕ) → List ℕ → Read ℕ
-read_min limited most bytes = read_u32 bytes >>= λ n. if limited && nat_lt most n.0 then Err Over else Ok n
+read_min limited most bytes =
+    read_u32 bytes >>= λ n. if limited && nat_lt most n.0 then Err Over else Ok n
 
 unfoldable pub read_limits : (limited : Bool) → (most : ℕ) → List ℕ → Read Limits
 read_limits limited most bytes =
-    if begins_with min_byte bytes then (read_min limited most (drop 1 bytes) >>= λ n. Ok (record { min = n.0; max = None }, n.1))
+    if begins_with min_byte bytes
+    then (read_min limited most (drop 1 bytes) >>= λ n. Ok (record { min = n.0; max = None }, n.1))
     else (do
       from ← skip_byte min_max_byte bytes
       n ← read_min limited most from
@@ -196,7 +205,8 @@ controls =
     Global global.Set 0 ∷ Load load.I32 no_offset ∷ Load load.I64 no_offset ∷
     Load load.I32From8S no_offset ∷ Load load.I32From8U no_offset ∷ Load load.I32From16S no_offset ∷
     Load load.I32From16U no_offset ∷ Load load.I64From8S no_offset ∷ Load load.I64From8U no_offset ∷
-    Load load.I64From16S no_offset ∷ Load load.I64From16U no_offset ∷ Load load.I64From32S no_offset ∷
+    Load load.I64From16S no_offset ∷ Load load.I64From16U no_offset
+    ∷ Load load.I64From32S no_offset ∷
     Load load.I64From32U no_offset ∷ Store store.I32 no_offset ∷ Store store.I64 no_offset ∷
     Store store.I32To8 no_offset ∷ Store store.I32To16 no_offset ∷ Store store.I64To8 no_offset ∷
     Store store.I64To16 no_offset ∷ Store store.I64To32 no_offset ∷ MemorySize ∷ MemoryGrow ∷
@@ -337,7 +347,8 @@ read_if read bytes = do
 unfoldable pub read_nested : (List ℕ → Read (List Op)) → (opcode : ℕ) → List ℕ → Read Op
 read_nested read b bytes =
     if b == if_byte then read_if read bytes
-    else (read_enclosed read bytes >>= λ x. Ok (if b == block_byte then block x.0.0 x.0.1 else loop x.0.0 x.0.1, x.1))
+    else (read_enclosed read bytes
+    >>= λ x. Ok (if b == block_byte then block x.0.0 x.0.1 else loop x.0.0 x.0.1, x.1))
 
 unfoldable pub opens_block : ℕ → Bool
 opens_block b = b == block_byte || b == loop_byte || b == if_byte
@@ -394,7 +405,8 @@ read_runs limited before (suc k) bytes = do
 
 unfoldable pub read_locals : (limited : Bool) → (params : ℕ) → List ℕ → Read (List ValType)
 read_locals limited params bytes =
-    if limited && nat_lt max_locals params then Err Over else (read_u32 bytes >>= λ count. read_runs limited params count.0 count.1)
+    if limited && nat_lt max_locals params then Err Over
+    else (read_u32 bytes >>= λ count. read_runs limited params count.0 count.1)
 
 unfoldable pub read_code : (limited : Bool) → (params index : ℕ) → List ℕ → Read Func
 read_code limited params index bytes = do
@@ -403,7 +415,8 @@ read_code limited params index bytes = do
   Ok (record { type_index = index; locals = locals.0; body = body.0 }, body.1)
 
 -- the entries of functions with these type indices
-unfoldable pub read_entries : (limited : Bool) → List FuncType → (indices : List ℕ) → List ℕ → Read (List Func)
+unfoldable pub read_entries :
+    (limited : Bool) → List FuncType → (indices : List ℕ) → List ℕ → Read (List Func)
 read_entries limited types [] bytes = Ok ([], bytes)
 read_entries limited types (index ∷ indices) bytes = do
   f ← read_sized (read_code limited (params_of types index) index) bytes
@@ -411,7 +424,8 @@ read_entries limited types (index ∷ indices) bytes = do
   Ok (f.0 ∷ fs.0, fs.1)
 
 -- a vector of entries, of the same length as the type indices
-unfoldable pub read_codes : (limited : Bool) → List FuncType → (indices : List ℕ) → List ℕ → Read (List Func)
+unfoldable pub read_codes :
+    (limited : Bool) → List FuncType → (indices : List ℕ) → List ℕ → Read (List Func)
 read_codes limited types indices bytes = do
   n ← read_u32 bytes
   need (n.0 == length indices) Bad (read_entries limited types indices n.1)
@@ -427,14 +441,16 @@ read_import bytes = do
   Ok (record { «module» = m.0; name = n.0; type_index = t.0 }, t.1)
 
 unfoldable pub read_table : (limited : Bool) → List ℕ → Read Limits
-read_table limited bytes = skip_byte table_type_byte bytes >>= λ from. read_limits limited max_table_entries from
+read_table limited bytes =
+    skip_byte table_type_byte bytes >>= λ from. read_limits limited max_table_entries from
 
 unfoldable pub read_memory : (limited : Bool) → List ℕ → Read Limits
 read_memory limited bytes = read_limits limited max_memory_pages bytes
 
 -- a table, or a memory
 abbrev pub read_size : (is_table limited : Bool) → List ℕ → Read Limits
-read_size is_table limited bytes = if is_table then read_table limited bytes else read_memory limited bytes
+read_size is_table limited bytes =
+    if is_table then read_table limited bytes else read_memory limited bytes
 
 unfoldable pub mutability_of : ℕ → List ℕ → Read Mutability
 mutability_of b bs =
@@ -504,7 +520,8 @@ skip_custom bytes = read_sized read_custom_name bytes >>= λ x. Ok x.1
 unfoldable pub skip_some_customs : (most : ℕ) → List ℕ → Result (List ℕ) Fault
 skip_some_customs zero bytes = Ok bytes
 skip_some_customs (suc n) bytes =
-    if begins_with custom_section bytes then (skip_custom (drop 1 bytes) >>= λ rest. skip_some_customs n rest) else Ok bytes
+    if begins_with custom_section bytes
+    then (skip_custom (drop 1 bytes) >>= λ rest. skip_some_customs n rest) else Ok bytes
 
 unfoldable pub skip_customs : List ℕ → Result (List ℕ) Fault
 skip_customs bytes = skip_some_customs (length bytes) bytes
@@ -539,7 +556,8 @@ read_head limited bytes = do
   from_types ← skip_customs bytes
   types ← read_section type_section (read_vector read_func_type) from_types
   imports ← read_section import_section (read_functions limited 0 read_import) types.1
-  indices ← read_section function_section (read_functions limited (length imports.0) read_u32) imports.1
+  indices ← read_section function_section
+      (read_functions limited (length imports.0) read_u32) imports.1
   Ok (record { types = types.0; imports = imports.0; indices = indices.0 }, indices.1)
 
 -- tables, memories and globals
@@ -549,7 +567,8 @@ pub record Stored : Type 0 where
   pub globals : List declared_global.Global
 
 abbrev pub stored_of : Stores → Stored
-stored_of s = record { tables = s.tables.items; memories = s.memories.items; globals = s.globals.items }
+stored_of s =
+    record { tables = s.tables.items; memories = s.memories.items; globals = s.globals.items }
 
 -- the sections after it up to the global section
 unfoldable pub read_stores : (limited : Bool) → List ℕ → Read Stored
@@ -577,7 +596,8 @@ read_middle limited bytes = do
   Ok (record { exports = exports.0; start = start.0; elements = elements.0 }, elements.1)
 
 -- the code section of functions with these type indices
-unfoldable pub read_funcs : (limited : Bool) → List FuncType → (indices : List ℕ) → List ℕ → Read (List Func)
+unfoldable pub read_funcs :
+    (limited : Bool) → List FuncType → (indices : List ℕ) → List ℕ → Read (List Func)
 read_funcs limited types indices bytes = do
   funcs ← read_section code_section (read_codes limited types indices) bytes
   need (length funcs.0 == length indices) Bad (Ok funcs)

@@ -7,4 +7,5 @@ use Rattle.oci_config.proofs.texts.texts_in.Given as goal
 abbrev pub invariant-loop-item : goal.invariant-loop-item
 invariant-loop-item l =
     texts_in (items_view l.item-items)
-    ≡ option_map (λ (rest : List (List ℕ)). l.texts.items ++ rest) (texts_in (items_view (drop l.item-index l.item-items)))
+    ≡ option_map (λ (rest : List (List ℕ)). l.texts.items ++ rest)
+    (texts_in (items_view (drop l.item-index l.item-items)))

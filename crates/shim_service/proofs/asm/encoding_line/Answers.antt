@@ -8,7 +8,8 @@ pub returns-in_err-module-clause-err : goal.returns-in_err-module-clause-err
 returns-in_err-module-clause-err c =
     let e = c.in_err-module.field-0.0 in
     let same : c.from_residual.result ≡ Err e = search rules in
-    handed_on (CannotAssemble c.args.bytes.now) c.from_residual.result e same (not_assembled c.args.bytes.now e c.in_err-module.ensures.err)
+    handed_on (CannotAssemble c.args.bytes.now) c.from_residual.result e same
+    (not_assembled c.args.bytes.now e c.in_err-module.ensures.err)
 
 pub returns-in_err-encoded-clause-err : goal.returns-in_err-encoded-clause-err
 returns-in_err-encoded-clause-err c =
@@ -17,4 +18,5 @@ returns-in_err-encoded-clause-err c =
     let m = c.in_ok-module.module in
     let same : c.from_residual-in_err-encoded.result ≡ Err e = search rules in
     handed_on (CannotAssemble bytes) c.from_residual-in_err-encoded.result e same
-    (not_encoded bytes m e c.in_ok-module.ensures.ok c.in_err-encoded.ensures.causes (λ p. c.in_err-encoded.ensures.limit (ap (λ (x : Refusal). Err x) p)))
+    (not_encoded bytes m e c.in_ok-module.ensures.ok c.in_err-encoded.ensures.causes
+    (λ p. c.in_err-encoded.ensures.limit (ap (λ (x : Refusal). Err x) p)))

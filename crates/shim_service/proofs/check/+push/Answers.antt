@@ -15,7 +15,9 @@ push_body-push_instr-requires t c =
     let item = ap (λ (i : Instr). count (op_of i)) c.instr-item.is in
     let same = ap (λ (os : Ops). ops_count os) c.loop-instr.invariant.same in
     let all : OpsAligned (ops_of (map op_of items)) = subst OpsAligned (sym c.loop-instr.invariant.same) c.requires in
-    let its = subst (λ (i : Instr). OpAligned (op_of i)) (sym c.instr-item.is) (item_aligned items n c.instr-item.result c.loop-instr-test.true all) in
+    let its =
+    subst (λ (i : Instr). OpAligned (op_of i)) (sym c.instr-item.is)
+    (item_aligned items n c.instr-item.result c.loop-instr-test.true all) in
     (omega (arith, fits, item, same), its)
 
 pub push_body-loop-instr-preserved : goal.push_body-loop-instr-preserved
@@ -34,5 +36,8 @@ push_body-loop-instr-preserved t c =
     record {
       same = c.loop-instr.invariant.same;
       place = omega (arith, place, total, c.loop-instr.invariant.place);
-      lines = one_more func here c.in_ok-here.here (op_of i) rest list (string_bytes c.push_instr.new.list) (string_bytes c.args.list.now ++ ops_lines func c.args.place c.args.body.now) place c.in_ok-here.ensures.lines so_far;
+      lines =
+          one_more func here c.in_ok-here.here (op_of i) rest list (string_bytes c.push_instr.new.list)
+          (string_bytes c.args.list.now ++ ops_lines func c.args.place c.args.body.now) place
+          c.in_ok-here.ensures.lines so_far;
     }

@@ -7,7 +7,8 @@ pub returns-in_err-module-clause-err : goal.returns-in_err-module-clause-err
 returns-in_err-module-clause-err c =
     let e = c.in_err-module.field-0.0 in
     let same : c.from_residual.result ≡ Err e = search rules in
-    handed_on (CannotCheck c.args.bytes.now) c.from_residual.result e same (not_checked c.args.bytes.now e c.in_err-module.ensures.err)
+    handed_on (CannotCheck c.args.bytes.now) c.from_residual.result e same
+    (not_checked c.args.bytes.now e c.in_err-module.ensures.err)
 
 pub returns-in_err-valid-clause-err : goal.returns-in_err-valid-clause-err
 returns-in_err-valid-clause-err c =

@@ -5,4 +5,5 @@ use Rattle.shim_service.proofs.check.push_funcs.Given as goal
 -- the lines so far, and those of the functions left
 abbrev pub invariant-loop-each : goal.invariant-loop-each
 invariant-loop-each l =
-    string_bytes l.list ++ func_lines l.func (drop l.each-index l.funcs) ≡ string_bytes l.fn.list ++ func_lines l.fn.first l.funcs
+    string_bytes l.list ++ func_lines l.func (drop l.each-index l.funcs)
+    ≡ string_bytes l.fn.list ++ func_lines l.fn.first l.funcs

@@ -6,4 +6,5 @@ use Rattle.shim_service.proofs.check.push_listing.Goals as goal
 
 pub push_funcs-requires : goal.push_funcs-requires
 push_funcs-requires c =
-    subst (λ (fs : List Func). All (λ f. OpsAligned f.body) fs) (sym c.as_slice.ensures) (funcs_aligned c.args.module.now c.requires)
+    subst (λ (fs : List Func). All (λ f. OpsAligned f.body) fs) (sym c.as_slice.ensures)
+    (funcs_aligned c.args.module.now c.requires)

@@ -14,7 +14,9 @@ returns-in-Ok-try_get_matches_from-clause-ok c =
     let read : app_of c.in-Ok.parser ≡ program = c.in-Ok.ensures in
     let found = c.in-Ok-try_get_matches_from.ensures.matches (ap is_simple read ∙ program_is_simple) in
     let faults = c.in-Ok-try_get_matches_from.ensures.kinds (ap is_simple_and_free read ∙ program_is_free) in
-    IfOk-weaker c.chosen.result _ _ (λ d h. named_from_chosen arguments _ (found.1 ∙ ap (λ a. subcommand_of a arguments) read) (ap (λ a. fault_of a arguments) (sym read) ∙ faults) d h) c.chosen.ensures.ok
+    IfOk-weaker c.chosen.result _ _
+    (λ d h. named_from_chosen arguments _ (found.1 ∙ ap (λ a. subcommand_of a arguments) read)
+    (ap (λ a. fault_of a arguments) (sym read) ∙ faults) d h) c.chosen.ensures.ok
 
 pub returns-in-Err-clause-ok : goal.returns-in-Err-clause-ok
 returns-in-Err-clause-ok c =
@@ -22,7 +24,8 @@ returns-in-Err-clause-ok c =
     let read : app_of c.in-Ok.parser ≡ program = c.in-Ok.ensures in
     let kinds = c.in-Err.ensures.kinds (ap is_simple_and_free read ∙ program_is_free) in
     let among = subst (λ a. HasKind (fault_of a arguments) c.in-Err.error) read kinds in
-    IfOk-weaker c.unmatched.result _ _ (named_from_shown arguments (kind_of c.in-Err.error) among) c.unmatched.ensures.ok
+    IfOk-weaker c.unmatched.result _ _ (named_from_shown arguments (kind_of c.in-Err.error) among)
+    c.unmatched.ensures.ok
 
 pub returns-in-Err-clause-err : goal.returns-in-Err-clause-err
 returns-in-Err-clause-err c =
@@ -30,4 +33,5 @@ returns-in-Err-clause-err c =
     let read : app_of c.in-Ok.parser ≡ program = c.in-Ok.ensures in
     let kinds = c.in-Err.ensures.kinds (ap is_simple_and_free read ∙ program_is_free) in
     let among = subst (λ a. HasKind (fault_of a arguments) c.in-Err.error) read kinds in
-    IfErr-weaker c.unmatched.result _ _ (faulty_from_kind arguments (kind_of c.in-Err.error) among) c.unmatched.ensures.err
+    IfErr-weaker c.unmatched.result _ _ (faulty_from_kind arguments (kind_of c.in-Err.error) among)
+    c.unmatched.ensures.err

@@ -5,4 +5,5 @@ use Rattle.shim_service.proofs.command.file_of.Goals as goal
 
 pub returns-clause-ok : goal.returns-clause-ok
 returns-clause-ok c =
-    sym (first_value-rows (found_of c.args.found.now) (codes "FILE")) ∙ (sym c.in-Some.ensures ∙ ap Some (sym c.in-Ok.ensures.ok))
+    sym (first_value-rows (found_of c.args.found.now) (codes "FILE"))
+    ∙ (sym c.in-Some.ensures ∙ ap Some (sym c.in-Ok.ensures.ok))

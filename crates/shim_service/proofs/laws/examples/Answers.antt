@@ -10,7 +10,12 @@ pub returns-clause-put : goal.returns-clause-put
 unfolding serde_json_on_literals hex_on_literals is_utf8 chars
 returns-clause-put c = record {
   value = _;
-  reads = record { short = omega arith; utf8 = IsUtf8-from_is_utf8 (codes "{\"op\":\"put\",\"hex\":\"00fF\"}") refl; value = refl };
+  reads =
+      record {
+        short = omega arith;
+        utf8 = IsUtf8-from_is_utf8 (codes "{\"op\":\"put\",\"hex\":\"00fF\"}") refl;
+        value = refl;
+      };
   asks = (_, refl, (_, refl, refl));
 }
 
@@ -18,7 +23,12 @@ pub returns-clause-twice : goal.returns-clause-twice
 unfolding serde_json_on_literals is_utf8 chars
 returns-clause-twice c = record {
   value = _;
-  reads = record { short = omega arith; utf8 = IsUtf8-from_is_utf8 (codes "{\"op\":\"start\",\"id\":\"a\",\"op\":\"state\"}") refl; value = refl };
+  reads =
+      record {
+        short = omega arith;
+        utf8 = IsUtf8-from_is_utf8 (codes "{\"op\":\"start\",\"id\":\"a\",\"op\":\"state\"}") refl;
+        value = refl;
+      };
   asks = (_, refl, refl);
 }
 
@@ -26,7 +36,12 @@ pub returns-clause-take : goal.returns-clause-take
 unfolding serde_json_on_literals is_utf8 chars
 returns-clause-take c = record {
   value = _;
-  reads = record { short = omega arith; utf8 = IsUtf8-from_is_utf8 (codes "{\"op\":\"take\",\"id\":\"a\",\"budget\":100}") refl; value = refl };
+  reads =
+      record {
+        short = omega arith;
+        utf8 = IsUtf8-from_is_utf8 (codes "{\"op\":\"take\",\"id\":\"a\",\"budget\":100}") refl;
+        value = refl;
+      };
   asks = (_, refl, (refl, omega arith, omega arith));
 }
 
@@ -38,7 +53,13 @@ pub returns-clause-lease : goal.returns-clause-lease
 unfolding serde_json_on_literals is_utf8 chars
 returns-clause-lease c = record {
   value = _;
-  reads = record { short = omega arith; utf8 = IsUtf8-from_is_utf8 (codes "{\"op\":\"lease_add\",\"id\":\"l\",\"digest\":\"d\"}") refl; value = refl };
+  reads =
+      record {
+        short = omega arith;
+        utf8 =
+            IsUtf8-from_is_utf8 (codes "{\"op\":\"lease_add\",\"id\":\"l\",\"digest\":\"d\"}") refl;
+        value = refl;
+      };
   asks = (_, refl, refl);
 }
 
@@ -50,7 +71,12 @@ pub returns-clause-output : goal.returns-clause-output
 unfolding serde_json_on_literals is_utf8 chars
 returns-clause-output c = record {
   value = _;
-  reads = record { short = omega arith; utf8 = IsUtf8-from_is_utf8 (codes "{\"op\":\"output\",\"id\":\"a\",\"stream\":1}") refl; value = refl };
+  reads =
+      record {
+        short = omega arith;
+        utf8 = IsUtf8-from_is_utf8 (codes "{\"op\":\"output\",\"id\":\"a\",\"stream\":1}") refl;
+        value = refl;
+      };
   asks = (_, refl, refl);
 }
 
@@ -62,7 +88,12 @@ pub returns-clause-text : goal.returns-clause-text
 unfolding serde_json_on_literals is_utf8 chars
 returns-clause-text c = record {
   value = _;
-  reads = record { short = omega arith; utf8 = IsUtf8-from_is_utf8 (codes "{\"op\":\"put_text\",\"text\":\"(module\\n)\"}") refl; value = refl };
+  reads =
+      record {
+        short = omega arith;
+        utf8 = IsUtf8-from_is_utf8 (codes "{\"op\":\"put_text\",\"text\":\"(module\\n)\"}") refl;
+        value = refl;
+      };
   asks = (_, refl, refl);
 }
 

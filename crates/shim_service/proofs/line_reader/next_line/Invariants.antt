@@ -4,4 +4,5 @@ use Rattle.shim_service.proofs.line_reader.next_line.Given as goal
 
 abbrev pub invariant-loop : goal.invariant-loop
 invariant-loop g l =
-    Gathers (prepend_known l.fn.chunk (g.R.Read.remaining l.fn.reader)) (prepend_known l.chunk (g.R.Read.remaining l.reader)) l.line
+    Gathers (prepend_known l.fn.chunk (g.R.Read.remaining l.fn.reader))
+    (prepend_known l.chunk (g.R.Read.remaining l.reader)) l.line

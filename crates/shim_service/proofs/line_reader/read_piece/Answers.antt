@@ -11,7 +11,9 @@ returns-then-branch g c =
     record {
       piece = taken.0;
       plain = found.plain;
-      bytes = consumes_to_feed (g.R.Read.remaining c.refill.new.reader) (prepend_known c.args.chunk.now (g.R.Read.remaining c.args.reader.now)) c.refill.new.chunk
+      bytes =
+          consumes_to_feed (g.R.Read.remaining c.refill.new.reader)
+          (prepend_known c.args.chunk.now (g.R.Read.remaining c.args.reader.now)) c.refill.new.chunk
           c.take_piece.new.chunk taken.0 c.in_ok-refill.ensures.bytes found;
       adds = taken.2;
     }

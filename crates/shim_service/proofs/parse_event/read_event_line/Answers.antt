@@ -8,6 +8,7 @@ returns-in_err-value-clause-none c e x is = c.read_value.ensures.none (search ru
 
 pub returns-clause-none : goal.returns-clause-none
 returns-clause-none c e x is =
-    let both : Some is.value ≡ Some (view c.in_ok-value.value) = sym is.reads.value ∙ c.in_ok-value.ensures.value.value in
+    let both :
+    Some is.value ≡ Some (view c.in_ok-value.value) = sym is.reads.value ∙ c.in_ok-value.ensures.value.value in
     let same : is.value ≡ view c.in_ok-value.value = cc in
     c.event_in.ensures.none e x (subst (λ d. AsksEvent d x) same is.asks)

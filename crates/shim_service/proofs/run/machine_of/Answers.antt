@@ -13,7 +13,9 @@ returns-in_err-valid-clause-err c =
     let why = CannotStart c.args.unchecked (config_of c.args.process) in
     let same : c.from_residual.result ≡ Err e = search rules in
     handed_up why c.from_residual.result e same
-    (told_unless why e (not_validated why c.validate.result e c.in_err-valid.was c.validate.ensures.err (λ p. not_valid (c.validate.ensures.invalid p))))
+    (told_unless why e
+    (not_validated why c.validate.result e c.in_err-valid.was c.validate.ensures.err
+    (λ p. not_valid (c.validate.ensures.invalid p))))
 
 pub returns-clause-err : goal.returns-clause-err
 returns-clause-err c =

@@ -9,7 +9,8 @@ returns-in_err-module-clause-err c =
     let e = c.in_err-module.field-0.0 in
     let args = c.args.name.now ∷ map string_bytes c.args.args.now in
     let same : c.from_residual.result ≡ Err e = search rules in
-    handed_up (CannotRun c.args.bytes.now args) c.from_residual.result e same (no_module c.args.bytes.now args e c.in_err-module.ensures.err)
+    handed_up (CannotRun c.args.bytes.now args) c.from_residual.result e same
+    (no_module c.args.bytes.now args e c.in_err-module.ensures.err)
 
 pub returns-in_err-process-clause-err : goal.returns-in_err-process-clause-err
 returns-in_err-process-clause-err c =

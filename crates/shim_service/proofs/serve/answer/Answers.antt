@@ -5,7 +5,10 @@ use Rattle.shim_service.proofs.serve.answer.Goals as goal
 
 pub returns-in_err-request : goal.returns-in_err-request
 returns-in_err-request c text kept =
-    subst (λ t. IsAnswered c.args.board.now.state t c.from_residual.result c.args.board.now.state) (kept_whole c.args.line.now c.in-Some.bytes.now text c.in-Some.ensures kept)
-    (answered_by c.args.board.now.state c.in-Some.bytes.now c.in_err-request.field-0.0 c.from_residual.result c.from_residual.ensures.1
+    subst (λ t. IsAnswered c.args.board.now.state t c.from_residual.result c.args.board.now.state)
+    (kept_whole c.args.line.now c.in-Some.bytes.now text c.in-Some.ensures kept)
+    (answered_by c.args.board.now.state c.in-Some.bytes.now c.in_err-request.field-0.0 c.from_residual.result
+    c.from_residual.ensures.1
     (λ e. c.read_request_line.ensures.none (search rules))
-    (short_unless_long c.in-Some.bytes.now c.read_request_line.result c.in_err-request.field-0.0 c.read_request_line.ensures.long c.in_err-request.was))
+    (short_unless_long c.in-Some.bytes.now c.read_request_line.result c.in_err-request.field-0.0
+    c.read_request_line.ensures.long c.in_err-request.was))

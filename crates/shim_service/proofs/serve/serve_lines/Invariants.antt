@@ -4,4 +4,5 @@ use Rattle.shim_service.proofs.serve.serve_lines.Given as goal
 
 abbrev pub invariant-loop : goal.invariant-loop
 invariant-loop g l =
-    Serving l.fn.board.state (g.R.Read.remaining l.fn.reader) (prepend_known l.chunk (g.R.Read.remaining l.reader)) (g.W.Write.contents l.fn.writer) (g.W.Write.contents l.writer) l.board.state
+    Serving l.fn.board.state (g.R.Read.remaining l.fn.reader) (prepend_known l.chunk (g.R.Read.remaining l.reader))
+    (g.W.Write.contents l.fn.writer) (g.W.Write.contents l.writer) l.board.state

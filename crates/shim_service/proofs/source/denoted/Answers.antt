@@ -24,8 +24,12 @@ returns-clause-ok c =
     let read = c.in_ok-encoded.ensures.encoded in
     let one : read.0 ≡ m = c.denotes_one.ensures text read.0 m read.1 made.1 in
     let value = c.as_slice.ensures.value in
-    let spells : Spells bytes m = subst (λ (bs : List ℕ). Spells bs m) (sym value) (subst (Spells c.in_ok-encoded.encoded.items) one read.2) in
-    let short : length bytes ≤ max_module_bytes = subst (λ (bs : List ℕ). length bs ≤ max_module_bytes) (sym (value ∙ made.3)) made.2.1 in
+    let spells :
+    Spells bytes m =
+    subst (λ (bs : List ℕ). Spells bs m) (sym value) (subst (Spells c.in_ok-encoded.encoded.items) one read.2) in
+    let short :
+    length bytes ≤ max_module_bytes =
+    subst (λ (bs : List ℕ). length bs ≤ max_module_bytes) (sym (value ∙ made.3)) made.2.1 in
     decoded c.decode.result text m (c.decode.ensures.read m spells made.2.0 short) made.1 made.2
 
 pub returns-clause-err : goal.returns-clause-err
@@ -37,6 +41,10 @@ returns-clause-err c =
     let read = c.in_ok-encoded.ensures.encoded in
     let one : read.0 ≡ m = c.denotes_one.ensures text read.0 m read.1 made.1 in
     let value = c.as_slice.ensures.value in
-    let spells : Spells bytes m = subst (λ (bs : List ℕ). Spells bs m) (sym value) (subst (Spells c.in_ok-encoded.encoded.items) one read.2) in
-    let short : length bytes ≤ max_module_bytes = subst (λ (bs : List ℕ). length bs ≤ max_module_bytes) (sym (value ∙ made.3)) made.2.1 in
+    let spells :
+    Spells bytes m =
+    subst (λ (bs : List ℕ). Spells bs m) (sym value) (subst (Spells c.in_ok-encoded.encoded.items) one read.2) in
+    let short :
+    length bytes ≤ max_module_bytes =
+    subst (λ (bs : List ℕ). length bs ≤ max_module_bytes) (sym (value ∙ made.3)) made.2.1 in
     not_decoded c.decode.result text m (c.decode.ensures.read m spells made.2.0 short)

@@ -18,13 +18,22 @@ pub returns-clause-holds : goal.returns-clause-holds
 returns-clause-holds c =
     let p = config_of c.args.process in
     let m = c.args.of.now in
-    let facts : Runnable m = record { valid = c.module.ensures.valid; ranged = c.module.ensures.ranged; known = c.requires.known; within = c.requires.within } in
+    let facts :
+    Runnable m =
+    record {
+      valid = c.module.ensures.valid;
+      ranged = c.module.ensures.ranged;
+      known = c.requires.known;
+      within = c.requires.within;
+    } in
     let start = ap (λ (n : Module). n.start) c.module-2.ensures.value in
     let same = c.module.ensures.value in
     let globals = c.in_ok-kept.ensures.globals ∙ ap (λ (n : Module). map word_of (map first_global n.globals)) same in
     let memory = c.in_ok-kept.ensures.memory ∙ (ap (λ (n : Module). first_memory n p.cap) same) in
     let table = c.in_ok-kept.ensures.table ∙ ap first_table same in
-    let two = both (are_elements_inside (length (empty_table m.tables)) m.elements) (are_segments_inside (zero_memory m.memories p.cap) m.segments) c.requires.inside in
+    let two =
+    both (are_elements_inside (length (empty_table m.tables)) m.elements)
+    (are_segments_inside (zero_memory m.memories p.cap) m.segments) c.requires.inside in
     let few : p.cap ≤ max_pages = c.bounded.ensures in
     let inside = two.1 in
     let bytes = subst (λ (n : Memory). All (λ b. b < 256) n.bytes) memory c.in_ok-kept.ensures.bytes in
@@ -41,10 +50,13 @@ returns-clause-holds c =
     record {
       runnable = facts;
       limited = c.start_up-end.ensures.limit ∙ c.in_ok-at.ensures;
-      stopped = c.start_up-end.ensures.stopped m p c.process_ranged.ensures (ap config_of c.in_ok-kept.ensures.process) facts c.cells.ensures c.callees.ensures start c.requires.entry stored;
+      stopped =
+          c.start_up-end.ensures.stopped m p c.process_ranged.ensures (ap config_of c.in_ok-kept.ensures.process) facts
+          c.cells.ensures c.callees.ensures start c.requires.entry stored;
     }
 
 pub returns-clause-process : goal.returns-clause-process
 returns-clause-process c =
     let h = returns-clause-holds c in
-    process_of c.args.of.now (config_of c.args.process) (flat_from c.start_up-end.new.at c.start_up-end.new.kept) 0 c.start_up-end.result h.stopped
+    process_of c.args.of.now (config_of c.args.process) (flat_from c.start_up-end.new.at c.start_up-end.new.kept) 0
+    c.start_up-end.result h.stopped

@@ -4,4 +4,5 @@ use Rattle.step_machine.proofs.host_calls.call_named.Given as goal
 
 abbrev pub invariant-loop-call : goal.invariant-loop-call
 invariant-loop-call l =
-    call_named l.name (option_copied l.found) l.calls ≡ call_named l.name (option_copied l.found) (drop l.call-index l.calls)
+    call_named l.name (option_copied l.found) l.calls
+    ≡ call_named l.name (option_copied l.found) (drop l.call-index l.calls)

@@ -40,4 +40,5 @@ several (i ∷ []) h = absurd (h refl)
 several (i ∷ j ∷ is) h = more (op_of i) (op_of j) (ops_of (map op_of is))
 
 pub returns-then-instrs-ne1 : goal.returns-then-instrs-ne1
-returns-then-instrs-ne1 c = several c.as_slice-instrs.result.now c.if-instrs-ne1.true ∙ ap constant c.as_slice-instrs.ensures
+returns-then-instrs-ne1 c =
+    several c.as_slice-instrs.result.now c.if-instrs-ne1.true ∙ ap constant c.as_slice-instrs.ensures

@@ -11,4 +11,5 @@ returns-clause-turn c p d = settles p (state_weight (step p d).state) (step p d)
 
 pub returns-clause-initial : goal.returns-clause-initial
 returns-clause-initial c m p =
-    settles (program m p) (state_weight (first_state m.start (entry m))) (record { store = first_store m p; state = first_state m.start (entry m) }) (omega arith)
+    settles (program m p) (state_weight (first_state m.start (entry m)))
+    (record { store = first_store m p; state = first_state m.start (entry m) }) (omega arith)

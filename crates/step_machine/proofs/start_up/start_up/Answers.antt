@@ -13,8 +13,22 @@ returns-in-Some-clause-stopped c m p texts same facts codes all start is_entry s
     let fs = option_to_list c.invocations-first.result.1 in
     let x = flat_from c.args.at.now (record c.args.kept.now { pending = Some f }) in
     let order = c.invocations-first.ensures ∙ ap (λ (o : Option ℕ). option_to_list o ++ c.args.entry ∷ []) start in
-    let there : Stored m x (first_store m p) = record { globals = stored.globals; memory = stored.memory; table = stored.table; out = stored.out; err = stored.err; globals_typed = stored.globals_typed; in_table = stored.in_table; ranged = stored.ranged } in
-    let step = ap (λ (cs : List Callee). begin cs (f ∷ []) x) (sym all) ∙ (c.begin.ensures.step ∙ ap (λ o. stepped_to o (flat_from c.begin.new.at c.begin.new.kept)) c.in-Some.is) in
+    let there :
+    Stored m x (first_store m p) =
+    record {
+      globals = stored.globals;
+      memory = stored.memory;
+      table = stored.table;
+      out = stored.out;
+      err =
+          stored.err;
+      globals_typed = stored.globals_typed;
+      in_table = stored.in_table;
+      ranged = stored.ranged;
+    } in
+    let step =
+    ap (λ (cs : List Callee). begin cs (f ∷ []) x) (sym all)
+    ∙ (c.begin.ensures.step ∙ ap (λ o. stepped_to o (flat_from c.begin.new.at c.begin.new.kept)) c.in-Some.is) in
     absurd (begins_so m p facts x f fs c.args.entry order is_entry there same texts c.in-Some.end step)
 
 pub returns-clause-stopped : goal.returns-clause-stopped
@@ -23,7 +37,22 @@ returns-clause-stopped c m p texts same facts codes all start is_entry stored =
     let fs = option_to_list c.invocations-first.result.1 in
     let x = flat_from c.args.at.now (record c.args.kept.now { pending = Some f }) in
     let order = c.invocations-first.ensures ∙ ap (λ (o : Option ℕ). option_to_list o ++ c.args.entry ∷ []) start in
-    let there : Stored m x (first_store m p) = record { globals = stored.globals; memory = stored.memory; table = stored.table; out = stored.out; err = stored.err; globals_typed = stored.globals_typed; in_table = stored.in_table; ranged = stored.ranged } in
-    let step = ap (λ (cs : List Callee). begin cs (f ∷ []) x) (sym all) ∙ (c.begin.ensures.step ∙ ap (λ o. stepped_to o (flat_from c.begin.new.at c.begin.new.kept)) c.in_default.is) in
+    let there :
+    Stored m x (first_store m p) =
+    record {
+      globals = stored.globals;
+      memory = stored.memory;
+      table = stored.table;
+      out = stored.out;
+      err =
+          stored.err;
+      globals_typed = stored.globals_typed;
+      in_table = stored.in_table;
+      ranged = stored.ranged;
+    } in
+    let step =
+    ap (λ (cs : List Callee). begin cs (f ∷ []) x) (sym all)
+    ∙ (c.begin.ensures.step ∙ ap (λ o. stepped_to o (flat_from c.begin.new.at c.begin.new.kept)) c.in_default.is) in
     c.settle.ensures.stopped m p 0 facts codes all
-    (going_first m p facts x f fs c.args.entry order is_entry there same texts (flat_from c.begin.new.at c.begin.new.kept) step)
+    (going_first m p facts x f fs c.args.entry order is_entry there same texts
+    (flat_from c.begin.new.at c.begin.new.kept) step)

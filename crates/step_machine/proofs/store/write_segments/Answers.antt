@@ -14,9 +14,19 @@ loop-segment-preserved c =
     let s = c.segment-item.result in
     let m = c.loop-segment.memory in
     let others = drop (i + 1) segments in
-    let leads : fold with_segment m (drop i segments) ≡ fold with_segment (with_segment m s) others = at_drop_more (fold with_segment m) segments i s c.loop-segment-test.true ∙ ap (λ (x : Segment). fold with_segment m (x ∷ others)) (sym c.segment-item.is) in
-    let inside : are_segments_inside m (drop i segments) ≡ are_segments_inside m (s ∷ others) = at_drop_more (are_segments_inside m) segments i s c.loop-segment-test.true ∙ ap (λ (x : Segment). are_segments_inside m (x ∷ others)) (sym c.segment-item.is) in
+    let leads :
+    fold with_segment m (drop i segments) ≡ fold with_segment (with_segment m s) others =
+    at_drop_more (fold with_segment m) segments i s c.loop-segment-test.true
+    ∙ ap (λ (x : Segment). fold with_segment m (x ∷ others)) (sym c.segment-item.is) in
+    let inside :
+    are_segments_inside m (drop i segments) ≡ are_segments_inside m (s ∷ others) =
+    at_drop_more (are_segments_inside m) segments i s c.loop-segment-test.true
+    ∙ ap (λ (x : Segment). are_segments_inside m (x ∷ others)) (sym c.segment-item.is) in
     record {
-      leads = ap (λ (n : Memory). fold with_segment n others) c.write_segment.ensures ∙ (sym leads ∙ c.loop-segment.invariant.leads);
-      inside = ap (λ (n : Memory). are_segments_inside n others) c.write_segment.ensures ∙ other_segments m s others (sym inside ∙ c.loop-segment.invariant.inside);
+      leads =
+          ap (λ (n : Memory). fold with_segment n others) c.write_segment.ensures
+          ∙ (sym leads ∙ c.loop-segment.invariant.leads);
+      inside =
+          ap (λ (n : Memory). are_segments_inside n others) c.write_segment.ensures
+          ∙ other_segments m s others (sym inside ∙ c.loop-segment.invariant.inside);
     }

@@ -8,8 +8,10 @@ use Rattle.step_machine.proofs.worked.values_are_limited.Goals as goal
 
 pub returns-clause-beyond : goal.returns-clause-beyond
 returns-clause-beyond c p vs n h =
-    rw (beyond (seq [] (more (frame 0 1 [] (seq (value.I32 n ∷ vs) (items_of 1 (next drop' stop)))) done)) (omega arith) (omega arith))
+    rw (beyond (seq [] (more (frame 0 1 [] (seq (value.I32 n ∷ vs) (items_of 1 (next drop' stop)))) done))
+    (omega arith) (omega arith))
 
 pub returns-clause-within : goal.returns-clause-within
 returns-clause-within c p vs n h =
-    rw (within (seq [] (more (frame 0 1 [] (seq (value.I32 n ∷ vs) (items_of 1 (next drop' stop)))) done)) (omega arith) (omega arith))
+    rw (within (seq [] (more (frame 0 1 [] (seq (value.I32 n ∷ vs) (items_of 1 (next drop' stop)))) done))
+    (omega arith) (omega arith))

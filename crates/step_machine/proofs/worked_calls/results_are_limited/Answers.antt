@@ -11,4 +11,5 @@ returns-clause-beyond c p vs is h =
 
 pub returns-clause-within : goal.returns-clause-within
 returns-clause-within c p vs is h =
-    ap (λ (d : Configuration). d.state) (yields p empty_store 1 0 0 [] vs (next drop' stop) is (omega arith) drop' stop refl)
+    ap (λ (d : Configuration). d.state)
+    (yields p empty_store 1 0 0 [] vs (next drop' stop) is (omega arith) drop' stop refl)

@@ -12,7 +12,11 @@ returns-in_err-module-clause-refused c e p is other =
     let told = c.in_err-module.ensures in
     let causes : (x ≡ refusal.BadModule) ⊎ ((x ≡ refusal.Limit) ⊎ (x ≡ refusal.NoMemory)) = told.causes in
     let says = undecoded c.args.bytes.now p x
-    (record { bad = λ h. told.bad (ap Err h); over = λ h. told.over (ap Err h); none = λ h. told.none_within (ap Err h) }) causes in
+    (record {
+      bad = λ h. told.bad (ap Err h);
+      over = λ h. told.over (ap Err h);
+      none = λ h. told.none_within (ap Err h);
+    }) causes in
     subst (λ (y : Refusal). CannotOpen c.args.bytes.now p y) same (says (λ n. other (sym same ∙ n)))
 
 pub returns-in_err-valid-clause-refused : goal.returns-in_err-valid-clause-refused
@@ -20,7 +24,13 @@ returns-in_err-valid-clause-refused c e p is other =
     let x = c.in_err-valid.field-0.0 in
     let same : x ≡ e = search rules in
     let m = c.in_ok-module.module in
-    let spelled : IsSpelled c.args.bytes.now m = record { spells = c.in_ok-module.ensures.spelled; within = c.in_ok-module.ensures.within.0; short = c.in_ok-module.ensures.within.1 } in
+    let spelled :
+    IsSpelled c.args.bytes.now m =
+    record {
+      spells = c.in_ok-module.ensures.spelled;
+      within = c.in_ok-module.ensures.within.0;
+      short = c.in_ok-module.ensures.within.1;
+    } in
     let why = unchecked c.validate.result e c.validate.ensures.err (c.in_err-valid.was ∙ ap Err same) other in
     subst (λ (y : Refusal). CannotOpen c.args.bytes.now p y) (sym why)
     (invalid m spelled (c.validate.ensures.invalid (c.in_err-valid.was ∙ ap Err (same ∙ why))))

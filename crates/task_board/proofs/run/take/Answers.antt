@@ -11,19 +11,24 @@ pub returns-in_default-take-clause-taken : goal.returns-in_default-take-clause-t
 returns-in_default-take-clause-taken c =
     let s = c.args.board.now.state in
     let ticket : ticket_of c.args.id s.tasks ≡ Some c.in-Some.ticket = search rules in
-    let is = c.in_default-take.ensures in
-    (not_taken s c.args.id c.in-Some.ticket c.args.budget c.sound.ensures ticket is.none, ap (λ (b : BoardValue). b.state) is.same)
+    let is = c.in_default-take.ensures in (
+      not_taken s c.args.id c.in-Some.ticket c.args.budget c.sound.ensures ticket is.none,
+      ap (λ (b : BoardValue). b.state) is.same,
+    )
 
 pub returns-clause-taken : goal.returns-clause-taken
 returns-clause-taken c =
     let s = c.args.board.now.state in
     let ticket : ticket_of c.args.id s.tasks ≡ Some c.in-Some.ticket = search rules in
     let is = c.in-Some-take.ensures in
-    let own = taken_id s c.args.id c.in-Some.ticket c.args.budget c.in-Some-take.loan c.take.new.self.state c.sound.ensures ticket is.some in
+    let own =
+    taken_id s c.args.id c.in-Some.ticket c.args.budget c.in-Some-take.loan c.take.new.self.state c.sound.ensures
+    ticket is.some in
     subst (λ (x : List ℕ). taken s x c.args.budget ≡ Some c.take.new.self.state) own is.step
 
 pub returns-clause-covered : goal.returns-clause-covered
 returns-clause-covered c covered =
     let more : c.push_reserved.new.self.items ≡ c.args.loans.now.items ++ c.in-Some-take.loan ∷ [] = search rules in
     subst (λ (ls : List Lent). Covered ls c.take.new.self.state.tasks) (sym more)
-    (lends_covered c.args.board.now.state c.in-Some.ticket c.args.budget c.in-Some-take.loan c.take.new.self.state c.args.loans.now.items c.sound.ensures c.in-Some-take.ensures.some covered)
+    (lends_covered c.args.board.now.state c.in-Some.ticket c.args.budget c.in-Some-take.loan c.take.new.self.state
+    c.args.loans.now.items c.sound.ensures c.in-Some-take.ensures.some covered)

@@ -31,6 +31,8 @@ decreases-read_nested l = 8 * l.more + 6
 
 abbrev pub invariant-push_body-loop : goal.invariant-push_body-loop
 invariant-push_body-loop l =
-    (with_front (map op_of l.out.items) (read_some is_end (one_op l.scopes l.locals (inner_of l.scopes l.locals l.more) l.labels) (length l.tokens - l.counter) l.rest)
+    (with_front (map op_of l.out.items)
+    (read_some is_end (one_op l.scopes l.locals (inner_of l.scopes l.locals l.more) l.labels)
+    (length l.tokens - l.counter) l.rest)
     ≡ with_front (map op_of l.initial.out.items) (read_body l.scopes l.locals l.more l.labels l.tokens))
     × (l.labels ≡ l.initial.labels)

@@ -6,4 +6,5 @@ use Rattle.text_assembler.proofs.lexer.tokens_of.Given as goal
 
 abbrev pub invariant-loop : goal.invariant-loop
 invariant-loop l =
-    with_front l.out.items (read_some is_empty read_token (length l.bytes - l.counter) l.rest) ≡ read_parts is_empty read_token l.bytes
+    with_front l.out.items (read_some is_empty read_token (length l.bytes - l.counter) l.rest)
+    ≡ read_parts is_empty read_token l.bytes

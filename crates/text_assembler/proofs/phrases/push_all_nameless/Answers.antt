@@ -18,12 +18,17 @@ returns-then-is_close c =
 pub returns-in_err-rest : goal.returns-in_err-rest
 returns-in_err-rest c =
     let p = err_from_is_err_and c.from_residual.result c.from_residual.ensures.1 in
-    rw (p.1, p.2) (fails is_close one_nameless c.in_err-rest.field-0.0 c.loop.out.items (length c.args.tokens.now) c.loop.counter c.loop.rest.now (with_front c.args.out.now.items (read_parts is_close one_nameless c.args.tokens.now)) c.loop-test.true
+    rw (p.1, p.2)
+    (fails is_close one_nameless c.in_err-rest.field-0.0 c.loop.out.items (length c.args.tokens.now) c.loop.counter
+    c.loop.rest.now (with_front c.args.out.now.items (read_parts is_close one_nameless c.args.tokens.now))
+    c.loop-test.true
     (sym c.is_close.ensures ∙ c.if-is_close.false) c.in_err-rest.ensures c.loop.invariant)
 
 pub loop-preserved : goal.loop-preserved
 loop-preserved c =
-    goes_on is_close one_nameless c.loop.out.items (length c.args.tokens.now) c.loop.counter c.loop.rest.now c.push_nameless.new.out.items c.in_ok-rest.rest.now (with_front c.args.out.now.items (read_parts is_close one_nameless c.args.tokens.now)) c.loop-test.true
+    goes_on is_close one_nameless c.loop.out.items (length c.args.tokens.now) c.loop.counter c.loop.rest.now
+    c.push_nameless.new.out.items c.in_ok-rest.rest.now
+    (with_front c.args.out.now.items (read_parts is_close one_nameless c.args.tokens.now)) c.loop-test.true
     (sym c.is_close.ensures ∙ c.if-is_close.false) c.in_ok-rest.ensures c.loop.invariant
 
 pub returns-then-is_close-2 : goal.returns-then-is_close-2
@@ -34,4 +39,7 @@ returns-then-is_close-2 c =
 
 pub returns-else-is_close-2 : goal.returns-else-is_close-2
 returns-else-is_close-2 c =
-    rw c.fault.ensures (runs_out is_close one_nameless c.loop.out.items (length c.args.tokens.now) c.loop.counter c.loop.rest.now (with_front c.args.out.now.items (read_parts is_close one_nameless c.args.tokens.now)) c.loop-test.false (sym c.is_close-2.ensures ∙ c.if-is_close-2.false) c.loop.invariant)
+    rw c.fault.ensures
+    (runs_out is_close one_nameless c.loop.out.items (length c.args.tokens.now) c.loop.counter c.loop.rest.now
+    (with_front c.args.out.now.items (read_parts is_close one_nameless c.args.tokens.now)) c.loop-test.false
+    (sym c.is_close-2.ensures ∙ c.if-is_close-2.false) c.loop.invariant)

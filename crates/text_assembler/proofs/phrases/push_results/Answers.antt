@@ -12,7 +12,8 @@ loop-init c = starts_after (is_past_groups (codes "result")) read_result c.args.
 pub returns-then-is_past_groups : goal.returns-then-is_past_groups
 unfolding read_results
 returns-then-is_past_groups c =
-    is_done (is_past_groups (codes "result")) read_result c.loop.out.items (length c.args.tokens.now - c.loop.counter) c.loop.rest.now
+    is_done (is_past_groups (codes "result")) read_result c.loop.out.items
+    (length c.args.tokens.now - c.loop.counter) c.loop.rest.now
     (with_front c.args.out.now.items (read_parts (is_past_groups (codes "result")) read_result c.args.tokens.now))
     (sym c.is_past_groups.ensures ∙ c.if-is_past_groups.true) c.loop.invariant
 
@@ -20,22 +21,35 @@ pub returns-in_err-rest : goal.returns-in_err-rest
 unfolding read_results
 returns-in_err-rest c =
     let p = err_from_is_err_and c.from_residual.result c.from_residual.ensures.1 in
-    rw (p.1, p.2) (fails (is_past_groups (codes "result")) read_result c.in_err-rest.field-0.0 c.loop.out.items (length c.args.tokens.now) c.loop.counter c.loop.rest.now (with_front c.args.out.now.items (read_parts (is_past_groups (codes "result")) read_result c.args.tokens.now)) c.loop-test.true
+    rw (p.1, p.2)
+    (fails (is_past_groups (codes "result")) read_result c.in_err-rest.field-0.0 c.loop.out.items
+    (length c.args.tokens.now) c.loop.counter c.loop.rest.now
+    (with_front c.args.out.now.items
+    (read_parts (is_past_groups (codes "result")) read_result c.args.tokens.now)) c.loop-test.true
     (sym c.is_past_groups.ensures ∙ c.if-is_past_groups.false) c.in_err-rest.ensures c.loop.invariant)
 
 pub loop-preserved : goal.loop-preserved
 loop-preserved c =
-    goes_on (is_past_groups (codes "result")) read_result c.loop.out.items (length c.args.tokens.now) c.loop.counter c.loop.rest.now c.push_result.new.out.items c.in_ok-rest.rest.now (with_front c.args.out.now.items (read_parts (is_past_groups (codes "result")) read_result c.args.tokens.now)) c.loop-test.true
+    goes_on (is_past_groups (codes "result")) read_result c.loop.out.items (length c.args.tokens.now) c.loop.counter
+    c.loop.rest.now c.push_result.new.out.items c.in_ok-rest.rest.now
+    (with_front c.args.out.now.items (read_parts (is_past_groups (codes "result")) read_result c.args.tokens.now))
+    c.loop-test.true
     (sym c.is_past_groups.ensures ∙ c.if-is_past_groups.false) c.in_ok-rest.ensures c.loop.invariant
 
 pub returns-then-is_past_groups-2 : goal.returns-then-is_past_groups-2
 unfolding read_results
 returns-then-is_past_groups-2 c =
-    is_done (is_past_groups (codes "result")) read_result c.loop.out.items (length c.args.tokens.now - c.loop.counter) c.loop.rest.now
+    is_done (is_past_groups (codes "result")) read_result c.loop.out.items
+    (length c.args.tokens.now - c.loop.counter) c.loop.rest.now
     (with_front c.args.out.now.items (read_parts (is_past_groups (codes "result")) read_result c.args.tokens.now))
     (sym c.is_past_groups-2.ensures ∙ c.if-is_past_groups-2.true) c.loop.invariant
 
 pub returns-else-is_past_groups-2 : goal.returns-else-is_past_groups-2
 unfolding read_results
 returns-else-is_past_groups-2 c =
-    rw c.fault.ensures (runs_out (is_past_groups (codes "result")) read_result c.loop.out.items (length c.args.tokens.now) c.loop.counter c.loop.rest.now (with_front c.args.out.now.items (read_parts (is_past_groups (codes "result")) read_result c.args.tokens.now)) c.loop-test.false (sym c.is_past_groups-2.ensures ∙ c.if-is_past_groups-2.false) c.loop.invariant)
+    rw c.fault.ensures
+    (runs_out (is_past_groups (codes "result")) read_result c.loop.out.items (length c.args.tokens.now)
+    c.loop.counter c.loop.rest.now
+    (with_front c.args.out.now.items
+    (read_parts (is_past_groups (codes "result")) read_result c.args.tokens.now)) c.loop-test.false
+    (sym c.is_past_groups-2.ensures ∙ c.if-is_past_groups-2.false) c.loop.invariant)

@@ -7,4 +7,5 @@ use Rattle.text_assembler.proofs.strings.read_bytes.Given as goal
 
 abbrev pub invariant-loop : goal.invariant-loop
 invariant-loop l =
-    with_front l.out.items (read_some (begins_with quote) read_element (length l.bytes - l.counter) l.rest) ≡ read_parts (begins_with quote) read_element l.bytes
+    with_front l.out.items (read_some (begins_with quote) read_element (length l.bytes - l.counter) l.rest)
+    ≡ read_parts (begins_with quote) read_element l.bytes

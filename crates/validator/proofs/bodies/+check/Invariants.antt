@@ -26,6 +26,8 @@ invariant-check_instrs-loop-instr l = record {
   same : ops_of (map op_of l.instr-items) ≡ l.body;
   labels : l.labels ≡ l.fn.labels;
   outside : l.operands.outside ≡ l.fn.operands.outside;
-  rest : check_ops (context_of l.function l.labels) (ops_of (map op_of (drop l.instr-index l.instr-items))) l.operands.stack
+  rest :
+      check_ops (context_of l.function l.labels) (ops_of (map op_of (drop l.instr-index l.instr-items)))
+      l.operands.stack
       ≡ check_ops (context_of l.function l.fn.labels) (ops_of (map op_of l.instr-items)) l.fn.operands.stack;
 }

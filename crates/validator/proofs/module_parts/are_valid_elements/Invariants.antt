@@ -5,4 +5,5 @@ use Rattle.validator.proofs.module_parts.are_valid_elements.Given as goal
 
 -- all pass as the rest of them do
 abbrev pub invariant-loop-element : goal.invariant-loop-element
-invariant-loop-element l = are_all (is_valid_element l.of) (drop l.element-index l.elements) ≡ are_all (is_valid_element l.of) l.elements
+invariant-loop-element l =
+    are_all (is_valid_element l.of) (drop l.element-index l.elements) ≡ are_all (is_valid_element l.of) l.elements

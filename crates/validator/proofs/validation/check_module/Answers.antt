@@ -12,12 +12,17 @@ returns-clause-valid c =
     let names =
     subst (λ (exports : List Export). AllDifferent (map (λ (e : Export). e.name) exports)) c.as_slice.ensures
     (c.in_ok-differ.ensures.valid c.if-not-differ.false) in
-    on_ok_weaker c.check_funcs.result (λ funcs. module_valid c.args.unchecked.now declares defines names funcs) c.check_funcs.ensures.valid
+    on_ok_weaker c.check_funcs.result (λ funcs. module_valid c.args.unchecked.now declares defines names funcs)
+    c.check_funcs.ensures.valid
 
 pub returns-then-not-declares_validly-clause-invalid : goal.returns-then-not-declares_validly-clause-invalid
 returns-then-not-declares_validly-clause-invalid c = λ _ valid.
-    true≢false (sym (module_declares c.args.unchecked.now valid) ∙ (sym c.declares_validly.ensures ∙ c.if-not-declares_validly.true))
+    true≢false
+    (sym (module_declares c.args.unchecked.now valid)
+    ∙ (sym c.declares_validly.ensures ∙ c.if-not-declares_validly.true))
 
 pub returns-then-not-defines_validly-clause-invalid : goal.returns-then-not-defines_validly-clause-invalid
 returns-then-not-defines_validly-clause-invalid c = λ _ valid.
-    true≢false (sym (module_defines c.args.unchecked.now valid) ∙ (sym c.defines_validly.ensures ∙ c.if-not-defines_validly.true))
+    true≢false
+    (sym (module_defines c.args.unchecked.now valid)
+    ∙ (sym c.defines_validly.ensures ∙ c.if-not-defines_validly.true))

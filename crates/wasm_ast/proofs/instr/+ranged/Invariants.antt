@@ -6,4 +6,5 @@ use Rattle.wasm_ast.proofs.instr.+ranged.Given as goal
 
 -- the sequence is in range if the rest of it is
 abbrev pub invariant-Body::ranged-loop-instr : goal.invariant-Body::ranged-loop-instr
-invariant-Body::ranged-loop-instr l = RangedOps (ops_of (map op_of (drop l.instr-index l.instr-items))) → RangedOps l.self
+invariant-Body::ranged-loop-instr l =
+    RangedOps (ops_of (map op_of (drop l.instr-index l.instr-items))) → RangedOps l.self

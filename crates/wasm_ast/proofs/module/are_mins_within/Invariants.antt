@@ -4,4 +4,5 @@ use Rattle.wasm_ast.proofs.module.are_mins_within.Given as goal
 
 -- all are within the limit as the rest of them are
 abbrev pub invariant-loop-limit : goal.invariant-loop-limit
-invariant-loop-limit l = are_all (is_min_within l.most) (drop l.limit-index l.limits) ≡ are_all (is_min_within l.most) l.limits
+invariant-loop-limit l =
+    are_all (is_min_within l.most) (drop l.limit-index l.limits) ≡ are_all (is_min_within l.most) l.limits

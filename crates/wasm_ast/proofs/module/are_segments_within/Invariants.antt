@@ -5,4 +5,6 @@ use Rattle.wasm_ast.proofs.module.are_segments_within.Given as goal
 
 -- all are within the limit as the rest of them are
 abbrev pub invariant-loop-segment : goal.invariant-loop-segment
-invariant-loop-segment l = are_all (λ (x : Segment). nests_within x.offset) (drop l.segment-index l.segments) ≡ are_all (λ (x : Segment). nests_within x.offset) l.segments
+invariant-loop-segment l =
+    are_all (λ (x : Segment). nests_within x.offset) (drop l.segment-index l.segments)
+    ≡ are_all (λ (x : Segment). nests_within x.offset) l.segments

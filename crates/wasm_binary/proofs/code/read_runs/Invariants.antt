@@ -7,5 +7,7 @@ use Rattle.wasm_binary.proofs.code.read_runs.Given as goal
 abbrev pub invariant-loop : goal.invariant-loop
 invariant-loop l = record {
   few : l.before ≤ max_locals;
-  same : with_front l.items.items (read_runs true l.before (l.count - l.counter) l.rest) ≡ read_runs true l.fn.params l.count l.bytes;
+  same :
+      with_front l.items.items (read_runs true l.before (l.count - l.counter) l.rest)
+      ≡ read_runs true l.fn.params l.count l.bytes;
 }

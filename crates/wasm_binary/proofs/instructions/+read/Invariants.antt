@@ -23,4 +23,6 @@ abbrev pub decreases-read_nested : goal.decreases-read_nested
 decreases-read_nested l = 5 * l.more + 4
 
 abbrev pub invariant-read_body-loop : goal.invariant-read_body-loop
-invariant-read_body-loop l = with_front (map op_of l.items.items) (read_ops (inner_of l.more) (length l.bytes - l.counter) l.rest) ≡ read_body l.more l.bytes
+invariant-read_body-loop l =
+    with_front (map op_of l.items.items) (read_ops (inner_of l.more) (length l.bytes - l.counter) l.rest)
+    ≡ read_body l.more l.bytes

@@ -1,5 +1,5 @@
 use Rattle.std.proofs.Common.{arith}
-use Rattle.wasm_binary.proofs.CanonicalSpells.{number_spells, signed_spells}
+use Rattle.wasm_binary.proofs.CanonicalNumbers.{number_spells, signed_spells}
 use Rattle.wasm_binary.proofs.laws.canonical_numbers_are_encodings.Goals as goal
 
 pub returns-clause-unsigned : goal.returns-clause-unsigned

@@ -7,20 +7,29 @@ use Rattle.wasm_binary.proofs.laws.depth_is_met_at_the_opcode.Goals as goal
 
 pub returns-clause-block : goal.returns-clause-block
 unfolding TooDeep
-returns-clause-block c = λ rest. (next (simple Drop) stop, 0x02, rest, (0x02 ∷ rest, (0x02 ∷ rest, refl, refl), refl), inl refl)
+returns-clause-block c =
+    λ rest. (next (simple Drop) stop, 0x02, rest, (0x02 ∷ rest, (0x02 ∷ rest, refl, refl), refl), inl refl)
 
 pub returns-clause-iteration : goal.returns-clause-iteration
 unfolding TooDeep
-returns-clause-iteration c = λ rest. (next (simple Drop) stop, 0x03, rest, (0x03 ∷ rest, (0x03 ∷ rest, refl, refl), refl), inr (inl refl))
+returns-clause-iteration c =
+    λ rest. (next (simple Drop) stop, 0x03, rest, (0x03 ∷ rest, (0x03 ∷ rest, refl, refl), refl), inr (inl refl))
 
 pub returns-clause-choice : goal.returns-clause-choice
 unfolding TooDeep
-returns-clause-choice c = λ rest. (next (simple Drop) stop, 0x04, rest, (0x04 ∷ rest, (0x04 ∷ rest, refl, refl), refl), inr (inr refl))
+returns-clause-choice c =
+    λ rest. (next (simple Drop) stop, 0x04, rest, (0x04 ∷ rest, (0x04 ∷ rest, refl, refl), refl), inr (inr refl))
 
 pub returns-clause-inside : goal.returns-clause-inside
 unfolding TooDeep
-returns-clause-inside c = λ rest.
-    (stop, 0x03 ∷ 0x40 ∷ 0x02 ∷ rest, 0x02 ∷ rest, refl, (0x03, 0x40 ∷ 0x02 ∷ rest, Empty, refl, inr (inl refl), refl), inl (stop, 0x02, rest, refl, inl refl))
+returns-clause-inside c = λ rest. (
+  stop,
+  0x03 ∷ 0x40 ∷ 0x02 ∷ rest,
+  0x02 ∷ rest,
+  refl,
+  (0x03, 0x40 ∷ 0x02 ∷ rest, Empty, refl, inr (inl refl), refl),
+  inl (stop, 0x02, rest, refl, inl refl),
+)
 
 pub returns-clause-in_else : goal.returns-clause-in_else
 unfolding TooDeep

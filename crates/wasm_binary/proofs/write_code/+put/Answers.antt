@@ -8,7 +8,9 @@ use Rattle.wasm_binary.proofs.write_code.+put.Goals as goal
 
 pub put_body-put_instr-requires : goal.put_body-put_instr-requires
 put_body-put_instr-requires t c =
-    let fits = item_le_count c.as_slice-instr-items.result.now c.loop-instr.instr-index c.instr-item.result c.loop-instr-test.true in
+    let fits =
+    item_le_count c.as_slice-instr-items.result.now c.loop-instr.instr-index c.instr-item.result
+    c.loop-instr-test.true in
     let item = ap (λ (i : Instr). count (op_of i)) c.instr-item.is in
     let same = ap (λ (os : Ops). ops_count os) c.loop-instr.invariant.same in
     (omega (arith, fits, item, same), tt)
@@ -16,7 +18,9 @@ put_body-put_instr-requires t c =
 pub put_body-loop-instr-preserved : goal.put_body-loop-instr-preserved
 put_body-loop-instr-preserved t c = record {
   same = c.loop-instr.invariant.same;
-  put = instr_step c.as_slice-instr-items.result.now c.loop-instr.instr-index c.instr-item.result c.args.out.now.items c.loop-instr.out.items c.put_instr.new.out.items c.loop-instr-test.true c.loop-instr.invariant.put
+  put =
+      instr_step c.as_slice-instr-items.result.now c.loop-instr.instr-index c.instr-item.result c.args.out.now.items
+      c.loop-instr.out.items c.put_instr.new.out.items c.loop-instr-test.true c.loop-instr.invariant.put
       (c.in_ok-put_instr.ensures ∙ ap (λ (i : Instr). c.loop-instr.out.items ++ canon_op (op_of i)) c.instr-item.is);
 }
 

@@ -9,4 +9,5 @@ pub returns-clause-contents : goal.returns-clause-contents
 returns-clause-contents c =
     let test : List ℕ → Bool = is_held c.args.used.now c.args.leases.now.leases in
     ap contents_of (filter-RetainsPairs _ _ _ (λ k v b w g call. search rules) _ _ c.retain.ensures.filtered)
-    ∙ (retained test c.self.inside.map.entries ∙ ap (λ (v : ContentsValue). filter (λ (x : Content). test x.digest) v.contents) c.self.view_is)
+    ∙ (retained test c.self.inside.map.entries
+    ∙ ap (λ (v : ContentsValue). filter (λ (x : Content). test x.digest) v.contents) c.self.view_is)

@@ -4,4 +4,6 @@ use Rattle.content_leases.proofs.LeaseLemmas.{found}
 use Rattle.content_leases.proofs.leases.Leases.get.Goals as goal
 
 pub returns : goal.returns
-returns c = c.get.ensures.value ∙ (found c.args.name.now c.self.inside.map.entries ∙ ap (λ v. lease_in v.leases c.args.name.now) c.self.view_is)
+returns c =
+    c.get.ensures.value
+    ∙ (found c.args.name.now c.self.inside.map.entries ∙ ap (λ v. lease_in v.leases c.args.name.now) c.self.view_is)

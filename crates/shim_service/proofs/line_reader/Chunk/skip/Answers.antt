@@ -2,7 +2,9 @@ use Rattle.std.proofs.Common.{◌≡◌, ◌+◌, ◌-◌, ◌≤◌, ℕ, List,
 use Rattle.std.proofs.lemmas.List.{drop-take, drop-drop, length-take}
 use Rattle.shim_service.proofs.line_reader.Chunk.skip.Goals as goal
 
-skipped : (xs : List ℕ) (start end n : ℕ) → start + n ≤ end → take (end - (start + n)) (drop (start + n) xs) ≡ drop n (take (end - start) (drop start xs))
+skipped :
+    (xs : List ℕ) (start end n : ℕ) → start + n ≤ end
+    → take (end - (start + n)) (drop (start + n) xs) ≡ drop n (take (end - start) (drop start xs))
 skipped xs start end n h =
     let whole : end - start ≡ n + (end - (start + n)) = omega arith in
     let twice : drop n (drop start xs) ≡ drop (start + n) xs = drop-drop n start xs in
@@ -16,4 +18,6 @@ fits xs start end n h l =
 pub returns : goal.returns
 returns c =
     let b = c.self.inside.buffer.items in
-    skipped b c.self.inside.start c.self.inside.end c.args.n (fits b c.self.inside.start c.self.inside.end c.args.n c.self.invariant.0 (rw c.self.view_is c.requires)) ∙ ap (drop c.args.n) c.self.view_is
+    skipped b c.self.inside.start c.self.inside.end c.args.n
+    (fits b c.self.inside.start c.self.inside.end c.args.n c.self.invariant.0 (rw c.self.view_is c.requires))
+    ∙ ap (drop c.args.n) c.self.view_is

@@ -7,9 +7,13 @@ use Rattle.task_board.specs.Loans.{Fits}
 use Rattle.task_board.proofs.board.Board.give_back.Goals as goal
 
 pub returns-clause-ticket : goal.returns-clause-ticket
-returns-clause-ticket c = λ fits. c.give_back.ensures.ticket (subst (λ (b : BoardValue). Fits c.args.loan b.state.tasks) (sym c.self.view_is) fits)
+returns-clause-ticket c =
+    λ fits. c.give_back.ensures.ticket
+    (subst (λ (b : BoardValue). Fits c.args.loan b.state.tasks) (sym c.self.view_is) fits)
 
 pub returns-clause-home : goal.returns-clause-home
 returns-clause-home c = λ fits.
-    subst (λ (b : BoardValue). Step b.state (event.Return c.args.loan.id) (answer.Returned true) c.give_back.new.self.state) c.self.view_is
+    subst
+    (λ (b : BoardValue). Step b.state (event.Return c.args.loan.id) (answer.Returned true)
+    c.give_back.new.self.state) c.self.view_is
     (c.give_back.ensures.home (subst (λ (b : BoardValue). Fits c.args.loan b.state.tasks) (sym c.self.view_is) fits))

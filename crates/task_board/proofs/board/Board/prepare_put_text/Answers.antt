@@ -24,5 +24,7 @@ returns c =
     let why = why_refused c.as_str.result.now e known p.bad p.limit p.over p.causes in
     record {
       same = (refl, refl);
-      ok = refused_plan c.args.self.now.state c.args.self.now.room c.args.text e (subst (λ x. CannotAssemble x e) c.as_str.ensures why);
+      ok =
+          refused_plan c.args.self.now.state c.args.self.now.room c.args.text e
+          (subst (λ x. CannotAssemble x e) c.as_str.ensures why);
     }

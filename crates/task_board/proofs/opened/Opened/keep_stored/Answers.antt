@@ -9,4 +9,5 @@ pub returns : goal.returns
 returns c =
     let test : List ℕ → Bool = λ d. is_some (content_in c.args.store.now.state.contents d) in
     ap opened_of (filter-RetainsPairs _ _ _ (λ k v b w g call. search rules) _ _ c.retain.ensures.filtered)
-    ∙ (retained test c.self.inside.map.entries ∙ ap (λ (os : List OpenedModule). filter (λ (o : OpenedModule). test o.digest) os) c.self.view_is)
+    ∙ (retained test c.self.inside.map.entries
+    ∙ ap (λ (os : List OpenedModule). filter (λ (o : OpenedModule). test o.digest) os) c.self.view_is)

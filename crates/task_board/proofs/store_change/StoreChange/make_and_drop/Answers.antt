@@ -9,9 +9,14 @@ use Rattle.task_board.proofs.store_change.StoreChange.make_and_drop.Goals as goa
 pub returns-then-removes-clause-opened : goal.returns-then-removes-clause-opened
 returns-then-removes-clause-opened c =
     let os = c.args.opened.now in
-    let P : StoreState → Type 0 = λ s. Each (IsOpened s.contents) (filter (λ (o : OpenedModule). is_some (content_in s.contents o.digest)) os) in
-    let left = subst P (sym c.make-reply.ensures.leaves) (opened_left c.args.store.now.state c.args.self os c.requires.distinct c.requires.opened) in
-    subst (λ (xs : List OpenedModule). Each (IsOpened c.make-reply.new.store.state.contents) xs) (sym c.keep_stored.ensures) left
+    let P :
+    StoreState → Type 0 =
+    λ s. Each (IsOpened s.contents) (filter (λ (o : OpenedModule). is_some (content_in s.contents o.digest)) os) in
+    let left =
+    subst P (sym c.make-reply.ensures.leaves)
+    (opened_left c.args.store.now.state c.args.self os c.requires.distinct c.requires.opened) in
+    subst (λ (xs : List OpenedModule). Each (IsOpened c.make-reply.new.store.state.contents) xs)
+    (sym c.keep_stored.ensures) left
 
 pub returns-else-removes-clause-opened : goal.returns-else-removes-clause-opened
 returns-else-removes-clause-opened c =

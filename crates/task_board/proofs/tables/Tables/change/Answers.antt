@@ -29,19 +29,26 @@ change-requires c =
     let at = call_there c.self.inside (change_refusals c.args.change) c.args.slot c.args.id c.self.invariant.sound p in
     let here : get c.self.inside.tasks c.args.slot ≡ Some c.in-Some.task.now = search rules in
     let same = some_is p.task c.in-Some.task.now (sym at ∙ here) in
-    ap (λ (u : Task). allowed (change_call c.args.change) u.status) (sym same) ∙ change_allowed c.args.change c.args.id p.task p.accepted
+    ap (λ (u : Task). allowed (change_call c.args.change) u.status) (sym same)
+    ∙ change_allowed c.args.change c.args.id p.task p.accepted
 
 pub invariant_of-self : goal.invariant_of-self
 invariant_of-self c =
     let P : BoardValue → Type 0 = λ v. CallPrepared v.state (change_refusals c.args.change) c.args.slot c.args.id in
     let p = subst P (sym c.self.view_is) c.requires in
     let here : get c.self.inside.tasks c.args.slot ≡ Some c.in-Some.task.now = search rules in
-    let done = changed_there c.self.inside c.args.change c.args.slot c.args.id c.in-Some.task.now c.change.new.self c.self.invariant.sound c.self.invariant.waiting p here c.change.ensures in
+    let done =
+    changed_there c.self.inside c.args.change c.args.slot c.args.id c.in-Some.task.now c.change.new.self
+    c.self.invariant.sound c.self.invariant.waiting p here c.change.ensures in
     record {
       opened = c.self.invariant.opened;
       tasks_room = c.self.invariant.tasks_room;
       waiting = done.waiting;
-      sound = answers_sound (board_state_of c.self.inside) (change_request c.args.change c.args.id) (Ok (change_reply c.args.change c.args.id c.change.new.self.status)) (board_state_of (with_write c.self.inside c.args.slot c.change.new.self)) c.self.invariant.sound done.answers;
+      sound =
+          answers_sound (board_state_of c.self.inside) (change_request c.args.change c.args.id)
+          (Ok (change_reply c.args.change c.args.id c.change.new.self.status))
+          (board_state_of (with_write c.self.inside c.args.slot c.change.new.self))
+          c.self.invariant.sound done.answers;
     }
 
 pub returns-clause-answers : goal.returns-clause-answers
@@ -49,10 +56,18 @@ returns-clause-answers c =
     let P : BoardValue → Type 0 = λ v. CallPrepared v.state (change_refusals c.args.change) c.args.slot c.args.id in
     let p = subst P (sym c.self.view_is) c.requires in
     let here : get c.self.inside.tasks c.args.slot ≡ Some c.in-Some.task.now = search rules in
-    let done = changed_there c.self.inside c.args.change c.args.slot c.args.id c.in-Some.task.now c.change.new.self c.self.invariant.sound c.self.invariant.waiting p here c.change.ensures in
+    let done =
+    changed_there c.self.inside c.args.change c.args.slot c.args.id c.in-Some.task.now c.change.new.self
+    c.self.invariant.sound c.self.invariant.waiting p here c.change.ensures in
     let s' = board_state_of (with_write c.self.inside c.args.slot c.change.new.self) in
-    let Q : BoardValue → Type 0 = λ v. Answers v.state (change_request c.args.change c.args.id) (Ok (change_reply c.args.change c.args.id c.change.new.self.status)) s' in
-    let R : Status → Type 0 = λ x. Answers c.args.self.now.state (change_request c.args.change c.args.id) (Ok (change_reply c.args.change c.args.id x)) s' in
+    let Q :
+    BoardValue → Type 0 =
+    λ v. Answers v.state (change_request c.args.change c.args.id)
+    (Ok (change_reply c.args.change c.args.id c.change.new.self.status)) s' in
+    let R :
+    Status → Type 0 =
+    λ x. Answers c.args.self.now.state (change_request c.args.change c.args.id)
+    (Ok (change_reply c.args.change c.args.id x)) s' in
     let T : Reply → Type 0 = λ x. Answers c.args.self.now.state (change_request c.args.change c.args.id) (Ok x) s' in
     subst T (sym c.reply.ensures) (subst R (sym c.status-status.ensures) (subst Q c.self.view_is done.answers))
 
@@ -61,8 +76,11 @@ returns-clause-room c =
     let P : BoardValue → Type 0 = λ v. CallPrepared v.state (change_refusals c.args.change) c.args.slot c.args.id in
     let p = subst P (sym c.self.view_is) c.requires in
     let here : get c.self.inside.tasks c.args.slot ≡ Some c.in-Some.task.now = search rules in
-    let done = changed_there c.self.inside c.args.change c.args.slot c.args.id c.in-Some.task.now c.change.new.self c.self.invariant.sound c.self.invariant.waiting p here c.change.ensures in
-    let Q : BoardValue → Type 0 = λ v. KeepsRoom v (board_of (with_write c.self.inside c.args.slot c.change.new.self)) in
+    let done =
+    changed_there c.self.inside c.args.change c.args.slot c.args.id c.in-Some.task.now c.change.new.self
+    c.self.invariant.sound c.self.invariant.waiting p here c.change.ensures in
+    let Q :
+    BoardValue → Type 0 = λ v. KeepsRoom v (board_of (with_write c.self.inside c.args.slot c.change.new.self)) in
     subst Q c.self.view_is done.room
 
 pub returns-clause-ticket : goal.returns-clause-ticket
@@ -70,4 +88,5 @@ returns-clause-ticket c =
     let P : BoardValue → Type 0 = λ v. CallPrepared v.state (change_refusals c.args.change) c.args.slot c.args.id in
     let p = subst P (sym c.self.view_is) c.requires in
     let here : get c.self.inside.tasks c.args.slot ≡ Some c.in-Some.task.now = search rules in
-    (changed_there c.self.inside c.args.change c.args.slot c.args.id c.in-Some.task.now c.change.new.self c.self.invariant.sound c.self.invariant.waiting p here c.change.ensures).ticket
+    (changed_there c.self.inside c.args.change c.args.slot c.args.id c.in-Some.task.now c.change.new.self
+    c.self.invariant.sound c.self.invariant.waiting p here c.change.ensures).ticket

@@ -21,12 +21,17 @@ invariant_of-self c =
     let P : BoardValue → Type 0 = λ v. StorePrepared v.state v.room c.args.change in
     let s = board_state_of b in
     let done = store_answers s (board_of b).room c.args.change (subst P (sym c.self.view_is) c.requires) in
-    let after = subst (λ (x : StoreState). Answers s (store_request c.args.change) (Ok (store_reply c.args.change)) (with_store s x)) (sym c.make_and_drop.ensures.leaves) done in
+    let after =
+    subst
+    (λ (x : StoreState). Answers s (store_request c.args.change) (Ok (store_reply c.args.change))
+    (with_store s x)) (sym c.make_and_drop.ensures.leaves) done in
     record {
       opened = c.make_and_drop.ensures.opened;
       tasks_room = c.self.invariant.tasks_room;
       waiting = c.self.invariant.waiting;
-      sound = answers_sound s (store_request c.args.change) (Ok (store_reply c.args.change)) (with_store s c.make_and_drop.new.store.state) c.self.invariant.sound after;
+      sound =
+          answers_sound s (store_request c.args.change) (Ok (store_reply c.args.change))
+          (with_store s c.make_and_drop.new.store.state) c.self.invariant.sound after;
     }
 
 pub returns-clause-answers : goal.returns-clause-answers
@@ -35,14 +40,28 @@ returns-clause-answers c r made =
     let P : BoardValue → Type 0 = λ v. StorePrepared v.state v.room c.args.change in
     let s = board_state_of b in
     let done = store_answers s (board_of b).room c.args.change (subst P (sym c.self.view_is) c.requires) in
-    let after = subst (λ (x : StoreState). Answers s (store_request c.args.change) (Ok (store_reply c.args.change)) (with_store s x)) (sym c.make_and_drop.ensures.leaves) done in
-    let Q : BoardValue → Type 0 = λ v. Answers v.state (store_request c.args.change) (Ok (store_reply c.args.change)) (with_store s c.make_and_drop.new.store.state) in
-    let R : Reply → Type 0 = λ x. Answers c.args.self.now.state (store_request c.args.change) (Ok x) (with_store s c.make_and_drop.new.store.state) in
+    let after =
+    subst
+    (λ (x : StoreState). Answers s (store_request c.args.change) (Ok (store_reply c.args.change))
+    (with_store s x)) (sym c.make_and_drop.ensures.leaves) done in
+    let Q :
+    BoardValue → Type 0 =
+    λ v. Answers v.state (store_request c.args.change) (Ok (store_reply c.args.change))
+    (with_store s c.make_and_drop.new.store.state) in
+    let R :
+    Reply → Type 0 =
+    λ x. Answers c.args.self.now.state (store_request c.args.change) (Ok x)
+    (with_store s c.make_and_drop.new.store.state) in
     let own = subst R (sym c.make_and_drop.ensures.reply) (subst Q c.self.view_is after) in
-    made_answers c.args.self.now.state r c.args.change (Ok c.make_and_drop.result) (with_store s c.make_and_drop.new.store.state) made own
+    made_answers c.args.self.now.state r c.args.change (Ok c.make_and_drop.result)
+    (with_store s c.make_and_drop.new.store.state) made own
 
 pub returns-clause-room : goal.returns-clause-room
 returns-clause-room c =
     let b = c.self.inside in
-    let Q : BoardValue → Type 0 = λ v. KeepsRoom v (board_of (with_shelf b c.make_and_drop.new.store c.make_and_drop.new.opened)) in
-    subst Q c.self.view_is (store_keeps b c.args.change c.make_and_drop.new.store c.make_and_drop.new.opened c.make_and_drop.ensures.leaves c.make_and_drop.ensures.room)
+    let Q :
+    BoardValue → Type 0 =
+    λ v. KeepsRoom v (board_of (with_shelf b c.make_and_drop.new.store c.make_and_drop.new.opened)) in
+    subst Q c.self.view_is
+    (store_keeps b c.args.change c.make_and_drop.new.store c.make_and_drop.new.opened c.make_and_drop.ensures.leaves
+    c.make_and_drop.ensures.room)

@@ -33,7 +33,8 @@ state-requires c =
     let at = call_there c.self.inside delete_refusals c.args.slot c.args.id c.self.invariant.sound p in
     let here : get c.self.inside.tasks c.args.slot ≡ Some c.in-Some.task = search rules in
     let same = some_is p.task c.in-Some.task (sym at ∙ here) in
-    sym (named c.args.id (board_state_of c.self.inside).tasks (c.args.slot, p.task) p.found) ∙ ap (λ (u : Task). u.id) same
+    sym (named c.args.id (board_state_of c.self.inside).tasks (c.args.slot, p.task) p.found)
+    ∙ ap (λ (u : Task). u.id) same
 
 pub invariant_of-self : goal.invariant_of-self
 invariant_of-self c =
@@ -42,12 +43,20 @@ invariant_of-self c =
     let here : get c.self.inside.tasks c.args.slot ≡ Some c.in-Some.task = search rules in
     let new = c.try_remove.new.self in
     let e = c.in-Some.ensures in
-    let done = removed_there c.self.inside c.args.slot c.args.id new c.keep_present.new.self c.in-Some.task c.self.invariant.tasks_room c.self.invariant.sound p here e.slots e.capacity in
+    let done =
+    removed_there c.self.inside c.args.slot c.args.id new c.keep_present.new.self c.in-Some.task
+    c.self.invariant.tasks_room c.self.invariant.sound p here e.slots e.capacity in
     record {
-      waiting = subst (λ (ws : List Ticket). AreWaiting (entries new) ws) (sym c.keep_present.ensures) (filtered (entries new) c.self.inside.waiting c.self.invariant.waiting.once);
+      waiting =
+          subst (λ (ws : List Ticket). AreWaiting (entries new) ws) (sym c.keep_present.ensures)
+          (filtered (entries new) c.self.inside.waiting c.self.invariant.waiting.once);
       opened = c.self.invariant.opened;
       tasks_room = subst (λ (n : ℕ). 64 ≤ n) (sym e.capacity) c.self.invariant.tasks_room;
-      sound = answers_sound (board_state_of c.self.inside) (request.Delete c.args.id) (Ok (reply.Delete (state_of c.in-Some.task))) (board_state_of (with_slab c.self.inside new c.keep_present.new.self)) c.self.invariant.sound done.answers;
+      sound =
+          answers_sound (board_state_of c.self.inside) (request.Delete c.args.id)
+          (Ok (reply.Delete (state_of c.in-Some.task)))
+          (board_state_of (with_slab c.self.inside new c.keep_present.new.self))
+          c.self.invariant.sound done.answers;
     }
 
 pub returns-clause-answers : goal.returns-clause-answers
@@ -57,10 +66,15 @@ returns-clause-answers c =
     let here : get c.self.inside.tasks c.args.slot ≡ Some c.in-Some.task = search rules in
     let new = c.try_remove.new.self in
     let e = c.in-Some.ensures in
-    let done = removed_there c.self.inside c.args.slot c.args.id new c.keep_present.new.self c.in-Some.task c.self.invariant.tasks_room c.self.invariant.sound p here e.slots e.capacity in
+    let done =
+    removed_there c.self.inside c.args.slot c.args.id new c.keep_present.new.self c.in-Some.task
+    c.self.invariant.tasks_room c.self.invariant.sound p here e.slots e.capacity in
     let s' = board_state_of (with_slab c.self.inside new c.keep_present.new.self) in
-    let Q : BoardValue → Type 0 = λ v. Answers v.state (request.Delete c.args.id) (Ok (reply.Delete (state_of c.in-Some.task))) s' in
-    let R : TaskState → Type 0 = λ x. Answers c.args.self.now.state (request.Delete c.args.id) (Ok (reply.Delete x)) s' in
+    let Q :
+    BoardValue → Type 0 =
+    λ v. Answers v.state (request.Delete c.args.id) (Ok (reply.Delete (state_of c.in-Some.task))) s' in
+    let R :
+    TaskState → Type 0 = λ x. Answers c.args.self.now.state (request.Delete c.args.id) (Ok (reply.Delete x)) s' in
     subst R (sym c.state.ensures) (subst Q c.self.view_is done.answers)
 
 pub returns-clause-room : goal.returns-clause-room
@@ -70,6 +84,8 @@ returns-clause-room c =
     let here : get c.self.inside.tasks c.args.slot ≡ Some c.in-Some.task = search rules in
     let new = c.try_remove.new.self in
     let e = c.in-Some.ensures in
-    let done = removed_there c.self.inside c.args.slot c.args.id new c.keep_present.new.self c.in-Some.task c.self.invariant.tasks_room c.self.invariant.sound p here e.slots e.capacity in
+    let done =
+    removed_there c.self.inside c.args.slot c.args.id new c.keep_present.new.self c.in-Some.task
+    c.self.invariant.tasks_room c.self.invariant.sound p here e.slots e.capacity in
     let Q : BoardValue → Type 0 = λ v. KeepsRoom v (board_of (with_slab c.self.inside new c.keep_present.new.self)) in
     subst Q c.self.view_is done.room

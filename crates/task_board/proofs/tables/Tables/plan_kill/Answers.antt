@@ -17,4 +17,5 @@ returns-in-Some c =
 pub returns-in-None : goal.returns-in-None
 returns-in-None c =
     refused_kill c.args.self.now.state c.args.id c.args.number c.refusal_of_signal.result
-    (subst (λ (x : List ℕ). RefusesKill c.args.self.now.state x c.args.number c.refusal_of_signal.result) c.as_str.ensures c.refusal_of_signal.ensures)
+    (subst (λ (x : List ℕ). RefusesKill c.args.self.now.state x c.args.number c.refusal_of_signal.result)
+    c.as_str.ensures c.refusal_of_signal.ensures)

@@ -9,9 +9,12 @@ use Rattle.task_board.proofs.tables.Tables.plan_output.Goals as goal
 pub returns-in_ok-from_slice-in-Ok : goal.returns-in_ok-from_slice-in-Ok
 returns-in_ok-from_slice-in-Ok c =
     let s = c.args.self.now.state in
-    let told = subst (λ (x : List ℕ). TellsOutput s x c.args.number c.in-Ok.written.now) c.as_str.ensures c.in-Ok.ensures.ok in
+    let told =
+    subst (λ (x : List ℕ). TellsOutput s x c.args.number c.in-Ok.written.now) c.as_str.ensures c.in-Ok.ensures.ok in
     let copied = c.new-bytes.ensures ∙ c.in_ok-from_slice-in-Ok.ensures.items in (
       tt,
-      subst (λ (x : List ℕ). Answers s (request.Output c.args.id c.args.number) (Ok (reply.Output x c.args.id (length c.in-Ok.written.now))) s) (sym copied)
+      subst
+          (λ (x : List ℕ). Answers s (request.Output c.args.id c.args.number)
+          (Ok (reply.Output x c.args.id (length c.in-Ok.written.now))) s) (sym copied)
           (output_answers s c.args.id c.args.number c.in-Ok.written.now told),
     )

@@ -3,4 +3,5 @@ use Rattle.task_board.proofs.EntryLemmas.{named}
 use Rattle.task_board.proofs.tables.Tables.plan_wait.Goals as goal
 
 pub state-requires : goal.state-requires
-state-requires c = sym (named c.as_str.result.now c.args.self.now.state.tasks _ c.in-Ok.ensures.ok.found ∙ c.as_str.ensures)
+state-requires c =
+    sym (named c.as_str.result.now c.args.self.now.state.tasks _ c.in-Ok.ensures.ok.found ∙ c.as_str.ensures)

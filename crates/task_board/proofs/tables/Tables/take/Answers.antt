@@ -45,12 +45,19 @@ invariant_of-self-2 c =
     let at : get b.tasks c.args.ticket.slot ≡ Some c.in_ok-task.task.now = search rules in
     let of : c.in_ok-task.task.now.incarnation ≡ c.args.ticket.incarnation = search rules in
     let done = c.in_ok-loan.ensures.some in
-    let is = lent_from b c.args.ticket c.args.budget c.in_ok-task.task.now c.lend.new.self c.in_ok-loan.loan c.self.invariant.sound at of done.0 done.1 done.2 in
+    let is =
+    lent_from b c.args.ticket c.args.budget c.in_ok-task.task.now c.lend.new.self c.in_ok-loan.loan
+    c.self.invariant.sound at of done.0 done.1 done.2 in
     record {
       opened = c.self.invariant.opened;
       tasks_room = c.self.invariant.tasks_room;
-      waiting = written_waits b c.args.ticket.slot c.in_ok-task.task.now c.lend.new.self c.self.invariant.sound c.self.invariant.waiting at (ap (λ (u : Task). u.id) (sym done.2)) (ap (λ (u : Task). u.incarnation) done.2);
-      sound = lends_keeps_sound (board_state_of b) c.args.ticket c.args.budget c.in_ok-loan.loan (board_state_of (with_write b c.args.ticket.slot c.lend.new.self)) c.self.invariant.sound c.requires is;
+      waiting =
+          written_waits b c.args.ticket.slot c.in_ok-task.task.now c.lend.new.self c.self.invariant.sound
+          c.self.invariant.waiting at (ap (λ (u : Task). u.id) (sym done.2))
+          (ap (λ (u : Task). u.incarnation) done.2);
+      sound =
+          lends_keeps_sound (board_state_of b) c.args.ticket c.args.budget c.in_ok-loan.loan
+          (board_state_of (with_write b c.args.ticket.slot c.lend.new.self)) c.self.invariant.sound c.requires is;
     }
 
 pub returns-clause-some : goal.returns-clause-some
@@ -59,8 +66,13 @@ returns-clause-some c =
     let at : get b.tasks c.args.ticket.slot ≡ Some c.in_ok-task.task.now = search rules in
     let of : c.in_ok-task.task.now.incarnation ≡ c.args.ticket.incarnation = search rules in
     let done = c.in_ok-loan.ensures.some in
-    let is = lent_from b c.args.ticket c.args.budget c.in_ok-task.task.now c.lend.new.self c.in_ok-loan.loan c.self.invariant.sound at of done.0 done.1 done.2 in
-    let P : BoardValue → Type 0 = λ v. Lends v.state c.args.ticket c.args.budget c.in_ok-loan.loan (board_state_of (with_write b c.args.ticket.slot c.lend.new.self)) in
+    let is =
+    lent_from b c.args.ticket c.args.budget c.in_ok-task.task.now c.lend.new.self c.in_ok-loan.loan
+    c.self.invariant.sound at of done.0 done.1 done.2 in
+    let P :
+    BoardValue → Type 0 =
+    λ v. Lends v.state c.args.ticket c.args.budget c.in_ok-loan.loan
+    (board_state_of (with_write b c.args.ticket.slot c.lend.new.self)) in
     subst P c.self.view_is is
 
 pub returns-clause-step : goal.returns-clause-step
@@ -69,16 +81,22 @@ returns-clause-step c =
     let at : get b.tasks c.args.ticket.slot ≡ Some c.in_ok-task.task.now = search rules in
     let of : c.in_ok-task.task.now.incarnation ≡ c.args.ticket.incarnation = search rules in
     let done = c.in_ok-loan.ensures.some in
-    let is = lent_from b c.args.ticket c.args.budget c.in_ok-task.task.now c.lend.new.self c.in_ok-loan.loan c.self.invariant.sound at of done.0 done.1 done.2 in
+    let is =
+    lent_from b c.args.ticket c.args.budget c.in_ok-task.task.now c.lend.new.self c.in_ok-loan.loan
+    c.self.invariant.sound at of done.0 done.1 done.2 in
     let s' = board_state_of (with_write b c.args.ticket.slot c.lend.new.self) in
     let P : BoardValue → Type 0 = λ v. taken v.state c.in_ok-loan.loan.id c.args.budget ≡ Some s' in
-    subst P c.self.view_is (lends_is_taken (board_state_of b) c.args.ticket c.args.budget c.in_ok-loan.loan s' c.self.invariant.sound c.requires is)
+    subst P c.self.view_is
+    (lends_is_taken (board_state_of b) c.args.ticket c.args.budget c.in_ok-loan.loan s'
+    c.self.invariant.sound c.requires is)
 
 pub returns-clause-room : goal.returns-clause-room
 returns-clause-room c =
     let b = c.self.inside in
     let at : get b.tasks c.args.ticket.slot ≡ Some c.in_ok-task.task.now = search rules in
     let done = c.in_ok-loan.ensures.some in
-    let is = written b c.args.ticket.slot c.in_ok-task.task.now c.lend.new.self c.self.invariant.sound at (ap (λ (u : Task). u.id) (sym done.2)) in
+    let is =
+    written b c.args.ticket.slot c.in_ok-task.task.now c.lend.new.self c.self.invariant.sound at
+    (ap (λ (u : Task). u.id) (sym done.2)) in
     let P : BoardValue → Type 0 = λ v. KeepsRoom v (board_of (with_write b c.args.ticket.slot c.lend.new.self)) in
     subst P c.self.view_is (write_keeps b c.args.ticket.slot c.lend.new.self is)

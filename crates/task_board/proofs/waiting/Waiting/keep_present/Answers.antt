@@ -8,4 +8,5 @@ use Rattle.task_board.proofs.waiting.Waiting.keep_present.Goals as goal
 pub returns : goal.returns
 returns c =
     let test : Ticket → Bool = is_present (entries c.args.tasks.now) in
-    filter_same _ test _ (λ x b g call. search rules) _ _ c.retain.ensures.filtered ∙ ap (λ (ws : List Ticket). filter test ws) c.self.view_is
+    filter_same _ test _ (λ x b g call. search rules) _ _ c.retain.ensures.filtered
+    ∙ ap (λ (ws : List Ticket). filter test ws) c.self.view_is

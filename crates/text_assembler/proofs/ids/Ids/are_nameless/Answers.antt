@@ -7,4 +7,5 @@ use Rattle.text_assembler.proofs.ids.Ids.are_nameless.Goals as goal
 pub loop-rest-init : goal.loop-rest-init
 loop-rest-init c =
     rw (sym c.self.view_is)
-    (ap (λ (ids : Ids). are_nameless ids) c.as_slice-rest.ensures.value ∙ sym (nameless_after c.self.inside.nameless c.self.inside.ids.items))
+    (ap (λ (ids : Ids). are_nameless ids) c.as_slice-rest.ensures.value
+    ∙ sym (nameless_after c.self.inside.nameless c.self.inside.ids.items))

@@ -9,4 +9,5 @@ returns c =
     let items = c.self.inside.types.items in
     let count : c.len.result ≡ length items = search rules in
     ap (λ n. nat_eq n c.self.inside.base) count
-    ∙ (empty_above items c.self.inside.base c.self.invariant ∙ ap (λ (o : Blocks). is_empty (Some o.stack.types)) c.self.view_is)
+    ∙ (empty_above items c.self.inside.base c.self.invariant
+    ∙ ap (λ (o : Blocks). is_empty (Some o.stack.types)) c.self.view_is)
