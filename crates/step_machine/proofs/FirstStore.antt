@@ -15,7 +15,7 @@ use Rattle.wasm_ast.specs.Syntax.{simple, Ops, stop, next}
 use Rattle.wasm_ast.specs.Types.{type_of, zero_of}
 use Rattle.wasm_ast.specs.Ranged.{RangedValue, RangedOps, RangedGlobal, Ranged}
 use Rattle.validator.specs.Typing.{IsConstant, ValidLimits, standard_pages, ValidElement, ValidModule}
-use Rattle.linear_memory.specs.Memory.{Memory, is_inside, pages_of, page_bytes, max_pages}
+use Rattle.linear_memory.specs.Memory.{Memory, is_inside, pages_of, page_bytes}
 use Rattle.oci_config.specs.declared.process.ProcessConfig.{ProcessConfig}
 use Rattle.step_machine.specs.Instantiation.{constant, first_global, offset_of, most_pages, zero_memory, empty_table, with_items, with_element, with_segment, first_memory, are_segments_inside, first_store}
 use Rattle.step_machine.specs.Inside.Simulates.{InTable, RangedStore}
@@ -156,7 +156,7 @@ module _ (m : Module) where
       let n = length-replicate {A = ℕ} (l.min * page_bytes) 0 in
       omega (arith, here, n)
 
-  zero_cap : (ls : List Limits) (cap : ℕ) → cap ≤ max_pages → (zero_memory ls cap).cap < 2 ^ 32
+  zero_cap : (ls : List Limits) (cap : ℕ) → cap < 2 ^ 32 → (zero_memory ls cap).cap < 2 ^ 32
   zero_cap [] cap h = omega arith
   zero_cap (l ∷ ls) cap h = of_bound l.max
     where
@@ -172,7 +172,7 @@ module _ (m : Module) where
     first_in_table = elements_in_table (empty_table m.tables) m.elements valid.elements (nothing_in_table m.tables)
 
     pub first_ranged :
-        p.cap ≤ max_pages → are_segments_inside (zero_memory m.memories p.cap) m.segments ≡ true
+        p.cap < 2 ^ 32 → are_segments_inside (zero_memory m.memories p.cap) m.segments ≡ true
         → All (λ b. b < 256) (first_memory m p.cap).bytes → RangedStore (first_store m p)
     first_ranged few inside bytes =
         let n = fold_length (zero_memory m.memories p.cap) m.segments inside in

@@ -50,3 +50,4 @@ pub mod SliceLemmas
 pub mod SliceCuts
 pub mod WrittenPlaces
 pub mod ValueLimit
+pub mod Soundness

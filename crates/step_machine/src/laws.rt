@@ -1,20 +1,22 @@
 //! Laws of execution. Each function has a contract and no body.
 
-ghost use Rattle.std.specs.Prelude.{◌≡◌, ◌≢◌, ℕ, sum, ◌+◌, ◌<◌, ◌≤◌, List, [], ◌++◌, true, false, Some, None, slice_get};
+ghost use Rattle.std.specs.Prelude.{◌≡◌, ◌≢◌, ℕ, sum, ◌+◌, ◌^◌, ◌<◌, ◌≤◌, List, [], ◌++◌, All, true, false, Some, None, slice_get};
 ghost use Rattle.wasm_ast.specs.declared.values.Value.{Value};
 ghost use Rattle.wasm_ast.specs.declared.module.Module.{Module};
 ghost use Rattle.wasm_ast.specs.declared.place.Place.{Place};
+ghost use Rattle.wasm_ast.specs.Ranged.{Ranged};
+ghost use Rattle.validator.specs.Typing.{ValidModule};
 ghost use Rattle.oci_config.specs.declared.process.ProcessConfig.{ProcessConfig};
 ghost use Rattle.oci_config.specs.declared.stream.Stream.{Stream};
 ghost use Rattle.step_machine.specs.declared.ends.SliceEnd.TheVariants as slice;
 ghost use Rattle.step_machine.specs.Limits.{last_turn};
 ghost use Rattle.step_machine.specs.Program.{Program, functions};
 ghost use Rattle.step_machine.specs.Places.{Next, tree_next, body_of, written_at};
-ghost use Rattle.step_machine.specs.Configuration.{Store, Target, Tree, seq, Items, more, label, frame, running, Configuration, acts, is_halted, is_settled};
+ghost use Rattle.step_machine.specs.Configuration.{Store, Target, Tree, seq, Items, more, label, frame, running, stuck, Configuration, acts, is_halted, is_settled};
 ghost use Rattle.step_machine.specs.Effects.{Env};
 ghost use Rattle.step_machine.specs.Reduction.{inside, reduce};
 ghost use Rattle.step_machine.specs.Turns.{from, numbered, turn};
-ghost use Rattle.step_machine.specs.Instantiation.{initial, after, ended};
+ghost use Rattle.step_machine.specs.Instantiation.{instantiation_refusal, initial, after, ended};
 ghost use Rattle.step_machine.specs.Slices.{ends_slice, turns_made, slices_made, slice_end};
 ghost use Rattle.step_machine.specs.MachineView.{written_to};
 ghost use Rattle.step_machine.specs.Worked.{in_label, in_frame};
@@ -48,6 +50,17 @@ pub fn turns_settle()
 pub fn turns_are_limited()
     ensures { (m : Module) (p : ProcessConfig) (n : ℕ) → ended (after m p n).state ≡ None
         → n < last_turn }
+{}
+
+/// A reduction is defined at every configuration of a valid module that a task can run, until it
+/// has ended: after any number of turns it is not stuck. Each number of the module and of the
+/// process is in the range of its type.
+pub fn valid_modules_are_never_stuck()
+    ensures { (m : Module) (p : ProcessConfig) (n : ℕ) → ValidModule m → Ranged m
+        → All (λ s. All (λ b. b < 256) s.bytes) m.segments
+        → All (All (λ b. b < 256)) p.args → All (All (λ b. b < 256)) p.env → p.cap < 2 ^ 32
+        → instantiation_refusal m p ≡ None
+        → (after m p n).state ≢ stuck }
 {}
 
 /// What a task has written to a stream stays there, and all that it writes later comes after it.

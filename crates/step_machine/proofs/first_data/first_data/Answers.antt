@@ -1,6 +1,6 @@
 use Rattle.oci_config.specs.Processes.{config_of}
 use Rattle.oci_config.specs.declared.process.Process.{Process}
-use Rattle.std.proofs.Common.{◌<◌, ◌≤◌, map, length, subst, ap, ◌∙◌}
+use Rattle.std.proofs.Common.{◌^◌, ◌<◌, ◌≤◌, map, length, subst, ap, ◌∙◌, arith}
 use Rattle.std.specs.Prelude.{All}
 use Rattle.linear_memory.specs.Memory.{Memory, max_pages}
 use Rattle.wasm_ast.specs.declared.module.Module.{Module}
@@ -35,6 +35,7 @@ returns-clause-holds c =
     both (are_elements_inside (length (empty_table m.tables)) m.elements)
     (are_segments_inside (zero_memory m.memories p.cap) m.segments) c.requires.inside in
     let few : p.cap ≤ max_pages = c.bounded.ensures in
+    let small : p.cap < 2 ^ 32 = omega (arith, few) in
     let inside = two.1 in
     let bytes = subst (λ (n : Memory). All (λ b. b < 256) n.bytes) memory c.in_ok-kept.ensures.bytes in
     let stored : Stored m (flat_from c.in_ok-at.at c.in_ok-kept.kept) (first_store m p) = record {
@@ -45,7 +46,7 @@ returns-clause-holds c =
       err = ap (λ (q : Process). q.err) c.in_ok-kept.ensures.process ∙ c.requires.nothing_written.1;
       globals_typed = first_typed m p facts.valid facts.ranged;
       in_table = first_in_table m p facts.valid facts.ranged;
-      ranged = first_ranged m p facts.valid facts.ranged few inside bytes;
+      ranged = first_ranged m p facts.valid facts.ranged small inside bytes;
     } in
     record {
       runnable = facts;
