@@ -107,7 +107,7 @@ change_sound :
 change_sound creates change.Start t h can = started_sound creates t h
 change_sound creates change.Pause t h can = paused_sound creates t h (running_only t.status can)
 change_sound creates change.Resume t h can = resumed_sound creates t h (paused_only t.status can)
-change_sound creates (change.Kill signal) t h can = killed_sound creates signal t h
+change_sound creates (change.Kill signal) t h can = killed_sound creates signal t h can
 
 one_accepted :
     (id : List ℕ) (t : Task) (c : TaskCall)

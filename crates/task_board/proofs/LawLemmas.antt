@@ -1,5 +1,5 @@
 -- Laws of steps and runs: soundness, the moves of tasks, contents, and what is determined.
-use Rattle.std.proofs.Common.{◌≡◌, ◌≢◌, ℕ, List, [], ◌∷◌, ◌≤◌, arith, nat_le, ◌&&◌, length, Bool, true, false, true≢false, cond, Option, Some, None, is_some, option_and_then, Ok, Err, MatchBool, inl, inr, ◌⊎◌, refl, sym, ap, ◌∙◌, subst, bytes_eq, nat_eq}
+use Rattle.std.proofs.Common.{◌≡◌, ◌≢◌, ℕ, List, [], ◌∷◌, ◌+◌, ◌≤◌, arith, nat_le, ◌&&◌, length, Bool, true, false, true≢false, cond, Option, Some, None, is_some, option_and_then, Ok, Err, MatchBool, inl, inr, ◌⊎◌, refl, sym, ap, ◌∙◌, subst, bytes_eq, nat_eq}
 use Rattle.std.proofs.lemmas.Bool.Decides.{nat_tests}
 use Rattle.wasm_ast.specs.declared.module.Module.{Module}
 use Rattle.wasm_ast.specs.declared.refusal.Refusal.{Refusal}
@@ -7,7 +7,7 @@ use Rattle.wasm_ast.specs.declared.refusal.Refusal.TheVariants as refusal
 use Rattle.wasm_binary.specs.Grammar.{Spells}
 use Rattle.oci_config.specs.declared.process.ProcessConfig.{ProcessConfig}
 use Rattle.validator.specs.Typing.{ValidModule}
-use Rattle.step_machine.specs.Instantiation.{instantiation_refusal}
+use Rattle.step_machine.specs.Instantiation.{instantiation_refusal, ended}
 use Rattle.task_board.specs.declared.event.Event.{Event}
 use Rattle.task_board.specs.declared.event.Event.TheVariants as event
 use Rattle.task_board.specs.declared.event.EventReply.{EventReply}
@@ -21,22 +21,25 @@ use Rattle.content_leases.specs.Digests.{digest_of}
 use Rattle.content_leases.specs.StoreState.{StoreState, content_in, with_content, without_content, with_lease, with_member, without_lease, unheld, collected}
 use Rattle.content_leases.specs.Refusals.{Refusals, first_refusal, put_refusals, remove_refusals, lease_create_refusals, lease_add_refusals, lease_delete_refusals}
 use Rattle.task_lifecycle.specs.declared.lifecycle.TaskCall.TheVariants as call
+use Rattle.task_lifecycle.specs.declared.status.Status.{Status}
+use Rattle.task_lifecycle.specs.declared.status.Status.TheVariants.{Created, Running, Pausing, Paused, Stopped}
 use Rattle.task_lifecycle.specs.declared.status.Signal.{Signal}
-use Rattle.task_lifecycle.specs.Lifecycle.{allowed, takes_turns}
+use Rattle.task_lifecycle.specs.declared.status.ExitRecord.TheVariants as exit
+use Rattle.task_lifecycle.specs.Lifecycle.{allowed, takes_turns, is_going}
 use Rattle.task_lifecycle.specs.Names.{signal_of}
 use Rattle.task_board.specs.BoardState.{Task, Entries, BoardState, empty, created_task, used_by, with_store, task_in, entry_of, task_of, put_task, change_task, remove_task, with_task, without_task, with_new_task}
 use Rattle.oci_config.specs.Streams.{stream_of}
-use Rattle.task_board.specs.Tasks.{started, paused, resumed, killed_while, killed_by, can_lend, lent, advanced, slice_turns, state_of, output_of}
+use Rattle.task_board.specs.Tasks.{execution_at, started, paused, resumed, killed_while, killed_by, can_lend, lent, advanced, slice_turns, state_of, output_of}
 use Rattle.task_board.specs.Refusals.{create_refusals, start_refusals, pause_refusals, resume_refusals, kill_refusals, delete_refusals, state_refusals, wait_refusals, output_refusals, task_refusals, Openable, CannotOpen, no_module, too_much, invalid, refused, IsSpelled}
 use Rattle.task_board.specs.Step.{Answer, DecidedBy, OnStore, OnFound, Opens, Creates, Answers, output_reply, is_budget, lends, taken, is_out, Returns, Step}
 use Rattle.task_board.specs.Run.{met_no_memory, Happens, Run}
-use Rattle.task_board.specs.Sound.{AreRising, slots_of, IsBoard}
+use Rattle.task_board.specs.Sound.{AreRising, slots_of, IsSound, IsBoard}
 use Rattle.task_board.specs.declared.change.Change.{Change}
 use Rattle.task_board.specs.declared.change.Change.TheVariants as change
 use Rattle.task_board.specs.Inside.Changes.{change_call, changed}
 use Rattle.task_board.specs.Moves.{Moves, stays, starts, pauses, resumes, is_killed, is_taken, returns, Becomes, goes, remains}
 use Rattle.task_board.specs.Choices.{IsDetermined, AgreeOnRefusal, AgreeOnCreate}
-use Rattle.task_board.proofs.EntryLemmas.{none_is_not, some_is, by_slot, by_id, cond_true, cond_false, cond_is_true, cond_is_false, same_slot, other_slot, slot_away, named, in_slot, put_in, removed_there, removed_beside}
+use Rattle.task_board.proofs.EntryLemmas.{none_is_not, some_is, by_slot, by_id, cond_true, cond_false, cond_is_true, cond_is_false, same_slot, other_slot, slot_away, named, in_slot, each_in, put_in, removed_there, removed_beside}
 use Rattle.task_board.proofs.StepLemmas.{found, sound_of, changed_sound, lent_sound}
 use Rattle.task_board.proofs.EffectLemmas.{change_id, Effect, nothing, stores, enters, changes, deletes, effect_of, answers_sound}
 use Rattle.task_board.proofs.SoundLemmas.{advanced_sound}
@@ -367,6 +370,61 @@ pub quiet_stays :
     → (t' : Task) → task_in k s'.tasks ≡ Some t' → t'.turns ≡ t.turns
 quiet_stays s e r s' b h k t there quiet t' at =
     stay_by t t' (task_in k s'.tasks) quiet (happens_moves s e r s' b.slots h k t there) at
+
+-- ---- how tasks end
+
+pub sound_in : (s : BoardState) (k : ℕ) (t : Task) → IsBoard s → task_in k s.tasks ≡ Some t → IsSound s.creates t
+sound_in s k t b there = each_in (IsSound s.creates) k t s.tasks b.tasks there
+
+-- its execution has not ended after its turns
+abbrev pub GoesOn : Task → Type 0
+GoesOn t = ended (execution_at t t.turns) ≡ None
+
+killed_goes_on : (signal : Signal) (t : Task) (o : Option ℕ) → GoesOn t → GoesOn (killed_while o signal t)
+killed_goes_on signal t None on = on
+killed_goes_on signal t (Some n) on = on
+
+created_only : (status : Status) → allowed call.Start status ≡ true → is_going status ≡ true → ⊥
+created_only Created can going = cc
+created_only Running can going = cc
+created_only Pausing can going = cc
+created_only Paused can going = cc
+created_only Stopped can going = cc
+
+-- a task that goes on, and what ends it is a signal
+signal_ends :
+    (creates : ℕ) (t t' : Task) (signal : Signal) → IsSound creates t → is_going t.status ≡ true → Moves t t'
+    → t'.end ≡ Some (exit.Kill signal) → GoesOn t'
+signal_ends creates t t' signal h going (stays is) end = subst GoesOn (sym is) (h.goes going)
+signal_ends creates t t' signal h going (starts can is) end = absurd (created_only t.status can going)
+signal_ends creates t t' signal h going (pauses can is) end = subst GoesOn (sym is) (h.goes going)
+signal_ends creates t t' signal h going (resumes can is) end = subst GoesOn (sym is) (h.goes going)
+signal_ends creates t t' signal h going (is_killed x can is) end =
+    subst GoesOn (sym is) (killed_goes_on x t t.out (h.goes going))
+signal_ends creates t t' signal h going (is_taken budget can is) end = subst GoesOn (sym is) (h.goes going)
+signal_ends creates t t' signal h going (returns back) end =
+    let k = slice_turns t back.budget in
+    let some = back.legal.some in
+    let at : (advanced t k).end ≡ Some (exit.Kill signal) = ap (λ (x : Task). x.end) (sym back.advances) ∙ end in
+    let made : 1 ≤ t.turns + k = omega (arith, some) in
+    subst GoesOn (sym back.advances) ((advanced_sound creates t k h).end (exit.Kill signal) at made)
+
+ends_by :
+    (creates : ℕ) (t t' : Task) (o : Option Task) (signal : Signal) → IsSound creates t → is_going t.status ≡ true
+    → Becomes t o → o ≡ Some t' → t'.end ≡ Some (exit.Kill signal) → GoesOn t'
+ends_by creates t t' _ signal h going (goes can) at end = absurd (none_is_not t' at)
+ends_by creates t t' _ signal h going (remains u m) at end =
+    let same = some_is u t' at in
+    subst GoesOn same (signal_ends creates t u signal h going m (ap (λ (x : Task). x.end) same ∙ end))
+
+pub signals_end :
+    (s : BoardState) (e : Event) (r : EventReply) (s' : BoardState) → IsBoard s → Happens s e r s' → (k : ℕ) (t : Task)
+    → task_in k s.tasks ≡ Some t → is_going t.status ≡ true
+    → (t' : Task) → task_in k s'.tasks ≡ Some t'
+    → (signal : Signal) → t'.end ≡ Some (exit.Kill signal) → ended (execution_at t' t'.turns) ≡ None
+signals_end s e r s' b h k t there going t' at signal end =
+    ends_by s.creates t t' (task_in k s'.tasks) signal (sound_in s k t b there) going
+    (happens_moves s e r s' b.slots h k t there) at end
 
 -- ---- what is determined
 

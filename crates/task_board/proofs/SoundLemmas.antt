@@ -1,5 +1,5 @@
 -- Sound boards stay sound.
-use Rattle.std.proofs.Common.{◌≡◌, ◌≢◌, ℕ, suc, ◌+◌, ◌<◌, ◌≤◌, List, [], ◌∷◌, ◌++◌, map, length, Bool, true, false, cond, bytes_eq, nat_eq, nat_lt, Option, Some, None, is_some, option_map, inl, inr, ◌⊎◌, refl, sym, ap, ◌∙◌, subst, arith}
+use Rattle.std.proofs.Common.{◌≡◌, ◌≢◌, ℕ, zero, suc, ◌+◌, ◌<◌, ◌≤◌, List, [], ◌∷◌, ◌++◌, map, length, Bool, true, false, cond, bytes_eq, nat_eq, nat_lt, Option, Some, None, is_some, option_map, refl, sym, ap, ◌∙◌, subst, arith}
 use Rattle.std.proofs.lemmas.Bool.Decides.{nat_tests}
 use Rattle.wasm_ast.specs.declared.module.Module.{Module}
 use Rattle.wasm_ast.specs.declared.place.Place.{Place}
@@ -9,18 +9,20 @@ use Rattle.step_machine.specs.declared.ends.SliceEnd.{SliceEnd}
 use Rattle.step_machine.specs.declared.ends.SliceEnd.TheVariants as slice
 use Rattle.step_machine.specs.Configuration.{State as ExecutionState}
 use Rattle.step_machine.specs.Instantiation.{ended}
-use Rattle.step_machine.specs.Slices.{own_end, end_after, end_at, at_break}
+use Rattle.step_machine.specs.Slices.{end_after, end_at, at_break}
+use Rattle.task_lifecycle.specs.declared.lifecycle.TaskCall.TheVariants as call
 use Rattle.task_lifecycle.specs.declared.status.Status.{Status}
-use Rattle.task_lifecycle.specs.declared.status.Status.TheVariants.{Created, Running, Pausing, Paused}
+use Rattle.task_lifecycle.specs.declared.status.Status.TheVariants.{Created, Running, Pausing, Paused, Stopped}
 use Rattle.task_lifecycle.specs.declared.status.Signal.{Signal}
+use Rattle.task_lifecycle.specs.declared.status.ExitRecord.{ExitRecord}
 use Rattle.task_lifecycle.specs.declared.status.ExitRecord.TheVariants as exit
 use Rattle.task_board.specs.Limits.{max_tasks, max_creates}
 use Rattle.wasm_ast.specs.Identifiers.{is_id}
 use Rattle.content_leases.specs.Digests.{digest_of}
 use Rattle.content_leases.specs.StoreState.{Content, content_in}
-use Rattle.task_lifecycle.specs.Lifecycle.{takes_turns, is_pausing, is_stopped, is_going}
+use Rattle.task_lifecycle.specs.Lifecycle.{allowed, takes_turns, is_pausing, is_stopped, is_going}
 use Rattle.task_board.specs.BoardState.{Task, Entries, BoardState, created_task, task_in, entry_of, task_of, put_task, with_task, without_task, with_new_task}
-use Rattle.task_board.specs.Tasks.{execution_at, Standing, stopped_by, idle_task, standing_at_start, started, paused, resumed, killed_while, killed, standing_onward, standing_after, advanced}
+use Rattle.task_board.specs.Tasks.{execution_at, Standing, stopped_by, going, idle_task, exit_of, IsTrueOf, standing_at_start, started, paused, resumed, killed_while, killed, standing_onward, standing_after, advanced}
 use Rattle.task_board.specs.Refusals.{Openable}
 use Rattle.task_board.specs.Sound.{Each, AreDistinct, AreRising, IsSound, IsContent, slots_of, ids_of, incarnations_of, IsBoard}
 use Rattle.task_board.proofs.EntryLemmas.{none_is_not, some_is, cond_true, cond_false, by_slot, by_id, change_length, change_slots, change_ids, change_incarnations, change_each, put_length, put_each, remove_entries, remove_distinct, remove_rising, remove_length}
@@ -207,6 +209,7 @@ later_sound creates t h = record {
   signal = h.signal;
   stopped = h.stopped;
   goes = h.goes;
+  end = h.end;
 }
 
 -- a sound task that is the newest enters a free slot of a board that takes it
@@ -249,6 +252,7 @@ created_sound id creates bytes m p named opens digest = record {
   signal = λ h. cc;
   stopped = refl;
   goes = λ h. cc;
+  end = λ r h. cc;
 }
 
 -- ---- contents
@@ -270,18 +274,19 @@ content_named digest bytes (c ∷ cs) each h =
 
 -- ---- what happens to a task leaves it sound
 
--- what a standing says of a task that is idle with it, at this state of execution
-pub record IsStanding (x : Standing) (e : ExecutionState) : Type 0 where
+-- what a standing says of a task that is idle with it, after so many turns and at this state of execution
+pub record IsStanding (x : Standing) (turns : ℕ) (e : ExecutionState) : Type 0 where
   pub begun : x.0 ≡ Created → ⊥
   pub resting : x.0 ≡ Pausing → ⊥
   pub stopped : is_stopped x.0 ≡ is_some x.1
   pub goes : is_going x.0 ≡ true → ended e ≡ None
+  pub end : (r : ExitRecord) → x.1 ≡ Some r → IsTrueOf r turns (ended e)
 
 -- a task that is idle in a fitting way
 pub idle_sound :
     (creates : ℕ) (t : Task) (x : Standing) → is_id t.id ≡ true → t.incarnation < creates
     → Openable t.bytes t.process t.module → t.process.module ≡ digest_of t.bytes
-    → IsStanding x (execution_at t t.turns) → IsSound creates (idle_task t x)
+    → IsStanding x t.turns (execution_at t t.turns) → IsSound creates (idle_task t x)
 idle_sound creates t x named earlier opens digest standing = record {
   named = named;
   earlier = earlier;
@@ -294,19 +299,47 @@ idle_sound creates t x named earlier opens digest standing = record {
   signal = λ h. cc;
   stopped = standing.stopped;
   goes = standing.goes;
+  end = standing.end;
 }
 
-standing_begun : (o : Option End) (b : Bool) (e : ExecutionState) → ended e ≡ o → IsStanding (standing_at_start o b) e
-standing_begun (Some x) b e is = record { begun = λ h. cc; resting = λ h. cc; stopped = refl; goes = λ h. cc }
-standing_begun None true e is = record { begun = λ h. cc; resting = λ h. cc; stopped = refl; goes = λ h. is }
-standing_begun None false e is = record { begun = λ h. cc; resting = λ h. cc; stopped = refl; goes = λ h. is }
+-- a standing that is not going, since the task has ended so
+stopped_standing :
+    (r : ExitRecord) (turns : ℕ) (e : ExecutionState) → IsTrueOf r turns (ended e) → IsStanding (stopped_by r) turns e
+stopped_standing r turns e so = record {
+  begun = λ h. cc;
+  resting = λ h. cc;
+  stopped = refl;
+  goes = λ h. cc;
+  end = λ x h. subst (λ (y : ExitRecord). IsTrueOf y turns (ended e)) (some_is r x h) so;
+}
+
+-- the record of an own end is true where that has come
+own_true : (x : End) (turns : ℕ) (o : Option End) → o ≡ Some x → IsTrueOf (exit_of x) turns o
+own_true own.Returned turns o is = is
+own_true (own.Exited n) turns o is = is
+own_true (own.Trapped t) turns o is = is
+
+paused_standing : (turns : ℕ) (e : ExecutionState) → ended e ≡ None → IsStanding (going Paused) turns e
+paused_standing turns e is =
+    record { begun = λ h. cc; resting = λ h. cc; stopped = refl; goes = λ h. is; end = λ r h. cc }
+
+running_standing : (turns : ℕ) (e : ExecutionState) → ended e ≡ None → IsStanding (going Running) turns e
+running_standing turns e is =
+    record { begun = λ h. cc; resting = λ h. cc; stopped = refl; goes = λ h. is; end = λ r h. cc }
+
+standing_begun :
+    (o : Option End) (b : Bool) (turns : ℕ) (e : ExecutionState) → ended e ≡ o
+    → IsStanding (standing_at_start o b) turns e
+standing_begun (Some x) b turns e is = stopped_standing (exit_of x) turns e (own_true x turns (ended e) is)
+standing_begun None true turns e is = paused_standing turns e is
+standing_begun None false turns e is = running_standing turns e is
 
 pub started_sound : (creates : ℕ) (t : Task) → IsSound creates t → IsSound creates (started t)
 started_sound creates t h =
     idle_sound creates t
     (standing_at_start (ended (execution_at t t.turns)) (at_break t.breaks (execution_at t t.turns))) h.named
     h.earlier h.opens h.digest
-    (standing_begun (ended (execution_at t t.turns)) (at_break t.breaks (execution_at t t.turns))
+    (standing_begun (ended (execution_at t t.turns)) (at_break t.breaks (execution_at t t.turns)) t.turns
     (execution_at t t.turns) refl)
 
 -- what a pause makes of the status
@@ -335,6 +368,7 @@ paused_sound creates t h is =
       signal = h.signal;
       stopped = f.goes_on ∙ (sym (ap is_stopped is) ∙ h.stopped);
       goes = λ x. h.goes (ap is_going is);
+      end = h.end;
     }
 
 pub resumed_sound : (creates : ℕ) (t : Task) → IsSound creates t → t.status ≡ Paused → IsSound creates (resumed t)
@@ -350,15 +384,26 @@ resumed_sound creates t h is = record {
   signal = h.signal;
   stopped = sym (ap is_stopped is) ∙ h.stopped;
   goes = λ x. h.goes (ap is_going is);
+  end = h.end;
 }
+
+-- what a kill may stop has made no turn, or goes on
+not_ended : (status : Status) (turns : ℕ) (o : Option End) → allowed call.Kill status ≡ true
+    → (status ≡ Created → turns ≡ 0) → (is_going status ≡ true → o ≡ None) → 1 ≤ turns → o ≡ None
+not_ended Created turns o can fresh goes some = let none = fresh refl in absurd (omega (arith, none, some))
+not_ended Running turns o can fresh goes some = goes refl
+not_ended Pausing turns o can fresh goes some = goes refl
+not_ended Paused turns o can fresh goes some = goes refl
+not_ended Stopped turns o can fresh goes some = cc
 
 killed_sound_by :
     (creates : ℕ) (signal : Signal) (t : Task) (out : Option ℕ) → t.out ≡ out → IsSound creates t
-    → IsSound creates (killed_while out signal t)
-killed_sound_by creates signal t None is h =
+    → allowed call.Kill t.status ≡ true → IsSound creates (killed_while out signal t)
+killed_sound_by creates signal t None is h can =
     idle_sound creates t (stopped_by (exit.Kill signal)) h.named h.earlier h.opens h.digest
-    (record { begun = λ x. cc; resting = λ x. cc; stopped = refl; goes = λ x. cc })
-killed_sound_by creates signal t (Some n) is h = record {
+    (stopped_standing (exit.Kill signal) t.turns (execution_at t t.turns)
+    (not_ended t.status t.turns (ended (execution_at t t.turns)) can h.fresh h.goes))
+killed_sound_by creates signal t (Some n) is h can = record {
   named = h.named;
   earlier = h.earlier;
   opens = h.opens;
@@ -370,49 +415,54 @@ killed_sound_by creates signal t (Some n) is h = record {
   signal = λ x. ap (is_some {T = ℕ}) is;
   stopped = h.stopped;
   goes = h.goes;
+  end = h.end;
 }
 
-pub killed_sound : (creates : ℕ) (signal : Signal) (t : Task) → IsSound creates t → IsSound creates (killed signal t)
-killed_sound creates signal t h = killed_sound_by creates signal t t.out refl h
+pub killed_sound :
+    (creates : ℕ) (signal : Signal) (t : Task) → IsSound creates t → allowed call.Kill t.status ≡ true
+    → IsSound creates (killed signal t)
+killed_sound creates signal t h can = killed_sound_by creates signal t t.out refl h can
 
 standing_goes_on :
-    (signal : Option Signal) (b : Bool) (e : ExecutionState) → ended e ≡ None → IsStanding (standing_onward signal b) e
-standing_goes_on (Some x) b e is = record { begun = λ h. cc; resting = λ h. cc; stopped = refl; goes = λ h. cc }
-standing_goes_on None true e is = record { begun = λ h. cc; resting = λ h. cc; stopped = refl; goes = λ h. is }
-standing_goes_on None false e is = record { begun = λ h. cc; resting = λ h. cc; stopped = refl; goes = λ h. is }
+    (signal : Option Signal) (b : Bool) (turns : ℕ) (e : ExecutionState) → ended e ≡ None
+    → IsStanding (standing_onward signal b) turns e
+standing_goes_on (Some x) b turns e is = stopped_standing (exit.Kill x) turns e (λ some. is)
+standing_goes_on None true turns e is = paused_standing turns e is
+standing_goes_on None false turns e is = running_standing turns e is
 
-pub standing_lasts : (x : SliceEnd) (signal : Option Signal) (status : Status) (e : ExecutionState)
-    → (x ≡ slice.Budget → ended e ≡ None) → (x ≡ slice.Break → ended e ≡ None)
-    → IsStanding (standing_after x signal status) e
-standing_lasts slice.Budget signal status e f g = standing_goes_on signal (is_pausing status) e (f refl)
-standing_lasts slice.Break signal status e f g = standing_goes_on signal true e (g refl)
-standing_lasts slice.Returned signal status e f g =
-    record { begun = λ h. cc; resting = λ h. cc; stopped = refl; goes = λ h. cc }
-standing_lasts (slice.Exited n) signal status e f g =
-    record { begun = λ h. cc; resting = λ h. cc; stopped = refl; goes = λ h. cc }
-standing_lasts (slice.Trapped x) signal status e f g =
-    record { begun = λ h. cc; resting = λ h. cc; stopped = refl; goes = λ h. cc }
+-- what the end of a slice says of the execution
+abbrev pub IsEndAt : SliceEnd → Option End → Type 0
+IsEndAt slice.Budget o = o ≡ None
+IsEndAt slice.Break o = o ≡ None
+IsEndAt slice.Returned o = o ≡ Some own.Returned
+IsEndAt (slice.Exited n) o = o ≡ Some (own.Exited n)
+IsEndAt (slice.Trapped x) o = o ≡ Some (own.Trapped x)
 
-no_own_budget : (e : End) → own_end e ≡ slice.Budget → ⊥
-no_own_budget own.Returned h = cc
-no_own_budget (own.Exited n) h = cc
-no_own_budget (own.Trapped t) h = cc
+slice_end_true :
+    (bs : List Place) (k : ℕ) (e : ExecutionState) (o : Option End) → IsEndAt (end_after bs k e o) o
+slice_end_true bs k e (Some own.Returned) = refl
+slice_end_true bs k e (Some (own.Exited n)) = refl
+slice_end_true bs k e (Some (own.Trapped t)) = refl
+slice_end_true bs zero e None = refl
+slice_end_true bs (suc k) e None = by (at_break bs e)
+  where
+    by : (b : Bool) → IsEndAt (cond b slice.Break slice.Budget) None
+    by true = refl
+    by false = refl
 
-no_own_break : (e : End) → own_end e ≡ slice.Break → ⊥
-no_own_break own.Returned h = cc
-no_own_break (own.Exited n) h = cc
-no_own_break (own.Trapped t) h = cc
-
-not_ended_by : (bs : List Place) (k : ℕ) (e : ExecutionState) (o : Option End) → ended e ≡ o
-    → (end_after bs k e o ≡ slice.Budget) ⊎ (end_after bs k e o ≡ slice.Break) → ended e ≡ None
-not_ended_by bs k e (Some x) is (inl h) = absurd (no_own_budget x h)
-not_ended_by bs k e (Some x) is (inr h) = absurd (no_own_break x h)
-not_ended_by bs k e None is h = is
+standing_lasts :
+    (x : SliceEnd) (signal : Option Signal) (status : Status) (turns : ℕ) (e : ExecutionState) → IsEndAt x (ended e)
+    → IsStanding (standing_after x signal status) turns e
+standing_lasts slice.Budget signal status turns e is = standing_goes_on signal (is_pausing status) turns e is
+standing_lasts slice.Break signal status turns e is = standing_goes_on signal true turns e is
+standing_lasts slice.Returned signal status turns e is = stopped_standing exit.Return turns e is
+standing_lasts (slice.Exited n) signal status turns e is = stopped_standing (exit.Exit n) turns e is
+standing_lasts (slice.Trapped x) signal status turns e is = stopped_standing (exit.Trapped x) turns e is
 
 pub advanced_sound : (creates : ℕ) (t : Task) (k : ℕ) → IsSound creates t → IsSound creates (advanced t k)
 advanced_sound creates t k h =
     let e = execution_at t (t.turns + k) in
     idle_sound creates (record t { turns = t.turns + k }) (standing_after (end_at t.breaks k e) t.signal t.status)
     h.named h.earlier h.opens h.digest
-    (standing_lasts (end_at t.breaks k e) t.signal t.status e (λ x. not_ended_by t.breaks k e (ended e) refl (inl x))
-    (λ x. not_ended_by t.breaks k e (ended e) refl (inr x)))
+    (standing_lasts (end_at t.breaks k e) t.signal t.status (t.turns + k) e
+    (slice_end_true t.breaks k e (ended e)))

@@ -138,6 +138,7 @@ lent_sound_by creates t budget h is low = record {
   signal = λ x. refl;
   stopped = h.stopped;
   goes = h.goes;
+  end = h.end;
 }
 
 pub lent_sound :

@@ -3,6 +3,7 @@ use Rattle.std.specs.Prelude.{◌≡◌, ◌≢◌, ℕ, ◌<◌, ◌≤◌, Lis
 use Rattle.step_machine.specs.Instantiation.{ended}
 use Rattle.wasm_ast.specs.Limits.{max_module_bytes}
 use Rattle.task_lifecycle.specs.declared.status.Status.TheVariants.{Created, Pausing}
+use Rattle.task_lifecycle.specs.declared.status.ExitRecord.{ExitRecord}
 use Rattle.task_board.specs.Limits.{max_tasks, max_creates, max_budget}
 use Rattle.content_leases.specs.Limits.{max_contents}
 use Rattle.wasm_ast.specs.Identifiers.{is_id}
@@ -10,7 +11,7 @@ use Rattle.content_leases.specs.Digests.{digest_of}
 use Rattle.content_leases.specs.StoreState.{Content}
 use Rattle.task_lifecycle.specs.Lifecycle.{takes_turns, is_stopped, is_going}
 use Rattle.task_board.specs.BoardState.{Task, Entries, BoardState}
-use Rattle.task_board.specs.Tasks.{execution_at}
+use Rattle.task_board.specs.Tasks.{execution_at, EndsSo}
 use Rattle.task_board.specs.Refusals.{Openable}
 
 -- each of them is so
@@ -44,6 +45,8 @@ pub record IsSound (creates : ℕ) (t : Task) : Type 0 where
   -- it is stopped exactly if it has ended; a task that goes on has not halted
   pub stopped : is_stopped t.status ≡ is_some t.end
   pub goes : is_going t.status ≡ true → ended (execution_at t t.turns) ≡ None
+  -- how it ended is true of its execution
+  pub end : (e : ExitRecord) → t.end ≡ Some e → EndsSo t e
 
 -- a content is stored under its own digest
 pub record IsContent (c : Content) : Type 0 where

@@ -52,6 +52,19 @@ exit_of ends.Returned = exit.Return
 exit_of (ends.Exited code) = exit.Exit code
 exit_of (ends.Trapped trap) = exit.Trapped trap
 
+-- what an exit record says of the end that an execution has come to after this number of turns: it is
+-- that end; or, of a kill, there is none. Before the first turn a kill says nothing: a created task that
+-- has nothing to run may be killed
+abbrev pub IsTrueOf : ExitRecord → (turns : ℕ) → Option End → Type 0
+IsTrueOf exit.Return turns end = end ≡ Some ends.Returned
+IsTrueOf (exit.Exit code) turns end = end ≡ Some (ends.Exited code)
+IsTrueOf (exit.Trapped trap) turns end = end ≡ Some (ends.Trapped trap)
+IsTrueOf (exit.Kill signal) turns end = 1 ≤ turns → end ≡ None
+
+-- what the record says is so of the task's execution after its turns
+abbrev pub EndsSo : Task → ExitRecord → Type 0
+EndsSo t e = IsTrueOf e t.turns (ended (execution_at t t.turns))
+
 -- ---- start
 
 -- stopped if it has halted already, paused if the next place is a breakpoint, else running

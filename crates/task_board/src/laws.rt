@@ -15,7 +15,8 @@ ghost use Rattle.content_leases.specs.StoreState.{content_in, is_leased, is_held
 ghost use Rattle.task_board.specs.BoardState.{Task, BoardState, empty, used_by, task_in};
 ghost use Rattle.task_board.specs.Choices.{IsDetermined, AgreeOnCreate, AgreeOnText};
 ghost use Rattle.task_lifecycle.specs.declared.status.Signal.{Signal as SignalValue};
-ghost use Rattle.task_lifecycle.specs.Lifecycle.{after, takes_turns};
+ghost use Rattle.task_lifecycle.specs.declared.status.ExitRecord.{ExitRecord as RecordValue};
+ghost use Rattle.task_lifecycle.specs.Lifecycle.{after, takes_turns, is_going};
 ghost use Rattle.task_board.specs.Moves.{Becomes};
 ghost use Rattle.task_board.specs.Refusals.{IsSpelled, CannotOpen};
 ghost use Rattle.task_board.specs.Run.{takes_memory, met_no_memory, Happens, Run};
@@ -24,7 +25,7 @@ ghost use Rattle.task_board.specs.Step.{Answer, Answers};
 ghost use Rattle.text_assembler.specs.Modules.{Denotes, IsTooDeep, IsBadText};
 ghost use Rattle.wasm_binary.specs.Canonical.{canon, FitsLimits};
 ghost use Rattle.task_board.specs.Texts.{DenotesNone};
-ghost use Rattle.task_board.specs.Tasks.{execution_at, exit_of, situation_of, started, paused, resumed, killed, slice_turns, MayAdvance, HasReturned};
+ghost use Rattle.task_board.specs.Tasks.{execution_at, exit_of, EndsSo, situation_of, started, paused, resumed, killed, slice_turns, MayAdvance, HasReturned};
 
 use step_machine::laws::{slices_go_forward, slices_stop_first};
 use task_lifecycle::{ExitRecord, Status, TaskCall};
@@ -71,6 +72,21 @@ pub fn pending_signals_end_tasks()
     ensures signal { (t t' : Task) (signal : SignalValue) → HasReturned t t'
         → t.signal ≡ Some signal → ended (execution_at t' t'.turns) ≡ None
         → (t'.status ≡ Status.Stopped) × (t'.end ≡ Some (ExitRecord.Kill signal)) }
+{}
+
+/// On every board that events lead to, the record of a stopped task is true of its execution after its
+/// turns: that has ended so; or a signal ended the task, and no turn has ended its execution. A task that
+/// is running, pausing or paused is ended by a signal only where its execution has not ended.
+pub fn exit_records_are_true()
+    ensures record { (es : List Event) (rs : List EventReply) (s : BoardState) → Run empty es rs s
+        → (k : ℕ) (t : Task) → task_in k s.tasks ≡ Some t
+        → (e : RecordValue) → t.end ≡ Some e → EndsSo t e }
+    ensures signal { (es : List Event) (rs : List EventReply) (s : BoardState) → Run empty es rs s
+        → (e : Event) (r : EventReply) (s' : BoardState) → Happens s e r s'
+        → (k : ℕ) (t : Task) → task_in k s.tasks ≡ Some t → is_going t.status ≡ true
+        → (t' : Task) → task_in k s'.tasks ≡ Some t'
+        → (signal : SignalValue) → t'.end ≡ Some (ExitRecord.Kill signal)
+        → ended (execution_at t' t'.turns) ≡ None }
 {}
 
 /// A second kill while the slice is out does not replace the signal of the first.
