@@ -7,8 +7,9 @@ use Rattle.wasm_ast.specs.declared.instr.BlockType.{BlockType}
 use Rattle.wasm_ast.specs.Syntax.{Op, simple, block, loop, if', Ops, stop, next}
 use Rattle.wasm_ast.specs.Types.{block_type}
 use Rattle.validator.specs.Typing.{Context, under, Applies, OpTyped, Typed}
-use Rattle.validator.specs.Inside.Algorithm.{Stack, and_then, pops, knowns, with_types, replaced, start, is_empty, ends, after_i32, encloses, check_op, check_ops}
-use Rattle.validator.proofs.StackMatching.{MatchTypes, Matches, Sound, Exact, both, passed, passes, given, pops_sound, pops_exact, put_on, taken_off, replaced_sound, replaced_exact, AfterI32, after_i32_sound, after_i32_exact}
+use Rattle.validator.specs.PlaceTypes.{Stack, MatchTypes, Matches}
+use Rattle.validator.specs.Inside.Algorithm.{and_then, pops, knowns, with_types, replaced, start, is_empty, ends, after_i32, encloses, check_op, check_ops}
+use Rattle.validator.proofs.StackMatching.{Sound, Exact, both, passed, passes, given, pops_sound, pops_exact, put_on, taken_off, replaced_sound, replaced_exact, AfterI32, after_i32_sound, after_i32_exact}
 use Rattle.validator.proofs.SimpleExact.{named_sound, named_exact, simple_sound, simple_exact}
 
 empty : (o : Option (List (Option ValType))) → is_empty o ≡ true → o ≡ Some []
@@ -39,14 +40,14 @@ ends_exact ts e m =
     (subst (λ (us : List ValType). Matches e us) (sym (append-nil (reverse ts))) m) in
     ap is_empty (found.1 ∙ ap Some (matches_none b found.0 found.2))
 
-start_matches : (ts : List ValType) → Matches (start ts) (reverse ts)
+pub start_matches : (ts : List ValType) → Matches (start ts) (reverse ts)
 start_matches ts =
     let both : MatchTypes false (knowns (reverse ts) ++ []) (reverse ts ++ []) = put_on false (reverse ts) [] [] refl in
     subst (λ (us : List ValType). Matches (start ts) us) (append-nil (reverse ts))
     (subst (λ (xs : List (Option ValType)). MatchTypes false xs (reverse ts ++ []))
     (append-nil (knowns (reverse ts))) both)
 
-start_is : (ts us : List ValType) → Matches (start ts) us → us ≡ reverse ts
+pub start_is : (ts us : List ValType) → Matches (start ts) us → us ≡ reverse ts
 start_is ts us m =
     let found =
     taken_off false (reverse ts) [] us
@@ -143,7 +144,7 @@ mutual
       let first = op_sound c o s found.0 rest.0 found.1 rest.1 in
       (first.0, first.1, (rest.0, first.2, rest.2))
 
-  op_sound : (c : Context) (o : Op) → Sound (check_op c o) (OpTyped c o)
+  pub op_sound : (c : Context) (o : Op) → Sound (check_op c o) (OpTyped c o)
   op_sound c (simple i) s e new h m = simple_sound c i s e new h m
   op_sound c (block b body) s e new h m =
       let found = block_sound c b (λ t. passes_body (under c t.results) body t) s e new h m in
@@ -197,7 +198,7 @@ mutual
       let rest = ops_exact c os first.0 h.0 new first.2 h.2 in
       (rest.0, passes (check_op c o s) (check_ops c os) first.0 first.1 ∙ rest.1, rest.2)
 
-  op_exact : (c : Context) (o : Op) → Exact (check_op c o) (OpTyped c o)
+  pub op_exact : (c : Context) (o : Op) → Exact (check_op c o) (OpTyped c o)
   op_exact c (simple i) s old new m h = simple_exact c i s old new m h
   op_exact c (block b body) s old new m h =
       let t = h.0 in

@@ -3,22 +3,8 @@ use Rattle.std.proofs.Common.{◌≡◌, ◌≢◌, suc, length, Bool, true, fal
 use Rattle.wasm_ast.specs.declared.values.ValType.{ValType}
 use Rattle.wasm_ast.specs.declared.values.ValType.TheVariants.{I32, I64}
 use Rattle.validator.specs.Typing.{on_top, Replaces}
-use Rattle.validator.specs.Inside.Algorithm.{Stack, and_then, is_same, are_same, can_be, pop_any, below_type, pop, pops, knowns, with_types, replaced, nowhere, leaves, after_i32}
-
--- an operand that is not known is of any type
-abbrev pub IsOf : Option ValType → ValType → Type 0
-IsOf None t = Unit {0}
-IsOf (Some u) t = u ≡ t
-
--- below the operands of an unreachable point there may be any others
-abbrev pub MatchTypes : (unreachable : Bool) → List (Option ValType) → List ValType → Type 0
-MatchTypes true [] ts = Unit {0}
-MatchTypes false [] ts = ts ≡ []
-MatchTypes unreachable (x ∷ xs) [] = ⊥
-MatchTypes unreachable (x ∷ xs) (t ∷ ts) = IsOf x t × MatchTypes unreachable xs ts
-
-abbrev pub Matches : Stack → List ValType → Type 0
-Matches s ts = MatchTypes s.unreachable s.types ts
+use Rattle.validator.specs.PlaceTypes.{Stack, IsOf, MatchTypes, Matches}
+use Rattle.validator.specs.Inside.Algorithm.{and_then, is_same, are_same, can_be, pop_any, below_type, pop, pops, knowns, with_types, replaced, nowhere, leaves, after_i32}
 
 -- a check that passes has a typing that leads to each stack that its end represents
 abbrev pub Sound : (Stack → Option Stack) → (List ValType → List ValType → Type 0) → Type 0

@@ -1,3 +1,4 @@
 pub mod Typing
+pub mod PlaceTypes
 pub mod Worked
 pub mod Inside

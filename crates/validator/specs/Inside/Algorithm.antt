@@ -19,12 +19,7 @@ use Rattle.wasm_ast.specs.Types.{type_of, block_type, type_at}
 use Rattle.wasm_ast.specs.Access.{load_type, load_bytes, store_type, store_bytes}
 use Rattle.wasm_ast.specs.Limits.{are_all}
 use Rattle.validator.specs.Typing.{Context, under, source_of, target_of}
-
--- the types of a block's operands, the newest first, and None for one that is not known; and whether the
--- point that is checked is unreachable: then operands of any types may be below
-pub record Stack : Type 0 where
-  pub unreachable : Bool
-  pub types : List (Option ValType)
+use Rattle.validator.specs.PlaceTypes.{Stack}
 
 -- what follows a step that may fail
 abbrev pub and_then : {A B : Type 0} → Option A → (A → Option B) → Option B

@@ -2,7 +2,8 @@
 use Rattle.std.specs.Prelude.{◌≡◌, ◌++◌, Bool, true, false, List, [], length, reverse, Option, Some, None}
 use Rattle.wasm_ast.specs.declared.values.ValType.{ValType}
 use Rattle.validator.specs.declared.operands.Outer.{Outer}
-use Rattle.validator.specs.Inside.Algorithm.{Stack, with_types, start}
+use Rattle.validator.specs.PlaceTypes.{Stack}
+use Rattle.validator.specs.Inside.Algorithm.{with_types, start}
 
 -- the types of the operands of the blocks outside, the oldest first, and the stack of the innermost one
 pub record Blocks : Type 0 where
