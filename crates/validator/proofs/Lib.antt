@@ -2,6 +2,7 @@ pub mod StackMatching
 pub mod SimpleExact
 pub mod SequenceExact
 pub mod PlaceExact
+pub mod PlacesOfModules
 pub mod OperandLemmas
 pub mod FunctionTypes
 pub mod AccessLemmas

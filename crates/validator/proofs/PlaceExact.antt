@@ -4,12 +4,13 @@ use Rattle.std.proofs.lemmas.Bool.Decides.{nat_tests}
 use Rattle.wasm_ast.specs.declared.values.ValType.{ValType}
 use Rattle.wasm_ast.specs.declared.values.ValType.TheVariants.{I32}
 use Rattle.wasm_ast.specs.declared.values.FuncType.{FuncType}
+use Rattle.wasm_ast.specs.declared.instr.BlockType.{BlockType}
 use Rattle.wasm_ast.specs.Syntax.{Op, simple, block, loop, if', Ops, stop, next, count, ops_count}
 use Rattle.wasm_ast.specs.Types.{block_type}
 use Rattle.validator.specs.Typing.{Context, under, on_top, Replaces, OpTyped, Typed}
 use Rattle.validator.specs.PlaceTypes.{Point, point, Reaches, OpReaches, Passes, OpPasses, Stack, Known, Matches, MatchStacks, MatchPoint}
 use Rattle.validator.specs.Inside.Algorithm.{and_then, start, after_i32, check_op}
-use Rattle.validator.specs.Inside.PlaceWalk.{below, ops_known, op_known}
+use Rattle.validator.specs.Inside.PlaceWalk.{below, ops_known, op_known, arm_known}
 use Rattle.validator.proofs.StackMatching.{passed, passes, AfterI32, replaced_sound, replaced_exact, after_i32_sound, after_i32_exact}
 use Rattle.validator.proofs.SequenceExact.{start_matches, start_is, op_sound, op_exact}
 
@@ -67,10 +68,13 @@ here c outs s r p h m = split p.stacks refl
   where
     known : Known
     known = record { labels = c.labels; stacks = s ∷ outs }
+
     same : known ≡ r
     same = cc
+
     matched : MatchPoint known p
     matched = subst (λ (k : Known). MatchPoint k p) (sym same) m
+
     split : (tss : List (List ValType)) → p.stacks ≡ tss → Found outs s (λ outside old. p ≡ point c outside old)
     split [] e = absurd (subst (MatchStacks (s ∷ outs)) e matched.1)
     split (ts ∷ tss) e =
@@ -273,13 +277,23 @@ mutual
   op_passes_reaches c outside o old new zero p h = h.1
   op_passes_reaches c outside (simple i) old new (suc k) p h = absurd h
   op_passes_reaches c outside (block b body) old new (suc k) p h =
-      let t = h.0 in
-      (t, h.1, h.2, h.3, passes_reaches (under c t.results) (h.1 ∷ outside) body (reverse t.params) (reverse t.results)
-      k p h.5)
+      let t = h.0 in (
+        t,
+        h.1,
+        h.2,
+        h.3,
+        passes_reaches (under c t.results) (h.1 ∷ outside) body (reverse t.params) (reverse t.results)
+            k p h.5,
+      )
   op_passes_reaches c outside (loop b body) old new (suc k) p h =
-      let t = h.0 in
-      (t, h.1, h.2, h.3, passes_reaches (under c t.params) (h.1 ∷ outside) body (reverse t.params) (reverse t.results)
-      k p h.5)
+      let t = h.0 in (
+        t,
+        h.1,
+        h.2,
+        h.3,
+        passes_reaches (under c t.params) (h.1 ∷ outside) body (reverse t.params) (reverse t.results)
+            k p h.5,
+      )
   op_passes_reaches c outside (if' b first second) old new (suc k) p h =
       let t = h.0 in (
         t,
@@ -287,10 +301,16 @@ mutual
         h.2,
         h.3,
         either h.5
-            (λ x. inl (x.0, passes_reaches (under c t.results) (h.1 ∷ outside) first (reverse t.params)
-            (reverse t.results) k p x.1))
-            (λ x. inr (x.0, passes_reaches (under c t.results) (h.1 ∷ outside) second (reverse t.params)
-            (reverse t.results) (k - ops_count first) p x.2)),
+            (λ x. inl (
+              x.0,
+              passes_reaches (under c t.results) (h.1 ∷ outside) first (reverse t.params)
+                  (reverse t.results) k p x.1,
+            ))
+            (λ x. inr (
+              x.0,
+              passes_reaches (under c t.results) (h.1 ∷ outside) second (reverse t.params)
+                  (reverse t.results) (k - ops_count first) p x.2,
+            )),
       )
 
 -- a typing passes through some point before each place
@@ -337,3 +357,21 @@ mutual
       typed_passes (under c t.results) (a.0 ∷ outside) second (reverse t.params) (reverse t.results)
       (k - ops_count first) (omega (arith, b, n)) h.6 in
       (found.0, (t, a.0, h.3, old_is, a.2, inr (b, h.5, found.1))))
+
+-- ---- steps of the walk
+
+-- before an instruction inside an `if` what is known is what is known in its arms
+pub known_in_if : (c : Context) (outs : List Stack) (o : Op) (s : Stack) (place inside : ℕ) (b : BlockType)
+    (first second : Ops) (t : FuncType) → 1 ≤ place → inside ≡ place - 1 → o ≡ if' b first second
+    → block_type c.types b ≡ Some t
+    → op_known c outs o s place
+    ≡ and_then (after_i32 (below t) s) (λ u. arm_known (under c t.results) t (u ∷ outs) first second inside)
+known_in_if c outs o s zero inside b first second t some is if_is named = absurd (omega (arith, some))
+known_in_if c outs o s (suc k) inside b first second t some is if_is named =
+    let same : inside ≡ k = omega (arith, is) in
+    let known : FuncType → Option Known =
+    λ t. and_then (after_i32 (below t) s) (λ u. arm_known (under c t.results) t (u ∷ outs) first second k) in
+    ap (λ (o : Op). op_known c outs o s (suc k)) if_is
+    ∙ (passes (block_type c.types b) known t named
+    ∙ ap (λ (n : ℕ). and_then (after_i32 (below t) s) (λ u. arm_known (under c t.results) t (u ∷ outs) first second n))
+    (sym same))

@@ -87,29 +87,27 @@ abbrev mutual
 
 -- ---- places of a module
 
--- the function with this index, imports counted first, is of the module's own, and has this type
-abbrev pub IsOwn : Module → (func : ℕ) → Func → FuncType → Type 0
-IsOwn m func f t =
+-- the function with this index, imports counted first, is of the module's own
+abbrev pub IsOwn : Module → (func : ℕ) → Func → Type 0
+IsOwn m func f =
     (length m.imports ≤ func) × (slice_get m.funcs (func - length m.imports) ≡ Some f)
-    × (slice_get m.types f.type_index ≡ Some t)
 
 -- there is an instruction at this place of a function's body
 abbrev pub IsPlace : Module → (func place : ℕ) → Type 0
 IsPlace m func place =
-    (length m.imports ≤ func)
-    × (f : Func) × (slice_get m.funcs (func - length m.imports) ≡ Some f)
-    × (o : Op) × (ops_at f.body place ≡ Some o)
+    (f : Func) × (o : Op) × IsOwn m func f × (ops_at f.body place ≡ Some o)
 
--- the instructions of a function's body before this place lead to this point
+-- the instructions of a function's body before this place lead from no operands to this point
 abbrev pub ReachesAt : Module → (func place : ℕ) → Point → Type 0
 ReachesAt m func place p =
-    (f : Func) × (t : FuncType) × IsOwn m func f t
+    (f : Func) × (t : FuncType) × IsOwn m func f × (slice_get m.types f.type_index ≡ Some t)
     × Reaches (body_context m t f) [] f.body [] place p
 
--- a typing of a function's body passes through this point before this place
+-- a typing of a function's body, from no operands to its results, passes through this point before this
+-- place
 abbrev pub PassesAt : Module → (func place : ℕ) → Point → Type 0
 PassesAt m func place p =
-    (f : Func) × (t : FuncType) × IsOwn m func f t
+    (f : Func) × (t : FuncType) × IsOwn m func f × (slice_get m.types f.type_index ≡ Some t)
     × Passes (body_context m t f) [] f.body [] (reverse t.results) place p
 
 -- ---- what is known of a point

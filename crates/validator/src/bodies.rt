@@ -56,7 +56,7 @@ fn close(
 /// One instruction, in a function and inside these labels. Recursion is as deep as its blocks are
 /// nested, which is as deep as that of dropping the instruction.
 #[cycle(check)]
-fn check_instr<'a>(
+pub fn check_instr<'a>(
     function: &Function<'a>,
     labels: &mut Labels<'a>,
     instr: &Instr,

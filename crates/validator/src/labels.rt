@@ -1,6 +1,6 @@
 //! The labels of the blocks that are open.
 
-ghost use Rattle.std.specs.Prelude.{◌≡◌, ◌∷◌, [], OnOk, option_copied, slice_get, drop};
+ghost use Rattle.std.specs.Prelude.{◌≡◌, ◌∷◌, [], OnOk, option_copied, slice_get, drop, length};
 
 use std::alloc::{AllocError, Global};
 use std::marker::Model;
@@ -45,6 +45,13 @@ impl<'a> Labels<'a> {
         ensures { self.new ≡ drop 1 self.old }
     {
         let _innermost = self.types.pop();
+    }
+
+    /// How many labels there are.
+    pub fn len(&self) -> usize
+        ensures { result ≡ length self.now }
+    {
+        self.types.len()
     }
 
     /// The types that a branch to this label takes, the innermost one being 0.

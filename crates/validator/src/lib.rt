@@ -10,9 +10,13 @@ mod labels;
 pub mod laws;
 mod module_parts;
 mod operands;
+mod places;
 mod simple;
 mod steps;
+mod types;
 mod valid_module;
 mod validation;
+mod walk;
 
+pub use types::{KnownOperands, Types};
 pub use valid_module::{Valid, validate};

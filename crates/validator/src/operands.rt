@@ -140,6 +140,20 @@ impl Operands {
         self.types.len() == self.base
     }
 
+    /// The operands of the innermost block, the newest last.
+    pub fn known(&self) -> &[Option<ValType>]
+        ensures { reverse result.now ≡ self.now.stack.types }
+    {
+        &self.types[self.base..]
+    }
+
+    /// Whether the point that is checked is unreachable.
+    pub fn is_unreachable(&self) -> bool
+        ensures { result ≡ self.now.stack.unreachable }
+    {
+        self.unreachable
+    }
+
     /// Begins a block, without operands. What is returned goes to `leave`.
     pub fn enter(&mut self) -> Outer
         ensures outer { IsOuter result self.old }

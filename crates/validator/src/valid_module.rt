@@ -1,11 +1,16 @@
 //! Modules that are valid (3).
 
-ghost use Rattle.std.specs.Prelude.{◌≡◌, ◌⊎◌, IfOk, OnOk, OnErr, Err};
+ghost use Rattle.std.specs.Prelude.{◌≡◌, ◌⊎◌, ◌↔◌, IfOk, OnOk, OnErr, Err};
 ghost use Rattle.std.specs.Arc.{arc_value};
 ghost use Rattle.wasm_ast.specs.declared.refusal.Refusal.TheVariants as refusal;
 ghost use Rattle.validator.specs.Typing.{ValidModule};
+ghost use Rattle.validator.specs.PlaceTypes.{Point, IsPlace, ReachesAt, PassesAt, MatchPoint};
 
+use crate::check_error::CheckError;
+use crate::function::own_function;
+use crate::types::Types;
 use crate::validation::check_module;
+use crate::walk::known_at;
 use std::alloc::{AllocError, Global};
 use std::marker::Model;
 use std::sync::Arc;
@@ -51,6 +56,34 @@ impl Valid {
     {
         let module = Arc::try_clone(&self.module)?;
         Ok(Valid { module })
+    }
+
+    /// What is known of the operands and the labels before the instruction at a place of a function's
+    /// body (3.3): they represent the points that typings of the instructions before it lead to, and
+    /// no others. The function is one of the module's own, imports counted first. `NoMemory` if memory
+    /// for the check of those instructions cannot be allocated. Recursion is as deep as blocks are
+    /// nested.
+    pub fn types_at<'a>(
+        &'a self,
+        alloc: Global,
+        func: u32,
+        place: u32,
+    ) -> Result<Types<'a>, Refusal>
+        requires { IsPlace self.now func place }
+        ensures exact { IfOk result
+            (λ t. (p : Point) → MatchPoint t p ↔ ReachesAt self.now func place p) }
+        ensures every { IfOk result
+            (λ t. (p : Point) → PassesAt self.now func place p → MatchPoint t p) }
+        ensures some { IfOk result
+            (λ t. (p : Point) × PassesAt self.now func place p × MatchPoint t p) }
+        ensures err { OnErr result (result ≡ Err refusal.NoMemory) }
+    {
+        let function = own_function(self.module(), func);
+        match known_at(alloc, &function, place) {
+            Ok(types) => Ok(types),
+            Err(CheckError::Memory) => Err(Refusal::NoMemory),
+            Err(CheckError::Invalid) => unreachable!(),
+        }
     }
 }
 

@@ -37,3 +37,10 @@ abbrev mutual
       then ops_known (under c t.results) (u ∷ outside) then_arm (start t.params) k
       else ops_known (under c t.results) (u ∷ outside) else_arm (start t.params)
       (k - ops_count then_arm)))
+
+-- the same in an arm of an `if`
+abbrev pub arm_known :
+    Context → FuncType → (outside : List Stack) → (then_arm else_arm : Ops) → (place : ℕ) → Option Known
+arm_known c t outside then_arm else_arm k =
+    if nat_lt k (ops_count then_arm) then ops_known c outside then_arm (start t.params) k
+    else ops_known c outside else_arm (start t.params) (k - ops_count then_arm)

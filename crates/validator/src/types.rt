@@ -1,0 +1,134 @@
+//! What is known of operands and labels before an instruction.
+
+ghost use Rattle.std.specs.Prelude.{◌≡◌, ◌∷◌, [], OnOk, MatchOption, None, Some, option_copied, slice_get, length, reverse, false};
+ghost use Rattle.validator.specs.PlaceTypes.{Stack, Known};
+
+use crate::labels::Labels;
+use crate::operands::Operands;
+use std::alloc::{AllocError, Global};
+use std::marker::Model;
+use wasm_ast::ValType;
+
+/// The operands of each block that is open. Contracts see the innermost block's first.
+#[derive(Drop)]
+pub struct Stacks {
+    alloc: Global,
+    operands: Vec<Operands>,
+}
+
+impl Model for Stacks {
+    ghost use Rattle.std.specs.Prelude.{List};
+    ghost use Rattle.validator.specs.PlaceTypes.{Stack};
+
+    ghost Value = { List Stack };
+
+    ghost use Rattle.std.specs.Prelude.{map, reverse};
+
+    ghost view = { λ s. reverse (map (λ o. o.stack) s.operands.items) };
+}
+
+impl Stacks {
+    /// Of no block. No memory is taken.
+    pub fn new(alloc: Global) -> Stacks
+        ensures { result ≡ [] }
+    {
+        Stacks {
+            alloc,
+            operands: Vec::new(alloc),
+        }
+    }
+
+    /// The operands of a block that has none yet. No memory is taken.
+    pub fn begin(&self) -> Operands
+        ensures { result
+            ≡ record { outside = []; stack = record { unreachable = false; types = [] } } }
+    {
+        Operands::new(self.alloc)
+    }
+
+    /// Adds the operands of a block inside all others.
+    pub fn push(&mut self, operands: Operands) -> Result<(), AllocError>
+        ensures { OnOk result (self.new ≡ operands.stack ∷ self.old) }
+    {
+        self.operands.push(operands)?;
+        Ok(())
+    }
+
+    /// The operands of the block with this index, the innermost one being 0.
+    pub fn get(&self, block: u32) -> Option<&Operands>
+        ensures { MatchOption result
+            (slice_get self.now block ≡ None)
+            (λ operands. slice_get self.now block ≡ Some operands.now.stack) }
+    {
+        let count = self.operands.len();
+        let index = block as usize;
+        if index < count {
+            Some(&self.operands[count - 1 - index])
+        } else {
+            None
+        }
+    }
+}
+
+/// What is known of the operands of a block.
+#[derive(Clone, Copy)]
+pub struct KnownOperands<'a> {
+    /// Their types, the newest last, and None for one that may be of any type.
+    pub types: &'a [Option<ValType>],
+    /// Whether the point cannot be reached: then operands of any types may be below.
+    pub unreachable: bool,
+}
+
+/// What is known of operands and labels before an instruction: of each block that is open, the types that a
+/// branch to its label takes, and its operands. Those that it found below its parameters are of the block
+/// outside. Blocks are counted from the innermost, which is 0, to the function's body.
+#[derive(Drop)]
+pub struct Types<'a> {
+    labels: Labels<'a>,
+    stacks: Stacks,
+}
+
+impl<'a> Model for Types<'a> {
+    ghost use Rattle.validator.specs.PlaceTypes.{Known};
+
+    ghost Value = { Known };
+
+    ghost view = { λ t. record { labels = t.labels; stacks = t.stacks } };
+}
+
+impl<'a> Types<'a> {
+    /// What is known with these labels and operands. No memory is taken.
+    pub fn new(labels: Labels<'a>, stacks: Stacks) -> Types<'a>
+        ensures { result ≡ record { labels = labels.entry; stacks = stacks } }
+    {
+        Types { labels, stacks }
+    }
+
+    /// How many blocks are open, the function's body included.
+    pub fn open_blocks(&self) -> usize
+        ensures { result ≡ length self.now.labels }
+    {
+        self.labels.len()
+    }
+
+    /// The types that a branch to the label of this block takes, in written order.
+    pub fn label(&self, block: u32) -> Option<&'a [ValType]>
+        ensures { option_copied result ≡ slice_get self.now.labels block }
+    {
+        self.labels.get(block)
+    }
+
+    /// What is known of the operands of this block.
+    pub fn operands(&self, block: u32) -> Option<KnownOperands<'_>>
+        ensures { MatchOption result
+            (slice_get self.now.stacks block ≡ None)
+            (λ o. slice_get self.now.stacks block
+            ≡ Some (record { unreachable = o.unreachable; types = reverse o.types.now })) }
+    {
+        let operands = self.stacks.get(block)?;
+        Some(KnownOperands {
+            types: operands.known(),
+            unreachable: operands.is_unreachable(),
+        })
+    }
+}
