@@ -3,6 +3,7 @@ pub mod SimpleExact
 pub mod SequenceExact
 pub mod PlaceExact
 pub mod PlacesOfModules
+pub mod WorkedPlaces
 pub mod OperandLemmas
 pub mod FunctionTypes
 pub mod AccessLemmas

@@ -22,7 +22,7 @@ by_test :
 by_test true x y r h f g = f refl h
 by_test false x y r h f g = g refl h
 
-either : {A B C : Type 0} → A ⊎ B → (A → C) → (B → C) → C
+pub either : {A B C : Type 0} → A ⊎ B → (A → C) → (B → C) → C
 either (inl a) f g = f a
 either (inr b) f g = g b
 
@@ -311,6 +311,49 @@ mutual
               passes_reaches (under c t.results) (h.1 ∷ outside) second (reverse t.params)
                   (reverse t.results) (k - ops_count first) p x.2,
             )),
+      )
+
+mutual
+  -- a typing that passes through a point is one of the sequence
+  pub passes_typed : (c : Context) (outside : List (List ValType)) (os : Ops) (old new : List ValType) (k : ℕ)
+      (p : Point) → Passes c outside os old new k p → Typed c os old new
+  passes_typed c outside stop old new k p h = absurd h
+  passes_typed c outside (next o os) old new k p h = (
+    h.0,
+    either h.1 (λ x. op_passes_typed c outside o old h.0 k p x.1) (λ x. x.1),
+    either h.1 (λ x. x.2) (λ x. passes_typed c outside os h.0 new (k - count o) p x.2),
+  )
+
+  op_passes_typed : (c : Context) (outside : List (List ValType)) (o : Op) (old new : List ValType) (k : ℕ)
+      (p : Point) → OpPasses c outside o old new k p → OpTyped c o old new
+  op_passes_typed c outside o old new zero p h = h.0
+  op_passes_typed c outside (simple i) old new (suc k) p h = absurd h
+  op_passes_typed c outside (block b body) old new (suc k) p h =
+      let t = h.0 in (
+        t,
+        h.2,
+        (h.1, h.3, h.4),
+        passes_typed (under c t.results) (h.1 ∷ outside) body (reverse t.params) (reverse t.results) k p h.5,
+      )
+  op_passes_typed c outside (loop b body) old new (suc k) p h =
+      let t = h.0 in (
+        t,
+        h.2,
+        (h.1, h.3, h.4),
+        passes_typed (under c t.params) (h.1 ∷ outside) body (reverse t.params) (reverse t.results) k p h.5,
+      )
+  op_passes_typed c outside (if' b first second) old new (suc k) p h =
+      let t = h.0 in
+      let c' = under c t.results in
+      let inside = h.1 ∷ outside in (
+        t,
+        on_top t.params h.1,
+        h.3,
+        h.2,
+        (h.1, refl, h.4),
+        either h.5 (λ x. passes_typed c' inside first (reverse t.params) (reverse t.results) k p x.1) (λ x. x.1),
+        either h.5 (λ x. x.2)
+            (λ x. passes_typed c' inside second (reverse t.params) (reverse t.results) (k - ops_count first) p x.2),
       )
 
 -- a typing passes through some point before each place

@@ -1,5 +1,5 @@
 -- Places of a valid module's functions: what the algorithm knows there.
-use Rattle.std.proofs.Common.{◌≡◌, ℕ, zero, suc, ◌-◌, ◌<◌, Bool, true, nat_lt, is_some, List, [], ◌∷◌, length, reverse, All, Option, Some, None, ◌≢◌, refl, sym, ap, subst, ◌∙◌, arith}
+use Rattle.std.proofs.Common.{◌≡◌, map, false, ℕ, zero, suc, ◌-◌, ◌<◌, true, nat_lt, is_some, List, [], ◌∷◌, length, reverse, All, Option, Some, None, ◌≢◌, refl, sym, ap, subst, ◌∙◌, arith}
 use Rattle.std.specs.Prelude.{slice_get, ◌↔◌}
 use Rattle.std.proofs.lemmas.Bool.Decides.{nat_tests}
 use Rattle.std.proofs.lemmas.List.Elements.{All-head, All-tail}
@@ -10,8 +10,8 @@ use Rattle.wasm_ast.specs.declared.module.Module.{Module}
 use Rattle.wasm_ast.specs.Syntax.{Op, Ops, ops_count, ops_at}
 use Rattle.wasm_ast.proofs.PlaceLemmas.{ops_counted}
 use Rattle.validator.specs.Typing.{body_context, Typed, ValidFunc, ValidModule}
-use Rattle.validator.specs.PlaceTypes.{Point, Reaches, Passes, IsOwn, IsPlace, ReachesAt, PassesAt, Known, MatchStacks, MatchPoint}
-use Rattle.validator.specs.Inside.Algorithm.{start}
+use Rattle.validator.specs.PlaceTypes.{Point, Reaches, IsOwn, IsPlace, ReachesAt, PassesAt, Known, Stack, MatchTypes, MatchStacks, MatchPoint}
+use Rattle.validator.specs.Inside.Algorithm.{knowns, start}
 use Rattle.validator.specs.Inside.PlaceWalk.{ops_known}
 use Rattle.validator.proofs.SequenceExact.{start_matches, start_is}
 use Rattle.validator.proofs.PlaceExact.{ops_known_sound, ops_known_exact, passes_reaches, typed_passes}
@@ -41,7 +41,7 @@ is_there os k o h =
     grind (arith, nat_tests)
 
 -- there is one function at an index, and it has one type
-one_function : (m : Module) (func : ℕ) (f g : Func) (t u : FuncType) (P : Func → FuncType → Type 0) → IsOwn m func f
+pub one_function : (m : Module) (func : ℕ) (f g : Func) (t u : FuncType) (P : Func → FuncType → Type 0) → IsOwn m func f
     → IsOwn m func g → HasType m f t → HasType m g u → P g u → P f t
 one_function m func f g t u P own other is other_is h =
     let some : Some g ≡ Some f = sym other.1 ∙ own.1 in
@@ -126,3 +126,58 @@ answers_there n l m func place f t one two valid own is there =
     subst (λ (x : Module). Answers m func place (known x f t place)) (sym (one ∙ two))
     (answers_at m func place f t valid (subst (λ (x : Module). IsOwn x func f) two own)
     (subst (λ (x : Module). HasType x f t) two is) there)
+
+-- ---- points that are known wholly
+
+-- all types of these operands are known, and the point can be reached
+abbrev pub surely : List ValType → Stack
+surely ts = record { unreachable = false; types = knowns ts }
+
+pub types_are : (ts us : List ValType) → MatchTypes false (knowns ts) us → us ≡ ts
+types_are [] us m = m
+types_are (t ∷ ts) [] m = absurd m
+types_are (t ∷ ts) (u ∷ us) m =
+    let first : t ≡ u = m.0 in
+    let rest = types_are ts us m.1 in
+    cc
+
+are_types : (ts : List ValType) → MatchTypes false (knowns ts) ts
+are_types [] = refl
+are_types (t ∷ ts) = (refl, are_types ts)
+
+stacks_are : (tss uss : List (List ValType)) → MatchStacks (map surely tss) uss → uss ≡ tss
+stacks_are [] [] m = refl
+stacks_are [] (us ∷ uss) m = absurd m
+stacks_are (ts ∷ tss) [] m = absurd m
+stacks_are (ts ∷ tss) (us ∷ uss) m =
+    let first = types_are ts us m.0 in
+    let rest = stacks_are tss uss m.1 in
+    cc
+
+are_stacks : (tss : List (List ValType)) → MatchStacks (map surely tss) tss
+are_stacks [] = tt
+are_stacks (ts ∷ tss) = (are_types ts, are_stacks tss)
+
+-- where all is known, the instructions before a place lead to one point
+pub leads_to : (m : Module) (func place : ℕ) (f : Func) (t : FuncType) (p : Point) → IsOwn m func f → HasType m f t
+    → known m f t place ≡ Some (record { labels = p.labels; stacks = map surely p.stacks })
+    → (q : Point) → ReachesAt m func place q ↔ (q ≡ p)
+leads_to m func place f t p own is h q =
+    let k : Known = record { labels = p.labels; stacks = map surely p.stacks } in (
+      λ reached.
+          let m = matches m func place f t own is k q h reached in
+          let stacks = stacks_are p.stacks q.stacks m.1 in
+          λ i. record { labels = sym m.0 i; stacks = stacks i },
+      λ e. known_sound m func place f t own is k q h
+          (subst (λ (q : Point). MatchPoint k q) (sym e) (refl, are_stacks p.stacks)),
+    )
+
+pub passes_leads : (m : Module) (func place : ℕ) (p : Point) → PassesAt m func place p → ReachesAt m func place p
+passes_leads m func place p h =
+    (h.0, h.1, h.2, h.3, passes_reaches (body_context m h.1 h.0) [] h.0.body [] (reverse h.1.results) place p h.4)
+
+pub some_passes : (m : Module) (func place : ℕ) → ValidModule m → IsPlace m func place
+    → (p : Point) × PassesAt m func place p
+some_passes m func place valid there =
+    let v = own_valid m func there.0 valid there.2 in
+    passed_at m func place there.0 v.type there.2 v.is_type there.1 v there.3

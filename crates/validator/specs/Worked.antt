@@ -1,11 +1,12 @@
 -- Worked modules, in which laws on validity speak.
-use Rattle.std.specs.Prelude.{ℕ, suc, List, [], ◌∷◌, ◌++◌, codes, Option, None}
+use Rattle.std.specs.Prelude.{◌≡◌, ◌↔◌, ℕ, suc, List, [], ◌∷◌, ◌++◌, codes, Option, None}
 use Rattle.wasm_ast.specs.declared.values.ValType.{ValType}
 use Rattle.wasm_ast.specs.declared.values.ValType.TheVariants as type
 use Rattle.wasm_ast.specs.declared.values.Value.TheVariants.{I32, I64}
 use Rattle.wasm_ast.specs.declared.values.FuncType.{FuncType}
 use Rattle.wasm_ast.specs.declared.operators.UnaryOp.{UnaryOp}
 use Rattle.wasm_ast.specs.declared.operators.BinaryOp.{BinaryOp}
+use Rattle.wasm_ast.specs.declared.operators.BinaryOp.TheVariants.{Add}
 use Rattle.wasm_ast.specs.declared.operators.TestOp.{TestOp}
 use Rattle.wasm_ast.specs.declared.operators.RelationOp.{RelationOp}
 use Rattle.wasm_ast.specs.declared.operators.ConvertOp.{ConvertOp}
@@ -15,6 +16,7 @@ use Rattle.wasm_ast.specs.declared.instr.LocalOp.TheVariants as local
 use Rattle.wasm_ast.specs.declared.instr.GlobalOp.TheVariants as global
 use Rattle.wasm_ast.specs.declared.instr.Simple.TheVariants as instr
 use Rattle.wasm_ast.specs.declared.instr.BlockType.{BlockType}
+use Rattle.wasm_ast.specs.declared.instr.BlockType.TheVariants.{One}
 use Rattle.wasm_ast.specs.declared.module.Import.{Import}
 use Rattle.wasm_ast.specs.declared.module.Func.{Func}
 use Rattle.wasm_ast.specs.declared.module.Limits.{Limits}
@@ -27,6 +29,7 @@ use Rattle.wasm_ast.specs.declared.module.Segment.{Segment}
 use Rattle.wasm_ast.specs.declared.module.Module.{Module}
 use Rattle.wasm_ast.specs.Syntax.{Op, simple, block, loop, if', ops_of}
 use Rattle.validator.specs.Typing.{ValidModule}
+use Rattle.validator.specs.PlaceTypes.{Point, ReachesAt, PassesAt}
 
 -- ---- instructions
 
@@ -212,3 +215,37 @@ abbrev pub TypesWithoutTable : (takes gives : List ValType) → List Op → Type
 TypesWithoutTable takes gives os =
     ValidModule
     (record (with_body (func_type takes gives) [] (reads 0 takes ++ os)) { tables = [] })
+
+-- ---- places
+
+-- the labels of blocks that are open, and the operands of each, the innermost block's first
+abbrev pub point_of : (labels stacks : List (List ValType)) → Point
+point_of labels stacks = record { labels = labels; stacks = stacks }
+
+-- in the body of a function from nothing to these results, the instructions before a place lead to this
+-- point, and to no other
+abbrev pub LeadsTo : (gives : List ValType) → List Op → (place : ℕ) → Point → Type 0
+LeadsTo gives os place p =
+    (q : Point) → ReachesAt (with_body (func_type [] gives) [] os) 1 place q ↔ (q ≡ p)
+
+-- they may lead to this point
+abbrev pub MayLeadTo : (gives : List ValType) → List Op → (place : ℕ) → Point → Type 0
+MayLeadTo gives os place p = ReachesAt (with_body (func_type [] gives) [] os) 1 place p
+
+-- a typing of the whole body may pass through this point
+abbrev pub MayPass : (gives : List ValType) → List Op → (place : ℕ) → Point → Type 0
+MayPass gives os place p = PassesAt (with_body (func_type [] gives) [] os) 1 place p
+
+-- a branch out of a block: its operand is of the block, and the one before the block is not
+abbrev pub branch_body : List Op
+branch_body =
+    i32_const 1
+    ∷ block_of (One type.I32) (i32_const 4 ∷ br 0 ∷ binary type.I32 Add ∷ [])
+    ∷ binary type.I32 Add ∷ []
+
+-- arms of an `if`, one with a loop
+abbrev pub arms_body : List Op
+arms_body =
+    i32_const 0
+    ∷ if_of (One type.I64) (i64_const 7 ∷ []) (nop ∷ loop_of (One type.I64) (i64_const 8 ∷ []) ∷ [])
+    ∷ drop' ∷ []

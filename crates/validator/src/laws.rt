@@ -1,7 +1,11 @@
 //! What is proved of the definitions themselves: each rule of validity, with modules that it
 //! accepts and modules that it refuses. Each function has a contract and no body.
 
-ghost use Rattle.std.specs.Prelude.{ℕ, ◌+◌, ◌^◌, [], ◌∷◌, Some, None};
+ghost use Rattle.std.specs.Prelude.{◌≡◌, ℕ, ◌+◌, ◌^◌, List, [], ◌∷◌, reverse, Some, None};
+ghost use Rattle.wasm_ast.specs.declared.values.ValType.{ValType};
+ghost use Rattle.wasm_ast.specs.declared.values.FuncType.{FuncType};
+ghost use Rattle.wasm_ast.specs.declared.module.Func.{Func};
+ghost use Rattle.wasm_ast.specs.declared.module.Module.{Module};
 ghost use Rattle.wasm_ast.specs.declared.values.ValType.TheVariants.{I32, I64};
 ghost use Rattle.wasm_ast.specs.declared.operators.UnaryOp.{UnaryOp};
 ghost use Rattle.wasm_ast.specs.declared.operators.BinaryOp.{BinaryOp};
@@ -12,8 +16,9 @@ ghost use Rattle.wasm_ast.specs.declared.operators.LoadOp.TheVariants as load;
 ghost use Rattle.wasm_ast.specs.declared.operators.StoreOp.TheVariants as store;
 ghost use Rattle.wasm_ast.specs.declared.instr.BlockType.TheVariants.{Empty, One};
 ghost use Rattle.wasm_ast.specs.declared.module.ExportKind.TheVariants as kind;
-ghost use Rattle.validator.specs.Typing.{ValidModule};
-ghost use Rattle.validator.specs.Worked.{i32_const, i64_const, local_get, local_set, local_tee, global_get, global_set, load_at, store_at, memory_size, memory_grow, nop, unary, binary, test, compare, convert, unreachable, drop', select, br, br_if, br_table, return', call, call_indirect, block_of, loop_of, if_of, func_type, func, limits, constant_of, variable_of, export_of, element, segment, import_of, plain, with_types, Types, Gives, WithLocals, TypesWithoutMemory, TypesWithoutTable};
+ghost use Rattle.validator.specs.Typing.{ValidModule, Typed, body_context};
+ghost use Rattle.validator.specs.PlaceTypes.{Point, IsOwn, IsPlace, ReachesAt, PassesAt};
+ghost use Rattle.validator.specs.Worked.{i32_const, i64_const, local_get, local_set, local_tee, global_get, global_set, load_at, store_at, memory_size, memory_grow, nop, unary, binary, test, compare, convert, unreachable, drop', select, br, br_if, br_table, return', call, call_indirect, block_of, loop_of, if_of, func_type, func, limits, constant_of, variable_of, export_of, element, segment, import_of, plain, with_types, Types, Gives, WithLocals, TypesWithoutMemory, TypesWithoutTable, point_of, LeadsTo, MayLeadTo, MayPass, branch_body, arms_body};
 
 /// Constants, and operators with one operand (3.3.1).
 pub fn constants_and_operators_are_typed()
@@ -493,4 +498,47 @@ pub fn start_and_segments_are_valid()
     ensures second_segment { ValidModule
         (record plain
         { segments = segment 0 (i32_const 9 ∷ []) ∷ segment 1 (i32_const 9 ∷ []) ∷ [] }) → ⊥ }
+{}
+
+/// The operands and labels before an instruction (3.3.5, 3.3.6), at each place of two bodies: those of
+/// the block that it is in first.
+pub fn instructions_lead_to_points()
+    ensures first { LeadsTo (I32 ∷ []) branch_body 0 (point_of ((I32 ∷ []) ∷ []) ([] ∷ [])) }
+    ensures before_a_block { LeadsTo (I32 ∷ []) branch_body 1
+        (point_of ((I32 ∷ []) ∷ []) ((I32 ∷ []) ∷ [])) }
+    ensures first_of_a_block { LeadsTo (I32 ∷ []) branch_body 2
+        (point_of ((I32 ∷ []) ∷ (I32 ∷ []) ∷ []) ([] ∷ (I32 ∷ []) ∷ [])) }
+    ensures before_a_branch { LeadsTo (I32 ∷ []) branch_body 3
+        (point_of ((I32 ∷ []) ∷ (I32 ∷ []) ∷ []) ((I32 ∷ []) ∷ (I32 ∷ []) ∷ [])) }
+    ensures past_a_branch { (ts : List ValType) → MayLeadTo (I32 ∷ []) branch_body 4
+        (point_of ((I32 ∷ []) ∷ (I32 ∷ []) ∷ []) (ts ∷ (I32 ∷ []) ∷ [])) }
+    ensures past_a_branch_outside { (ts us : List ValType) → MayLeadTo (I32 ∷ []) branch_body 4
+        (point_of ((I32 ∷ []) ∷ (I32 ∷ []) ∷ []) (ts ∷ us ∷ [])) → us ≡ I32 ∷ [] }
+    ensures past_a_block { LeadsTo (I32 ∷ []) branch_body 5
+        (point_of ((I32 ∷ []) ∷ []) ((I32 ∷ I32 ∷ []) ∷ [])) }
+    ensures past_the_end { (p : Point) → MayLeadTo (I32 ∷ []) branch_body 6 p → ⊥ }
+    ensures before_an_if { LeadsTo [] arms_body 1 (point_of ([] ∷ []) ((I32 ∷ []) ∷ [])) }
+    ensures then_arm { LeadsTo [] arms_body 2 (point_of ((I64 ∷ []) ∷ [] ∷ []) ([] ∷ [] ∷ [])) }
+    ensures else_arm { LeadsTo [] arms_body 3 (point_of ((I64 ∷ []) ∷ [] ∷ []) ([] ∷ [] ∷ [])) }
+    ensures before_a_loop { LeadsTo [] arms_body 4
+        (point_of ((I64 ∷ []) ∷ [] ∷ []) ([] ∷ [] ∷ [])) }
+    ensures first_of_a_loop { LeadsTo [] arms_body 5
+        (point_of ([] ∷ (I64 ∷ []) ∷ [] ∷ []) ([] ∷ [] ∷ [] ∷ [])) }
+    ensures past_an_if { LeadsTo [] arms_body 6 (point_of ([] ∷ []) ((I64 ∷ []) ∷ [])) }
+{}
+
+/// Typings of a whole body pass through points that the instructions before a place lead to, but not
+/// through each of them where the place cannot be reached: the instructions after it are typed as well.
+pub fn typings_pass_through_points()
+    ensures leads { (m : Module) (func place : ℕ) (p : Point) → PassesAt m func place p
+        → ReachesAt m func place p }
+    ensures each_place { (m : Module) (func place : ℕ) → ValidModule m → IsPlace m func place
+        → (p : Point) × PassesAt m func place p }
+    ensures typed { (m : Module) (func place : ℕ) (p : Point) → PassesAt m func place p
+        → (f : Func) × (t : FuncType) × IsOwn m func f
+        × Typed (body_context m t f) f.body [] (reverse t.results) }
+    ensures before_the_sum { MayPass (I32 ∷ []) branch_body 4
+        (point_of ((I32 ∷ []) ∷ (I32 ∷ []) ∷ []) ((I32 ∷ I32 ∷ []) ∷ (I32 ∷ []) ∷ [])) }
+    ensures without_an_operand { (ts : List ValType) → MayPass (I32 ∷ []) branch_body 4
+        (point_of ((I32 ∷ []) ∷ (I32 ∷ []) ∷ []) (ts ∷ (I32 ∷ []) ∷ [])) → ts ≡ I32 ∷ I32 ∷ [] }
 {}
