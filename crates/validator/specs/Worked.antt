@@ -1,5 +1,5 @@
 -- Worked modules, in which laws on validity speak.
-use Rattle.std.specs.Prelude.{◌≡◌, ◌↔◌, ℕ, suc, List, [], ◌∷◌, ◌++◌, codes, Option, None}
+use Rattle.std.specs.Prelude.{◌≡◌, ◌↔◌, ℕ, suc, Bool, List, [], ◌∷◌, ◌++◌, codes, Option, None}
 use Rattle.wasm_ast.specs.declared.values.ValType.{ValType}
 use Rattle.wasm_ast.specs.declared.values.ValType.TheVariants as type
 use Rattle.wasm_ast.specs.declared.values.Value.TheVariants.{I32, I64}
@@ -29,7 +29,7 @@ use Rattle.wasm_ast.specs.declared.module.Segment.{Segment}
 use Rattle.wasm_ast.specs.declared.module.Module.{Module}
 use Rattle.wasm_ast.specs.Syntax.{Op, simple, block, loop, if', ops_of}
 use Rattle.validator.specs.Typing.{ValidModule}
-use Rattle.validator.specs.PlaceTypes.{Point, ReachesAt, PassesAt}
+use Rattle.validator.specs.PlaceTypes.{Point, Stack, Known, ReachesAt, PassesAt}
 
 -- ---- instructions
 
@@ -221,6 +221,12 @@ TypesWithoutTable takes gives os =
 -- the labels of blocks that are open, and the operands of each, the innermost block's first
 abbrev pub point_of : (labels stacks : List (List ValType)) → Point
 point_of labels stacks = record { labels = labels; stacks = stacks }
+
+abbrev pub known_stack : (unreachable : Bool) → (types : List (Option ValType)) → Stack
+known_stack unreachable types = record { unreachable = unreachable; types = types }
+
+abbrev pub known_point : (labels : List (List ValType)) → (stacks : List Stack) → Known
+known_point labels stacks = record { labels = labels; stacks = stacks }
 
 -- in the body of a function from nothing to these results, the instructions before a place lead to this
 -- point, and to no other

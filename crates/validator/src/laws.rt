@@ -1,7 +1,7 @@
 //! What is proved of the definitions themselves: each rule of validity, with modules that it
 //! accepts and modules that it refuses. Each function has a contract and no body.
 
-ghost use Rattle.std.specs.Prelude.{◌≡◌, ℕ, ◌+◌, ◌^◌, List, [], ◌∷◌, reverse, Some, None};
+ghost use Rattle.std.specs.Prelude.{◌≡◌, ℕ, ◌+◌, ◌^◌, true, false, List, [], ◌∷◌, reverse, Some, None};
 ghost use Rattle.wasm_ast.specs.declared.values.ValType.{ValType};
 ghost use Rattle.wasm_ast.specs.declared.values.FuncType.{FuncType};
 ghost use Rattle.wasm_ast.specs.declared.module.Func.{Func};
@@ -17,8 +17,8 @@ ghost use Rattle.wasm_ast.specs.declared.operators.StoreOp.TheVariants as store;
 ghost use Rattle.wasm_ast.specs.declared.instr.BlockType.TheVariants.{Empty, One};
 ghost use Rattle.wasm_ast.specs.declared.module.ExportKind.TheVariants as kind;
 ghost use Rattle.validator.specs.Typing.{ValidModule, Typed, body_context};
-ghost use Rattle.validator.specs.PlaceTypes.{Point, IsOwn, IsPlace, ReachesAt, PassesAt};
-ghost use Rattle.validator.specs.Worked.{i32_const, i64_const, local_get, local_set, local_tee, global_get, global_set, load_at, store_at, memory_size, memory_grow, nop, unary, binary, test, compare, convert, unreachable, drop', select, br, br_if, br_table, return', call, call_indirect, block_of, loop_of, if_of, func_type, func, limits, constant_of, variable_of, export_of, element, segment, import_of, plain, with_types, Types, Gives, WithLocals, TypesWithoutMemory, TypesWithoutTable, point_of, LeadsTo, MayLeadTo, MayPass, branch_body, arms_body};
+ghost use Rattle.validator.specs.PlaceTypes.{Point, IsOwn, IsPlace, ReachesAt, PassesAt, Known, Matches, MatchPoint};
+ghost use Rattle.validator.specs.Worked.{i32_const, i64_const, local_get, local_set, local_tee, global_get, global_set, load_at, store_at, memory_size, memory_grow, nop, unary, binary, test, compare, convert, unreachable, drop', select, br, br_if, br_table, return', call, call_indirect, block_of, loop_of, if_of, func_type, func, limits, constant_of, variable_of, export_of, element, segment, import_of, plain, with_types, Types, Gives, WithLocals, TypesWithoutMemory, TypesWithoutTable, point_of, known_stack, known_point, LeadsTo, MayLeadTo, MayPass, branch_body, arms_body};
 
 /// Constants, and operators with one operand (3.3.1).
 pub fn constants_and_operators_are_typed()
@@ -541,4 +541,35 @@ pub fn typings_pass_through_points()
         (point_of ((I32 ∷ []) ∷ (I32 ∷ []) ∷ []) ((I32 ∷ I32 ∷ []) ∷ (I32 ∷ []) ∷ [])) }
     ensures without_an_operand { (ts : List ValType) → MayPass (I32 ∷ []) branch_body 4
         (point_of ((I32 ∷ []) ∷ (I32 ∷ []) ∷ []) (ts ∷ (I32 ∷ []) ∷ [])) → ts ≡ I32 ∷ I32 ∷ [] }
+{}
+
+/// What is known of operands: types match themselves, an operand that is not known matches each type,
+/// and only below an unreachable point there may be others.
+pub fn known_operands_match()
+    ensures same_types { Matches (known_stack false (Some I32 ∷ Some I64 ∷ [])) (I32 ∷ I64 ∷ []) }
+    ensures other_type { Matches (known_stack false (Some I32 ∷ [])) (I64 ∷ []) → ⊥ }
+    ensures other_order { Matches (known_stack false (Some I32 ∷ Some I64 ∷ [])) (I64 ∷ I32 ∷ [])
+        → ⊥ }
+    ensures not_known { (t : ValType) → Matches (known_stack true (None ∷ Some I64 ∷ []))
+        (t ∷ I64 ∷ []) }
+    ensures none { Matches (known_stack false []) [] }
+    ensures others_below { (t : ValType) (ts : List ValType)
+        → Matches (known_stack false (Some I32 ∷ [])) (I32 ∷ t ∷ ts) → ⊥ }
+    ensures others_below_unreachable { (ts : List ValType)
+        → Matches (known_stack true (Some I32 ∷ [])) (I32 ∷ ts) }
+    ensures too_few { Matches (known_stack true (Some I32 ∷ [])) [] → ⊥ }
+    ensures not_known_too_few { Matches (known_stack true (None ∷ [])) [] → ⊥ }
+    ensures point { (k : Known) (p : Point) → MatchPoint k p → k.labels ≡ p.labels }
+    ensures each_block { (labels : List (List ValType)) → MatchPoint
+        (known_point labels (known_stack false [] ∷ known_stack false (Some I32 ∷ []) ∷ []))
+        (point_of labels ([] ∷ (I32 ∷ []) ∷ [])) }
+    ensures other_block { (labels : List (List ValType)) → MatchPoint
+        (known_point labels (known_stack false [] ∷ known_stack false (Some I32 ∷ []) ∷ []))
+        (point_of labels ([] ∷ (I64 ∷ []) ∷ [])) → ⊥ }
+    ensures fewer_blocks { (labels : List (List ValType)) (ts : List ValType) → MatchPoint
+        (known_point labels (known_stack true [] ∷ known_stack true [] ∷ []))
+        (point_of labels (ts ∷ [])) → ⊥ }
+    ensures more_blocks { (labels : List (List ValType)) (ts us : List ValType) → MatchPoint
+        (known_point labels (known_stack true [] ∷ []))
+        (point_of labels (ts ∷ us ∷ [])) → ⊥ }
 {}
