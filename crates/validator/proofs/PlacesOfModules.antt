@@ -114,8 +114,11 @@ answers_at m func place f t valid own is there =
     record {
       exact = λ k h p. (known_sound m func place f t own is k p h, matches m func place f t own is k p h);
       every = λ k h p through. matches m func place f t own is k p h (reached m func place f t own is p through);
-      some = λ k h.
-          (passed.0, passed.1, matches m func place f t own is k passed.0 h (reached m func place f t own is passed.0 passed.1));
+      some = λ k h. (
+        passed.0,
+        passed.1,
+        matches m func place f t own is k passed.0 h (reached m func place f t own is passed.0 passed.1),
+      );
       answers = is_some_known (known m f t place) found.0 found.1;
     }
 

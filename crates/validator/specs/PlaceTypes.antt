@@ -1,5 +1,5 @@
--- The types of operands and labels before an instruction of a function's body (3.3), and what is known of
--- them.
+-- The types of operands and labels before an instruction of a function's body (3.3), and what is
+-- known of them.
 use Rattle.std.specs.Prelude.{◌≡◌, ℕ, zero, suc, ◌-◌, ◌<◌, ◌≤◌, ◌⊎◌, Bool, true, false, List, [], ◌∷◌, length, reverse, Option, Some, None, slice_get}
 use Rattle.wasm_ast.specs.declared.values.ValType.{ValType}
 use Rattle.wasm_ast.specs.declared.values.ValType.TheVariants.{I32}
@@ -12,9 +12,9 @@ use Rattle.validator.specs.Typing.{Context, under, on_top, body_context, OpTyped
 
 -- ---- points of a typing
 
--- a point between instructions: the types that a branch to each label takes, and the operands of each
--- block that is open, the newest first; of both the innermost block's first, and the function's body last.
--- What a block found below its parameters is of the block outside
+-- a point between instructions: the types that a branch to each label takes, and the operands of
+-- each block that is open, the newest first; of both the innermost block's first, and those of the
+-- function's body last. What a block finds below its parameters is of the block outside
 pub record Point : Type 0 where
   pub labels : List (List ValType)
   pub stacks : List (List ValType)
@@ -23,26 +23,28 @@ pub record Point : Type 0 where
 abbrev pub point : Context → (outside : List (List ValType)) → (stack : List ValType) → Point
 point c outside stack = record { labels = c.labels; stacks = stack ∷ outside }
 
--- the instructions before the one at the place lead from a stack to a point; they alone are typed. Places are
--- numbered as `ops_at` numbers them
+-- the instructions before the one at the place lead from a stack to a point; only they are typed. Places
+-- are numbered as `ops_at` numbers them
 abbrev mutual
-  pub Reaches : Context → (outside : List (List ValType)) → Ops → (old : List ValType) → (place : ℕ) → Point
-      → Type 0
+  pub Reaches : Context → (outside : List (List ValType)) → Ops → (old : List ValType)
+      → (place : ℕ) → Point → Type 0
   Reaches c outside stop old k p = ⊥
   Reaches c outside (next o os) old k p =
       ((k < count o) × OpReaches c outside o old k p)
       ⊎ ((count o ≤ k) × (between : List ValType) × OpTyped c o old between
       × Reaches c outside os between (k - count o) p)
 
-  pub OpReaches : Context → (outside : List (List ValType)) → Op → (old : List ValType) → (place : ℕ) → Point
-      → Type 0
+  pub OpReaches : Context → (outside : List (List ValType)) → Op → (old : List ValType)
+      → (place : ℕ) → Point → Type 0
   OpReaches c outside o old zero p = p ≡ point c outside old
   OpReaches c outside (simple s) old (suc k) p = ⊥
   OpReaches c outside (block b body) old (suc k) p =
-      (t : FuncType) × (rest : List ValType) × (block_type c.types b ≡ Some t) × (old ≡ on_top t.params rest)
+      (t : FuncType) × (rest : List ValType) × (block_type c.types b ≡ Some t)
+      × (old ≡ on_top t.params rest)
       × Reaches (under c t.results) (rest ∷ outside) body (reverse t.params) k p
   OpReaches c outside (loop b body) old (suc k) p =
-      (t : FuncType) × (rest : List ValType) × (block_type c.types b ≡ Some t) × (old ≡ on_top t.params rest)
+      (t : FuncType) × (rest : List ValType) × (block_type c.types b ≡ Some t)
+      × (old ≡ on_top t.params rest)
       × Reaches (under c t.params) (rest ∷ outside) body (reverse t.params) k p
   OpReaches c outside (if' b then_arm else_arm) old (suc k) p =
       (t : FuncType) × (rest : List ValType) × (block_type c.types b ≡ Some t)
@@ -50,40 +52,42 @@ abbrev mutual
       × (((k < ops_count then_arm)
       × Reaches (under c t.results) (rest ∷ outside) then_arm (reverse t.params) k p)
       ⊎ ((ops_count then_arm ≤ k)
-      × Reaches (under c t.results) (rest ∷ outside) else_arm (reverse t.params) (k - ops_count then_arm) p))
+      × Reaches (under c t.results) (rest ∷ outside) else_arm (reverse t.params)
+      (k - ops_count then_arm) p))
 
 -- a typing of the whole sequence passes through the point before the instruction at the place
 abbrev mutual
-  pub Passes : Context → (outside : List (List ValType)) → Ops → (old new : List ValType) → (place : ℕ) → Point
-      → Type 0
+  pub Passes : Context → (outside : List (List ValType)) → Ops → (old new : List ValType)
+      → (place : ℕ) → Point → Type 0
   Passes c outside stop old new k p = ⊥
   Passes c outside (next o os) old new k p =
       (between : List ValType)
       × (((k < count o) × OpPasses c outside o old between k p × Typed c os between new)
       ⊎ ((count o ≤ k) × OpTyped c o old between × Passes c outside os between new (k - count o) p))
 
-  pub OpPasses : Context → (outside : List (List ValType)) → Op → (old new : List ValType) → (place : ℕ) → Point
-      → Type 0
+  pub OpPasses : Context → (outside : List (List ValType)) → Op → (old new : List ValType)
+      → (place : ℕ) → Point → Type 0
   OpPasses c outside o old new zero p = OpTyped c o old new × (p ≡ point c outside old)
   OpPasses c outside (simple s) old new (suc k) p = ⊥
   OpPasses c outside (block b body) old new (suc k) p =
-      (t : FuncType) × (rest : List ValType) × (block_type c.types b ≡ Some t) × (old ≡ on_top t.params rest)
-      × (new ≡ on_top t.results rest)
+      (t : FuncType) × (rest : List ValType) × (block_type c.types b ≡ Some t)
+      × (old ≡ on_top t.params rest) × (new ≡ on_top t.results rest)
       × Passes (under c t.results) (rest ∷ outside) body (reverse t.params) (reverse t.results) k p
   OpPasses c outside (loop b body) old new (suc k) p =
-      (t : FuncType) × (rest : List ValType) × (block_type c.types b ≡ Some t) × (old ≡ on_top t.params rest)
-      × (new ≡ on_top t.results rest)
+      (t : FuncType) × (rest : List ValType) × (block_type c.types b ≡ Some t)
+      × (old ≡ on_top t.params rest) × (new ≡ on_top t.results rest)
       × Passes (under c t.params) (rest ∷ outside) body (reverse t.params) (reverse t.results) k p
   OpPasses c outside (if' b then_arm else_arm) old new (suc k) p =
       (t : FuncType) × (rest : List ValType) × (block_type c.types b ≡ Some t)
       × (old ≡ I32 ∷ on_top t.params rest) × (new ≡ on_top t.results rest)
       × (((k < ops_count then_arm)
-      × Passes (under c t.results) (rest ∷ outside) then_arm (reverse t.params) (reverse t.results) k p
+      × Passes (under c t.results) (rest ∷ outside) then_arm (reverse t.params)
+      (reverse t.results) k p
       × Typed (under c t.results) else_arm (reverse t.params) (reverse t.results))
       ⊎ ((ops_count then_arm ≤ k)
       × Typed (under c t.results) then_arm (reverse t.params) (reverse t.results)
-      × Passes (under c t.results) (rest ∷ outside) else_arm (reverse t.params) (reverse t.results)
-      (k - ops_count then_arm) p))
+      × Passes (under c t.results) (rest ∷ outside) else_arm (reverse t.params)
+      (reverse t.results) (k - ops_count then_arm) p))
 
 -- ---- places of a module
 
@@ -103,8 +107,8 @@ ReachesAt m func place p =
     (f : Func) × (t : FuncType) × IsOwn m func f × (slice_get m.types f.type_index ≡ Some t)
     × Reaches (body_context m t f) [] f.body [] place p
 
--- a typing of a function's body, from no operands to its results, passes through this point before this
--- place
+-- a typing of a function's body, from no operands to its results, passes through this point before
+-- this place
 abbrev pub PassesAt : Module → (func place : ℕ) → Point → Type 0
 PassesAt m func place p =
     (f : Func) × (t : FuncType) × IsOwn m func f × (slice_get m.types f.type_index ≡ Some t)
@@ -112,12 +116,13 @@ PassesAt m func place p =
 
 -- ---- what is known of a point
 
--- what is known of a block's operands: their types, the newest first, and None for one that may be of any
--- type; and whether the point cannot be reached: then operands of any types may be below
+-- what is known of a block's operands: their types, the newest first, and None for one that may be of
+-- any type; and whether the point cannot be reached: then operands of any types may be below
 pub record Stack : Type 0 where
   pub unreachable : Bool
   pub types : List (Option ValType)
 
+-- what is known of a point, in its order
 pub record Known : Type 0 where
   pub labels : List (List ValType)
   pub stacks : List Stack

@@ -228,8 +228,8 @@ known_stack unreachable types = record { unreachable = unreachable; types = type
 abbrev pub known_point : (labels : List (List ValType)) → (stacks : List Stack) → Known
 known_point labels stacks = record { labels = labels; stacks = stacks }
 
--- in the body of a function from nothing to these results, the instructions before a place lead to this
--- point, and to no other
+-- in the body of a function from nothing to these results, the instructions before a place lead to
+-- this point, and to no other
 abbrev pub LeadsTo : (gives : List ValType) → List Op → (place : ℕ) → Point → Type 0
 LeadsTo gives os place p =
     (q : Point) → ReachesAt (with_body (func_type [] gives) [] os) 1 place q ↔ (q ≡ p)

@@ -500,8 +500,8 @@ pub fn start_and_segments_are_valid()
         { segments = segment 0 (i32_const 9 ∷ []) ∷ segment 1 (i32_const 9 ∷ []) ∷ [] }) → ⊥ }
 {}
 
-/// The operands and labels before an instruction (3.3.5, 3.3.6), at each place of two bodies: those of
-/// the block that it is in first.
+/// The operands and labels before an instruction (3.3.5, 3.3.6), at places of two bodies: those of the
+/// block that it is in first.
 pub fn instructions_lead_to_points()
     ensures first { LeadsTo (I32 ∷ []) branch_body 0 (point_of ((I32 ∷ []) ∷ []) ([] ∷ [])) }
     ensures before_a_block { LeadsTo (I32 ∷ []) branch_body 1
@@ -527,8 +527,8 @@ pub fn instructions_lead_to_points()
     ensures past_an_if { LeadsTo [] arms_body 6 (point_of ([] ∷ []) ((I64 ∷ []) ∷ [])) }
 {}
 
-/// Typings of a whole body pass through points that the instructions before a place lead to, but not
-/// through each of them where the place cannot be reached: the instructions after it are typed as well.
+/// Typings of a whole body pass through points that the instructions before a place lead to. Where the
+/// place cannot be reached they need not pass through each: what follows is typed as well.
 pub fn typings_pass_through_points()
     ensures leads { (m : Module) (func place : ℕ) (p : Point) → PassesAt m func place p
         → ReachesAt m func place p }
@@ -543,8 +543,8 @@ pub fn typings_pass_through_points()
         (point_of ((I32 ∷ []) ∷ (I32 ∷ []) ∷ []) (ts ∷ (I32 ∷ []) ∷ [])) → ts ≡ I32 ∷ I32 ∷ [] }
 {}
 
-/// What is known of operands: types match themselves, an operand that is not known matches each type,
-/// and only below an unreachable point there may be others.
+/// What is known of operands: a type matches itself, an operand that is not known matches each type, and
+/// there may be others below only if the point cannot be reached.
 pub fn known_operands_match()
     ensures same_types { Matches (known_stack false (Some I32 ∷ Some I64 ∷ [])) (I32 ∷ I64 ∷ []) }
     ensures other_type { Matches (known_stack false (Some I32 ∷ [])) (I64 ∷ []) → ⊥ }

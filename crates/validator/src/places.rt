@@ -7,7 +7,7 @@ ghost use Rattle.validator.specs.Inside.PlaceWalk.{past};
 
 use wasm_ast::{Body, Instr};
 
-/// Which place this is, counted from the end of the instruction. None if the place is in it. Recursion is
+/// The place counted from the end of the instruction. None if it is in the instruction. Recursion is
 /// as deep as its blocks are nested, which is as deep as that of dropping the instruction.
 #[cycle(past)]
 pub fn past_instr(instr: &Instr, place: u32) -> Option<u32>

@@ -79,9 +79,9 @@ pub struct KnownOperands<'a> {
     pub unreachable: bool,
 }
 
-/// What is known of operands and labels before an instruction: of each block that is open, the types that a
-/// branch to its label takes, and its operands. Those that it found below its parameters are of the block
-/// outside. Blocks are counted from the innermost, which is 0, to the function's body.
+/// What is known of operands and labels before an instruction: of each block that is open, the types
+/// that a branch to its label takes, and its operands. Those that it finds below its parameters are
+/// of the block outside. Blocks are counted from the innermost, which is 0, to the function's body.
 #[derive(Drop)]
 pub struct Types<'a> {
     labels: Labels<'a>,

@@ -58,11 +58,11 @@ impl Valid {
         Ok(Valid { module })
     }
 
-    /// What is known of the operands and the labels before the instruction at a place of a function's
-    /// body (3.3): they represent the points that typings of the instructions before it lead to, and
-    /// no others. The function is one of the module's own, imports counted first. `NoMemory` if memory
-    /// for the check of those instructions cannot be allocated. Recursion is as deep as blocks are
-    /// nested.
+    /// What is known of operands and labels before the instruction at a place of a function's body
+    /// (3.3). It represents the points that typings of the instructions before the place lead to, and
+    /// no others. Imports are counted before the module's own functions. `NoMemory` if memory for
+    /// the check of those instructions cannot be allocated. Recursion is as deep as blocks are
+    /// nested, which is as deep as that of dropping the module.
     pub fn types_at<'a>(
         &'a self,
         alloc: Global,

@@ -1,4 +1,4 @@
-//! The check of a body up to an instruction, for what is known of the operands and labels before it.
+//! The check of a body up to an instruction, for what is known of operands and labels before it.
 
 ghost use Rattle.std.specs.Prelude.{◌≡◌, ◌∷◌, ◌≤◌, [], List, IfOk, OnOk, Err, Some, None, nat_lt, ◌-◌, if◌then◌else◌};
 ghost use Rattle.wasm_ast.specs.Syntax.{count, ops_count};
@@ -72,8 +72,8 @@ fn enter_body<'a>(
     enter_instr(function, labels, stacks, instr, left, operands)
 }
 
-// Checks the instructions of a sequence up to the one that has the place. Gives it, and the place counted
-// from it.
+// Checks the instructions of a sequence up to the one that has the place. Gives it, and the place
+// counted from it.
 fn walk_to<'a, 'b>(
     function: &Function<'a>,
     labels: &mut Labels<'a>,

@@ -40,7 +40,8 @@ abbrev mutual
 
 -- the same in an arm of an `if`
 abbrev pub arm_known :
-    Context → FuncType → (outside : List Stack) → (then_arm else_arm : Ops) → (place : ℕ) → Option Known
+    Context → FuncType → (outside : List Stack) → (then_arm else_arm : Ops) → (place : ℕ)
+    → Option Known
 arm_known c t outside then_arm else_arm k =
     if nat_lt k (ops_count then_arm) then ops_known c outside then_arm (start t.params) k
     else ops_known c outside else_arm (start t.params) (k - ops_count then_arm)
