@@ -1,6 +1,6 @@
 //! The check of a body up to an instruction, for what is known of operands and labels before it.
 
-ghost use Rattle.std.specs.Prelude.{◌≡◌, ◌∷◌, ◌≤◌, [], List, IfOk, OnOk, Err, Some, None, nat_lt, ◌-◌, if◌then◌else◌};
+ghost use Rattle.std.specs.Prelude.{◌≡◌, ◌∷◌, ◌≤◌, [], List, IfOk, OnOk, Err, Some, None};
 ghost use Rattle.wasm_ast.specs.Syntax.{count, ops_count};
 ghost use Rattle.wasm_ast.specs.View.{op_of};
 ghost use Rattle.validator.specs.PlaceTypes.{Stack};
