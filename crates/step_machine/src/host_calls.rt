@@ -73,7 +73,8 @@ pub fn is_of_type(params: &[ValType], results: &[ValType], found: Option<&FuncTy
     }
 }
 
-fn are_same_types(types: &[ValType], others: &[ValType]) -> bool
+/// Whether two lists of types are the same.
+pub fn are_same_types(types: &[ValType], others: &[ValType]) -> bool
     ensures { result ≡ are_same_types types.now others.now }
 {
     types == others

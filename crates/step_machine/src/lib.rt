@@ -37,8 +37,12 @@ pub mod worked_instantiation;
 pub mod worked_instructions;
 
 pub use breaks::Breaks;
+pub use do_memory::{load_width, store_width};
 pub use ends::{End, SliceEnd};
 pub use flat_module::FlatModule;
+pub use host_calls::{are_same_types, known};
+pub use instantiate::{constant, find_entry};
 pub use machine::Machine;
+pub use store::{first_memory, first_table};
 pub use validator::{Valid, validate};
 pub use wasi_calls::HostCall;
