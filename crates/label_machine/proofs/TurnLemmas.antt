@@ -1,0 +1,228 @@
+-- What a turn makes of the machine's data, by what its instruction comes to.
+use Rattle.std.proofs.Common.{◌≡◌, ℕ, zero, suc, ◌+◌, ◌<◌, List, [], ◌∷◌, map, length, false, subst, refl, sym, ap, ◌∙◌, arith}
+use Rattle.wasm_ast.specs.declared.values.Value.{Value}
+use Rattle.wasm_ast.specs.declared.trap.Trap.{Trap}
+use Rattle.wasm_ast.specs.declared.trap.Trap.TheVariants as trap
+use Rattle.wasm_ast.specs.declared.values.Value.TheVariants.{I32}
+use Rattle.wasm_ast.specs.declared.instr.BlockType.{BlockType}
+use Rattle.wasm_ast.specs.declared.instr.BlockType.TheVariants.{Empty, One}
+use Rattle.wasm_ast.specs.Syntax.{Op, block, loop, if', Ops, next, count, ops_count}
+use Rattle.step_machine.specs.Limits.{max_frames, max_values}
+use Rattle.step_machine.specs.Program.{Program}
+use Rattle.step_machine.specs.Configuration.{Store, Target, onward, again, Items, done, more, Item, enter, items_of, running, trapped, items_values, items_frames}
+use Rattle.step_machine.specs.Effects.{Env, becomes, effect}
+use Rattle.step_machine.specs.Turns.{settled, turn}
+use Rattle.step_machine.specs.Inside.Levels.{Open, Level, tree_with, all_values}
+use Rattle.step_machine.proofs.LevelSettling.{conf, enters}
+use Rattle.step_machine.proofs.LevelTurns.{turn_gives, turn_exhausts, turn_becomes, turn_halts}
+use Rattle.label_machine.specs.declared.effect.Effect.{Effect as Answer}
+use Rattle.label_machine.specs.declared.effect.Effect.TheVariants as answer
+use Rattle.label_machine.specs.declared.run.Run.{Run}
+use Rattle.label_machine.specs.declared.run.Doing.{Doing}
+use Rattle.label_machine.specs.declared.run.Doing.TheVariants.{Next}
+use Rattle.label_machine.specs.Inside.View.{opened, open_of, level_of}
+use Rattle.label_machine.specs.Inside.Effects.{effect_of, is_done}
+use Rattle.label_machine.specs.Inside.Turns.{env_of, Does, arity_of, Enters}
+use Rattle.label_machine.specs.declared.frame.Target.{Target as LabelTarget}
+use Rattle.label_machine.specs.Inside.Runs.{store_of, items_for, tail_from, config, configured, about_to, IsWithin, IsBeyond, values, frames, IsOf, LeadsTo}
+use Rattle.label_machine.specs.declared.run.Step.{Step}
+use Rattle.label_machine.specs.declared.run.Step.TheVariants.{Goes}
+use Rattle.label_machine.proofs.SettleLemmas.{config_is, same_levels, fits_in}
+
+module _ (p : Program) (x y : Run) (place : ℕ) (o : Op) (e : Answer) (d : Does p x y place o e) where
+  abbrev r : Store
+  r = store_of x.store
+
+  abbrev r' : Store
+  r' = store_of y.store
+
+  abbrev ls : List Level
+  ls = map level_of x.callers
+
+  abbrev os : Ops
+  os = (level_of x.top).rest
+
+  -- the frame before the instruction
+  abbrev l : Level
+  l = record (level_of x.top) { place = place }
+
+  -- and after it
+  abbrev l' : Level
+  l' = record l { locals = y.top.locals.items; operands = y.top.operands; place = place + count o; rest = os }
+
+  is_after : level_of y.top ≡ l'
+  is_after =
+      d.top
+      ∙ ap (λ k. record l { locals = y.top.locals.items; operands = y.top.operands; place = k; rest = os }) d.counted
+
+  abbrev after_y : Items
+  after_y = tail_from y.pending
+
+  starts : turn p (about_to x place o)
+      ≡ turn p (conf r (running (tree_with (record l { rest = next o os }) ls after_y
+      (items_of place (next o os)))))
+  starts =
+      ap (λ (tl : Items). turn p (conf r (running (tree_with (record l { rest = next o os }) ls tl
+      (items_of place (next o os)))))) (sym (ap tail_from d.pending))
+
+  pub done_goes : e ≡ answer.Done → IsWithin y → turn p (about_to x place o) ≡ settled p (config y Next)
+  done_goes is within =
+      let fit = fits_in y r' l' ls is_after d.callers refl p within in
+      starts
+      ∙ (turn_gives p r after_y l ls o os r' y.top.locals.items y.top.operands
+      (d.effect ∙ ap (λ a. effect_of a (env_of y) y.top.operands) is) fit
+      ∙ ap (settled p) (config_is y r' l' ls is_after d.callers refl (λ k. items_of k.place k.rest)))
+
+  pub done_exhausts :
+      e ≡ answer.Done → IsWithin x → IsBeyond y
+      → turn p (about_to x place o) ≡ configured y.store (trapped trap.Exhausted)
+  done_exhausts is within beyond =
+      starts
+      ∙ turn_exhausts p r after_y l ls o os r' y.top.locals.items y.top.operands
+      (d.effect ∙ ap (λ a. effect_of a (env_of y) y.top.operands) is) (over beyond)
+    where
+      over : IsBeyond y → max_values < all_values (l' ∷ ls)
+      over (values v) = subst (λ ks. max_values < all_values ks) (same_levels y r' l' ls is_after d.callers refl) v
+      over (frames f) =
+          let g =
+          subst (λ (ks : List Level). max_frames < length ks) (same_levels y r' l' ls is_after d.callers refl) f in
+          let w = within.frames in
+          absurd (omega (arith, g, w))
+
+  -- an administrative item takes its place
+  pub becomes_goes :
+      (i : Item) (doing : Doing) → is_done e ≡ false
+      → ((en : Env) (vs : List Value) → effect_of e en vs ≡ becomes vs i)
+      → ((k : Level) → items_for doing k ≡ more i (items_of k.place k.rest)) → items_values (more i done) ≡ 0
+      → items_frames (more i done) ≡ 0 → IsWithin y
+      → turn p (about_to x place o) ≡ settled p (config y doing)
+  becomes_goes i doing not_done is items nv nf within =
+      let kept = d.kept not_done in
+      let same : level_of y.top ≡ record l' { locals = x.top.locals.items } =
+      is_after ∙ ap (λ (vs : List Value). record l' { locals = vs }) kept.1 in
+      let fit = fits_in y r (record l' { locals = x.top.locals.items }) ls same d.callers kept.0 p within in
+      starts
+      ∙ (turn_becomes p r after_y l ls o os y.top.operands i (d.effect ∙ is (env_of y) y.top.operands) nv nf fit
+      ∙ (ap
+      (λ (js : Items). settled p
+      (conf r (running (tree_with (record l' { locals = x.top.locals.items }) ls after_y js))))
+      (sym (items (record l' { locals = x.top.locals.items })))
+      ∙ ap (settled p)
+      (config_is y r (record l' { locals = x.top.locals.items }) ls same d.callers kept.0 (items_for doing))))
+
+  pub traps_so :
+      (t : Trap) → e ≡ answer.Traps t → turn p (about_to x place o) ≡ configured y.store (trapped t)
+  traps_so t is =
+      let kept = d.kept (ap is_done is) in
+      starts
+      ∙ (turn_halts p r after_y l ls o os (trapped t)
+      (d.effect ∙ ap (λ a. effect_of a (env_of y) y.top.operands) is) refl
+      ∙ ap (λ (q : Store). conf q (trapped t)) (sym kept.0))
+
+  -- a call, a branch or a return is on its way
+  pub on_its_way :
+      (i : Item) (doing : Doing) → is_done e ≡ false
+      → ((en : Env) (vs : List Value) → effect_of e en vs ≡ becomes vs i)
+      → ((k : Level) → items_for doing k ≡ more i (items_of k.place k.rest)) → items_values (more i done) ≡ 0
+      → items_frames (more i done) ≡ 0 → (s : Step) → IsOf p y.store → (s ≡ Goes y doing) × IsWithin y
+      → LeadsTo p (turn p (about_to x place o)) s
+  on_its_way i doing not_done is items nv nf s of g =
+      subst (LeadsTo p (turn p (about_to x place o))) (sym g.0)
+      (becomes_goes i doing not_done is items nv nf g.1, g.1, of)
+
+-- ---- a body is entered
+
+abbrev pub with_operands : Run → List Value → Run
+with_operands x vs = record x { top = record x.top { operands = vs } }
+
+module _ (p : Program) (x : Run) (vs : List Value) where
+  module _ (y : Run) (place : ℕ) (o : Op) (n first : ℕ) (g : LabelTarget) (t : Target) (body : Ops)
+      (counted : x.top.ahead.place ≡ place + count o) (e : Enters (with_operands x vs) y n place g first body)
+      (within : IsWithin y) where
+    abbrev store_x : Store
+    store_x = store_of x.store
+
+    abbrev others : List Level
+    others = map level_of x.callers
+
+    abbrev rest_x : Ops
+    rest_x = (level_of x.top).rest
+
+    abbrev at_it : Level
+    at_it = record (level_of x.top) { place = place }
+
+    abbrev past_it : Level
+    past_it = record at_it { operands = vs; place = place + count o; rest = rest_x }
+
+    abbrev around_body : (next_place : ℕ) → Open
+    around_body k = record { arity = n; place = place; target = t; below = vs; next_place = k; rest = rest_x }
+
+    abbrev in_body : Level
+    in_body = record past_it {
+      opens = around_body (place + count o) ∷ map open_of x.top.labels;
+      operands = [];
+      place = first;
+      rest = body;
+    }
+
+    abbrev tail_y : Items
+    tail_y = tail_from y.pending
+
+    pub enters_body : opened n place vs g ≡ around_body x.top.ahead.place
+        → effect p (env_of x) x.top.operands place o ≡ becomes vs (enter 0 n place first t body)
+        → turn p (about_to x place o) ≡ settled p (config y Next)
+    enters_body open_is eff =
+        let inside : level_of y.top ≡ in_body =
+        e.top
+        ∙ ap (λ (b : Open). record in_body { opens = b ∷ map open_of x.top.labels })
+        (open_is ∙ ap around_body counted) in
+        let fit = fits_in y store_x in_body others inside e.callers e.store p within in
+        ap (λ (tl : Items). turn p (conf store_x (running (tree_with (record at_it { rest = next o rest_x }) others tl
+        (items_of place (next o rest_x)))))) (sym (ap tail_from e.pending))
+        ∙ (turn_becomes p store_x tail_y at_it others o rest_x vs (enter 0 n place first t body) eff refl refl
+        (record { values = fit.values; frames = fit.frames; no_values = fit.no_values; no_frames = fit.no_frames })
+        ∙ (enters p store_x tail_y past_it others 0 n place first t body fit
+        ∙ ap (settled p) (config_is y store_x in_body others inside e.callers e.store (λ k. items_of k.place k.rest))))
+
+    -- with what an enter answers
+    pub leads_into : opened n place vs g ≡ around_body x.top.ahead.place
+        → effect p (env_of x) x.top.operands place o ≡ becomes vs (enter 0 n place first t body)
+        → (s : Step) → s ≡ Goes y Next → IsOf p x.store → LeadsTo p (turn p (about_to x place o)) s
+    leads_into open_is eff s is of =
+        subst (LeadsTo p (turn p (about_to x place o))) (sym is) (enters_body open_is eff, within, e.process ∙ of)
+
+-- what blocks and loops come to
+pub block_enters :
+    (p : Program) (en : Env) (vs : List Value) (place : ℕ) (b : BlockType) (body : Ops)
+    → effect p en vs place (block b body) ≡ becomes vs (enter 0 (arity_of b) place (suc place) onward body)
+block_enters p en vs place Empty body = refl
+block_enters p en vs place (One t) body = refl
+
+pub loop_enters :
+    (p : Program) (en : Env) (vs : List Value) (place : ℕ) (b : BlockType) (body : Ops)
+    → effect p en vs place (loop b body) ≡ becomes vs (enter 0 0 place (suc place) (again (loop b body)) body)
+loop_enters p en vs place Empty body = refl
+loop_enters p en vs place (One t) body = refl
+
+-- an if enters one of its arms
+pub then_enters :
+    (p : Program) (en : Env) (vs : List Value) (place c : ℕ) (b : BlockType) (first second : Ops) → 0 < c
+    → effect p en (I32 c ∷ vs) place (if' b first second)
+    ≡ becomes vs (enter 0 (arity_of b) place (suc place) onward first)
+then_enters p en vs place zero b first second h = absurd (omega (arith, h))
+then_enters p en vs place (suc c) Empty first second h = refl
+then_enters p en vs place (suc c) (One t) first second h = refl
+
+pub else_enters :
+    (p : Program) (en : Env) (vs : List Value) (place : ℕ) (b : BlockType) (first second : Ops)
+    → effect p en (I32 0 ∷ vs) place (if' b first second)
+    ≡ becomes vs (enter 0 (arity_of b) place (suc place + ops_count first) onward second)
+else_enters p en vs place Empty first second = refl
+else_enters p en vs place (One t) first second = refl
+
+-- a body that is entered, by the arity and the place that were found
+pub entered :
+    {n m j k place : ℕ} {body : Ops} (vs : List Value) → n ≡ m → j ≡ k
+    → becomes vs (enter 0 n place j onward body) ≡ becomes vs (enter 0 m place k onward body)
+entered {n = n} {m = m} {j = j} {k = k} {place = place} {body = body} vs a b =
+    ap (λ i. becomes vs (enter 0 i place j onward body)) a ∙ ap (λ i. becomes vs (enter 0 m place i onward body)) b

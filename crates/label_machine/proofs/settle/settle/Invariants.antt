@@ -1,0 +1,9 @@
+use Rattle.oci_config.specs.declared.process.ProcessConfig.{ProcessConfig}
+use Rattle.step_machine.specs.Program.{program}
+use Rattle.step_machine.specs.Configuration.{Configuration}
+use Rattle.label_machine.specs.Inside.Runs.{LeadsTo}
+use Rattle.label_machine.proofs.settle.settle.Given as goal
+
+abbrev pub invariant-loop : goal.invariant-loop
+invariant-loop l =
+    (p : ProcessConfig) (c : Configuration) → LeadsTo (program l.of p) c l.fn.from → LeadsTo (program l.of p) c l.step

@@ -1,0 +1,6 @@
+pub mod Effects
+pub mod View
+pub mod Runs
+pub mod Callees
+pub mod Turns
+pub mod Reached

@@ -1,0 +1,25 @@
+-- What the machine's answers say of an instruction.
+use Rattle.std.specs.Prelude.{List, ◌∷◌, Bool, true, false, Result, Ok, Err}
+use Rattle.wasm_ast.specs.declared.values.Value.{Value}
+use Rattle.wasm_ast.specs.declared.trap.Trap.{Trap}
+use Rattle.step_machine.specs.Configuration.{invoke, branch, ret}
+use Rattle.step_machine.specs.Effects.{Env, Effect, gives, becomes, traps}
+use Rattle.label_machine.specs.declared.effect.Effect.{Effect as Answer}
+use Rattle.label_machine.specs.declared.effect.Effect.TheVariants as answer
+
+-- one operand more, or a trap
+abbrev pub gives_or_traps : Env → Result Value Trap → (rest : List Value) → Effect
+gives_or_traps env (Ok v) rest = gives env (v ∷ rest)
+gives_or_traps env (Err t) rest = traps t
+
+-- by the store, locals and operands that are there afterwards
+abbrev pub effect_of : Answer → Env → (operands : List Value) → Effect
+effect_of answer.Done env operands = gives env operands
+effect_of (answer.Calls func) env operands = becomes operands (invoke func)
+effect_of (answer.Branches label) env operands = becomes operands (branch label)
+effect_of answer.Returns env operands = becomes operands ret
+effect_of (answer.Traps t) env operands = traps t
+
+abbrev pub is_done : Answer → Bool
+is_done answer.Done = true
+is_done _ = false

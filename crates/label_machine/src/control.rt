@@ -1,0 +1,115 @@
+//! What branches and indirect calls come to (4.4.5).
+
+ghost use Rattle.std.specs.Prelude.{◌≡◌, IfOk, List, Some, slice_get};
+ghost use Rattle.flat_code.specs.TypeClasses.{is_of_type};
+ghost use Rattle.wasm_ast.specs.declared.values.Value.{Value as AnyValue};
+ghost use Rattle.oci_config.specs.declared.process.ProcessConfig.{ProcessConfig};
+ghost use Rattle.step_machine.specs.Program.{type_of_function, functions, program};
+ghost use Rattle.step_machine.specs.Effects.{Env, branch_if, branch_by, call_indirect, call_entry, label_for};
+ghost use Rattle.label_machine.specs.Inside.Effects.{effect_of};
+
+use crate::callee::{Callee, function_at};
+use crate::effect::Effect;
+use crate::numeric::take_i32;
+use crate::pile::Pile;
+use step_machine::are_same_types;
+use wasm_ast::{FuncType, Module, Refusal, Trap, ValType, Value};
+
+/// `br_if` (4.4.5).
+pub fn branch_if(operands: &mut Pile<Value>, label: u32) -> Result<Effect, Refusal>
+    ensures { IfOk result (λ e. (env : Env) → branch_if env operands.old label
+        ≡ effect_of e env operands.new) }
+{
+    let condition = take_i32(operands)?;
+    Ok(if condition == 0 {
+        Effect::Done
+    } else {
+        Effect::Branches(label)
+    })
+}
+
+/// The label with this index, or the other.
+fn label_for(labels: &[u32], index: u32, other: u32) -> u32
+    ensures { result ≡ label_for (slice_get labels.now index) other }
+{
+    match labels.get(index as usize) {
+        Some(label) => *label,
+        None => other,
+    }
+}
+
+/// `br_table` (4.4.5).
+pub fn branch_by(operands: &mut Pile<Value>, labels: &[u32], other: u32) -> Result<Effect, Refusal>
+    ensures { IfOk result (λ e. (env : Env) → branch_by operands.old labels.now other
+        ≡ effect_of e env operands.new) }
+{
+    let index = take_i32(operands)?;
+    Ok(Effect::Branches(label_for(labels, index, other)))
+}
+
+fn has_type(expected: &FuncType, params: &[ValType], results: &[ValType]) -> bool
+    ensures { result ≡ is_of_type expected.now
+        (Some (record { params = params.now; results = results.now })) }
+{
+    are_same_types(expected.params.as_slice(), params)
+        && are_same_types(expected.results.as_slice(), results)
+}
+
+/// Whether a function is of a type. `Invalid` if there is no such function.
+fn is_function_of(of: &Module, expected: &FuncType, func: u32) -> Result<bool, Refusal>
+    ensures { IfOk result (λ b. b ≡ is_of_type expected.now
+        (type_of_function (slice_get (functions of.now) func))) }
+{
+    match function_at(of, func) {
+        Some(Callee::System(call)) => Ok(has_type(expected, call.params(), call.results())),
+        Some(Callee::Own(found, _)) => Ok(has_type(
+            expected,
+            found.params.as_slice(),
+            found.results.as_slice(),
+        )),
+        None => Err(Refusal::Invalid),
+    }
+}
+
+/// The type with this index. `Invalid` if there is none.
+fn type_with(of: &Module, index: u32) -> Result<&FuncType, Refusal>
+    ensures { IfOk result (λ t. slice_get of.now.types index ≡ Some t.now) }
+{
+    match of.types.as_slice().get(index as usize) {
+        Some(found) => Ok(found),
+        None => Err(Refusal::Invalid),
+    }
+}
+
+/// What a call of this entry of the table comes to, with this type expected.
+fn call_entry(of: &Module, index: u32, entry: Option<Option<u32>>) -> Result<Effect, Refusal>
+    ensures { IfOk result (λ e. (p : ProcessConfig) (env : Env) (rest : List AnyValue)
+        → call_entry (program of.now p) (slice_get of.now.types index) entry rest
+        ≡ effect_of e env rest) }
+{
+    let func = match entry {
+        None => return Ok(Effect::Traps(Trap::UndefinedElement)),
+        Some(None) => return Ok(Effect::Traps(Trap::UninitializedElement)),
+        Some(Some(func)) => func,
+    };
+    if is_function_of(of, type_with(of, index)?, func)? {
+        Ok(Effect::Calls(func))
+    } else {
+        Ok(Effect::Traps(Trap::IndirectCallTypeMismatch))
+    }
+}
+
+/// `call_indirect` (4.4.5).
+pub fn call_indirect(
+    of: &Module,
+    operands: &mut Pile<Value>,
+    table: &[Option<u32>],
+    index: u32,
+) -> Result<Effect, Refusal>
+    ensures { IfOk result (λ e. (p : ProcessConfig) (env : Env) → env.store.table ≡ table.now
+        → call_indirect (program of.now p) env operands.old index
+        ≡ effect_of e env operands.new) }
+{
+    let entry = take_i32(operands)?;
+    call_entry(of, index, table.get(entry as usize).copied())
+}

@@ -1,0 +1,28 @@
+//! A second machine, which keeps labels at run time: it does what the reduction of the standard says, with
+//! values that have their types. It is slow, and is there to be compared with.
+//!
+//! Sections are those of the WebAssembly Core Specification 1.0.
+#![tactic(auto)]
+
+mod access;
+mod call;
+mod callee;
+mod control;
+mod effect;
+mod execute;
+mod first_store;
+mod frame;
+mod machine;
+mod numeric;
+mod pile;
+mod places;
+mod room;
+mod run;
+mod settle;
+mod simple;
+mod store;
+mod turns;
+mod variables;
+
+pub use machine::LabelMachine;
+pub use turns::Control;

@@ -1,0 +1,220 @@
+//! The machine.
+
+ghost use Rattle.label_machine.specs.declared.machine.State.TheVariants.{Going as going};
+ghost use Rattle.std.specs.Prelude.{◌≡◌, ◌+◌, ◌&&◌, ℕ, IfOk, OnOk, Err, Some, None, [], length, true};
+ghost use Rattle.wasm_ast.specs.declared.refusal.Refusal.{Refusal as Reason};
+ghost use Rattle.oci_config.specs.Processes.{config_of};
+ghost use Rattle.oci_config.specs.declared.process.ProcessConfig.{ProcessConfig};
+ghost use Rattle.step_machine.specs.Instantiation.{ended, instantiation_refusal, initial, entry as entry_of, zero_memory, empty_table, are_pages_within, are_elements_inside, are_segments_inside};
+ghost use Rattle.step_machine.specs.MachineView.{state_of, output_of};
+ghost use Rattle.step_machine.specs.Program.{program};
+ghost use Rattle.label_machine.specs.Inside.Runs.{IsSettled, LeadsTo};
+ghost use Rattle.label_machine.specs.Inside.Reached.{state_from, kept_by, Reached as reached_by, IsFirst};
+
+use crate::execute::execute;
+use crate::first_store::first_store;
+use crate::places::sum;
+use crate::run::{Run, Step};
+use crate::settle::{begin, settle};
+use crate::store::Store;
+use oci_config::{Process, Stream};
+use std::alloc::Global;
+use std::marker::Model;
+use step_machine::{End, find_entry};
+use validator::Valid;
+use wasm_ast::{Module, Refusal, Trap};
+
+/// The number of the turn that makes no reduction and traps.
+const LAST_TURN: u64 = 1_000_000_000_000_000;
+
+/// How far a machine has come: before an instruction, or at an end.
+#[derive(Drop)]
+pub enum State<'m> {
+    Going(Run<'m>),
+    Ended(End, Store),
+}
+
+/// A machine that keeps its labels. Contracts see what they see of any machine: its module, its process
+/// as configured and how many turns it has made.
+#[derive(Drop)]
+pub struct LabelMachine<'m> {
+    alloc: Global,
+    of: &'m Module,
+    state: State<'m>,
+    turns: u64,
+}
+
+impl<'m> Model for LabelMachine<'m> {
+    ghost use Rattle.step_machine.specs.MachineView.{MachineView};
+
+    ghost Value = { MachineView };
+
+    ghost use Rattle.std.specs.Coded.{codes};
+    ghost use Rattle.wasm_ast.specs.Inside.Code.{ops_code};
+
+    ghost coded = { Prim.hlevel (codes, ops_code) };
+
+    ghost use Rattle.label_machine.specs.Inside.Reached.{process_of, Reached};
+
+    ghost view = { λ m. record { «module» = m.of.now; process = process_of m.state; turns = m.turns } };
+
+    ghost invariant = { λ m. Reached m.of.now (process_of m.state) m.turns m.state };
+}
+
+/// What data that are settled have come to. `Invalid` if they are not.
+fn state_from(step: Step) -> Result<State, Refusal>
+    ensures { IfOk result (λ s. state_from step.entry ≡ Some s) }
+{
+    match step {
+        Step::Waits(run) => Ok(State::Going(run)),
+        Step::Ends(end, store) => Ok(State::Ended(end, store)),
+        Step::Goes(_, _) => Err(Refusal::Invalid),
+    }
+}
+
+/// Invokes the start function, if there is one, and else the entry, which is pending after it.
+fn first_step<'m>(
+    alloc: Global,
+    of: &'m Module,
+    entry: u32,
+    store: Store,
+) -> Result<Step<'m>, Refusal>
+    ensures { (p : ProcessConfig) → IfOk result (λ s. entry_of of.now ≡ Some entry
+        → IsFirst of.now p store
+        → LeadsTo (program of.now p) (initial of.now p) s) }
+{
+    match of.start {
+        Some(func) => begin(alloc, of, func, Some(entry), store),
+        None => begin(alloc, of, entry, None, store),
+    }
+}
+
+/// The store that a machine has.
+fn store_of<'a>(state: &'a State) -> &'a Store
+    ensures { result.now ≡ kept_by state.now }
+{
+    match state {
+        State::Going(run) => &run.store,
+        State::Ended(_, store) => store,
+    }
+}
+
+/// The turn with this number.
+fn next_state<'m>(
+    alloc: Global,
+    of: &'m Module,
+    run: Run<'m>,
+    number: u64,
+) -> Result<State<'m>, Refusal>
+    ensures { (p : ProcessConfig) (n : ℕ) → number ≡ n + 1
+        → IfOk result
+        (λ s. reached_by of.now p n (going run.entry) → reached_by of.now p number s) }
+{
+    if number == LAST_TURN {
+        return Ok(State::Ended(End::Trapped(Trap::TurnLimit), run.store));
+    }
+    state_from(settle(alloc, of, execute(alloc, of, run)?)?)
+}
+
+impl<'m> LabelMachine<'m> {
+    /// Instantiates a module as a task under a process that has written nothing (4.5.4), with no turn made.
+    /// The first of these refusals that holds: `NoEntry`, `BadImport`, `Limit` and `SegmentOutOfBounds`,
+    /// as of any machine. `NoMemory` if none holds and memory cannot be allocated.
+    pub fn new(
+        alloc: Global,
+        valid: &'m Valid,
+        process: Process,
+    ) -> Result<LabelMachine<'m>, Refusal>
+        requires nothing_written { (process.out ≡ []) × (process.err ≡ []) }
+        ensures machine { IfOk result (λ m. m
+            ≡ record { «module» = valid.now; process = config_of process; turns = 0 }) }
+        ensures opens { OnOk result (instantiation_refusal valid.now (config_of process) ≡ None) }
+        ensures first { (e : Reason) → instantiation_refusal valid.now (config_of process) ≡ Some e
+            → result ≡ Err e }
+    {
+        let of = valid.module();
+        let entry = find_entry(of, of.is_within_limits(), process.cap)?;
+        LabelMachine::from_entry(alloc, valid, entry, process)
+    }
+
+    // A machine of a module that can be instantiated, with this entry.
+    fn from_entry(
+        alloc: Global,
+        valid: &'m Valid,
+        entry: u32,
+        process: Process,
+    ) -> Result<LabelMachine<'m>, Refusal>
+        requires entry { entry_of valid.now ≡ Some entry }
+        requires nothing_written { (process.out ≡ []) × (process.err ≡ []) }
+        requires pages { are_pages_within valid.now.memories process.cap ≡ true }
+        requires inside { are_elements_inside (length (empty_table valid.now.tables))
+            valid.now.elements
+            && are_segments_inside (zero_memory valid.now.memories process.cap) valid.now.segments
+            ≡ true }
+        ensures { IfOk result (λ m. m
+            ≡ record { «module» = valid.now; process = config_of process; turns = 0 }) }
+    {
+        let of = valid.module();
+        let store = first_store(alloc, of, process)?;
+        let first = first_step(alloc, of, entry, store)?;
+        let settled = settle(alloc, of, first)?;
+        Ok(LabelMachine {
+            alloc,
+            of,
+            state: state_from(settled)?,
+            turns: 0,
+        })
+    }
+
+    /// How it has ended, if it has.
+    pub fn halted(&self) -> Option<End>
+        ensures { result ≡ ended (state_of self.now) }
+    {
+        match &self.state {
+            State::Going(_) => None,
+            State::Ended(end, _) => Some(*end),
+        }
+    }
+
+    /// How many turns it has made.
+    pub fn turns(&self) -> u64
+        ensures { result ≡ self.now.turns }
+    {
+        self.turns
+    }
+
+    /// What it has written to an output stream.
+    pub fn output(&self, stream: Stream) -> &[u8]
+        ensures { result.now ≡ output_of self.now stream }
+    {
+        let process = &store_of(&self.state).process;
+        match stream {
+            Stream::Out => process.out.as_slice(),
+            Stream::Err => process.err.as_slice(),
+        }
+    }
+
+    /// Makes one turn. `NoMemory` if memory runs out: then the machine is lost. `Invalid` or `Limit` where no
+    /// rule is or a place is 2^64 or more, to which no valid module comes.
+    pub fn turn(self) -> Result<LabelMachine<'m>, Refusal>
+        requires { ended (state_of self) ≡ None }
+        ensures { IfOk result (λ m. m ≡ record self.entry { turns = self.entry.turns + 1 }) }
+    {
+        let LabelMachine {
+            alloc,
+            of,
+            state,
+            turns,
+        } = self;
+        let State::Going(run) = state else {
+            return Err(Refusal::Invalid);
+        };
+        let turns = sum(turns, 1)?;
+        Ok(LabelMachine {
+            alloc,
+            of,
+            state: next_state(alloc, of, run, turns)?,
+            turns,
+        })
+    }
+}
