@@ -1,0 +1,8 @@
+//! Tests that run modules on both machines, the one with targets that are found before and the one that keeps
+//! labels, and compare them after each turn.
+#![tactic(auto)]
+
+#[cfg(test)]
+mod both;
+#[cfg(test)]
+mod programs;
