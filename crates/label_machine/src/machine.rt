@@ -119,7 +119,8 @@ fn next_state<'m>(
 impl<'m> LabelMachine<'m> {
     /// Instantiates a module as a task under a process that has written nothing (4.5.4), with no turn made.
     /// The first of these refusals that holds: `NoEntry`, `BadImport`, `Limit` and `SegmentOutOfBounds`,
-    /// as of any machine. `NoMemory` if none holds and memory cannot be allocated.
+    /// as of any machine. If none holds, `NoMemory` if memory cannot be allocated, and `Invalid` or `Limit`
+    /// where no rule is or a place is 2^64 or more, to which no valid module comes; no clause says which.
     pub fn new(
         alloc: Global,
         valid: &'m Valid,

@@ -274,7 +274,7 @@ content_named digest bytes (c ∷ cs) each h =
 
 -- ---- what happens to a task leaves it sound
 
--- what a standing says of a task that is idle with it, after so many turns and at this state of execution
+-- what a standing says of a task that is idle with it, after this number of turns and in this state of execution
 pub record IsStanding (x : Standing) (turns : ℕ) (e : ExecutionState) : Type 0 where
   pub begun : x.0 ≡ Created → ⊥
   pub resting : x.0 ≡ Pausing → ⊥
