@@ -177,7 +177,9 @@ fn read_if<'a>(
     let (then_arm, rest) = read_labelled(alloc, scopes, locals, labels, more, &label, rest)?;
     let (else_arm, rest) = read_else(alloc, scopes, locals, labels, more, &label, rest)?;
     let rest = skip_end(&label, rest)?;
-    let instr = Instr::If(block_type, Body::new(then_arm), Body::new(else_arm));
+    let then_arm = Body::new(alloc, then_arm)?;
+    let else_arm = Body::new(alloc, else_arm)?;
+    let instr = Instr::If(block_type, then_arm, else_arm);
     Ok((instr, rest))
 }
 
@@ -200,7 +202,8 @@ fn read_enclosed<'a>(
     let (block_type, rest) = read_block_type(after_id(tokens))?;
     let (body, rest) = read_labelled(alloc, scopes, locals, labels, more, &label, rest)?;
     let rest = skip_end(&label, rest)?;
-    Ok(((block_type, Body::new(body)), rest))
+    let body = Body::new(alloc, body)?;
+    Ok(((block_type, body), rest))
 }
 
 // What follows this word of an instruction that has bodies, and what follows that. In the bodies

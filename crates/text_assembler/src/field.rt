@@ -115,11 +115,12 @@ fn read_func<'a>(
     let rest = push_body(alloc, scopes, &ids, &mut labels, nesting, &mut body, rest)?;
     let types = types_of(alloc, locals.as_slice())?;
     let locals = without_places(alloc, types.as_slice())?;
+    let body = Body::new(alloc, body)?;
     Ok((
         Func {
             type_index: type_use.type_index,
             locals,
-            body: Body::new(body),
+            body,
         },
         rest,
     ))
@@ -178,7 +179,8 @@ fn read_expression<'a>(
         &mut body,
         tokens,
     )?;
-    Ok((Body::new(body), rest))
+    let body = Body::new(alloc, body)?;
+    Ok((body, rest))
 }
 
 #[tactic(auto, unfolding(crate::specs::Modules::read_global))]

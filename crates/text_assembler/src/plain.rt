@@ -15,7 +15,7 @@ use crate::scopes::Scopes;
 use crate::token::{Lexeme, Token};
 use crate::uses::read_use;
 use std::alloc::Global;
-use wasm_ast::{LoadOp, MemArg, Sequence, Simple, StoreOp, ValType, Value};
+use wasm_ast::{LoadOp, MemArg, Simple, StoreOp, ValType, Value};
 
 // An indirect call through the table, whose parameters have no identifiers.
 #[tactic(auto, unfolding(crate::specs::Instructions::read_call_indirect))]
@@ -48,7 +48,8 @@ fn read_br_table<'a>(
     let Some(other) = all.pop() else {
         return Err(fault(tokens));
     };
-    Ok((Simple::BrTable(Sequence::new(all), other), rest))
+    let all = wasm_ast::Labels::new(alloc, all)?;
+    Ok((Simple::BrTable(all, other), rest))
 }
 
 // The exponent of a power of two.

@@ -1,14 +1,16 @@
 //! Instructions (2.4).
 
-ghost use Rattle.std.specs.Prelude.{◌≡◌, map, nat_le};
+ghost use Rattle.std.specs.Prelude.{◌≡◌, map, nat_le, IfOk};
 ghost use Rattle.wasm_ast.specs.Syntax.{ops_of};
 ghost use Rattle.wasm_ast.specs.View.{op_of};
 ghost use Rattle.wasm_ast.specs.Limits.{depth, ops_depth};
 ghost use Rattle.wasm_ast.specs.Ranged.{RangedSimple, RangedMemArg, RangedOp, RangedOps};
 
 use crate::operators::{BinaryOp, ConvertOp, LoadOp, RelationOp, StoreOp, TestOp, UnaryOp};
-use crate::sequence::{Sequence, indices_ranged};
+use crate::sequence::{Labels, indices_ranged};
 use crate::values::{ValType, Value};
+use std::alloc::{AllocError, Global};
+use std::boxed::Box;
 use std::marker::Model;
 
 /// The type of a block (2.4.5): from nothing to nothing, or to one value.
@@ -53,7 +55,7 @@ pub enum Simple {
     /// `br_if` to the label with this index
     BrIf(u32),
     /// `br_table` with the labels that its operand counts, and the label for all other operands
-    BrTable(Sequence<u32>, u32),
+    BrTable(Labels, u32),
     /// `return`
     Return,
     /// `call` of the function with this index, imports counted first
@@ -172,11 +174,15 @@ impl Instr {
     }
 }
 
+// A module has many instructions, and each is read more than once.
+const _: () = prove!(std::mem::size_of::<Instr>() == 32);
+
 /// A sequence of instructions (2.4.6). Contracts see the sequence of the abstract syntax.
 #[cycle(instr)]
 #[derive(Drop)]
 pub struct Body {
-    instrs: Vec<Instr>,
+    // Behind a pointer, so that an instruction that has bodies is no larger than others.
+    instrs: Box<Vec<Instr>>,
 }
 
 impl Model for Body {
@@ -190,22 +196,25 @@ impl Model for Body {
     ghost use Rattle.std.specs.Prelude.{map};
     ghost use Rattle.wasm_ast.specs.View.{op_of};
 
-    ghost view = { λ b. ops_of (map op_of b.instrs.items) };
+    ghost view = { λ b. ops_of (map op_of b.instrs.value.items) };
 
     ghost size = { ops_count };
 
     ghost use Rattle.std.proofs.Common.{arith};
     ghost use Rattle.wasm_ast.specs.Inside.Falls.{most_le_count};
 
-    ghost size_decreases = { λ a h. omega (arith, most_le_count a.instrs.items) };
+    ghost size_decreases = { λ a h. omega (arith, most_le_count a.instrs.value.items) };
 }
 
 impl Body {
-    /// The sequence of these instructions. No memory is taken.
-    pub fn new(instrs: Vec<Instr>) -> Body
-        ensures { result ≡ ops_of (map op_of instrs.items) }
+    /// The sequence of these instructions. It takes memory for the vector's pointer and its two lengths.
+    /// An error if memory runs out.
+    pub fn new(alloc: Global, instrs: Vec<Instr>) -> Result<Body, AllocError>
+        ensures { IfOk result (λ b. b ≡ ops_of (map op_of instrs.items)) }
     {
-        Body { instrs }
+        Ok(Body {
+            instrs: Box::new(alloc, instrs)?,
+        })
     }
 
     /// The instructions in order.
@@ -220,7 +229,7 @@ impl Body {
         ensures { ops_of (map op_of result.items) ≡ self }
     {
         let Body { instrs } = self;
-        instrs
+        Box::into_inner(instrs)
     }
 
     /// Whether at most this number of blocks are open at once in the sequence. Recursion is no deeper
@@ -229,7 +238,7 @@ impl Body {
     pub fn fits_depth(&self, limit: usize) -> bool
         ensures { result ≡ nat_le (ops_depth self.now) limit }
     {
-        for instr in &self.instrs {
+        for instr in self.instrs.as_slice() {
             if !instr.fits_depth(limit) {
                 return false;
             }
@@ -242,7 +251,7 @@ impl Body {
     pub fn ranged(&self)
         ensures { RangedOps self.now }
     {
-        for instr in &self.instrs {
+        for instr in self.instrs.as_slice() {
             instr.ranged();
         }
     }

@@ -26,7 +26,7 @@ pub use module::{
 pub use operators::{BinaryOp, ConvertOp, LoadOp, RelationOp, StoreOp, TestOp, UnaryOp};
 pub use place::Place;
 pub use refusal::Refusal;
-pub use sequence::{Bytes, Sequence};
+pub use sequence::{Bytes, Labels, Sequence};
 pub use text::Text;
 pub use trap::Trap;
 pub use values::{FuncType, ValType, Value};

@@ -4,6 +4,7 @@ ghost use Rattle.std.specs.Prelude.{◌≡◌, ◌↔◌, All, IsTrue, IfOk, len
 ghost use Rattle.wasm_ast.specs.Ranged.{IsU32};
 
 use std::alloc::{AllocError, Global};
+use std::boxed::Box;
 use std::marker::Model;
 
 /// A list of items. Contracts see the items in their order, and not the spare capacity.
@@ -69,6 +70,40 @@ impl Sequence<u8> {
         ensures { IsTrue result ↔ (self.now ≡ other.now) }
     {
         self.as_slice() == other.as_slice()
+    }
+}
+
+/// A list of labels. Contracts see the labels in their order.
+#[derive(Drop)]
+pub struct Labels {
+    // Behind a pointer, so that an instruction with labels is no larger than others.
+    list: Box<Vec<u32>>,
+}
+
+impl Model for Labels {
+    ghost use Rattle.std.specs.Prelude.{List, ℕ};
+
+    ghost Value = { List ℕ };
+
+    ghost view = { λ l. l.list.value.items };
+}
+
+impl Labels {
+    /// The list of these labels. It takes memory for the vector's pointer and its two lengths. An error
+    /// if memory runs out.
+    pub fn new(alloc: Global, list: Vec<u32>) -> Result<Labels, AllocError>
+        ensures { IfOk result (λ l. l ≡ list.items) }
+    {
+        Ok(Labels {
+            list: Box::new(alloc, list)?,
+        })
+    }
+
+    /// The labels.
+    pub fn as_slice(&self) -> &[u32]
+        ensures { result.now ≡ self.now }
+    {
+        self.list.as_slice()
     }
 }
 

@@ -15,6 +15,7 @@ use wasm_ast::{MAX_MODULE_BYTES, Module, Refusal};
 
 mod code;
 mod fault;
+mod immediates;
 mod instructions;
 mod items;
 pub mod laws;
