@@ -130,12 +130,62 @@ pub fn read_u32(bytes: &[u8]) -> Result<(u32, &[u8]), ReadError>
     Ok((n as u32, rest))
 }
 
+// The bits of a signed number of 32 bits from its second, its third or its fourth byte on, and the rest.
+// They are functions of their own, since recursion passes each result through memory.
+#[tactic(auto, unfolding(crate::specs::Inside::Reading::read_signed, crate::specs::Inside::Reading::read_byte))]
+fn read_s11(bytes: &[u8]) -> Result<(u64, &[u8]), ReadError>
+    ensures value { Gives (λ x. (x.0, x.1.now)) result (read_signed 11 bytes.now) }
+    ensures small { IfOk result (λ x. x.0 < 2 ^ 11) }
+{
+    let (first, rest) = read_byte(bytes)?;
+    if first < 128 {
+        let last = read_last_signed(11, first)?;
+        return Ok((last, rest));
+    }
+    let (high, rest) = read_signed(4, rest)?;
+    Ok((128 * high + (u64::from(first) - 128), rest))
+}
+
+#[tactic(auto, unfolding(crate::specs::Inside::Reading::read_signed, crate::specs::Inside::Reading::read_byte))]
+fn read_s18(bytes: &[u8]) -> Result<(u64, &[u8]), ReadError>
+    ensures value { Gives (λ x. (x.0, x.1.now)) result (read_signed 18 bytes.now) }
+    ensures small { IfOk result (λ x. x.0 < 2 ^ 18) }
+{
+    let (first, rest) = read_byte(bytes)?;
+    if first < 128 {
+        let last = read_last_signed(18, first)?;
+        return Ok((last, rest));
+    }
+    let (high, rest) = read_s11(rest)?;
+    Ok((128 * high + (u64::from(first) - 128), rest))
+}
+
+#[tactic(auto, unfolding(crate::specs::Inside::Reading::read_signed, crate::specs::Inside::Reading::read_byte))]
+fn read_s25(bytes: &[u8]) -> Result<(u64, &[u8]), ReadError>
+    ensures value { Gives (λ x. (x.0, x.1.now)) result (read_signed 25 bytes.now) }
+    ensures small { IfOk result (λ x. x.0 < 2 ^ 25) }
+{
+    let (first, rest) = read_byte(bytes)?;
+    if first < 128 {
+        let last = read_last_signed(25, first)?;
+        return Ok((last, rest));
+    }
+    let (high, rest) = read_s18(rest)?;
+    Ok((128 * high + (u64::from(first) - 128), rest))
+}
+
 /// A signed number of 32 bits as its two's complement, and the rest.
+#[tactic(auto, unfolding(crate::specs::Inside::Reading::read_signed, crate::specs::Inside::Reading::read_byte))]
 pub fn read_s32(bytes: &[u8]) -> Result<(u32, &[u8]), ReadError>
     ensures { Gives (λ x. (x.0, x.1.now)) result (read_signed 32 bytes.now) }
 {
-    let (n, rest) = read_signed(32, bytes)?;
-    Ok((n as u32, rest))
+    let (first, rest) = read_byte(bytes)?;
+    if first < 128 {
+        let last = read_last_signed(32, first)?;
+        return Ok((last as u32, rest));
+    }
+    let (high, rest) = read_s25(rest)?;
+    Ok(((128 * high + (u64::from(first) - 128)) as u32, rest))
 }
 
 /// A signed number of 64 bits as its two's complement, and the rest.
