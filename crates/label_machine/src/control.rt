@@ -75,7 +75,7 @@ fn is_function_of(of: &Module, expected: &FuncType, func: u32) -> Result<bool, R
 fn type_with(of: &Module, index: u32) -> Result<&FuncType, Refusal>
     ensures { IfOk result (λ t. slice_get of.now.types index ≡ Some t.now) }
 {
-    match of.types.as_slice().get(index as usize) {
+    match of.type_with(index) {
         Some(found) => Ok(found),
         None => Err(Refusal::Invalid),
     }

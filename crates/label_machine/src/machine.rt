@@ -20,12 +20,9 @@ use crate::store::Store;
 use oci_config::{Process, Stream};
 use std::alloc::Global;
 use std::marker::Model;
-use step_machine::{End, find_entry};
+use step_machine::{End, LAST_TURN, find_entry};
 use validator::Valid;
 use wasm_ast::{Module, Refusal, Trap};
-
-/// The number of the turn that makes no reduction and traps.
-const LAST_TURN: u64 = 1_000_000_000_000_000;
 
 /// How far a machine has come: before an instruction, or at an end.
 #[derive(Drop)]

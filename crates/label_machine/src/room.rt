@@ -9,12 +9,7 @@ ghost use Rattle.label_machine.specs.Inside.Runs.{values_below, values_in, level
 
 use crate::frame::{Frame, Label};
 use crate::run::Run;
-
-/// The most frames at once.
-const MAX_FRAMES: usize = 1024;
-
-/// The most locals and operands at once, in all frames.
-const MAX_VALUES: usize = 65_536;
+use step_machine::{MAX_FRAMES, MAX_VALUES};
 
 /// The room that the operands below these blocks leave; None if they need more than there is.
 fn left_by_labels(labels: &[Label], room: usize) -> Option<usize>

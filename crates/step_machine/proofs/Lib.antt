@@ -6,7 +6,6 @@ pub mod OutputLemmas
 pub mod SettleTerminates
 pub mod TreeLimits
 pub mod EvaluationContexts
-pub mod FunctionTypes
 pub mod HostCallLemmas
 pub mod TypeEquality
 pub mod StackWords

@@ -9,16 +9,13 @@ ghost use Rattle.oci_config.specs.declared.process.ProcessConfig.{ProcessConfig}
 ghost use Rattle.step_machine.specs.HostCalls.{all_known};
 ghost use Rattle.step_machine.specs.Instantiation.{is_bare, is_entry, entry_in, entry, constant, offset_of, zero_memory, empty_table, are_pages_within, are_elements_inside, are_segments_inside, instantiation_refusal};
 
-use crate::func_types::type_of;
 use crate::host_calls::{are_known, is_of_type};
 use crate::needed_memory::has_needed_memory;
+use linear_memory::PAGE_BYTES;
 use oci_config::PageCap;
 use wasm_ast::{
     Body, Element, Export, ExportKind, Instr, Limits, Module, Refusal, Segment, Simple, Value,
 };
-
-/// Bytes of a page.
-const PAGE_BYTES: u64 = 65_536;
 
 /// The entry, imports counted first, of a module that can be instantiated in a process with this cap of
 /// pages. Else the first refusal that holds: `NoEntry`, also if a system call that needs memory is
@@ -81,7 +78,7 @@ fn is_bare(of: &Module, kind: ExportKind, index: u32) -> bool
     ensures { result ≡ is_bare (func_types of.now) kind index }
 {
     match kind {
-        ExportKind::Func => is_of_type(&[], &[], type_of(of, index)),
+        ExportKind::Func => is_of_type(&[], &[], of.type_of(index)),
         _ => false,
     }
 }
@@ -119,7 +116,7 @@ fn table_size(tables: &[Limits]) -> u64
 fn bytes_of(pages: u32) -> u64
     ensures { result ≡ pages * page_bytes }
 {
-    u64::from(pages) * PAGE_BYTES
+    u64::from(pages) * PAGE_BYTES as u64
 }
 
 /// The bytes that a memory begins with.

@@ -5,7 +5,6 @@ pub mod PlaceExact
 pub mod PlacesOfModules
 pub mod WorkedPlaces
 pub mod OperandLemmas
-pub mod FunctionTypes
 pub mod AccessLemmas
 pub mod CountLemmas
 pub mod ConstantLemmas

@@ -5,7 +5,6 @@ ghost use Rattle.wasm_ast.specs.Limits.{are_all};
 ghost use Rattle.validator.specs.Inside.ModuleTests.{has_few_results, is_typed_import, are_valid_limits, is_constant, is_valid_global, is_function, is_there, is_valid_export, is_valid_start, is_valid_element, is_valid_segment, declares_validly, defines_validly};
 
 use crate::access::type_of;
-use crate::function;
 use crate::operands::is_same;
 use wasm_ast::{
     Body, Element, Export, ExportKind, FuncType, Global, Import, Instr, Limits, Module, Segment,
@@ -150,7 +149,7 @@ fn is_valid_start(of: &Module, start: Option<u32>) -> bool
     let Some(func) = start else {
         return true;
     };
-    match function::type_of(of, func) {
+    match of.type_of(func) {
         Some(func_type) => func_type.params.len() == 0 && func_type.results.len() == 0,
         None => false,
     }

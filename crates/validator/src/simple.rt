@@ -12,7 +12,7 @@ use crate::access::{
     is_aligned, load_bytes, load_type, source_of, store_bytes, store_type, target_of, type_of,
 };
 use crate::check_error::CheckError;
-use crate::function::{self, Function};
+use crate::function::Function;
 use crate::labels::Labels;
 use crate::operands::{Operands, is_same};
 use crate::steps::{combine, convert, discard, give, leave, replace, select, take, take_two};
@@ -157,7 +157,7 @@ fn check_call(of: &Module, func: u32, operands: &mut Operands) -> Result<(), Che
     ensures invalid { result ≡ Err CheckError.Invalid
         → call (func_types of.now) func operands.old.stack ≡ None }
 {
-    let Some(func_type) = function::type_of(of, func) else {
+    let Some(func_type) = of.type_of(func) else {
         return Err(CheckError::Invalid);
     };
     apply(func_type, operands)
@@ -190,7 +190,7 @@ fn check_call_indirect(
     if function.of.tables.len() == 0 {
         return Err(CheckError::Invalid);
     }
-    let Some(func_type) = function::type_with(function.of, index) else {
+    let Some(func_type) = function.of.type_with(index) else {
         return Err(CheckError::Invalid);
     };
     if !operands.pop(ValType::I32) {

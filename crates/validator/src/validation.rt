@@ -6,7 +6,7 @@ ghost use Rattle.validator.specs.Typing.{ValidFunc, ValidModule, AllDifferent};
 use crate::block_types::BlockTypes;
 use crate::bodies::check_body;
 use crate::check_error::CheckError;
-use crate::function::{Function, type_with};
+use crate::function::Function;
 use crate::labels::Labels;
 use crate::module_parts::{declares_validly, defines_validly};
 use crate::operands::Operands;
@@ -73,7 +73,7 @@ fn check_func<'a>(
     ensures labels { OnOk result (labels.new ≡ []) }
     ensures invalid { result ≡ Err CheckError.Invalid → ValidFunc of.now func.now → ⊥ }
 {
-    let Some(func_type) = type_with(of, func.type_index) else {
+    let Some(func_type) = of.type_with(func.type_index) else {
         return Err(CheckError::Invalid);
     };
     let function = Function {

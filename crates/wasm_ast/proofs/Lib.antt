@@ -1,2 +1,3 @@
+pub mod FunctionTypes
 pub mod LimitLemmas
 pub mod PlaceLemmas

@@ -4,6 +4,7 @@
 //! Sections are those of the WebAssembly Core Specification 1.0.
 #![tactic(auto)]
 
+mod func_types;
 mod identifier;
 mod instr;
 pub mod laws;
