@@ -1,4 +1,5 @@
 pub mod ListLemmas
+pub mod MarkLemmas
 pub mod ResultLemmas
 pub mod TurnLemmas
 pub mod LastTurn

@@ -8,3 +8,4 @@ pub mod Simulates
 pub mod Going
 pub mod Ran
 pub mod SharedCode
+pub mod Marks

@@ -1,8 +1,9 @@
 //! Breakpoints.
 
-ghost use Rattle.std.specs.Prelude.{IsTrue, ◌↔◌, ◌≡◌, ◌≤◌, IfOk, [], true, false, length, vec_len};
+ghost use Rattle.std.specs.Prelude.{IsTrue, ◌↔◌, ◌≡◌, ◌≤◌, ◌<◌, IfOk, [], true, false, length, vec_len};
 ghost use Rattle.step_machine.specs.Limits.{max_breakpoints};
 ghost use Rattle.step_machine.specs.Slices.{is_among};
+ghost use Rattle.step_machine.specs.Inside.Marks.{mark_of, AreMarked};
 
 use std::alloc::{AllocError, Global};
 use std::marker::Model;
@@ -91,6 +92,81 @@ impl Breaks {
         }
         false
     }
+}
+
+/// How many marks there are. Each takes a byte.
+const MARKS: usize = 2048;
+
+/// The number of a place's mark. Places that are near to each other have numbers that are far apart, so that
+/// few instructions of a loop have the mark of a breakpoint that is elsewhere.
+#[inline(always)]
+fn mark_of(place: Place) -> usize
+    ensures is { result ≡ mark_of place.func place.instr }
+    ensures inside { result < 2048 }
+{
+    let mixed = u64::from(place.func) * 6_700_417 + u64::from(place.instr) * 10_368_889;
+    (mixed / 4096 % 2048) as usize
+}
+
+/// Breakpoints, and which marks theirs are: a look at its mark tells of most places that they are none.
+/// Contracts see the breakpoints' places.
+#[derive(Drop)]
+pub struct MarkedBreaks<'a> {
+    breaks: &'a Breaks,
+    marks: [bool; MARKS],
+}
+
+impl<'a> Model for MarkedBreaks<'a> {
+    ghost use Rattle.std.specs.Prelude.{List};
+    ghost use Rattle.step_machine.specs.Inside.Marks.{AreMarked};
+    ghost use Rattle.wasm_ast.specs.declared.place.Place.{Place};
+
+    ghost Value = { List Place };
+
+    ghost view = { λ b. b.breaks.now };
+
+    ghost invariant = { λ b. AreMarked b.breaks.now b.marks };
+}
+
+impl<'a> MarkedBreaks<'a> {
+    /// Marks breakpoints. No memory is taken.
+    pub fn new(breaks: &'a Breaks) -> MarkedBreaks<'a>
+        ensures { result ≡ breaks.now }
+    {
+        let marks = marks_of(breaks.as_slice());
+        MarkedBreaks { breaks, marks }
+    }
+
+    /// Whether one of them is this place.
+    #[inline(always)]
+    pub fn has(&self, place: Place) -> bool
+        ensures { result ≡ is_among self.now place.func place.instr }
+    {
+        if self.marks[mark_of(place)] {
+            self.is_listed(place)
+        } else {
+            false
+        }
+    }
+
+    // The way through the list stays out of the loop that makes the turns.
+    #[inline(never)]
+    fn is_listed(&self, place: Place) -> bool
+        ensures { result ≡ is_among self.now place.func place.instr }
+    {
+        self.breaks.has(place.func, u64::from(place.instr))
+    }
+}
+
+// The marks of these places.
+fn marks_of(places: &[Place]) -> [bool; MARKS]
+    ensures { AreMarked places.now result }
+{
+    let mut marks = [false; MARKS];
+    for place in places {
+        marks[mark_of(*place)] = true;
+    }
+    marks
 }
 
 fn are_same(places: &[Place], others: &[Place]) -> bool
