@@ -6,6 +6,7 @@ pub mod laws;
 mod memory;
 mod width;
 mod words;
+mod zeros;
 
-pub use memory::{LinearMemory, MAX_PAGES, PAGE_BYTES};
+pub use memory::{LinearMemory, MAX_PAGES, PAGE_BYTES, RangeBytes};
 pub use width::Width;

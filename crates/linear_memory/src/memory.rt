@@ -1,10 +1,11 @@
 //! A memory.
 
-ghost use Rattle.std.specs.Prelude.{◌≡◌, ◌≤◌, ◌<◌, ◌*◌, ◌^◌, All, IfSome, length, option_map};
+ghost use Rattle.std.specs.Prelude.{◌≡◌, ◌≤◌, ◌<◌, ◌*◌, ◌^◌, ◌++◌, All, IfSome, length, option_map, replicate};
 ghost use Rattle.linear_memory.specs.Memory.{new_memory, page_bytes, max_pages, is_inside, read_at, written_at, byte_count, loaded, stored, grown, grow_result};
 
 use crate::width::Width;
-use crate::words::{load_2, load_4, load_8, store_word};
+use crate::words::{load_2, load_4, load_8, number_of, store_bytes, store_word};
+use crate::zeros::extend;
 use std::alloc::Global;
 use std::marker::Model;
 
@@ -14,8 +15,10 @@ pub const PAGE_BYTES: usize = 65_536;
 /// The most pages of a memory.
 pub const MAX_PAGES: u32 = 256;
 
-/// A memory, as contracts see it the list of its bytes and its cap in pages. The memory for all pages of
-/// the cap is reserved from the start; only pages that it has are written.
+/// A memory, as contracts see it the list of its bytes and its cap in pages. The room for all pages of
+/// the cap is reserved from the start, and nothing is written into it: zeros are written when something
+/// is stored after them. So `bytes` is the front of the memory that is written, and what follows it, up
+/// to the size of `pages`, is zeros.
 #[derive(Drop)]
 pub struct LinearMemory {
     bytes: Vec<u8>,
@@ -28,13 +31,25 @@ impl Model for LinearMemory {
 
     ghost Value = { Memory };
 
-    ghost use Rattle.std.specs.Prelude.{◌≡◌, ◌≤◌, ◌*◌, vec_len, vec_capacity};
+    ghost use Rattle.std.specs.Prelude.{◌≤◌, ◌*◌, ◌-◌, ◌++◌, replicate, vec_len, vec_capacity};
 
-    ghost view = { λ m. record { bytes = m.bytes.items; cap = m.cap } };
+    ghost view = { λ m. record {
+      bytes = m.bytes.items ++ replicate (m.pages * page_bytes - vec_len m.bytes) 0;
+      cap = m.cap;
+    } };
 
-    ghost invariant = { λ m. (vec_len m.bytes ≡ m.pages * page_bytes) × (m.pages ≤ m.cap)
+    ghost invariant = { λ m. (vec_len m.bytes ≤ m.pages * page_bytes) × (m.pages ≤ m.cap)
         × (m.cap ≤ max_pages)
         × (m.cap * page_bytes ≤ vec_capacity m.bytes) };
+}
+
+/// The bytes of a range, in two parts.
+#[derive(Clone, Copy)]
+pub struct RangeBytes<'a> {
+    /// Those that are written.
+    pub written: &'a [u8],
+    /// How many zeros follow them.
+    pub zeros: usize,
 }
 
 impl LinearMemory {
@@ -43,10 +58,9 @@ impl LinearMemory {
         requires { (min ≤ cap) × (cap ≤ max_pages) }
         ensures { IfSome result (λ m. m ≡ new_memory min cap) }
     {
-        let Ok(mut bytes) = Vec::with_capacity(alloc, cap as usize * PAGE_BYTES) else {
+        let Ok(bytes) = Vec::with_capacity(alloc, cap as usize * PAGE_BYTES) else {
             return None;
         };
-        bytes.resize(min as usize * PAGE_BYTES, 0).unwrap();
         Some(LinearMemory {
             bytes,
             pages: min,
@@ -70,6 +84,15 @@ impl LinearMemory {
         self.pages
     }
 
+    /// The size in bytes.
+    #[inline(always)]
+    fn byte_size(&self) -> usize
+        ensures bytes { result ≡ length self.now.bytes }
+        ensures within { result ≤ max_pages * page_bytes }
+    {
+        self.pages as usize * PAGE_BYTES
+    }
+
     /// Adds pages of zeros and gives the old size in pages; None, with nothing changed, exactly if the new
     /// size would be over the cap. No memory is taken.
     pub fn grow(&mut self, delta: u32) -> Option<u32>
@@ -81,9 +104,6 @@ impl LinearMemory {
         }
         let old = self.pages;
         self.pages += delta;
-        self.bytes
-            .resize(self.pages as usize * PAGE_BYTES, 0)
-            .unwrap();
         Some(old)
     }
 
@@ -96,7 +116,7 @@ impl LinearMemory {
     {
         let bytes = self.bytes.as_slice();
         if address.saturating_add(width.bytes() as u64) > bytes.len() as u64 {
-            return None;
+            return self.load_far(address, width);
         }
         let at = address as usize;
         let number = match width {
@@ -108,6 +128,16 @@ impl LinearMemory {
         Some(number)
     }
 
+    /// `load` where a byte is after those that are written.
+    #[inline(never)]
+    fn load_far(&self, address: u64, width: Width) -> Option<u64>
+        ensures number { result ≡ loaded self.now address width }
+        ensures range { IfSome result (λ n. n < 2 ^ (8 * byte_count width)) }
+    {
+        let range = self.read_range(address, width.bytes() as u64)?;
+        Some(number_of(range.written))
+    }
+
     /// Writes the lowest bytes of a number at an address, the lowest first; false, with nothing written,
     /// exactly if a byte would be outside (4.4.4).
     #[inline(always)]
@@ -116,36 +146,63 @@ impl LinearMemory {
         ensures written { self.new ≡ stored self.old address width number }
     {
         if address.saturating_add(width.bytes() as u64) > self.bytes.len() as u64 {
-            return false;
+            return self.store_far(address, width, number);
         }
         let at = address as usize;
         store_word(self.bytes.as_mut_slice(), at, width, number);
         true
     }
 
-    /// The bytes of a range; None exactly if one is outside.
-    pub fn read_range(&self, address: u64, count: u64) -> Option<&[u8]>
-        ensures { option_map (λ b. b.now) result ≡ read_at self.now address count }
+    /// `store` where a byte is after those that are written: the zeros before it are written first.
+    #[inline(never)]
+    fn store_far(&mut self, address: u64, width: Width, number: u64) -> bool
+        ensures inside { result ≡ is_inside self.old address (byte_count width) }
+        ensures written { self.new ≡ stored self.old address width number }
     {
-        let size = self.bytes.len() as u64;
+        let end = address.saturating_add(width.bytes() as u64);
+        let size = self.byte_size();
+        if end > size as u64 {
+            return false;
+        }
+        extend(&mut self.bytes, end as usize, size);
+        store_word(self.bytes.as_mut_slice(), address as usize, width, number);
+        true
+    }
+
+    /// The bytes of a range; None exactly if one is outside.
+    pub fn read_range(&self, address: u64, count: u64) -> Option<RangeBytes<'_>>
+        ensures { option_map (λ r. r.written.now ++ replicate r.zeros 0) result
+            ≡ read_at self.now address count }
+    {
+        let size = self.byte_size() as u64;
         if address > size || size - address < count {
             return None;
         }
-        let start = address as usize;
-        Some(&self.bytes[start..start + count as usize])
+        let front = self.bytes.len();
+        let start = front.min(address as usize);
+        let end = front.min((address + count) as usize);
+        Some(RangeBytes {
+            written: &self.bytes[start..end],
+            zeros: count as usize - (end - start),
+        })
     }
 
-    /// Writes bytes at an address; false, with nothing written, exactly if one would be outside.
+    /// Writes bytes at an address, and the zeros before them that are not written yet; false, with
+    /// nothing written, exactly if one would be outside.
     pub fn write_range(&mut self, address: u64, bytes: &[u8]) -> bool
         ensures inside { result ≡ is_inside self.old address (length bytes.now) }
         ensures written { self.new ≡ written_at self.old address bytes.now }
     {
-        let size = self.bytes.len();
+        let size = self.byte_size();
         if address > size as u64 || size - (address as usize) < bytes.len() {
             return false;
         }
+        if bytes.is_empty() {
+            return true;
+        }
         let start = address as usize;
-        self.bytes[start..start + bytes.len()].copy_from_slice(bytes);
+        extend(&mut self.bytes, start + bytes.len(), size);
+        store_bytes(self.bytes.as_mut_slice(), start, bytes);
         true
     }
 }

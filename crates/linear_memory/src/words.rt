@@ -1,7 +1,7 @@
 //! Words in a list of bytes, the lowest byte first (4.3.1). Each function is one bounds test and one access
 //! in the machine's code.
 
-ghost use Rattle.std.specs.Prelude.{◌≡◌, ◌+◌, ◌≤◌, ◌++◌, length, take, drop};
+ghost use Rattle.std.specs.Prelude.{◌≡◌, ◌+◌, ◌*◌, ◌<◌, ◌≤◌, ◌^◌, ◌++◌, length, take, drop};
 ghost use Rattle.linear_memory.specs.Memory.{byte_count, little_endian, low_bytes};
 
 use crate::width::Width;
@@ -37,6 +37,17 @@ pub(crate) fn load_8(bytes: &[u8], at: usize) -> u64
         bytes[at + 6],
         bytes[at + 7],
     ])
+}
+
+/// The number of at most eight bytes.
+pub(crate) fn number_of(bytes: &[u8]) -> u64
+    requires { length bytes.now ≤ 8 }
+    ensures number { result ≡ little_endian bytes.now }
+    ensures range { result < 2 ^ (8 * length bytes.now) }
+{
+    let mut word = [0u8; 8];
+    word[..bytes.len()].copy_from_slice(bytes);
+    load_8(&word, 0)
 }
 
 #[inline(always)]
@@ -76,4 +87,12 @@ pub(crate) fn store_word(bytes: &mut [u8], at: usize, width: Width, n: u64)
         Width::Four => store_4(bytes, at, (n % 0x1_0000_0000) as u32),
         Width::Eight => store_8(bytes, at, n),
     }
+}
+
+/// Writes bytes.
+pub(crate) fn store_bytes(bytes: &mut [u8], at: usize, from: &[u8])
+    requires { at + length from.now ≤ length bytes.old }
+    ensures { bytes.new ≡ take at bytes.old ++ (from.now ++ drop (at + length from.now) bytes.old) }
+{
+    bytes[at..at + from.len()].copy_from_slice(from);
 }

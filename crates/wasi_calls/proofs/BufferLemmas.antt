@@ -1,6 +1,7 @@
 -- Buffers that are told one after the other, and a stream that they are appended to.
-use Rattle.std.proofs.Common.{◌≡◌, ℕ, zero, suc, ◌+◌, ◌*◌, ◌-◌, ◌<◌, ◌≤◌, List, [], ◌∷◌, ◌++◌, length, take, drop, refl, sym, ap, ◌∙◌, arith, length-append, length-take, length-drop, append_assoc, Bool, true, false, ◌&&◌}
-use Rattle.linear_memory.specs.Memory.{Memory, is_inside, range}
+use Rattle.std.proofs.Common.{◌≡◌, ℕ, zero, suc, ◌+◌, ◌*◌, ◌-◌, ◌<◌, ◌≤◌, List, [], ◌∷◌, ◌++◌, length, take, drop, refl, sym, ap, ◌∙◌, arith, length-append, length-take, length-drop, append_assoc, Bool, true, false, ◌&&◌, min, replicate, Some, None, if◌then◌else◌}
+use Rattle.std.proofs.lemmas.List.{length-replicate, take_all, take_min, take-replicate, replicate-append-replicate}
+use Rattle.linear_memory.specs.Memory.{Memory, is_inside, range, read_at}
 use Rattle.oci_config.specs.Limits.{max_output}
 use Rattle.wasi_calls.proofs.RangeLemmas.{within}
 use Rattle.wasi_calls.specs.SystemCalls.{Buffer, buffer_at, buffers_at, are_inside, gathered}
@@ -37,9 +38,9 @@ taken (suc n) (x ∷ xs) ys =
 abbrev pub with_bytes : (stream bytes : List ℕ) → List ℕ
 with_bytes stream bytes = stream ++ take (max_output - length stream) bytes
 
-pub appended_twice : (stream xs ys : List ℕ) → length stream ≤ max_output
+pub appended_twice : (stream xs ys : List ℕ)
     → with_bytes (with_bytes stream xs) ys ≡ with_bytes stream (xs ++ ys)
-appended_twice stream xs ys h =
+appended_twice stream xs ys =
     let r = max_output - length stream in
     let sizes = length-append stream (take r xs) in
     let some = length-take r xs in
@@ -47,6 +48,36 @@ appended_twice stream xs ys h =
     let split : take r (xs ++ ys) ≡ take r xs ++ take (r - length xs) ys = taken r xs ys in
     ap (λ k. (stream ++ take r xs) ++ take k ys) left ∙ (append_assoc stream (take r xs) (take (r - length xs) ys)
     ∙ ap (λ u. stream ++ u) (sym split))
+
+-- zeros for which there is room, after others
+pub zeros_appended : (stream xs : List ℕ) (a b : ℕ) → xs ≡ replicate b 0 → length stream + a + b ≤ max_output
+    → with_bytes (stream ++ replicate a 0) xs ≡ stream ++ replicate (a + b) 0
+zeros_appended stream xs a b e h =
+    let before = length-append stream (replicate a 0) in
+    let first = length-replicate {A = ℕ} a 0 in
+    let second : length xs ≡ b = ap length e ∙ length-replicate {A = ℕ} b 0 in
+    let whole : take (max_output - length (stream ++ replicate a 0)) xs ≡ xs =
+    take_all (max_output - length (stream ++ replicate a 0)) xs (omega (arith, before, first, second)) in
+    ap (λ u. (stream ++ replicate a 0) ++ u) (whole ∙ e) ∙ (append_assoc stream (replicate a 0) (replicate b 0)
+    ∙ ap (λ u. stream ++ u) (replicate-append-replicate a b 0))
+
+-- as many zeros as there is room for
+pub zeros_taken : (stream : List ℕ) (n count : ℕ) → n ≡ min count (max_output - length stream)
+    → stream ++ replicate n 0 ≡ with_bytes stream (replicate count 0)
+zeros_taken stream n count e =
+    let r = max_output - length stream in
+    let size = length-replicate {A = ℕ} count 0 in
+    let least : min r (length (replicate count 0)) ≡ n = omega (arith, e, size) in
+    ap (λ u. stream ++ u) (sym (take-replicate n count 0 (omega (arith, e)))
+    ∙ (ap (λ k. take k (replicate count 0)) (sym least) ∙ take_min r (replicate count 0)))
+
+-- what two parts of a range are, that is inside
+pub two_parts : (m : Memory) (a n : ℕ) (xs : List ℕ) (z : ℕ) → is_inside m a n ≡ true
+    → Some (xs ++ replicate z 0) ≡ read_at m a n → xs ++ replicate z 0 ≡ range m a n
+two_parts m a n xs z h e =
+    let whole : Some (xs ++ replicate z 0) ≡ Some (range m a n) = e
+    ∙ ap (λ b. if b then Some (range m a n) else None) h in
+    cc
 
 pub range_length : (m : Memory) (a n : ℕ) → a + n ≤ length m.bytes → length (range m a n) ≡ n
 range_length m a n h =

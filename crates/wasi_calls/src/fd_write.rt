@@ -1,6 +1,6 @@
 //! `fd_write`: bytes of the memory to an output stream.
 
-ghost use Rattle.std.specs.Prelude.{◌≡◌, ◌≤◌, ◌<◌, ◌+◌, ◌-◌, ◌*◌, ◌^◌, ◌++◌, length, take, drop, true, if◌then◌else◌, Some, None};
+ghost use Rattle.std.specs.Prelude.{◌≡◌, ◌≤◌, ◌<◌, ◌+◌, ◌-◌, ◌*◌, ◌^◌, ◌++◌, length, take, drop, replicate, true, if◌then◌else◌, Some, None};
 ghost use Rattle.linear_memory.specs.Memory.{is_inside};
 ghost use Rattle.oci_config.specs.Limits.{max_output};
 ghost use Rattle.wasi_calls.specs.SystemCalls.{buffer_at, buffer_bytes, buffers_at, are_inside, gathered, write_stream};
@@ -12,6 +12,9 @@ use oci_config::Output;
 
 /// The bytes of a buffer's address and length.
 const BUFFER_BYTES: u64 = 8;
+
+/// How many zeros are appended at a time.
+const ZERO_BYTES: usize = 64;
 
 /// A buffer to be written: where it begins, and how many bytes it has ($ciovec).
 #[derive(Clone, Copy)]
@@ -63,6 +66,18 @@ fn size_of_buffers(memory: &LinearMemory, address: u64, n: u32) -> Option<u64>
     Some(sum)
 }
 
+/// Appends zeros to a stream, as many as it has room for.
+fn append_zeros(count: usize, stream: &mut Output)
+    ensures { stream.new ≡ stream.old ++ take (max_output - length stream.old) (replicate count 0) }
+{
+    let some = [0u8; ZERO_BYTES];
+    let taken = count.min(stream.room());
+    for _ in 0..taken / ZERO_BYTES {
+        stream.append(&some);
+    }
+    stream.append(&some[..taken % ZERO_BYTES]);
+}
+
 /// Appends a buffer of the memory to a stream, as far as there is room.
 fn append(memory: &LinearMemory, buffer: &Buffer, stream: &mut Output)
     requires { is_inside memory.now buffer.now.address buffer.now.size ≡ true }
@@ -70,7 +85,10 @@ fn append(memory: &LinearMemory, buffer: &Buffer, stream: &mut Output)
         (take buffer.now.size (drop buffer.now.address memory.now.bytes)) }
 {
     match memory.read_range(u64::from(buffer.address), u64::from(buffer.size)) {
-        Some(bytes) => stream.append(bytes),
+        Some(range) => {
+            stream.append(range.written);
+            append_zeros(range.zeros, stream);
+        }
         None => unreachable!(),
     }
 }

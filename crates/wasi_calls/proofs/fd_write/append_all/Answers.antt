@@ -53,6 +53,6 @@ loop-i-preserved c =
     let split = gathers m c.args.address c.args.n i c.loop-i-test.true in (
       omega arith,
       both.1,
-      ap (λ u. with_bytes u rest) now ∙ (appended_twice s bytes rest short ∙ (ap (with_bytes s) (sym split)
+      ap (λ u. with_bytes u rest) now ∙ (appended_twice s bytes rest ∙ (ap (with_bytes s) (sym split)
           ∙ c.loop-i.invariant.2)),
     )
