@@ -181,7 +181,7 @@ const _: () = prove!(std::mem::size_of::<Instr>() == 32);
 #[cycle(instr)]
 #[derive(Drop)]
 pub struct Body {
-    // Behind a pointer, so that an instruction that has bodies is no larger than others.
+    // A pointer, so that an instruction that has bodies is no larger than others.
     instrs: Box<Vec<Instr>>,
 }
 

@@ -76,7 +76,7 @@ impl Sequence<u8> {
 /// A list of labels. Contracts see the labels in their order.
 #[derive(Drop)]
 pub struct Labels {
-    // Behind a pointer, so that an instruction with labels is no larger than others.
+    // A pointer, so that an instruction with labels is no larger than others.
     list: Box<Vec<u32>>,
 }
 
