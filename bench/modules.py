@@ -13,23 +13,10 @@ import resource
 import subprocess
 import tempfile
 
-from creates import EXPORTS, FUNCS, HEADER, TYPES
-from shared import arguments, leb, sized
+from contents import numeric
+from shared import arguments
 
 RUNS = 20
-# local.get 0, i32.const, an operator, local.set 0
-OPERATORS = (0x6A, 0x6B, 0x6C, 0x71, 0x72, 0x73, 0x74, 0x76, 0x77)
-
-
-def numeric(size):
-    number, parts = 1, []
-    while size > 0:
-        number = (number * 69069 + 1) % (1 << 25)
-        part = b"\x20\0\x41" + leb(number) + bytes([OPERATORS[number % len(OPERATORS)]]) + b"\x21\0"
-        parts.append(part)
-        size -= len(part)
-    body = b"\x01\x01\x7f" + b"".join(parts) + b"\x0b"
-    return HEADER + TYPES + FUNCS + EXPORTS + b"\x0a" + sized(b"\x01" + sized(body))
 
 
 def timed(command):

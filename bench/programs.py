@@ -1,13 +1,15 @@
 #!/usr/bin/env python3
-"""Measures how fast tasks run, beside `wasm-interp` (Debian's wabt) in the same run.
+"""Measures how fast tasks run, beside `wasm-interp` (Debian's wabt) and, where it is installed, `jsc`, in the same run.
 
     bench/programs.py [PROGRAM] [--rounds N]
 
 Each C source in bench/programs is compiled by clang and wasm-ld (version 14) to a module and by the same clang to a
-native program, whose checksum both engines have to give. A task is put, created, started and waited for by `serve`;
+native program, whose checksum all engines have to give. A task is put, created, started and waited for by `serve`;
 its processor time is that of the process less that of one which creates the same task and does not start it.
-`wasm-interp` runs the module with its import left open, so that it prints the checksum and traps. The two take turns,
-N rounds (3); the least time of each counts. Prints seconds, the ratio of the two, and turns a second.
+`wasm-interp` runs the module with its import left open, so that it prints the checksum and traps. `jsc` (Debian's
+libjavascriptcoregtk-4.0-bin) is JavaScriptCore with its compilers switched off, so that modules are interpreted; what
+it takes for an empty entry is taken away. They take turns, N rounds (3); the least time of each counts. Prints
+seconds, how many times as fast `serve` is as each of the others, and turns a second.
 """
 import hashlib
 import json
@@ -15,14 +17,17 @@ import math
 import os
 import re
 import resource
+import shutil
 import subprocess
 import tempfile
 
+from contents import dropping
 from shared import TOP, arguments
 
 SOURCES = os.path.join(TOP, "bench/programs")
 WASM = ["clang-14", "--target=wasm32", "-mcpu=mvp", "-O2", "-nostdlib", "-ffreestanding", "-Wl,--no-entry",
         "-Wl,-z,stack-size=16384", "-Wl,--strip-all"]
+JSC = ["jsc", "--useBBQJIT=false", "--useOMGJIT=false", "--useConcurrentGC=false", os.path.join(SOURCES, "run.js"), "--"]
 
 
 def compiled(folder, name):
@@ -64,23 +69,42 @@ def by_wabt(module, checksum):
     return seconds
 
 
+def by_jsc(module, checksum, idle):
+    seconds, out = timed(JSC + [module])
+    assert int(out) == checksum, out
+    return seconds - idle
+
+
+def measured(program, module, checksum, empty, rounds):
+    """The least times of the engines, the product's first, and the turns."""
+    times = []
+    for _ in range(rounds):
+        seconds, turns = by_shim(program, module, checksum)
+        times.append([seconds, by_wabt(module, checksum)])
+        if shutil.which("jsc"):
+            idle, _ = timed(JSC + [empty])
+            times[-1].append(by_jsc(module, checksum, idle))
+    return [min(column) for column in zip(*times)], turns
+
+
 def main():
     program, rounds = arguments(3)
     names = sorted(name[:-2] for name in os.listdir(SOURCES) if name.endswith(".c"))
     ratios = []
-    print("%-10s %12s %8s %12s %8s %14s" % ("program", "turns", "shim", "wasm-interp", "ratio", "turns a second"))
+    print("%-10s %12s %8s %14s   %s" % ("program", "turns", "shim", "turns a second", "wasm-interp and jsc, each with its ratio"))
     with tempfile.TemporaryDirectory() as folder:
+        empty = os.path.join(folder, "empty.wasm")
+        with open(empty, "wb") as file:
+            file.write(dropping(0, b""))
         for name in names:
             module, checksum = compiled(folder, name)
-            shim, wabt = [], []
-            for _ in range(rounds):
-                seconds, turns = by_shim(program, module, checksum)
-                shim.append(seconds)
-                wabt.append(by_wabt(module, checksum))
-            ratios.append(min(wabt) / min(shim))
-            print("%-10s %12d %7.3fs %11.3fs %8.2f %11.0f M" % (
-                name, turns, min(shim), min(wabt), ratios[-1], turns / min(shim) / 1e6), flush=True)
-    print("geometric mean %.2f" % math.exp(sum(map(math.log, ratios)) / len(ratios)))
+            (shim, *others), turns = measured(program, module, checksum, empty, rounds)
+            ratios.append([other / shim for other in others])
+            said = "   ".join("%7.3fs %5.2f" % (other, other / shim) for other in others)
+            print("%-10s %12d %7.3fs %12.0f M   %s" % (name, turns, shim, turns / shim / 1e6, said), flush=True)
+    for column in zip(*ratios):
+        print("geometric mean %.2f" % math.exp(sum(map(math.log, column)) / len(column)))
 
 
-main()
+if __name__ == "__main__":
+    main()
