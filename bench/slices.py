@@ -3,22 +3,22 @@
 
     bench/slices.py [PROGRAM] [--rounds N]
 
-Slices: each program of bench/programs runs by `serve`, whose wait makes slices of 10,000 turns, and by `run`, which makes
-slices of 1,000,000; from both the same command's time for an empty entry is taken away. Functions: one module calls each of 4
-functions again and again, one has 4,091 more that are never called, and one calls each of 4,095; a call makes a loop of
-600 turns. All are processor times; the forms take turns, N rounds (5), and the least time of each counts.
+Each program of bench/programs runs by `serve`, whose wait makes slices of 10,000 turns, and by `run`, which makes slices
+of 1,000,000; from both the time in which `serve` creates the same task is taken away. Three more programs are modules
+of many functions: of 4 and of 4,095 functions the first 4 are called in turn, and of 4,095 all are; a call makes a loop
+of 600 turns. All are processor times; the two take turns, N rounds (5), and the least time of each counts.
 """
-import math
 import os
 import tempfile
 
-from contents import HEADER, TYPES, dropping
+from contents import HEADER, TYPES
 from programs import SOURCES, compiled, script, timed
 from shared import arguments, leb, sized
 
 # 100 rounds of: local.get 0, i32.const -1, i32.add, local.tee 0, br_if 0
 CALLED = b"\x01\x01\x7f\x41\xe4\0\x21\0\x03\x40\x20\0\x41\x7f\x6a\x22\0\x0d\0\x0b\x0b"
 ENOUGH = 200_000  # calls
+FORMS = ((4, 4), (4, 4095), (4095, 4095))  # functions that are called, of how many
 
 
 def calling(called, functions):
@@ -44,50 +44,30 @@ def written(folder, name, data):
     return path
 
 
-def by_serve(program, module, empty):
-    """Nanoseconds of a turn in slices of 10,000."""
-    idle, _ = timed([program, "serve"], script(empty, ["start", "wait"]))
-    busy, out = timed([program, "serve"], script(module, ["start", "wait"]))
-    turns = int(out.rpartition(b'"n":')[2].partition(b",")[0])
-    return (busy - idle) / turns * 1e9, turns
-
-
-def by_run(program, module, empty, turns):
-    """Nanoseconds of a turn in slices of 1,000,000."""
-    idle, _ = timed([program, "run", empty])
-    busy, _ = timed([program, "run", module])
-    return (busy - idle) / turns * 1e9
-
-
-def slices(program, rounds, folder, empty):
-    ratios = []
-    print("%-10s %12s %16s %16s %8s" % ("program", "turns", "serve (10,000)", "run (1,000,000)", "ratio"))
-    for name in sorted(name[:-2] for name in os.listdir(SOURCES) if name.endswith(".c")):
-        module, _ = compiled(folder, name)
-        short, long = [], []
-        for _ in range(rounds):
-            spent, turns = by_serve(program, module, empty)
-            short.append(spent)
-            long.append(by_run(program, module, empty, turns))
-        ratios.append(min(short) / min(long))
-        print("%-10s %12d %13.3f ns %13.3f ns %8.3f" % (name, turns, min(short), min(long), ratios[-1]), flush=True)
-    print("geometric mean %.3f" % math.exp(sum(map(math.log, ratios)) / len(ratios)))
-
-
-def functions(program, rounds, folder, empty):
-    forms = ((4, 4), (4, 4095), (4095, 4095))
-    modules = [written(folder, "f%d_%d" % form, calling(*form)) for form in forms]
-    times = [[by_serve(program, module, empty) for module in modules] for _ in range(rounds)]
-    for form, column in zip(forms, zip(*times)):
-        print("%5d functions of %5d are called: %8.3f ns a turn of %d" % (*form, *min(column)))
+def measured(program, module, rounds):
+    """The least nanoseconds of a turn in slices of 10,000 and of 1,000,000, and the turns."""
+    short, long = [], []
+    for _ in range(rounds):
+        idle, _ = timed([program, "serve"], script(module, []))
+        busy, out = timed([program, "serve"], script(module, ["start", "wait"]))
+        turns = int(out.rpartition(b'"n":')[2].partition(b",")[0])
+        short.append((busy - idle) / turns * 1e9)
+        long.append((timed([program, "run", module])[0] - idle) / turns * 1e9)
+    return min(short), min(long), turns
 
 
 def main():
     program, rounds = arguments(5)
+    print("%-16s %12s %16s %16s %8s" % ("program", "turns", "serve (10,000)", "run (1,000,000)", "ratio"))
     with tempfile.TemporaryDirectory() as folder:
-        empty = written(folder, "empty", dropping(0, b""))
-        slices(program, rounds, folder, empty)
-        functions(program, rounds, folder, empty)
+        names = sorted(name[:-2] for name in os.listdir(SOURCES) if name.endswith(".c"))
+        modules = [(name, compiled(folder, name)[0]) for name in names]
+        for form in FORMS:
+            name = "%d of %d called" % form
+            modules.append((name, written(folder, name, calling(*form))))
+        for name, module in modules:
+            short, long, turns = measured(program, module, rounds)
+            print("%-16s %12d %13.3f ns %13.3f ns %8.3f" % (name, turns, short, long, short / long), flush=True)
 
 
 if __name__ == "__main__":

@@ -40,7 +40,7 @@ fn run_slice(board: &mut Board, id: &str) -> bool
         return false;
     };
     loan.run();
-    let _ticket = board.give_back(loan);
+    let _ticket = board.receive(loan);
     true
 }
 

@@ -364,6 +364,21 @@ impl Board {
         self.tables.give_back(loan)
     }
 
+    /// Takes back the machine of a loan that has been run and that fits. Nothing is compared: who calls this
+    /// knows that the loan fits, since it was taken and nothing but the loan has changed since. A ticket of
+    /// the task comes exactly if the task is running afterwards. No memory is taken.
+    pub fn receive(&mut self, loan: Loan) -> Option<Ticket>
+        requires ran { loan.ran ≡ true }
+        requires fits { Fits loan self.old.state.tasks }
+        ensures home { Step self.old.state
+            (event.Return loan.id) (answer.Returned true) self.new.state }
+        ensures ticket { result ≡ ticket_in loan.slot self.new.state.tasks }
+        ensures waiting { self.new.waiting ≡ self.old.waiting }
+        ensures room { KeepsRoom self.old self.new }
+    {
+        self.tables.receive(loan)
+    }
+
     /// The task that has waited longest for a worker, which waits no more. None if none waits. No memory is
     /// taken.
     pub fn next_waiting(&mut self) -> Option<Ticket>

@@ -83,7 +83,7 @@ fn give_back(board: &mut Board, loans: &mut Vec<Loan>, id: Text) -> bool
     };
     let mut loan = loans.remove(i);
     loan.run();
-    let _again = board.give_back(loan);
+    let _again = board.receive(loan);
     true
 }
 

@@ -555,8 +555,8 @@ impl Tables {
         }
     }
 
-    // Takes the machine of a loan that fits back.
-    fn receive(&mut self, loan: Loan) -> Option<Ticket>
+    /// Takes the machine of a loan that fits back.
+    pub fn receive(&mut self, loan: Loan) -> Option<Ticket>
         requires ran { loan.ran ≡ true }
         requires fits { Fits loan self.old.state.tasks }
         ensures home { Step self.old.state

@@ -25,6 +25,17 @@ remove-loan-requires c =
     let within = fits_within s.tasks c.in-Some.ticket.slot c.args.loans.now.items c.in-Some-find_fitting.i at in
     omega (arith, within, c.args.loans.now.ok.0)
 
+pub receive-again-requires-clause-fits : goal.receive-again-requires-clause-fits
+receive-again-requires-clause-fits c =
+    let s = c.args.board.now.state in
+    let at =
+    subst (λ (ls : List Lent). FitsAt s.tasks c.in-Some.ticket.slot ls c.in-Some-find_fitting.i)
+    c.as_slice.ensures.value c.in-Some-find_fitting.ensures.some in
+    let taken =
+    fits_taken s.tasks c.in-Some.ticket.slot c.args.loans.now.items c.in-Some-find_fitting.i c.remove-loan.result at
+    c.remove-loan.ensures.value in
+    (fits_run s.tasks c.in-Some.ticket.slot c.remove-loan.result c.run.new.self c.run.ensures taken.1).1
+
 pub returns-clause-returned : goal.returns-clause-returned
 returns-clause-returned c =
     let s = c.args.board.now.state in
@@ -37,8 +48,8 @@ returns-clause-returned c =
     c.remove-loan.ensures.value in
     let ran = fits_run s.tasks c.in-Some.ticket.slot c.remove-loan.result c.run.new.self c.run.ensures taken.1 in
     let of = fitting_id s c.args.id c.in-Some.ticket c.run.new.self c.sound.ensures ticket ran in
-    subst (λ (x : List ℕ). Returns s (task_of x s.tasks) c.give_back-again.new.self.state) of.own
-    (c.give_back-again.ensures.home ran.1)
+    subst (λ (x : List ℕ). Returns s (task_of x s.tasks) c.receive-again.new.self.state) of.own
+    c.receive-again.ensures.home
 
 pub returns-clause-covered : goal.returns-clause-covered
 returns-clause-covered c =
@@ -54,8 +65,8 @@ returns-clause-covered c =
     let mine = fitting_id s c.args.id c.in-Some.ticket c.remove-loan.result c.sound.ensures ticket taken.1 in
     let of = fitting_id s c.args.id c.in-Some.ticket c.run.new.self c.sound.ensures ticket ran in
     let back =
-    subst (λ (x : List ℕ). Returns s (task_of x s.tasks) c.give_back-again.new.self.state) of.own
-    (c.give_back-again.ensures.home ran.1) in
-    subst (λ (ls : List Lent). Covered ls c.give_back-again.new.self.state.tasks) (sym c.remove-loan.ensures.items)
+    subst (λ (x : List ℕ). Returns s (task_of x s.tasks) c.receive-again.new.self.state) of.own
+    c.receive-again.ensures.home in
+    subst (λ (ls : List Lent). Covered ls c.receive-again.new.self.state.tasks) (sym c.remove-loan.ensures.items)
     (returns_covered s c.args.loans.now.items c.in-Some-find_fitting.i c.remove-loan.result mine.task c.args.id
-    c.give_back-again.new.self.state c.sound.ensures taken.0 mine.there mine.found back c.requires)
+    c.receive-again.new.self.state c.sound.ensures taken.0 mine.there mine.found back c.requires)
