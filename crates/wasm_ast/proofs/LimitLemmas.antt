@@ -10,7 +10,13 @@ use Rattle.wasm_ast.specs.declared.module.Global.{Global}
 use Rattle.wasm_ast.specs.declared.module.Element.{Element}
 use Rattle.wasm_ast.specs.declared.module.Segment.{Segment}
 use Rattle.wasm_ast.specs.Syntax.{Ops}
-use Rattle.wasm_ast.specs.Limits.{max_table_entries, max_memory_pages, FuncWithin, MinWithin, NestsWithin, Within, is_func_within, is_min_within, nests_within, are_all, is_within}
+use Rattle.wasm_ast.specs.Limits.{max_table_entries, max_memory_pages, TypeWithin, FuncWithin, MinWithin, NestsWithin, Within, is_type_within, is_func_within, is_min_within, nests_within, are_all, is_within}
+
+type_within : (t : FuncType) → is_type_within t ≡ true → TypeWithin t
+type_within t h = grind (arith, nat_tests)
+
+within_type : (t : FuncType) → TypeWithin t → is_type_within t ≡ true
+within_type t h = grind (arith, nat_tests)
 
 func_within : (types : List FuncType) (f : Func) → is_func_within types f ≡ true → FuncWithin types f
 func_within types f h = record {
@@ -54,6 +60,7 @@ nested os h = grind (arith, nat_tests)
 
 pub module_within : (m : Module) → is_within m ≡ true → Within m
 module_within m h = record {
+  types = all_hold TypeWithin is_type_within type_within m.types (grind (arith, nat_tests));
   functions = grind (arith, nat_tests);
   funcs =
       all_hold (FuncWithin m.types) (is_func_within m.types) (func_within m.types) m.funcs (grind (arith, nat_tests));
@@ -76,6 +83,7 @@ module_within m h = record {
 
 pub within_module : (m : Module) → Within m → is_within m ≡ true
 within_module m w =
+    let types = hold_all TypeWithin is_type_within within_type m.types w.types in
     let functions = w.functions in
     let funcs = hold_all (FuncWithin m.types) (is_func_within m.types) (within_func m.types) m.funcs w.funcs in
     let tables =

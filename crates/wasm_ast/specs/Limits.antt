@@ -21,6 +21,10 @@ max_functions = 4096
 abbrev pub max_locals : ℕ
 max_locals = 1024
 
+-- results of a function type
+abbrev pub max_results : ℕ
+max_results = 1024
+
 -- blocks that are open at once
 abbrev pub max_nesting : ℕ
 max_nesting = 256
@@ -53,6 +57,9 @@ params_in (Some t) = length t.params
 abbrev pub params_of : List FuncType → ℕ → ℕ
 params_of types i = params_in (slice_get types i)
 
+abbrev pub TypeWithin : FuncType → Type 0
+TypeWithin t = length t.results ≤ max_results
+
 pub record FuncWithin (types : List FuncType) (f : Func) : Type 0 where
   pub locals : params_of types f.type_index + length f.locals ≤ max_locals
   pub nesting : ops_depth f.body ≤ max_nesting
@@ -66,6 +73,7 @@ abbrev pub NestsWithin : Ops → Type 0
 NestsWithin os = ops_depth os ≤ max_nesting
 
 pub record Within (m : Module) : Type 0 where
+  pub types : All TypeWithin m.types
   pub functions : length m.imports + length m.funcs ≤ max_functions
   pub funcs : All (FuncWithin m.types) m.funcs
   pub tables : All (MinWithin max_table_entries) m.tables
@@ -75,6 +83,9 @@ pub record Within (m : Module) : Type 0 where
   pub segments : All (λ s. NestsWithin s.offset) m.segments
 
 -- the same as a test
+abbrev pub is_type_within : FuncType → Bool
+is_type_within t = nat_le (length t.results) max_results
+
 abbrev pub is_func_within : List FuncType → Func → Bool
 is_func_within types f =
     nat_le (params_of types f.type_index + length f.locals) max_locals
@@ -92,7 +103,8 @@ nests_within os = nat_le (ops_depth os) max_nesting
 
 abbrev pub is_within : Module → Bool
 is_within m =
-    nat_le (length m.imports + length m.funcs) max_functions
+    are_all is_type_within m.types
+    && nat_le (length m.imports + length m.funcs) max_functions
     && are_all (is_func_within m.types) m.funcs
     && are_all (is_min_within max_table_entries) m.tables
     && are_all (is_min_within max_memory_pages) m.memories

@@ -3,6 +3,8 @@
 use Rattle.std.specs.Prelude.{ℕ, ◌<◌, ◌^◌, All, IsUtf8, Option, Some, None}
 use Rattle.wasm_ast.specs.declared.values.Value.{Value}
 use Rattle.wasm_ast.specs.declared.values.Value.TheVariants.{I32, I64}
+use Rattle.wasm_ast.specs.declared.instr.BlockType.{BlockType}
+use Rattle.wasm_ast.specs.declared.instr.BlockType.TheVariants.{Index}
 use Rattle.wasm_ast.specs.declared.instr.Simple.{Simple}
 use Rattle.wasm_ast.specs.declared.instr.Simple.TheVariants.{Br, BrIf, BrTable, Call, CallIndirect, Local, Global, Load, Store, Const}
 use Rattle.wasm_ast.specs.declared.instr.MemArg.{MemArg}
@@ -40,12 +42,18 @@ RangedSimple (Const value) = RangedValue value
 -- those without a number
 RangedSimple _ = Unit {0}
 
+abbrev pub RangedBlockType : BlockType → Type 0
+RangedBlockType (Index type) = IsU32 type
+-- those without a number
+RangedBlockType _ = Unit {0}
+
 abbrev mutual
   pub RangedOp : Op → Type 0
   RangedOp (simple s) = RangedSimple s
-  RangedOp (block type body) = RangedOps body
-  RangedOp (loop type body) = RangedOps body
-  RangedOp (if' type then_arm else_arm) = RangedOps then_arm × RangedOps else_arm
+  RangedOp (block type body) = RangedBlockType type × RangedOps body
+  RangedOp (loop type body) = RangedBlockType type × RangedOps body
+  RangedOp (if' type then_arm else_arm) =
+      RangedBlockType type × RangedOps then_arm × RangedOps else_arm
 
   pub RangedOps : Ops → Type 0
   RangedOps stop = Unit {0}

@@ -7,7 +7,7 @@ use Rattle.wasm_ast.specs.declared.values.Value.{Value}
 use Rattle.wasm_ast.specs.declared.values.Value.TheVariants.{I32, I64}
 use Rattle.wasm_ast.specs.declared.values.FuncType.{FuncType}
 use Rattle.wasm_ast.specs.declared.instr.BlockType.{BlockType}
-use Rattle.wasm_ast.specs.declared.instr.BlockType.TheVariants.{Empty, One}
+use Rattle.wasm_ast.specs.declared.instr.BlockType.TheVariants.{Empty, One, Index}
 use Rattle.wasm_ast.specs.declared.module.Module.{Module}
 
 -- the type of a value (4.2.1)
@@ -20,10 +20,11 @@ abbrev pub zero_of : ValType → Value
 zero_of type.I32 = I32 0
 zero_of type.I64 = I64 0
 
--- a block's type as a function's (2.4.5)
+-- a block's type as a function's (2.4.5; by index Core 2.0, 2.4.8): none for an index that names no type
 abbrev pub block_type : List FuncType → BlockType → Option FuncType
 block_type types Empty = Some (record { params = []; results = [] })
 block_type types (One t) = Some (record { params = []; results = t ∷ [] })
+block_type types (Index i) = slice_get types i
 
 -- the types of a module's functions, imports first (2.5.1): none for one whose index names no type
 abbrev pub func_types : Module → List (Option FuncType)

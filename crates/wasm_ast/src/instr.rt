@@ -4,7 +4,7 @@ ghost use Rattle.std.specs.Prelude.{◌≡◌, map, nat_le, IfOk};
 ghost use Rattle.wasm_ast.specs.Syntax.{ops_of};
 ghost use Rattle.wasm_ast.specs.View.{op_of};
 ghost use Rattle.wasm_ast.specs.Limits.{depth, ops_depth};
-ghost use Rattle.wasm_ast.specs.Ranged.{RangedSimple, RangedMemArg, RangedOp, RangedOps};
+ghost use Rattle.wasm_ast.specs.Ranged.{RangedBlockType, RangedSimple, RangedMemArg, RangedOp, RangedOps};
 
 use crate::operators::{BinaryOp, ConvertOp, LoadOp, RelationOp, StoreOp, TestOp, UnaryOp};
 use crate::sequence::{Labels, indices_ranged};
@@ -13,11 +13,24 @@ use std::alloc::{AllocError, Global};
 use std::boxed::Box;
 use std::marker::Model;
 
-/// The type of a block (2.4.5): from nothing to nothing, or to one value.
+/// The type of a block (2.4.5): from nothing to nothing, or to one value; or the function type with this
+/// index (Core 2.0, 2.4.8). These are three forms, even where two of them mean the same.
 #[derive(Clone, Copy, PartialEq, Eq, Debug)]
 pub enum BlockType {
     Empty,
     One(ValType),
+    Index(u32),
+}
+
+impl BlockType {
+    /// Shows that its index, if it has one, is in range.
+    pub fn ranged(&self)
+        ensures { RangedBlockType self.now }
+    {
+        if let BlockType::Index(index) = self {
+            let _in_range = *index;
+        }
+    }
 }
 
 /// What an instruction does with a local (2.4.3).
@@ -88,7 +101,7 @@ pub enum Simple {
     Test(ValType, TestOp),
     /// a comparison of two operands of this type
     Compare(ValType, RelationOp),
-    /// a conversion of an operand of one type to the other
+    /// a conversion of an operand
     Convert(ConvertOp),
 }
 
@@ -165,8 +178,12 @@ impl Instr {
     {
         match self {
             Instr::Simple(simple) => simple.ranged(),
-            Instr::Block(_, body) | Instr::Loop(_, body) => body.ranged(),
-            Instr::If(_, then_arm, else_arm) => {
+            Instr::Block(block_type, body) | Instr::Loop(block_type, body) => {
+                block_type.ranged();
+                body.ranged();
+            }
+            Instr::If(block_type, then_arm, else_arm) => {
+                block_type.ranged();
                 then_arm.ranged();
                 else_arm.ranged();
             }

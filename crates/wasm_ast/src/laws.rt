@@ -1,12 +1,16 @@
 //! What is proved of the definitions themselves.
 
-ghost use Rattle.std.specs.Prelude.{◌≡◌, ◌↔◌, ℕ, [], ◌∷◌, map, IsTrue, nat_lt, is_some, Some, None, true, false};
-ghost use Rattle.wasm_ast.specs.Limits.{Within, is_within, ops_depth, max_module_bytes, max_functions, max_locals, max_nesting, max_table_entries, max_memory_pages};
+ghost use Rattle.std.specs.Prelude.{◌≡◌, ◌↔◌, ℕ, [], ◌∷◌, map, IsTrue, nat_lt, is_some, Option, Some, None, true, false, codes};
+ghost use Rattle.wasm_ast.specs.Names.{trap_name, refusal_number};
+ghost use Rattle.wasm_ast.specs.declared.place.Place.{Place};
+ghost use Rattle.wasm_ast.specs.declared.trap.Trap.TheVariants as trap;
+ghost use Rattle.wasm_ast.specs.declared.refusal.Refusal.TheVariants as refusal;
+ghost use Rattle.wasm_ast.specs.Limits.{Within, is_within, ops_depth, max_module_bytes, max_functions, max_locals, max_results, max_nesting, max_table_entries, max_memory_pages};
 ghost use Rattle.wasm_ast.specs.Syntax.{Ops, simple, ops_count, ops_at};
 ghost use Rattle.wasm_ast.specs.Types.{type_of, zero_of, block_type, type_at};
 ghost use Rattle.wasm_ast.specs.Access.{load_type, load_bytes, is_sign_extended, store_type, store_bytes};
 ghost use Rattle.wasm_ast.specs.Worked.{inner_if, outer_block, worked};
-ghost use Rattle.wasm_ast.specs.declared.instr.BlockType.TheVariants.{Empty, One};
+ghost use Rattle.wasm_ast.specs.declared.instr.BlockType.TheVariants.{Empty, One, Index};
 ghost use Rattle.wasm_ast.specs.declared.instr.Simple.TheVariants as instr;
 ghost use Rattle.wasm_ast.specs.declared.operators.LoadOp.TheVariants as load;
 ghost use Rattle.wasm_ast.specs.declared.operators.StoreOp.TheVariants as store;
@@ -77,6 +81,32 @@ pub fn stores_write_their_bytes()
         ≡ 8 ∷ 1 ∷ 2 ∷ 4 ∷ [] }
 {}
 
+/// The names of traps, in the order of `Trap`.
+pub fn traps_are_named()
+    ensures names { map trap_name (trap.Unreachable ∷ trap.IntegerDivideByZero ∷ trap.IntegerOverflow
+        ∷ trap.OutOfBoundsMemoryAccess ∷ trap.UndefinedElement ∷ trap.UninitializedElement
+        ∷ trap.IndirectCallTypeMismatch ∷ trap.Exhausted ∷ trap.TurnLimit ∷ [])
+        ≡ codes "unreachable" ∷ codes "integer divide by zero" ∷ codes "integer overflow"
+        ∷ codes "out of bounds memory access" ∷ codes "undefined element"
+        ∷ codes "uninitialized element" ∷ codes "indirect call type mismatch" ∷ codes "exhausted"
+        ∷ codes "turn_limit" ∷ [] }
+{}
+
+/// The refusals in the order of their numbers: these are 1 to 23, whatever a refusal says besides.
+pub fn refusals_are_numbered()
+    ensures from_1 { map refusal_number (refusal.BadRequest ∷ refusal.BadId ∷ refusal.Exists
+        ∷ refusal.NotFound ∷ refusal.NoContent ∷ refusal.InUse ∷ refusal.BadModule ∷ [])
+        ≡ 1 ∷ 2 ∷ 3 ∷ 4 ∷ 5 ∷ 6 ∷ 7 ∷ [] }
+    ensures invalid { (at : Option Place) → refusal_number (refusal.Invalid at) ≡ 8 }
+    ensures from_9 { map refusal_number (refusal.Limit ∷ refusal.BadConfig ∷ refusal.WrongStatus
+        ∷ refusal.Busy ∷ refusal.OutOfRange ∷ refusal.TooMany ∷ refusal.JournalFull
+        ∷ refusal.DigestConflict ∷ refusal.NoMemory ∷ [])
+        ≡ 9 ∷ 10 ∷ 11 ∷ 12 ∷ 13 ∷ 14 ∷ 15 ∷ 16 ∷ 17 ∷ [] }
+    ensures text { (line column : ℕ) → refusal_number (refusal.BadText line column) ≡ 18 }
+    ensures from_19 { map refusal_number (refusal.Closed ∷ refusal.JournalFault ∷ refusal.NoEntry
+        ∷ refusal.BadImport ∷ refusal.SegmentOutOfBounds ∷ []) ≡ 19 ∷ 20 ∷ 21 ∷ 22 ∷ 23 ∷ [] }
+{}
+
 /// A worked sequence: what is at each of its places, and how many blocks are open at once.
 pub fn places_are_in_written_order()
     ensures first { ops_at worked 0 ≡ Some outer_block }
@@ -94,6 +124,10 @@ pub fn types_are_looked_up()
     ensures empty { block_type [] Empty ≡ Some (record { params = []; results = [] }) }
     ensures one { block_type [] (One type.I64)
         ≡ Some (record { params = []; results = type.I64 ∷ [] }) }
+    ensures by_index { block_type
+        (record { params = []; results = [] } ∷ record { params = type.I32 ∷ []; results = type.I64 ∷ type.I32 ∷ [] } ∷ [])
+        (Index 1) ≡ Some (record { params = type.I32 ∷ []; results = type.I64 ∷ type.I32 ∷ [] }) }
+    ensures no_type { block_type [] (Index 0) ≡ None }
     ensures second { type_at (None ∷ Some (record { params = []; results = [] }) ∷ []) 1
         ≡ Some (record { params = []; results = [] }) }
     ensures none { type_at (None ∷ []) 0 ≡ None }
@@ -113,6 +147,7 @@ pub fn limits_are_those_of_the_profile()
     ensures bytes { max_module_bytes ≡ 262144 }
     ensures functions { max_functions ≡ 4096 }
     ensures locals { max_locals ≡ 1024 }
+    ensures results { max_results ≡ 1024 }
     ensures nesting { max_nesting ≡ 256 }
     ensures table { max_table_entries ≡ 4096 }
     ensures memory { max_memory_pages ≡ 256 }

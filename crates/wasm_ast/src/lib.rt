@@ -1,7 +1,8 @@
 //! The abstract syntax of WebAssembly modules, and the words that every layer above shares: values,
 //! traps and refusals.
 //!
-//! Sections are those of the WebAssembly Core Specification 1.0.
+//! Sections are those of the WebAssembly Core Specification 1.0, but where Core 2.0 is named: the sign
+//! extensions, several results and types of blocks by index are from there.
 #![tactic(auto)]
 
 mod func_types;
@@ -21,8 +22,8 @@ pub use identifier::{is_digest, is_id};
 pub use instr::{BlockType, Body, GlobalOp, Instr, LocalOp, MemArg, Simple};
 pub use module::{
     Element, Export, ExportKind, Func, Global, Import, Limits, MAX_FUNCTIONS, MAX_LOCALS,
-    MAX_MEMORY_PAGES, MAX_MODULE_BYTES, MAX_NESTING, MAX_TABLE_ENTRIES, Module, Mutability,
-    Segment,
+    MAX_MEMORY_PAGES, MAX_MODULE_BYTES, MAX_NESTING, MAX_RESULTS, MAX_TABLE_ENTRIES, Module,
+    Mutability, Segment,
 };
 pub use operators::{BinaryOp, ConvertOp, LoadOp, RelationOp, StoreOp, TestOp, UnaryOp};
 pub use place::Place;

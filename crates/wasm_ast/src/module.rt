@@ -1,7 +1,7 @@
 //! Modules (2.5).
 
 ghost use Rattle.std.specs.Prelude.{◌≡◌, All};
-ghost use Rattle.wasm_ast.specs.Limits.{max_nesting, params_of, is_func_within, is_min_within, nests_within, are_all, is_within};
+ghost use Rattle.wasm_ast.specs.Limits.{max_nesting, params_of, is_type_within, is_func_within, is_min_within, nests_within, are_all, is_within};
 ghost use Rattle.wasm_ast.specs.Ranged.{Ranged, RangedImport, RangedFunc, RangedLimits, RangedGlobal, RangedElement, RangedSegment, RangedExport, RangedStart, AreTexts, HasImportTexts, HasExportText};
 
 use crate::instr::Body;
@@ -17,6 +17,9 @@ pub const MAX_FUNCTIONS: usize = 4096;
 
 /// Locals that a function may have, parameters included.
 pub const MAX_LOCALS: usize = 1024;
+
+/// Results that a function type may have.
+pub const MAX_RESULTS: usize = 1024;
 
 /// Blocks that may be open at once.
 pub const MAX_NESTING: usize = 256;
@@ -202,13 +205,14 @@ pub struct Module {
 }
 
 impl Module {
-    /// Whether the module is within the profile's limits: 4,096 functions with imports, 1,024 locals to
-    /// a function, parameters included, 256 blocks that are open at once, and tables and memories that
-    /// begin with at most 4,096 entries and 256 pages.
+    /// Whether the module is within the profile's limits: 1,024 results to a function type, 4,096 functions
+    /// with imports, 1,024 locals to a function, parameters included, 256 blocks that are open at once, and
+    /// tables and memories that begin with at most 4,096 entries and 256 pages.
     pub fn is_within_limits(&self) -> bool
         ensures { result ≡ is_within self.now }
     {
-        self.imports.len() <= MAX_FUNCTIONS
+        are_types_within(self.types.as_slice())
+            && self.imports.len() <= MAX_FUNCTIONS
             && self.funcs.len() <= MAX_FUNCTIONS - self.imports.len()
             && are_funcs_within(self.types.as_slice(), self.funcs.as_slice())
             && are_mins_within(MAX_TABLE_ENTRIES, self.tables.as_slice())
@@ -250,6 +254,17 @@ fn params_of(types: &[FuncType], index: u32) -> usize
         Some(found) => found.params.len(),
         None => 0,
     }
+}
+
+fn are_types_within(types: &[FuncType]) -> bool
+    ensures { result ≡ are_all is_type_within types.now }
+{
+    for func_type in types {
+        if func_type.results.len() > MAX_RESULTS {
+            return false;
+        }
+    }
+    true
 }
 
 fn is_func_within(types: &[FuncType], func: &Func) -> bool

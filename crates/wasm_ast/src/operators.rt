@@ -49,7 +49,8 @@ pub enum RelationOp {
     GeU,
 }
 
-/// A conversion from one width to the other.
+/// A conversion: from one width to the other, or of a type to itself by the sign of its low bits (the latter
+/// are of Core 2.0, 2.4.1).
 #[derive(Clone, Copy, PartialEq, Eq, Debug)]
 pub enum ConvertOp {
     /// `i32.wrap_i64`
@@ -58,6 +59,16 @@ pub enum ConvertOp {
     ExtendS,
     /// `i64.extend_i32_u`
     ExtendU,
+    /// `i32.extend8_s`
+    I32From8S,
+    /// `i32.extend16_s`
+    I32From16S,
+    /// `i64.extend8_s`
+    I64From8S,
+    /// `i64.extend16_s`
+    I64From16S,
+    /// `i64.extend32_s`
+    I64From32S,
 }
 
 /// A load from memory (2.4.4): the type of its result and, if it reads fewer bytes than that type has, how

@@ -3,6 +3,7 @@
 ghost use Rattle.std.specs.Prelude.{◌≡◌, Some};
 ghost use Rattle.wasm_ast.specs.Names.{refusal_number, refusal_name};
 
+use crate::place::Place;
 use std::alloc::AllocError;
 use std::fmt;
 
@@ -23,8 +24,10 @@ pub enum Refusal {
     InUse,
     /// The bytes encode no module.
     BadModule,
-    /// The module is not valid.
-    Invalid,
+    /// The module is not valid. A fault inside a body names the function and an instruction of it: the one
+    /// at fault; the block of a fault at its `else` or `end`; at the body's end the number of its
+    /// instructions. A fault outside bodies has no place.
+    Invalid(Option<Place>),
     /// A limit of the profile is passed.
     Limit,
     /// The config is malformed, or asks for what this shim does not have.
@@ -70,7 +73,7 @@ impl Refusal {
             Refusal::NoContent => 5,
             Refusal::InUse => 6,
             Refusal::BadModule => 7,
-            Refusal::Invalid => 8,
+            Refusal::Invalid(_) => 8,
             Refusal::Limit => 9,
             Refusal::BadConfig => 10,
             Refusal::WrongStatus => 11,
@@ -101,7 +104,7 @@ impl Refusal {
             Refusal::NoContent => "NoContent",
             Refusal::InUse => "InUse",
             Refusal::BadModule => "BadModule",
-            Refusal::Invalid => "Invalid",
+            Refusal::Invalid(_) => "Invalid",
             Refusal::Limit => "Limit",
             Refusal::BadConfig => "BadConfig",
             Refusal::WrongStatus => "WrongStatus",
