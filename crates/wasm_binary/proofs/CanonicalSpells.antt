@@ -8,7 +8,7 @@ use Rattle.wasm_ast.specs.declared.values.ValType.{ValType}
 use Rattle.wasm_ast.specs.declared.values.FuncType.{FuncType}
 use Rattle.wasm_ast.specs.declared.values.Value.TheVariants.{I32, I64}
 use Rattle.wasm_ast.specs.declared.instr.BlockType.{BlockType}
-use Rattle.wasm_ast.specs.declared.instr.BlockType.TheVariants.{Empty, One}
+use Rattle.wasm_ast.specs.declared.instr.BlockType.TheVariants.{Empty, One, Index}
 use Rattle.wasm_ast.specs.declared.instr.MemArg.{MemArg}
 use Rattle.wasm_ast.specs.declared.instr.Simple.{Simple}
 use Rattle.wasm_ast.specs.declared.instr.Simple.TheVariants.{Unreachable, Nop, Br, BrIf, BrTable, Return, Call, CallIndirect, Drop, Select, Local, Global, Load, Store, MemorySize, MemoryGrow, Const, Unary, Binary, Test, Compare, Convert}
@@ -23,7 +23,7 @@ use Rattle.wasm_ast.specs.declared.module.Export.{Export}
 use Rattle.wasm_ast.specs.declared.module.Module.{Module}
 use Rattle.wasm_ast.specs.Syntax.{Op, simple, block, loop, if', Ops, stop, next}
 use Rattle.wasm_ast.specs.Ranged as ranged
-use Rattle.wasm_ast.specs.Ranged.{RangedSimple, RangedMemArg, RangedOp, RangedOps, RangedImport, RangedFunc, RangedMax, RangedLimits, RangedGlobal, RangedElement, RangedSegment, RangedExport, RangedStart, Ranged, HasImportTexts, HasExportText, AreTexts}
+use Rattle.wasm_ast.specs.Ranged.{RangedBlockType, RangedSimple, RangedMemArg, RangedOp, RangedOps, RangedImport, RangedFunc, RangedMax, RangedLimits, RangedGlobal, RangedElement, RangedSegment, RangedExport, RangedStart, Ranged, HasImportTexts, HasExportText, AreTexts}
 use Rattle.wasm_ast.specs.Limits.{max_module_bytes, max_locals, FuncWithin}
 use Rattle.wasm_binary.specs.Numbers as numbers
 use Rattle.wasm_binary.specs.Opcodes.{mutability_byte, kind_byte, reserved_byte, else_byte, end_byte, type_section, import_section, function_section, table_section, memory_section, global_section, export_section, start_section, element_section, code_section, data_section, preamble}
@@ -133,9 +133,11 @@ all_func_types : (ts : List FuncType) → AllByRecursion (λ t. Unit {0}) ts
 all_func_types [] = tt
 all_func_types (t ∷ ts) = (tt, all_func_types ts)
 
-block_type_spells : (t : BlockType) (rest : List ℕ) → IsBlockType (canon_block_type t ++ rest) t rest
-block_type_spells Empty rest = refl
-block_type_spells (One t) rest = refl
+pub block_type_spells :
+    (t : BlockType) (rest : List ℕ) → RangedBlockType t → IsBlockType (canon_block_type t ++ rest) t rest
+block_type_spells Empty rest h = refl
+block_type_spells (One t) rest h = refl
+block_type_spells (Index i) rest h = (signed_spells 4 33 i rest (omega (arith, h)) (omega arith) (omega arith), h)
 
 sizes_spells :
     (min : ℕ) (max : Option ℕ) (rest : List ℕ) → ranged.IsU32 min → RangedMax max
@@ -235,8 +237,8 @@ mutual
         mid,
         refl,
         subst (λ bytes. IsBlockType bytes type mid)
-            (sym (three (canon_block_type type) (canon_ops body) (end_byte ∷ []) rest)) (block_type_spells type mid),
-        ops_spell body (end_byte ∷ rest) h
+            (sym (three (canon_block_type type) (canon_ops body) (end_byte ∷ []) rest)) (block_type_spells type mid h.0),
+        ops_spell body (end_byte ∷ rest) h.1
             (three_long (canon_block_type type) (canon_ops body) (end_byte ∷ []) max_module_bytes (omega arith)),
       )
   op_spells (loop type body) rest h few =
@@ -245,8 +247,8 @@ mutual
         mid,
         refl,
         subst (λ bytes. IsBlockType bytes type mid)
-            (sym (three (canon_block_type type) (canon_ops body) (end_byte ∷ []) rest)) (block_type_spells type mid),
-        ops_spell body (end_byte ∷ rest) h
+            (sym (three (canon_block_type type) (canon_ops body) (end_byte ∷ []) rest)) (block_type_spells type mid h.0),
+        ops_spell body (end_byte ∷ rest) h.1
             (three_long (canon_block_type type) (canon_ops body) (end_byte ∷ []) max_module_bytes (omega arith)),
       )
   op_spells (if' type first stop) rest h few =
@@ -258,8 +260,8 @@ mutual
         refl,
         subst (λ bytes. IsBlockType bytes type mid)
             (sym (five (canon_block_type type) (canon_ops first) [] [] (end_byte ∷ []) rest))
-            (block_type_spells type mid),
-        inl (ops_spell first (end_byte ∷ rest) h.0 long.0, refl),
+            (block_type_spells type mid h.0),
+        inl (ops_spell first (end_byte ∷ rest) h.1 long.0, refl),
       )
   op_spells (if' type first (next o os)) rest h few =
       let second = canon_ops (next o os) in
@@ -273,8 +275,8 @@ mutual
         refl,
         subst (λ bytes. IsBlockType bytes type mid)
             (sym (five (canon_block_type type) (canon_ops first) (else_byte ∷ []) second (end_byte ∷ []) rest))
-            (block_type_spells type mid),
-        inr (from, ops_spell first (else_byte ∷ from) h.0 long.0, ops_spell (next o os) (end_byte ∷ rest) h.1 long.1),
+            (block_type_spells type mid h.0),
+        inr (from, ops_spell first (else_byte ∷ from) h.1 long.0, ops_spell (next o os) (end_byte ∷ rest) h.2 long.1),
       )
 
   ops_spell :

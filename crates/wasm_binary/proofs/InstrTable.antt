@@ -134,6 +134,11 @@ found_by (Binary type.I64 binary.Rotr) = refl
 found_by (Convert convert.Wrap) = refl
 found_by (Convert convert.ExtendS) = refl
 found_by (Convert convert.ExtendU) = refl
+found_by (Convert convert.I32From8S) = refl
+found_by (Convert convert.I32From16S) = refl
+found_by (Convert convert.I64From8S) = refl
+found_by (Convert convert.I64From16S) = refl
+found_by (Convert convert.I64From32S) = refl
 
 -- a byte that is no opcode of these
 pub not_opcode : (s : Simple) (b : ℕ) → instruction_of b ≡ None → eqb (opcode s) b ≡ false

@@ -21,3 +21,4 @@ pub mod LocalRuns
 pub mod WriteInstrs
 pub mod CanonicalNumbers
 pub mod CanonicalSpells
+pub mod BlockTypes

@@ -13,17 +13,17 @@ use Rattle.wasm_ast.specs.declared.module.Segment.{Segment}
 use Rattle.wasm_ast.specs.declared.module.Func.{Func}
 use Rattle.wasm_ast.specs.declared.module.Module.{Module}
 use Rattle.wasm_ast.specs.Syntax.{Op, Ops, stop, next}
-use Rattle.wasm_ast.specs.Limits.{max_module_bytes, max_functions, max_locals, max_nesting, max_table_entries, max_memory_pages, params_of, MinWithin, NestsWithin}
+use Rattle.wasm_ast.specs.Limits.{max_module_bytes, max_functions, max_locals, max_results, max_nesting, max_table_entries, max_memory_pages, params_of, TypeWithin, MinWithin, NestsWithin}
 use Rattle.wasm_binary.specs.declared.fault.Fault.{Fault}
 use Rattle.wasm_binary.specs.declared.fault.Fault.TheVariants.{Bad, Over}
 use Rattle.wasm_binary.specs.Numbers.{IsU32}
-use Rattle.wasm_binary.specs.Opcodes.{min_byte, min_max_byte, table_type_byte, if_byte, else_byte, import_section, function_section, table_section, memory_section, global_section, element_section, code_section, data_section, preamble}
-use Rattle.wasm_binary.specs.Grammar.{Form, AreItems, IsRun, IsValType, IsBlockType, locals_of, AreOps, IsCode, IsEntry, IsFuncType, IsImport, IsTable, IsMemory, IsGlobal, IsExport, IsStart, IsElement, IsSegment, indices_of, UpToTypes, UpToImports, UpToFunctions, UpToTables, UpToMemories, UpToGlobals, UpToStart, UpToElements, UpToCodes}
-use Rattle.wasm_binary.specs.Limits.{WithinSize, InSection, InVector, NumberOver, LocalsOver, LimitsOver, TableOver, MemoryOver, OpensBlock, BeginsBlock, TooDeep, BlocksOver, GlobalOver, OffsetOver, EntryOver, too_many_bytes, too_many_imports, too_many_functions, table_too_large, memory_too_large, global_too_deep, element_too_deep, too_many_locals, code_too_deep, segment_too_deep}
+use Rattle.wasm_binary.specs.Opcodes.{func_type_byte, min_byte, min_max_byte, table_type_byte, if_byte, else_byte, type_section, import_section, function_section, table_section, memory_section, global_section, element_section, code_section, data_section, preamble}
+use Rattle.wasm_binary.specs.Grammar.{Form, AreItems, IsRun, IsValType, IsBlockType, locals_of, AreCustom, AreOps, IsCode, IsEntry, IsFuncType, IsImport, IsTable, IsMemory, IsGlobal, IsExport, IsStart, IsElement, IsSegment, indices_of, UpToTypes, UpToImports, UpToFunctions, UpToTables, UpToMemories, UpToGlobals, UpToStart, UpToElements, UpToCodes}
+use Rattle.wasm_binary.specs.Limits.{WithinSize, InSection, InVector, NumberOver, ResultsOver, LocalsOver, LimitsOver, TableOver, MemoryOver, OpensBlock, BeginsBlock, TooDeep, BlocksOver, GlobalOver, OffsetOver, EntryOver, too_many_bytes, too_many_results, too_many_imports, too_many_functions, table_too_large, memory_too_large, global_too_deep, element_too_deep, too_many_locals, code_too_deep, segment_too_deep}
 use Rattle.wasm_binary.specs.Limits as limits
-use Rattle.wasm_binary.specs.Inside.Reading.{◌>>=◌, Read, begins_with, skip_byte, read_u32, read_byte, read_val_type, read_sized, read_items, read_vector, read_block_type, read_min, read_limits, read_enclosed, read_else, read_if, read_nested, opens_block, read_with_opcode, read_op, is_end, read_ops, read_body, inner_of, nesting, read_expression, read_runs, read_locals, read_code, read_entries, read_part, read_section, read_functions, read_codes, read_func_type, read_import, read_table, read_memory, read_size, read_mutability, read_global, read_export, read_start, read_place, read_element, read_segment, skip_customs, strip_preamble, read_head, read_stores, read_middle, read_funcs, read_last, module_of, read_sections, read_module}
+use Rattle.wasm_binary.specs.Inside.Reading.{◌>>=◌, Read, begins_with, skip_byte, read_u32, read_byte, read_val_type, read_sized, read_items, read_vector, read_block_type, read_min, read_limits, read_enclosed, read_else, read_if, read_nested, opens_block, read_with_opcode, read_op, is_end, read_ops, read_body, inner_of, nesting, read_expression, read_runs, read_locals, read_code, read_entries, read_part, read_section, read_bounded, read_codes, read_func_type, read_import, read_table, read_memory, read_size, read_mutability, read_global, read_export, read_start, read_place, read_element, read_segment, skip_customs, strip_preamble, read_head, read_stores, read_middle, read_funcs, read_last, module_of, read_sections, read_module}
 use Rattle.wasm_binary.proofs.ReadLoops.{body_is}
-use Rattle.wasm_binary.proofs.ReadComplete.{Complete, begins_cons, skip_complete, u32_complete, type_complete, block_type_complete, sized_complete}
+use Rattle.wasm_binary.proofs.ReadComplete.{Complete, begins_cons, skip_complete, u32_complete, type_complete, vector_complete, func_type_complete, block_type_complete, sized_complete}
 use Rattle.wasm_binary.proofs.InstrComplete.{op_takes, ops_take, op_complete, op_begins, body_complete, list_of, else_ends}
 use Rattle.wasm_binary.proofs.ItemComplete.{CodeWithin, code_complete, locals_complete, mutability_complete, table_complete, memory_complete, global_complete, element_complete, segment_complete, length_indices}
 use Rattle.wasm_binary.proofs.ModuleComplete.{Above, above_of, part_above, preamble_complete, all_customs_complete, types_complete, imports_complete, tables_complete, memories_complete, exports_complete, start_section_complete, head_of_module, head_complete, stores_of_module, stores_above, stores_complete, middle_of_module, middle_above, middle_complete, funcs_complete}
@@ -208,6 +208,23 @@ expression_over bytes q = over_first (read_body max_nesting bytes) _ (deep_over 
 
 -- ---- the items of other sections
 
+bounded_over :
+    {X : Type 0} (most before : ℕ) (read : List ℕ → Read X) (bytes : List ℕ) → NumberOver most before bytes
+    → IsOver (read_bounded true most before read bytes)
+unfolding read_bounded
+bounded_over most before read bytes h =
+    over_then (h.0, h.1) (read_u32 bytes) _ (u32_complete bytes h.0 h.1 h.2)
+    (rw (lt-ltb most (before + h.0) h.3) refl)
+
+results_over : (bytes : List ℕ) → ResultsOver bytes → IsOver (read_func_type true bytes)
+unfolding read_func_type
+results_over bytes h =
+    rw (h.3, begins_cons func_type_byte h.0)
+    (over_then (h.1, h.2) (read_vector read_val_type h.0) _
+    (vector_complete IsValType read_val_type type_complete h.1 h.0 h.2 h.4)
+    (over_first (read_bounded true max_results 0 read_val_type h.2) _
+    (bounded_over max_results 0 read_val_type h.2 h.5)))
+
 min_over : (most : ℕ) (bytes : List ℕ) → NumberOver most 0 bytes → IsOver (read_min true most bytes)
 unfolding read_min
 min_over most bytes h =
@@ -336,14 +353,6 @@ codes_over P each m bytes h =
 
 -- ---- sections
 
-functions_over :
-    {X : Type 0} (before : ℕ) (read : List ℕ → Read X) (bytes : List ℕ) → NumberOver max_functions before bytes
-    → IsOver (read_functions true before read bytes)
-unfolding read_functions
-functions_over before read bytes h =
-    over_then (h.0, h.1) (read_u32 bytes) _ (u32_complete bytes h.0 h.1 h.2)
-    (rw (lt-ltb max_functions (before + h.0) h.3) refl)
-
 section_over :
     {X : Type 0} (id : ℕ) (P : List ℕ → Type 0) (read : List ℕ → Read (List X))
     → ((part : List ℕ) → P part → IsOver (read part)) → (bytes : List ℕ) → InSection id P bytes
@@ -359,6 +368,20 @@ head_fails : (sections : List ℕ) → IsOver (read_head true sections) → IsOv
 unfolding read_sections
 head_fails sections h = over_first (read_head true sections) _ h
 
+types_over :
+    (sections from_types : List ℕ) → AreCustom sections from_types
+    → InSection type_section (InVector IsFuncType (λ _ _. ResultsOver)) from_types → IsOver (read_head true sections)
+unfolding read_head
+types_over sections from_types customs h =
+    let above0 :
+    Above 0 from_types =
+    in_section_above 1 0 (InVector IsFuncType (λ _ _. ResultsOver)) from_types h (omega arith) in
+    over_then from_types (skip_customs sections) _ (all_customs_complete sections from_types customs above0)
+    (over_first (read_section 1 (read_vector (read_func_type true)) from_types) _
+    (section_over 1 (InVector IsFuncType (λ _ _. ResultsOver)) (read_vector (read_func_type true))
+    (vector_over IsFuncType TypeWithin ResultsOver (read_func_type true) (func_type_complete true) results_over)
+    from_types h))
+
 imports_over :
     (bytes : List ℕ) (m : Module) (rest : List ℕ) (t : UpToTypes bytes m rest)
     → InSection import_section (NumberOver max_functions 0) rest → IsOver (read_head true t.sections)
@@ -368,11 +391,11 @@ imports_over bytes m rest t h =
     let above0 :
     Above 0 t.from_types = above_of 1 0 IsFuncType m.types t.from_types rest t.types above1 (omega arith) in
     over_then t.from_types (skip_customs t.sections) _ (all_customs_complete t.sections t.from_types t.customs above0)
-    (over_then (m.types, rest) (read_section 1 (read_vector read_func_type) t.from_types) _
-    (types_complete m t.from_types rest t.types above1)
-    (over_first (read_section 2 (read_functions true 0 read_import) rest) _
-    (section_over 2 (NumberOver max_functions 0) (read_functions true 0 read_import)
-    (functions_over 0 read_import) rest h)))
+    (over_then (m.types, rest) (read_section 1 (read_vector (read_func_type true)) t.from_types) _
+    (types_complete true m t.from_types rest t.types above1)
+    (over_first (read_section 2 (read_bounded true max_functions 0 read_import) rest) _
+    (section_over 2 (NumberOver max_functions 0) (read_bounded true max_functions 0 read_import)
+    (bounded_over max_functions 0 read_import) rest h)))
 
 too_many :
     (bytes : List ℕ) (m : Module) (rest : List ℕ) (i : UpToImports bytes m rest)
@@ -389,13 +412,13 @@ too_many bytes m rest i h =
     Above 0 t.from_types =
     above_of 1 0 IsFuncType m.types t.from_types i.from_imports t.types above1 (omega arith) in
     over_then t.from_types (skip_customs t.sections) _ (all_customs_complete t.sections t.from_types t.customs above0)
-    (over_then (m.types, i.from_imports) (read_section 1 (read_vector read_func_type) t.from_types) _
-    (types_complete m t.from_types i.from_imports t.types above1)
-    (over_then (m.imports, rest) (read_section 2 (read_functions true 0 read_import) i.from_imports) _
+    (over_then (m.types, i.from_imports) (read_section 1 (read_vector (read_func_type true)) t.from_types) _
+    (types_complete true m t.from_types i.from_imports t.types above1)
+    (over_then (m.imports, rest) (read_section 2 (read_bounded true max_functions 0 read_import) i.from_imports) _
     (imports_complete true m i.from_imports rest i.imports above2)
-    (over_first (read_section 3 (read_functions true (length m.imports) read_u32) rest) _
-    (section_over 3 (NumberOver max_functions (length m.imports)) (read_functions true (length m.imports) read_u32)
-    (functions_over (length m.imports) read_u32) rest h))))
+    (over_first (read_section 3 (read_bounded true max_functions (length m.imports) read_u32) rest) _
+    (section_over 3 (NumberOver max_functions (length m.imports)) (read_bounded true max_functions (length m.imports) read_u32)
+    (bounded_over max_functions (length m.imports) read_u32) rest h))))
 
 -- ---- groups of sections
 
@@ -574,6 +597,9 @@ begun bytes m rest t h = after_preamble bytes t.sections t.begins h (ltb max_mod
 pub read_over : (bytes : List ℕ) → limits.Over bytes → read_module true bytes ≡ Err Over
 unfolding read_module
 read_over bytes (too_many_bytes h) = rw (lt-ltb max_module_bytes (length bytes) h) refl
+read_over bytes (too_many_results sections from_types begins customs h) =
+    after_preamble bytes sections begins (head_fails sections (types_over sections from_types customs h))
+    (ltb max_module_bytes (length bytes))
 read_over bytes (too_many_imports m rest t h) =
     begun bytes m rest t (head_fails t.sections (imports_over bytes m rest t h))
 read_over bytes (too_many_functions m rest i h) =

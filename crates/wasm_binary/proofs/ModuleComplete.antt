@@ -8,12 +8,12 @@ use Rattle.wasm_ast.specs.declared.module.Global.{Global}
 use Rattle.wasm_ast.specs.declared.module.Element.{Element}
 use Rattle.wasm_ast.specs.declared.module.Segment.{Segment}
 use Rattle.wasm_ast.specs.declared.module.Module.{Module}
-use Rattle.wasm_ast.specs.Limits.{max_module_bytes, max_functions, max_table_entries, max_memory_pages, FuncWithin, MinWithin, NestsWithin, Within}
+use Rattle.wasm_ast.specs.Limits.{max_module_bytes, max_functions, max_table_entries, max_memory_pages, TypeWithin, FuncWithin, MinWithin, NestsWithin, Within}
 use Rattle.wasm_binary.specs.Numbers.{IsU32}
 use Rattle.wasm_binary.specs.Opcodes.{custom_section, type_section, import_section, function_section, table_section, memory_section, global_section, export_section, start_section, element_section, code_section, data_section, preamble}
 use Rattle.wasm_binary.specs.Grammar.{Form, AreItems, IsVector, IsSized, IsEntry, IsFuncType, IsImport, IsTable, IsMemory, IsGlobal, IsExport, IsStart, IsElement, IsSegment, IsNamed, IsCustom, AreCustom, IsPart, IsSection, indices_of, UpToTypes, UpToImports, UpToFunctions, UpToGlobals, UpToElements, UpToCodes, Spells}
-use Rattle.wasm_binary.specs.Inside.Reading.{Read, read_u32, begins_with, read_vector, read_custom_name, skip_custom, skip_some_customs, skip_customs, read_part, read_section, read_functions, read_codes, read_func_type, read_import, read_size, read_global, read_export, read_start, read_element, read_segment, strip_preamble, Head, read_head, Stored, read_stores, Between, read_middle, read_funcs, read_last, read_sections, read_module}
-use Rattle.wasm_binary.proofs.ReadComplete.{Complete, Always, always, differ, unlimited, complete_ok, complete_then, complete_weaker, complete_need, complete_first, complete_second, complete_within, begins_cons, u32_complete, sized_complete, sized_takes, items_complete, vector_complete, vector_within, name_complete, func_type_complete}
+use Rattle.wasm_binary.specs.Inside.Reading.{Read, read_u32, begins_with, read_vector, read_custom_name, skip_custom, skip_some_customs, skip_customs, read_part, read_section, read_bounded, read_codes, read_func_type, read_import, read_size, read_global, read_export, read_start, read_element, read_segment, strip_preamble, Head, read_head, Stored, read_stores, Between, read_middle, read_funcs, read_last, read_sections, read_module}
+use Rattle.wasm_binary.proofs.ReadComplete.{Complete, Always, always, differ, unlimited, complete_ok, complete_then, complete_weaker, complete_need, complete_first, complete_second, complete_within, begins_cons, sized_complete, sized_takes, vector_complete, bounded_complete, vector_within, name_complete, func_type_complete}
 use Rattle.wasm_binary.proofs.InstrComplete.{index_complete}
 use Rattle.wasm_binary.proofs.ItemComplete.{length_indices, codes_complete, import_complete, table_complete, memory_complete, global_complete, export_complete, start_complete, element_complete, segment_complete}
 
@@ -89,18 +89,6 @@ part_above id j IsXs empty bytes xs rest (inl h) above lt = rw h.2 lt
 part_above id j IsXs empty bytes xs rest (inr h) above lt =
     subst (Above j) h.1 (above_less id j rest above (omega arith))
 
-pub functions_complete :
-    {X : Type 0} (limited : Bool) (before : ℕ) (IsX : Form X) (read : List ℕ → Read X)
-    → ((x : X) (part rest : List ℕ) → IsX part x rest → Complete Always (x, rest) (read part))
-    → (xs : List X) (bytes rest : List ℕ) → IsVector IsX bytes xs rest
-    → Complete (limited ≡ true → before + length xs ≤ max_functions) (xs, rest)
-    (read_functions limited before read bytes)
-unfolding read_functions
-functions_complete limited before IsX read each xs bytes rest h =
-    complete_then _ (u32_complete bytes (length xs) h.0 h.1)
-    (complete_within (λ w. unlimited limited max_functions (before + length xs) w)
-    (complete_weaker (items_complete IsX read each xs h.0 rest h.2) always)) always
-
 -- ---- modules
 
 pub preamble_complete : (bytes rest : List ℕ) → bytes ≡ preamble ++ rest → Complete Always rest (strip_preamble bytes)
@@ -131,11 +119,11 @@ functions_section :
     → ((x : X) (part rest : List ℕ) → IsX part x rest → Complete Always (x, rest) (read part))
     → (xs : List X) (bytes rest : List ℕ) → IsSection id IsX bytes xs rest → Above id rest
     → Complete (limited ≡ true → before + length xs ≤ max_functions) (xs, rest)
-    (read_section id (read_functions limited before read) bytes)
+    (read_section id (read_bounded limited max_functions before read) bytes)
 functions_section limited id before IsX read each xs bytes rest h above =
     part_complete id (IsVector IsX) (limited ≡ true → before + length xs ≤ max_functions)
-    (read_functions limited before read) [] xs
-    (λ part k. functions_complete limited before IsX read each xs part [] k) bytes rest h above
+    (read_bounded limited max_functions before read) [] xs
+    (λ part k. bounded_complete limited max_functions before IsX read each xs part [] k) bytes rest h above
 
 pub above_of :
     {X : Type 0} (id j : ℕ) (IsX : Form X) (xs : List X) (bytes rest : List ℕ) → IsSection id IsX bytes xs rest
@@ -144,16 +132,19 @@ above_of id j IsX xs bytes rest h above lt = part_above id j (IsVector IsX) [] b
 
 -- the sections of m, each but for limits
 pub types_complete :
-    (m : Module) (bytes rest : List ℕ) → IsSection type_section IsFuncType bytes m.types rest → Above 1 rest
-    → Complete Always (m.types, rest) (read_section type_section (read_vector read_func_type) bytes)
-types_complete m bytes rest h above =
-    plain_section type_section IsFuncType read_func_type func_type_complete m.types bytes rest h above
+    (limited : Bool) (m : Module) (bytes rest : List ℕ)
+    → IsSection type_section IsFuncType bytes m.types rest → Above 1 rest
+    → Complete (limited ≡ true → AllByRecursion TypeWithin m.types) (m.types, rest)
+    (read_section type_section (read_vector (read_func_type limited)) bytes)
+types_complete limited m bytes rest h above =
+    vector_section limited type_section IsFuncType TypeWithin (read_func_type limited)
+    (func_type_complete limited) m.types bytes rest h above
 
 pub imports_complete :
     (limited : Bool) (m : Module) (bytes rest : List ℕ)
     → IsSection import_section IsImport bytes m.imports rest → Above 2 rest
     → Complete (limited ≡ true → 0 + length m.imports ≤ max_functions) (m.imports, rest)
-    (read_section import_section (read_functions limited 0 read_import) bytes)
+    (read_section import_section (read_bounded limited max_functions 0 read_import) bytes)
 imports_complete limited m bytes rest h above =
     functions_section limited import_section 0 IsImport read_import import_complete m.imports bytes rest h above
 
@@ -163,7 +154,9 @@ head_of_module m = record { types = m.types; imports = m.imports; indices = indi
 
 pub head_complete :
     (limited : Bool) (bytes : List ℕ) (m : Module) (rest : List ℕ) (f : UpToFunctions bytes m rest) → Above 3 rest
-    → Complete (limited ≡ true → length m.imports + length (indices_of m.funcs) ≤ max_functions)
+    → Complete
+    (limited ≡ true
+    → AllByRecursion TypeWithin m.types × (length m.imports + length (indices_of m.funcs) ≤ max_functions))
     (head_of_module m, rest) (read_head limited f.before.before.sections)
 unfolding read_head
 head_complete limited bytes m rest f above =
@@ -179,15 +172,15 @@ head_complete limited bytes m rest f above =
     Above 0 t.from_types =
     above_of 1 0 IsFuncType m.types t.from_types i.from_imports t.types above1 (omega arith) in
     complete_then _ (all_customs_complete t.sections t.from_types t.customs above0)
-    (complete_then _ (types_complete m t.from_types i.from_imports t.types above1)
+    (complete_then _ (types_complete limited m t.from_types i.from_imports t.types above1)
     (complete_then _ (imports_complete limited m i.from_imports f.from_functions i.imports above2)
     (complete_then _
     (functions_section limited function_section (length m.imports) IsU32 read_u32 index_complete
     (indices_of m.funcs) f.from_functions rest f.functions above)
     (complete_ok refl)
-    (λ w. w))
-    (λ w l. let few = w l in omega arith))
-    always) always
+    (λ w l. (w l).1))
+    (λ w l. let few = (w l).1 in omega arith))
+    (λ w l. (w l).0)) always
 
 -- within the limits, if they are tested
 abbrev pub Fits : Bool → Module → Type 0
@@ -360,7 +353,8 @@ sections_complete limited bytes m s =
     (complete_then _ (middle_complete limited bytes m c.from_codes e above9)
     (complete_then _ (funcs_complete limited bytes m s.from_segments c above10)
     (complete_then _ (last_complete limited bytes m s) (complete_ok refl) (λ w. w)) (λ w. w)) (λ w. w)) (λ w. w))
-    (λ w l. let few = (w l).functions in omega (arith, length_indices m.funcs))
+    (λ w l. let few = (w l).functions in
+    (recursion_from_All TypeWithin m.types (w l).types, omega (arith, length_indices m.funcs)))
 
 pub read_complete :
     (limited : Bool) (bytes : List ℕ) (m : Module) → Spells bytes m

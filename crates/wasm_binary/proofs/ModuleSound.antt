@@ -14,14 +14,14 @@ use Rattle.wasm_ast.specs.declared.module.Segment.{Segment}
 use Rattle.wasm_ast.specs.declared.module.Func.{Func}
 use Rattle.wasm_ast.specs.declared.module.Module.{Module}
 use Rattle.wasm_ast.specs.Syntax.{stop}
-use Rattle.wasm_ast.specs.Limits.{max_module_bytes, max_functions, max_table_entries, max_memory_pages, FuncWithin, MinWithin, NestsWithin, Within}
+use Rattle.wasm_ast.specs.Limits.{max_module_bytes, max_functions, max_table_entries, max_memory_pages, TypeWithin, FuncWithin, MinWithin, NestsWithin, Within}
 use Rattle.wasm_binary.specs.Numbers.{IsU32}
 use Rattle.wasm_binary.specs.Opcodes.{custom_section, type_section, import_section, function_section, table_section, memory_section, global_section, export_section, start_section, element_section, code_section, data_section, preamble}
 use Rattle.wasm_binary.specs.Grammar.{Form, IsVector, IsEntry, IsFuncType, IsImport, IsTable, IsMemory, IsGlobal, IsExport, IsStart, IsElement, IsSegment, IsNamed, IsCustom, AreCustom, IsPart, IsSection, indices_of, UpToTypes, UpToImports, UpToFunctions, UpToTables, UpToMemories, UpToGlobals, UpToStart, UpToElements, UpToCodes, Spells}
-use Rattle.wasm_binary.specs.Limits.{WithinSize, InSection, InVector, NumberOver, LocalsOver, BlocksOver, TableOver, MemoryOver, GlobalOver, OffsetOver, EntryOver, too_many_bytes, too_many_imports, too_many_functions, table_too_large, memory_too_large, global_too_deep, element_too_deep, too_many_locals, code_too_deep, segment_too_deep}
+use Rattle.wasm_binary.specs.Limits.{WithinSize, InSection, InVector, NumberOver, ResultsOver, LocalsOver, BlocksOver, TableOver, MemoryOver, GlobalOver, OffsetOver, EntryOver, too_many_bytes, too_many_results, too_many_imports, too_many_functions, table_too_large, memory_too_large, global_too_deep, element_too_deep, too_many_locals, code_too_deep, segment_too_deep}
 use Rattle.wasm_binary.specs.Limits as limits
-use Rattle.wasm_binary.specs.Inside.Reading.{Read, read_u32, begins_with, read_vector, read_custom_name, skip_custom, skip_some_customs, skip_customs, read_part, read_section, read_functions, read_codes, read_func_type, read_import, read_size, read_global, read_export, read_start, read_element, read_segment, strip_preamble, Head, read_head, Stored, read_stores, Between, read_middle, read_funcs, read_last, module_of, read_sections, read_module}
-use Rattle.wasm_binary.proofs.ReadSound.{Sound, sound_ok, sound_then, sound_more, sound_need, sound_if, sound_over, never, begins_is, u32_sound, sized_sound, items_sound, vector_known, vector_sound, name_sound, func_type_sound}
+use Rattle.wasm_binary.specs.Inside.Reading.{Read, read_u32, begins_with, read_vector, read_custom_name, skip_custom, skip_some_customs, skip_customs, read_part, read_section, read_bounded, read_codes, read_func_type, read_import, read_size, read_global, read_export, read_start, read_element, read_segment, strip_preamble, Head, read_head, Stored, read_stores, Between, read_middle, read_funcs, read_last, module_of, read_sections, read_module}
+use Rattle.wasm_binary.proofs.ReadSound.{Sound, sound_ok, sound_then, sound_more, sound_need, sound_if, sound_over, never, begins_is, u32_sound, sized_sound, vector_known, vector_sound, bounded_sound, name_sound, func_type_sound}
 use Rattle.wasm_binary.proofs.ItemSound.{length_indices, CodesKnown, CodesOver, codes_sound, import_sound, table_sound, memory_sound, global_sound, export_sound, start_sound, element_sound, segment_sound}
 
 -- ---- sections
@@ -95,31 +95,17 @@ plain_section_sound id IsX read each bytes =
     sound_more (part_sound id (IsVector IsX) (λ _. ⊥) (read_vector read) [] (vector_sound IsX read each) bytes)
     (λ x h. h) (λ q. absurd q.2.3)
 
-functions_sound :
-    {X : Type 0} (before : ℕ) (IsX : Form X) (read : List ℕ → Read X)
-    → ((part : List ℕ) → Sound (λ x. IsX part x.0 x.1) ⊥ (read part))
-    → (bytes : List ℕ)
-    → Sound (λ x. IsVector IsX bytes x.0 x.1 × (before + length x.0 ≤ max_functions))
-    (NumberOver max_functions before bytes) (read_functions true before read bytes)
-unfolding read_functions
-functions_sound before IsX read each bytes =
-    sound_then (u32_sound bytes) (λ n hn. sound_if (ltb max_functions (before + n.0))
-    (λ over. sound_over (n.0, n.1, hn, ltb-true max_functions (before + n.0) over))
-    (λ under. sound_more
-    (items_sound IsX (λ _. Unit {0}) (λ _. ⊥) read (λ part. sound_more (each part) (λ x h. (h, tt)) never) n.0 n.1)
-    (λ xs h. ((n.1, rw h.1 hn, h.0), rw h.1 (ltb-false max_functions (before + n.0) under))) (λ q. absurd q.4))) never
-
 functions_section_sound :
     {X : Type 0} (id before : ℕ) (IsX : Form X) (read : List ℕ → Read X)
     → ((part : List ℕ) → Sound (λ x. IsX part x.0 x.1) ⊥ (read part)) → before ≤ max_functions
     → (bytes : List ℕ)
     → Sound (λ x. IsSection id IsX bytes x.0 x.1 × (before + length x.0 ≤ max_functions))
-    (InSection id (NumberOver max_functions before) bytes) (read_section id (read_functions true before read) bytes)
+    (InSection id (NumberOver max_functions before) bytes) (read_section id (read_bounded true max_functions before read) bytes)
 functions_section_sound id before IsX read each few bytes =
     sound_more
     (part_sound id (λ b ys r. IsVector IsX b ys r × (before + length ys ≤ max_functions))
-    (NumberOver max_functions before) (read_functions true before read) []
-    (functions_sound before IsX read each) bytes)
+    (NumberOver max_functions before) (read_bounded true max_functions before read) []
+    (bounded_sound max_functions before IsX read each) bytes)
     (λ x h. section_with id (IsVector IsX) (λ ys. before + length ys ≤ max_functions) bytes x.0 x.1 h (omega arith))
     (λ q. q)
 
@@ -152,7 +138,7 @@ HasMiddle b m = (m.exports ≡ b.exports) × (m.start ≡ b.start) × (m.element
 -- what is known after each group of sections, of whatever module has the values that were read
 abbrev HeadRead : List ℕ → Head × List ℕ → Type 0
 HeadRead bytes x =
-    ((m : Module) → HasHead x.0 m → UpToFunctions bytes m x.1)
+    ((m : Module) → HasHead x.0 m → UpToFunctions bytes m x.1) × AllByRecursion TypeWithin x.0.types
     × (length x.0.imports + length x.0.indices ≤ max_functions)
 
 abbrev StoresKnown : Stored → Type 0
@@ -189,7 +175,9 @@ head_sound :
     → Sound (HeadRead bytes) (limits.Over bytes) (read_head true sections)
 unfolding read_head
 head_sound bytes sections h0 = sound_then (all_customs_sound sections) (λ from_types h1.
-    sound_then (plain_section_sound type_section IsFuncType read_func_type func_type_sound from_types) (λ types h2.
+    sound_then
+    (vector_section_sound type_section IsFuncType TypeWithin ResultsOver (read_func_type true) func_type_sound
+    from_types) (λ types h2.
     let up1 :
     (m : Module) → m.types ≡ types.0 → UpToTypes bytes m types.1 =
     λ m e.
@@ -198,7 +186,7 @@ head_sound bytes sections h0 = sound_then (all_customs_sound sections) (λ from_
       from_types = from_types;
       begins = h0;
       customs = h1;
-      types = subst (λ xs. IsSection type_section IsFuncType from_types xs types.1) (sym e) h2;
+      types = subst (λ xs. IsSection type_section IsFuncType from_types xs types.1) (sym e) h2.0;
     } in
     sound_then
     (functions_section_sound import_section 0 IsImport read_import import_sound (omega arith) types.1)
@@ -221,13 +209,14 @@ head_sound bytes sections h0 = sound_then (all_customs_sound sections) (λ from_
             before = up2 m e.0 e.1;
             functions = subst (λ xs. IsSection function_section IsU32 imports.1 xs indices.1) (sym e.2) h4.0;
           }),
+      h2.1,
       h4.1,
     ))
     (λ q. let m : Module = module_with (record { types = types.0; imports = imports.0; indices = [] }) no_stores
     nothing_between in too_many_functions m imports.1 (up2 m refl refl) q))
     (λ q. let m : Module = module_with (record { types = types.0; imports = []; indices = [] }) no_stores
     nothing_between in too_many_imports m types.1 (up1 m refl) q))
-    never) never
+    (λ q. too_many_results sections from_types h0 h1 q)) never
 
 stores_sound :
     (bytes : List ℕ) (h : Head × List ℕ) → HeadRead bytes h
@@ -410,12 +399,13 @@ last_sound bytes =
 
 within :
     (h : Head) (s : Stored) (b : Between) (funcs : List Func) (segments : List Segment)
-    → length h.imports + length h.indices ≤ max_functions → StoresKnown s
+    → AllByRecursion TypeWithin h.types → length h.imports + length h.indices ≤ max_functions → StoresKnown s
     → AllByRecursion (λ e. NestsWithin e.offset) b.elements → CodesKnown h.types h.indices funcs
     → AllByRecursion (λ d. NestsWithin d.offset) segments → Within (module_of h s b funcs segments)
-within h s b funcs segments few stores elements codes last =
+within h s b funcs segments types few stores elements codes last =
     let same : length h.indices ≡ length funcs = sym (ap length codes.0) ∙ length_indices funcs in
     record {
+      types = All-from_recursion TypeWithin h.types types;
       functions = omega arith;
       funcs = All-from_recursion (FuncWithin h.types) funcs codes.1;
       tables = All-from_recursion (MinWithin max_table_entries) s.tables stores.0;
@@ -441,7 +431,7 @@ sections_sound bytes sections h0 = sound_then (head_sound bytes sections h0) (λ
         before = hf.0 m (refl, refl, hf.1.0) (refl, refl, refl) (refl, refl, refl) refl;
         segments = hl.0;
       },
-      within h.0 s.0 b.0 funcs.0 segments hh.1 hs.1 hb.1 hf.1 hl.1,
+      within h.0 s.0 b.0 funcs.0 segments hh.1 hh.2 hs.1 hb.1 hf.1 hl.1,
     ))
     (λ q. let m : Module = module_of h.0 s.0 b.0 funcs.0 []
     in segment_too_deep m funcs.1 (hf.0 m (refl, refl, hf.1.0) (refl, refl, refl) (refl, refl, refl) refl) q))

@@ -9,15 +9,15 @@ use Rattle.wasm_ast.specs.declared.values.ValType.{ValType}
 use Rattle.wasm_ast.specs.declared.values.ValType.TheVariants as type
 use Rattle.wasm_ast.specs.declared.values.FuncType.{FuncType}
 use Rattle.wasm_ast.specs.declared.instr.BlockType.{BlockType}
-use Rattle.wasm_ast.specs.declared.instr.BlockType.TheVariants.{Empty, One}
+use Rattle.wasm_ast.specs.declared.instr.BlockType.TheVariants.{Empty, One, Index}
 use Rattle.wasm_ast.specs.declared.module.Limits.{Limits}
-use Rattle.wasm_ast.specs.Limits.{MinWithin}
+use Rattle.wasm_ast.specs.Limits.{max_results, TypeWithin, MinWithin}
 use Rattle.wasm_binary.specs.declared.fault.Fault.{Fault}
 use Rattle.wasm_binary.specs.declared.fault.Fault.TheVariants.{Bad, Over}
 use Rattle.wasm_binary.specs.Numbers.{IsUnsigned, IsLastSigned, IsSigned, IsU32}
-use Rattle.wasm_binary.specs.Opcodes.{func_type_byte, empty_byte, min_byte, min_max_byte}
+use Rattle.wasm_binary.specs.Opcodes.{type_byte, func_type_byte, empty_byte, min_byte, min_max_byte}
 use Rattle.wasm_binary.specs.Grammar.{Form, AreItems, IsVector, IsSized, AreBytes, IsName, IsValType, IsFuncType, IsBlockType, AreSizes, IsLimits}
-use Rattle.wasm_binary.specs.Inside.Reading.{◌>>=◌, Read, need, read_byte, begins_with, skip_byte, read_unsigned, read_last_unsigned, read_signed, read_last_signed, read_u32, read_bytes, skip_exact, read_sized, read_items, read_vector, read_byte_vector, read_name, val_type_of, read_val_type, read_func_type, read_block_type, read_min, read_limits}
+use Rattle.wasm_binary.specs.Inside.Reading.{◌>>=◌, Read, need, read_byte, begins_with, skip_byte, read_unsigned, read_last_unsigned, read_signed, read_last_signed, read_u32, read_bytes, skip_exact, read_sized, read_items, read_vector, read_bounded, read_byte_vector, read_name, val_type_of, read_val_type, read_func_type, read_block_index, read_block_type, read_min, read_limits}
 
 abbrev pub CompleteAnswer : {X : Type 0} → Type 0 → X → Result X Fault → Type 0
 CompleteAnswer W x (Ok y) = y ≡ x
@@ -208,6 +208,17 @@ unfolding read_vector
 vector_complete IsX read each xs bytes rest h =
     complete_then _ (u32_complete bytes (length xs) h.0 h.1) (items_complete IsX read each xs h.0 rest h.2) always
 
+pub bounded_complete :
+    {X : Type 0} (limited : Bool) (most before : ℕ) (IsX : Form X) (read : List ℕ → Read X)
+    → ((x : X) (part rest : List ℕ) → IsX part x rest → Complete Always (x, rest) (read part))
+    → (xs : List X) (bytes rest : List ℕ) → IsVector IsX bytes xs rest
+    → Complete (limited ≡ true → before + length xs ≤ most) (xs, rest) (read_bounded limited most before read bytes)
+unfolding read_bounded
+bounded_complete limited most before IsX read each xs bytes rest h =
+    complete_then _ (u32_complete bytes (length xs) h.0 h.1)
+    (complete_within (λ w. unlimited limited most (before + length xs) w)
+    (complete_weaker (items_complete IsX read each xs h.0 rest h.2) always)) always
+
 -- items of which E holds where limits are not passed
 pub items_within :
     {X : Type 0} (limited : Bool) (IsX : Form X) (E : X → Type 0) (read : List ℕ → Read X)
@@ -252,29 +263,65 @@ type_complete type.I32 bytes rest h = rw h (complete_ok refl)
 type_complete type.I64 bytes rest h = rw h (complete_ok refl)
 
 pub func_type_complete :
-    (t : FuncType) (bytes rest : List ℕ) → IsFuncType bytes t rest → Complete Always (t, rest) (read_func_type bytes)
+    (limited : Bool) (t : FuncType) (bytes rest : List ℕ) → IsFuncType bytes t rest
+    → Complete (limited ≡ true → TypeWithin t) (t, rest) (read_func_type limited bytes)
 unfolding read_func_type
-func_type_complete t bytes rest h = rw h.2 (complete_need (begins_cons func_type_byte h.0)
+func_type_complete limited t bytes rest h = rw h.2 (complete_need (begins_cons func_type_byte h.0)
     (complete_then _ (vector_complete IsValType read_val_type type_complete t.params h.0 h.1 h.3)
-    (complete_then _ (vector_complete IsValType read_val_type type_complete t.results h.1 rest h.4)
-    (complete_ok refl) always) always))
+    (complete_then _
+    (bounded_complete limited max_results 0 IsValType read_val_type type_complete t.results h.1 rest h.4)
+    (complete_ok refl) (λ w l. let few = w l in omega arith)) always))
 
-type_not_empty : (t : ValType) (bytes rest : List ℕ) → IsValType bytes t rest → begins_with empty_byte bytes ≡ false
+-- whether these bytes begin so
+begins_other : (b c : ℕ) (bytes rest : List ℕ) → bytes ≡ c ∷ rest → (c ≡ b → ⊥) → begins_with b bytes ≡ false
 unfolding begins_with
-type_not_empty type.I32 bytes rest h = rw h refl
-type_not_empty type.I64 bytes rest h = rw h refl
+begins_other b c bytes rest h differs = rw h (false_by (eqb c b) (λ e. differs (eqb-true c b e)))
+
+-- a number of 33 bits that is not negative begins with no byte of a negative one
+index_not : (c i : ℕ) (bs rest : List ℕ) → IsSigned 33 (c ∷ bs) i rest → i < 2 ^ 32 → 64 ≤ c → c < 128 → ⊥
+index_not c i bs rest (inl (lt, inl h, e)) small ge le = absurd (omega (arith, h.0))
+index_not c i bs rest (inl (lt, inr h, e)) small ge le = absurd (omega (arith, h.2))
+index_not c i bs rest (inr h) small ge le = absurd (omega (arith, h.0))
+
+index_begins :
+    (b i : ℕ) (bytes rest : List ℕ) → IsBlockType bytes (Index i) rest → 64 ≤ b → b < 128
+    → begins_with b bytes ≡ false
+unfolding begins_with
+index_begins b i [] rest h ge lt = refl
+index_begins b i (c ∷ cs) rest h ge lt =
+    false_by (eqb c b) (λ e. let same : c ≡ b = eqb-true c b e in
+    index_not c i cs rest h.0 h.1 (omega arith) (omega arith))
+
+index_complete :
+    (i : ℕ) (bytes rest : List ℕ) → IsBlockType bytes (Index i) rest
+    → Complete Always (Index i, rest) (read_block_index bytes)
+unfolding read_block_index
+index_complete i bytes rest h =
+    complete_then _ (signed_complete 33 bytes i rest h.0)
+    (complete_need (lt-ltb i (2 ^ 32) h.1) (complete_ok refl)) always
 
 pub block_type_complete :
     (t : BlockType) (bytes rest : List ℕ) → IsBlockType bytes t rest → Complete Always (t, rest) (read_block_type bytes)
 unfolding read_block_type
 block_type_complete Empty bytes rest h = rw h (complete_first _ (begins_cons empty_byte rest) (complete_ok refl))
-block_type_complete (One t) bytes rest h =
-    complete_second _ (type_not_empty t bytes rest h)
-    (complete_then _ (type_complete t bytes rest h) (complete_ok refl) always)
+block_type_complete (One type.I32) bytes rest h =
+    complete_second _ (begins_other empty_byte (type_byte type.I32) bytes rest h (λ e. absurd (omega (arith, e))))
+    (rw h (complete_first _ (begins_cons (type_byte type.I32) rest) (complete_ok refl)))
+block_type_complete (One type.I64) bytes rest h =
+    complete_second _ (begins_other empty_byte (type_byte type.I64) bytes rest h (λ e. absurd (omega (arith, e))))
+    (complete_second _
+    (begins_other (type_byte type.I32) (type_byte type.I64) bytes rest h (λ e. absurd (omega (arith, e))))
+    (rw h (complete_first _ (begins_cons (type_byte type.I64) rest) (complete_ok refl))))
+block_type_complete (Index i) bytes rest h =
+    complete_second _ (index_begins empty_byte i bytes rest h (omega arith) (omega arith))
+    (complete_second _ (index_begins (type_byte type.I32) i bytes rest h (omega arith) (omega arith))
+    (complete_second _ (index_begins (type_byte type.I64) i bytes rest h (omega arith) (omega arith))
+    (index_complete i bytes rest h)))
 
 pub block_type_takes : (t : BlockType) (bytes rest : List ℕ) → IsBlockType bytes t rest → length rest < length bytes
 block_type_takes Empty bytes rest h = omega (arith, ap length h)
 block_type_takes (One t) bytes rest h = omega (arith, ap length h)
+block_type_takes (Index i) bytes rest h = signed_takes 33 bytes i rest h.0
 
 min_complete :
     (limited : Bool) (most n : ℕ) (bytes rest : List ℕ) → IsU32 bytes n rest

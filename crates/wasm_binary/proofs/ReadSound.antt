@@ -7,15 +7,15 @@ use Rattle.std.proofs.lemmas.Bool.{ltb-true, ltb-false, eqb-true}
 use Rattle.std.proofs.lemmas.List.{take-append-drop, length-take-le, nil_from_length}
 use Rattle.std.proofs.lemmas.Str.{IsUtf8-from_is_utf8}
 use Rattle.wasm_ast.specs.declared.values.ValType.TheVariants as type
-use Rattle.wasm_ast.specs.declared.instr.BlockType.TheVariants.{Empty, One}
-use Rattle.wasm_ast.specs.Limits.{MinWithin}
+use Rattle.wasm_ast.specs.declared.instr.BlockType.TheVariants.{Empty, One, Index}
+use Rattle.wasm_ast.specs.Limits.{max_results, TypeWithin, MinWithin}
 use Rattle.wasm_binary.specs.declared.fault.Fault.{Fault}
 use Rattle.wasm_binary.specs.declared.fault.Fault.TheVariants.{Bad, Over}
 use Rattle.wasm_binary.specs.Numbers.{IsLastUnsigned, IsUnsigned, IsLastSigned, IsSigned, IsU32}
 use Rattle.wasm_binary.specs.Opcodes.{type_byte, func_type_byte, empty_byte, min_byte, min_max_byte}
 use Rattle.wasm_binary.specs.Grammar.{Form, AreItems, IsVector, IsSized, AreBytes, IsName, IsValType, IsFuncType, IsBlockType, IsLimits}
-use Rattle.wasm_binary.specs.Limits.{WithinSize, InVector, NumberOver, LimitsOver}
-use Rattle.wasm_binary.specs.Inside.Reading.{◌>>=◌, Read, need, read_byte, begins_with, skip_byte, read_unsigned, read_last_unsigned, read_signed, read_last_signed, read_u32, read_bytes, skip_exact, read_sized, read_items, read_vector, read_byte_vector, read_name, val_type_of, read_val_type, read_func_type, read_block_type, read_min, read_limits}
+use Rattle.wasm_binary.specs.Limits.{WithinSize, InVector, NumberOver, ResultsOver, LimitsOver}
+use Rattle.wasm_binary.specs.Inside.Reading.{◌>>=◌, Read, need, read_byte, begins_with, skip_byte, read_unsigned, read_last_unsigned, read_signed, read_last_signed, read_u32, read_bytes, skip_exact, read_sized, read_items, read_vector, read_bounded, read_byte_vector, read_name, val_type_of, read_val_type, read_func_type, read_block_index, read_block_type, read_min, read_limits}
 
 abbrev pub SoundAnswer : {X : Type 0} → (X → Type 0) → Type 0 → Result X Fault → Type 0
 SoundAnswer P Q (Ok x) = P x
@@ -199,6 +199,21 @@ vector_sound IsX read each bytes =
     (vector_known IsX (λ _. Unit {0}) (λ _. ⊥) read (λ part. sound_more (each part) (λ x h. (h, tt)) never) bytes)
     (λ x h. h.0) (λ q. absurd q.7)
 
+-- a vector whose count, together with this many before it, may not be over a limit
+pub bounded_sound :
+    {X : Type 0} (most before : ℕ) (IsX : Form X) (read : List ℕ → Read X)
+    → ((part : List ℕ) → Sound (λ x. IsX part x.0 x.1) ⊥ (read part))
+    → (bytes : List ℕ)
+    → Sound (λ x. IsVector IsX bytes x.0 x.1 × (before + length x.0 ≤ most)) (NumberOver most before bytes)
+    (read_bounded true most before read bytes)
+unfolding read_bounded
+bounded_sound most before IsX read each bytes =
+    sound_then (u32_sound bytes) (λ n hn. sound_if (ltb most (before + n.0))
+    (λ over. sound_over (n.0, n.1, hn, ltb-true most (before + n.0) over))
+    (λ under. sound_more
+    (items_sound IsX (λ _. Unit {0}) (λ _. ⊥) read (λ part. sound_more (each part) (λ x h. (h, tt)) never) n.0 n.1)
+    (λ xs h. ((n.1, rw h.1 hn, h.0), rw h.1 (ltb-false most (before + n.0) under))) (λ q. absurd q.4))) never
+
 pub byte_vector_sound : (bytes : List ℕ) → Sound (λ x. AreBytes bytes x.0 x.1) ⊥ (read_byte_vector bytes)
 unfolding read_byte_vector
 byte_vector_sound bytes =
@@ -223,20 +238,32 @@ pub type_sound : (bytes : List ℕ) → Sound (λ x. IsValType bytes x.0 x.1) �
 unfolding read_val_type
 type_sound bytes = sound_then (byte_sound bytes) (λ b hb. rw hb (type_of_sound b.0 b.1)) never
 
-pub func_type_sound : (bytes : List ℕ) → Sound (λ x. IsFuncType bytes x.0 x.1) ⊥ (read_func_type bytes)
+pub func_type_sound :
+    (bytes : List ℕ)
+    → Sound (λ x. IsFuncType bytes x.0 x.1 × TypeWithin x.0) (ResultsOver bytes) (read_func_type true bytes)
 unfolding read_func_type
 func_type_sound bytes =
     sound_need (begins_with func_type_byte bytes)
     (λ e. sound_then (vector_sound IsValType read_val_type type_sound (drop 1 bytes)) (λ ps hps.
-    sound_then (vector_sound IsValType read_val_type type_sound ps.1) (λ rs hrs.
+    sound_then (bounded_sound max_results 0 IsValType read_val_type type_sound ps.1) (λ rs hrs.
     sound_ok (record { params = ps.0; results = rs.0 }, rs.1)
-    (drop 1 bytes, ps.1, begins_is func_type_byte bytes e, hps, hrs)) never) never)
+    ((drop 1 bytes, ps.1, begins_is func_type_byte bytes e, hps, hrs.0), omega (arith, hrs.1)))
+    (λ q. (drop 1 bytes, ps.0, ps.1, begins_is func_type_byte bytes e, hps, q))) never)
+
+index_sound : (bytes : List ℕ) → Sound (λ x. IsBlockType bytes x.0 x.1) ⊥ (read_block_index bytes)
+unfolding read_block_index
+index_sound bytes = sound_then (signed_sound 33 bytes)
+    (λ n hn. sound_need (ltb n.0 (2 ^ 32)) (λ e. sound_ok (Index n.0, n.1) (hn, ltb-true n.0 (2 ^ 32) e))) never
 
 pub block_type_sound : (bytes : List ℕ) → Sound (λ x. IsBlockType bytes x.0 x.1) ⊥ (read_block_type bytes)
 unfolding read_block_type
 block_type_sound bytes = sound_if (begins_with empty_byte bytes)
     (λ e. sound_ok (Empty, drop 1 bytes) (begins_is empty_byte bytes e))
-    (λ _. sound_then (type_sound bytes) (λ t ht. sound_ok (One t.0, t.1) ht) never)
+    (λ _. sound_if (begins_with (type_byte type.I32) bytes)
+    (λ e. sound_ok (One type.I32, drop 1 bytes) (begins_is (type_byte type.I32) bytes e))
+    (λ _. sound_if (begins_with (type_byte type.I64) bytes)
+    (λ e. sound_ok (One type.I64, drop 1 bytes) (begins_is (type_byte type.I64) bytes e))
+    (λ _. index_sound bytes)))
 
 min_sound :
     (most : ℕ) (bytes : List ℕ)

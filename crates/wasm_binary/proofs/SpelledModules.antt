@@ -7,15 +7,17 @@ use Rattle.wasm_ast.specs.declared.module.Limits.{Limits}
 use Rattle.wasm_ast.specs.declared.module.Func.{Func}
 use Rattle.wasm_ast.specs.declared.module.Module.{Module}
 use Rattle.wasm_ast.specs.declared.values.Value.TheVariants.{I32, I64}
+use Rattle.wasm_ast.specs.declared.instr.BlockType.{BlockType}
+use Rattle.wasm_ast.specs.declared.instr.BlockType.TheVariants.{Empty, One, Index}
 use Rattle.wasm_ast.specs.declared.instr.Simple.{Simple}
 use Rattle.wasm_ast.specs.declared.instr.Simple.TheVariants.{Unreachable, Nop, Br, BrIf, BrTable, Return, Call, CallIndirect, Drop, Select, Local, Global, Load, Store, MemorySize, MemoryGrow, Const, Unary, Binary, Test, Compare, Convert}
 use Rattle.wasm_ast.specs.Syntax.{Op, simple, block, loop, if', Ops, stop, next}
 use Rattle.wasm_ast.specs.Ranged as ranged
-use Rattle.wasm_ast.specs.Ranged.{RangedSimple, RangedOp, RangedOps, RangedImport, RangedFunc, RangedMax, RangedLimits, RangedGlobal, RangedExport, RangedStart, RangedElement, RangedSegment, Ranged}
+use Rattle.wasm_ast.specs.Ranged.{RangedBlockType, RangedSimple, RangedOp, RangedOps, RangedImport, RangedFunc, RangedMax, RangedLimits, RangedGlobal, RangedExport, RangedStart, RangedElement, RangedSegment, Ranged}
 use Rattle.wasm_binary.specs.Numbers as numbers
 use Rattle.wasm_binary.specs.Numbers.{IsUnsigned, IsLastSigned, IsSigned}
 use Rattle.wasm_binary.specs.Opcodes.{end_byte, reserved_byte, else_byte, import_section, function_section, table_section, memory_section, global_section, export_section, start_section, element_section, code_section, data_section}
-use Rattle.wasm_binary.specs.Grammar.{Form, AreItems, IsVector, AreSizes, AreImmediates, IsOp, AreOps, IsEntry, IsImport, IsTable, IsMemory, IsGlobal, IsExport, IsStart, IsElement, IsSegment, IsPart, IsSection, indices_of, UpToImports, UpToFunctions, UpToTables, UpToMemories, UpToGlobals, UpToExports, UpToStart, UpToElements, UpToCodes, Spells}
+use Rattle.wasm_binary.specs.Grammar.{Form, AreItems, IsVector, IsBlockType, AreSizes, AreImmediates, IsOp, AreOps, IsEntry, IsImport, IsTable, IsMemory, IsGlobal, IsExport, IsStart, IsElement, IsSegment, IsPart, IsSection, indices_of, UpToImports, UpToFunctions, UpToTables, UpToMemories, UpToGlobals, UpToExports, UpToStart, UpToElements, UpToCodes, Spells}
 use Rattle.wasm_binary.proofs.Powers.{fits}
 
 unsigned_below : (bits : ℕ) (bytes : List ℕ) (n : ℕ) (rest : List ℕ) → IsUnsigned bits bytes n rest → n < 2 ^ bits
@@ -79,15 +81,25 @@ immediates_below (Test t op) bytes rest h = tt
 immediates_below (Compare t op) bytes rest h = tt
 immediates_below (Convert op) bytes rest h = tt
 
+block_type_below : (t : BlockType) (bytes rest : List ℕ) → IsBlockType bytes t rest → RangedBlockType t
+block_type_below Empty bytes rest h = tt
+block_type_below (One t) bytes rest h = tt
+block_type_below (Index i) bytes rest h = h.1
+
 mutual
   op_below : (o : Op) (bytes rest : List ℕ) → IsOp bytes o rest → RangedOp o
   op_below (simple s) bytes rest h = immediates_below s h.0 rest h.2
-  op_below (block type body) bytes rest h = ops_below body h.1 (end_byte ∷ rest) h.4
-  op_below (loop type body) bytes rest h = ops_below body h.1 (end_byte ∷ rest) h.4
+  op_below (block type body) bytes rest h =
+      (block_type_below type h.0 h.1 h.3, ops_below body h.1 (end_byte ∷ rest) h.4)
+  op_below (loop type body) bytes rest h =
+      (block_type_below type h.0 h.1 h.3, ops_below body h.1 (end_byte ∷ rest) h.4)
   op_below (if' type first second) bytes rest (from, mid, e, t, inl h) =
-      (ops_below first mid (end_byte ∷ rest) h.0, subst RangedOps (sym h.1) tt)
-  op_below (if' type first second) bytes rest (from, mid, e, t, inr h) =
-      (ops_below first mid (else_byte ∷ h.0) h.1, ops_below second h.0 (end_byte ∷ rest) h.2)
+      (block_type_below type from mid t, ops_below first mid (end_byte ∷ rest) h.0, subst RangedOps (sym h.1) tt)
+  op_below (if' type first second) bytes rest (from, mid, e, t, inr h) = (
+    block_type_below type from mid t,
+    ops_below first mid (else_byte ∷ h.0) h.1,
+    ops_below second h.0 (end_byte ∷ rest) h.2,
+  )
 
   ops_below : (os : Ops) (bytes rest : List ℕ) → AreOps bytes os rest → RangedOps os
   ops_below stop bytes rest h = tt

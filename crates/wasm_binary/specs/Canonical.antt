@@ -7,7 +7,7 @@ use Rattle.wasm_ast.specs.declared.values.ValType.TheVariants as val_types
 use Rattle.wasm_ast.specs.declared.values.FuncType.{FuncType}
 use Rattle.wasm_ast.specs.declared.values.Value.TheVariants.{I32, I64}
 use Rattle.wasm_ast.specs.declared.instr.BlockType.{BlockType}
-use Rattle.wasm_ast.specs.declared.instr.BlockType.TheVariants.{Empty, One}
+use Rattle.wasm_ast.specs.declared.instr.BlockType.TheVariants.{Empty, One, Index}
 use Rattle.wasm_ast.specs.declared.instr.MemArg.{MemArg}
 use Rattle.wasm_ast.specs.declared.instr.Simple.{Simple}
 use Rattle.wasm_ast.specs.declared.instr.Simple.TheVariants.{Br, BrIf, BrTable, Call, CallIndirect, Local, Global, Load, Store, MemorySize, MemoryGrow, Const}
@@ -75,6 +75,7 @@ canon_func_type t =
 abbrev pub canon_block_type : BlockType → List ℕ
 canon_block_type Empty = empty_byte ∷ []
 canon_block_type (One t) = canon_val_type t
+canon_block_type (Index i) = canon_signed 4 33 i
 
 -- the largest size, if there is one
 abbrev pub canon_max : Option ℕ → List ℕ

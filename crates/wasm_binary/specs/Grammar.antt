@@ -6,7 +6,7 @@ use Rattle.wasm_ast.specs.declared.values.ValType.{ValType}
 use Rattle.wasm_ast.specs.declared.values.FuncType.{FuncType}
 use Rattle.wasm_ast.specs.declared.values.Value.TheVariants.{I32, I64}
 use Rattle.wasm_ast.specs.declared.instr.BlockType.{BlockType}
-use Rattle.wasm_ast.specs.declared.instr.BlockType.TheVariants.{Empty, One}
+use Rattle.wasm_ast.specs.declared.instr.BlockType.TheVariants.{Empty, One, Index}
 use Rattle.wasm_ast.specs.declared.instr.MemArg.{MemArg}
 use Rattle.wasm_ast.specs.declared.instr.Simple.{Simple}
 use Rattle.wasm_ast.specs.declared.instr.Simple.TheVariants.{Br, BrIf, BrTable, Call, CallIndirect, Local, Global, Load, Store, MemorySize, MemoryGrow, Const}
@@ -61,10 +61,12 @@ IsFuncType bytes t rest =
     × IsVector IsValType from t.params mid
     × IsVector IsValType mid t.results rest
 
--- the type of a block (5.4.1)
+-- The type of a block (5.4.1; by index Core 2.0, 5.4.1). The index of a type is a signed number of 33 bits
+-- that is not negative; a negative one, which is from 2 ^ 32 on here, is no type of a block.
 abbrev pub IsBlockType : Form BlockType
 IsBlockType bytes Empty rest = bytes ≡ empty_byte ∷ rest
 IsBlockType bytes (One t) rest = IsValType bytes t rest
+IsBlockType bytes (Index i) rest = IsSigned 33 bytes i rest × (i < 2 ^ 32)
 
 -- a first size, and a largest one if there is one (5.3.4)
 abbrev pub AreSizes : (bytes : List ℕ) → (min : ℕ) → (max : Option ℕ) → (rest : List ℕ) → Type 0

@@ -4,4 +4,5 @@ pub mod Grammar
 pub mod Limits
 pub mod Canonical
 pub mod Worked
+pub mod Tables
 pub mod Inside

@@ -183,11 +183,16 @@ binary_byte type.I64 binary.ShrU = 0x88
 binary_byte type.I64 binary.Rotl = 0x89
 binary_byte type.I64 binary.Rotr = 0x8A
 
--- conversions (5.4.5)
+-- conversions (5.4.5; the last five are of Core 2.0, 5.4.7)
 abbrev pub convert_byte : ConvertOp → ℕ
 convert_byte convert.Wrap = 0xA7
 convert_byte convert.ExtendS = 0xAC
 convert_byte convert.ExtendU = 0xAD
+convert_byte convert.I32From8S = 0xC0
+convert_byte convert.I32From16S = 0xC1
+convert_byte convert.I64From8S = 0xC2
+convert_byte convert.I64From16S = 0xC3
+convert_byte convert.I64From32S = 0xC4
 
 -- the opcode of an instruction without a body
 abbrev pub opcode : Simple → ℕ

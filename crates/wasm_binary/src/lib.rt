@@ -1,4 +1,5 @@
-//! The binary format of modules (section 5 of the WebAssembly Core Specification 1.0).
+//! The binary format of modules (section 5 of the WebAssembly Core Specification 1.0, and of 2.0 for sign
+//! extensions, types of blocks by index and several results).
 #![tactic(auto)]
 
 ghost use Rattle.std.specs.Prelude.{◌≡◌, ◌≢◌, ℕ, ◌<◌, ◌≤◌, ◌++◌, List, length, IfOk, IfErr, ◌⊎◌};

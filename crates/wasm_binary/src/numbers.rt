@@ -188,6 +188,13 @@ pub fn read_s32(bytes: &[u8]) -> Result<(u32, &[u8]), ReadError>
     Ok(((128 * high + (u64::from(first) - 128)) as u32, rest))
 }
 
+/// A signed number of 33 bits as its two's complement, and the rest.
+pub fn read_s33(bytes: &[u8]) -> Result<(u64, &[u8]), ReadError>
+    ensures { Gives (λ x. (x.0, x.1.now)) result (read_signed 33 bytes.now) }
+{
+    read_signed(33, bytes)
+}
+
 /// A signed number of 64 bits as its two's complement, and the rest.
 pub fn read_s64(bytes: &[u8]) -> Result<(u64, &[u8]), ReadError>
     ensures { Gives (λ x. (x.0, x.1.now)) result (read_signed 64 bytes.now) }

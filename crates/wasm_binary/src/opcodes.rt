@@ -30,7 +30,7 @@ pub const ELSE: u8 = 0x05;
 
 pub const END: u8 = 0x0B;
 
-// Instructions without bodies (5.4.1 to 5.4.5).
+// Instructions without bodies (5.4.1 to 5.4.5; the sign extensions Core 2.0, 5.4.7).
 pub const UNREACHABLE: u8 = 0x00;
 
 pub const NOP: u8 = 0x01;
@@ -228,6 +228,16 @@ pub const I32_WRAP_I64: u8 = 0xA7;
 pub const I64_EXTEND_I32_S: u8 = 0xAC;
 
 pub const I64_EXTEND_I32_U: u8 = 0xAD;
+
+pub const I32_EXTEND8_S: u8 = 0xC0;
+
+pub const I32_EXTEND16_S: u8 = 0xC1;
+
+pub const I64_EXTEND8_S: u8 = 0xC2;
+
+pub const I64_EXTEND16_S: u8 = 0xC3;
+
+pub const I64_EXTEND32_S: u8 = 0xC4;
 
 /// What follows the type of `call_indirect`, and the opcodes of `memory.size` and `memory.grow`.
 pub const RESERVED: u8 = 0x00;

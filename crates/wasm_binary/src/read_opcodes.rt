@@ -90,6 +90,11 @@ fn read_comparison(opcode: u8, bytes: &[u8]) -> Result<(Simple, &[u8]), ReadErro
         opcodes::I32_WRAP_I64 => Ok((Simple::Convert(ConvertOp::Wrap), bytes)),
         opcodes::I64_EXTEND_I32_S => Ok((Simple::Convert(ConvertOp::ExtendS), bytes)),
         opcodes::I64_EXTEND_I32_U => Ok((Simple::Convert(ConvertOp::ExtendU), bytes)),
+        opcodes::I32_EXTEND8_S => Ok((Simple::Convert(ConvertOp::I32From8S), bytes)),
+        opcodes::I32_EXTEND16_S => Ok((Simple::Convert(ConvertOp::I32From16S), bytes)),
+        opcodes::I64_EXTEND8_S => Ok((Simple::Convert(ConvertOp::I64From8S), bytes)),
+        opcodes::I64_EXTEND16_S => Ok((Simple::Convert(ConvertOp::I64From16S), bytes)),
+        opcodes::I64_EXTEND32_S => Ok((Simple::Convert(ConvertOp::I64From32S), bytes)),
         _ => read_arithmetic(opcode, bytes),
     }
 }

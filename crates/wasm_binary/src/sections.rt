@@ -1,10 +1,10 @@
 //! Readers of sections and modules (5.5).
 
 ghost use Rattle.std.specs.Prelude.{◌≡◌, ◌≤◌, ℕ, List, [], Ok, None, true, false, length, take, drop};
-ghost use Rattle.wasm_ast.specs.Limits.{max_module_bytes};
+ghost use Rattle.wasm_ast.specs.Limits.{max_module_bytes, max_functions};
 ghost use Rattle.wasm_binary.specs.declared.fault.ReadError.TheVariants.{Memory};
 ghost use Rattle.wasm_binary.specs.Opcodes.{start_section};
-ghost use Rattle.wasm_binary.specs.Inside.Reading.{Gives, Read, head_of, stored_of, between_of, read_vector, read_sized, read_items, read_functions, read_custom_name, read_func_type, read_import, read_export, read_u32, read_codes, read_size, read_start, skip_custom, skip_some_customs, skip_customs, read_part, read_section, strip_preamble, read_head, read_stores, read_middle, read_funcs, read_last, module_of, read_sections, read_module};
+ghost use Rattle.wasm_binary.specs.Inside.Reading.{Gives, Read, head_of, stored_of, between_of, read_vector, read_sized, read_items, read_bounded, read_custom_name, read_func_type, read_import, read_export, read_u32, read_codes, read_size, read_start, skip_custom, skip_some_customs, skip_customs, read_part, read_section, strip_preamble, read_head, read_stores, read_middle, read_funcs, read_last, module_of, read_sections, read_module};
 
 use crate::code::read_codes;
 use crate::fault::{Fault, ReadError};
@@ -16,12 +16,13 @@ use crate::opcodes::{
     TYPE_SECTION,
 };
 use crate::types::read_name;
-use crate::vectors::{Decode, read_functions, read_vector};
+use crate::vectors::{Decode, read_bounded, read_vector};
 use std::alloc::Global;
 use std::marker::PhantomData;
 use wasm_ast;
 use wasm_ast::{
-    Element, Export, Func, FuncType, Import, Limits, MAX_MODULE_BYTES, Module, Segment, Sequence,
+    Element, Export, Func, FuncType, Import, Limits, MAX_FUNCTIONS, MAX_MODULE_BYTES, Module,
+    Segment, Sequence,
 };
 
 #[tactic(auto, unfolding(crate::specs::Inside::Reading::skip_custom, crate::specs::Inside::Reading::read_sized, crate::specs::Inside::Reading::read_custom_name))]
@@ -113,14 +114,14 @@ struct FunctionsSection<T> {
 impl<T: Decode + Drop> Section for FunctionsSection<T> {
     type Item = T;
 
-    ghost reading = { λ s. read_functions true s.before T.reading };
+    ghost reading = { λ s. read_bounded true max_functions s.before T.reading };
 
     fn read_contents<'a>(
         &self,
         alloc: Global,
         bytes: &'a [u8],
     ) -> Result<(Vec<T>, &'a [u8]), ReadError> {
-        read_functions(alloc, self.before, bytes)
+        read_bounded(alloc, MAX_FUNCTIONS, self.before, bytes)
     }
 }
 
@@ -220,7 +221,7 @@ fn read_functions_section<T: Decode + Drop>(
     bytes: &[u8],
 ) -> Result<(Vec<T>, &[u8]), ReadError>
     ensures { Gives (λ x. (x.0.items, x.1.now)) result
-        (read_section id (read_functions true before T.reading) bytes.now) }
+        (read_section id (read_bounded true max_functions before T.reading) bytes.now) }
 {
     let section = FunctionsSection {
         before,

@@ -1,14 +1,14 @@
 //! Readers of names (5.2.4) and types (5.3).
 
 ghost use Rattle.std.specs.Prelude.{◌≡◌, ◌≤◌, ◌<◌, ◌^◌, true, length, take};
-ghost use Rattle.wasm_binary.specs.Inside.Reading.{Gives, read_vector, read_name, val_type_of, read_val_type, read_func_type, read_block_type, read_min, read_limits};
+ghost use Rattle.wasm_binary.specs.Inside.Reading.{Gives, read_vector, read_name, val_type_of, read_val_type, read_func_type, read_block_index, read_block_type, read_min, read_limits};
 
 use crate::fault::{Fault, ReadError};
-use crate::numbers::{read_byte, read_byte_vector, read_u32, skip_byte, strip_byte};
+use crate::numbers::{read_byte, read_byte_vector, read_s33, read_u32, skip_byte, strip_byte};
 use crate::opcodes::{EMPTY, FUNC_TYPE, I32, I64, MIN, MIN_MAX};
-use crate::vectors::{Decode, read_vector};
+use crate::vectors::{Decode, read_bounded, read_vector};
 use std::alloc::Global;
-use wasm_ast::{BlockType, FuncType, Limits, Sequence, ValType};
+use wasm_ast::{BlockType, FuncType, Limits, MAX_RESULTS, Sequence, ValType};
 
 /// A name, and the rest.
 #[tactic(auto, unfolding(crate::specs::Inside::Reading::read_name), using(crate::proofs::Utf8::is_text, crate::proofs::Utf8::no_text))]
@@ -44,7 +44,7 @@ impl Decode for ValType {
 }
 
 impl Decode for FuncType {
-    ghost reading = { read_func_type };
+    ghost reading = { read_func_type true };
 
     #[tactic(auto, unfolding(crate::specs::Inside::Reading::read_func_type))]
     fn read(alloc: Global, bytes: &[u8]) -> Result<(FuncType, &[u8]), ReadError> {
@@ -52,14 +52,28 @@ impl Decode for FuncType {
             return Err(ReadError::Fault(Fault::Bad));
         };
         let (params, rest) = read_vector(alloc, rest)?;
-        let (results, rest) = read_vector(alloc, rest)?;
+        let (results, rest) = read_bounded(alloc, MAX_RESULTS, 0, rest)?;
         let params = Sequence::new(params);
         let results = Sequence::new(results);
         Ok((FuncType { params, results }, rest))
     }
 }
 
-/// The type of a block (5.4.1), and the rest.
+// The type of a block that is the index of a type, and the rest.
+#[tactic(auto, unfolding(crate::specs::Inside::Reading::read_block_index))]
+fn read_block_index(bytes: &[u8]) -> Result<(BlockType, &[u8]), ReadError>
+    ensures { Gives (λ x. (x.0, x.1.now)) result (read_block_index bytes.now) }
+{
+    let (index, rest) = read_s33(bytes)?;
+    if index < 1 << 32 {
+        Ok((BlockType::Index(index as u32), rest))
+    } else {
+        Err(ReadError::Fault(Fault::Bad))
+    }
+}
+
+/// The type of a block (5.4.1; by index Core 2.0, 5.4.1), and the rest. No index begins with one of the
+/// three bytes that are tested first, since a number of that one byte is negative.
 #[tactic(auto, unfolding(crate::specs::Inside::Reading::read_block_type))]
 pub fn read_block_type(bytes: &[u8]) -> Result<(BlockType, &[u8]), ReadError>
     ensures { Gives (λ x. (x.0, x.1.now)) result (read_block_type bytes.now) }
@@ -67,8 +81,13 @@ pub fn read_block_type(bytes: &[u8]) -> Result<(BlockType, &[u8]), ReadError>
     if let Some(rest) = strip_byte(EMPTY, bytes) {
         return Ok((BlockType::Empty, rest));
     }
-    let (result, rest) = read_val_type(bytes)?;
-    Ok((BlockType::One(result), rest))
+    if let Some(rest) = strip_byte(I32, bytes) {
+        return Ok((BlockType::One(ValType::I32), rest));
+    }
+    if let Some(rest) = strip_byte(I64, bytes) {
+        return Ok((BlockType::One(ValType::I64), rest));
+    }
+    read_block_index(bytes)
 }
 
 // A size that may not be over the limit, and the rest.

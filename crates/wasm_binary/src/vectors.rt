@@ -1,13 +1,11 @@
 //! One reader of lists, for whatever items (5.1.3).
 
 ghost use Rattle.std.specs.Prelude.{◌≡◌, ◌≤◌, ℕ, List, true, length};
-ghost use Rattle.wasm_ast.specs.Limits.{max_functions};
-ghost use Rattle.wasm_binary.specs.Inside.Reading.{Gives, Read, read_items, read_vector, read_functions, read_u32};
+ghost use Rattle.wasm_binary.specs.Inside.Reading.{Gives, Read, read_items, read_vector, read_bounded, read_u32};
 
 use crate::fault::{Fault, ReadError};
 use crate::numbers::read_u32;
 use std::alloc::Global;
-use wasm_ast::MAX_FUNCTIONS;
 
 /// What bytes encode.
 pub trait Decode {
@@ -49,19 +47,19 @@ pub fn read_vector<T: Decode + Drop>(
     read_items(alloc, count, rest)
 }
 
-/// A vector of imports or of type indices, and the rest. Together with this many functions before
-/// them they may not be over the limit.
-#[tactic(auto, unfolding(crate::specs::Inside::Reading::read_functions))]
-pub fn read_functions<T: Decode + Drop>(
+/// A vector, and the rest. Its count, together with this many before it, may not be over this limit.
+#[tactic(auto, unfolding(crate::specs::Inside::Reading::read_bounded))]
+pub fn read_bounded<T: Decode + Drop>(
     alloc: Global,
+    most: usize,
     before: usize,
     bytes: &[u8],
 ) -> Result<(Vec<T>, &[u8]), ReadError>
     ensures { Gives (λ x. (x.0.items, x.1.now)) result
-        (read_functions true before T.reading bytes.now) }
+        (read_bounded true most before T.reading bytes.now) }
 {
     let (count, rest) = read_u32(bytes)?;
-    if before > MAX_FUNCTIONS || count as usize > MAX_FUNCTIONS - before {
+    if before > most || count as usize > most - before {
         return Err(ReadError::Fault(Fault::Over));
     }
     read_items(alloc, count, rest)

@@ -28,6 +28,7 @@ fn put_block_type(out: &mut Vec<u8>, block_type: BlockType) -> Result<(), AllocE
             Ok(())
         }
         BlockType::One(result) => put_val_type(out, result),
+        BlockType::Index(index) => put_signed(out, 4, 33, u64::from(index)),
     }
 }
 

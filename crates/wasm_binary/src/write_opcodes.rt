@@ -176,6 +176,11 @@ fn convert_byte(op: ConvertOp) -> u8
         ConvertOp::Wrap => opcodes::I32_WRAP_I64,
         ConvertOp::ExtendS => opcodes::I64_EXTEND_I32_S,
         ConvertOp::ExtendU => opcodes::I64_EXTEND_I32_U,
+        ConvertOp::I32From8S => opcodes::I32_EXTEND8_S,
+        ConvertOp::I32From16S => opcodes::I32_EXTEND16_S,
+        ConvertOp::I64From8S => opcodes::I64_EXTEND8_S,
+        ConvertOp::I64From16S => opcodes::I64_EXTEND16_S,
+        ConvertOp::I64From32S => opcodes::I64_EXTEND32_S,
     }
 }
 

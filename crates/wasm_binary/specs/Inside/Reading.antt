@@ -9,7 +9,7 @@ use Rattle.wasm_ast.specs.declared.values.FuncType.{FuncType}
 use Rattle.wasm_ast.specs.declared.values.Value.{Value}
 use Rattle.wasm_ast.specs.declared.values.Value.TheVariants as value
 use Rattle.wasm_ast.specs.declared.instr.BlockType.{BlockType}
-use Rattle.wasm_ast.specs.declared.instr.BlockType.TheVariants.{Empty, One}
+use Rattle.wasm_ast.specs.declared.instr.BlockType.TheVariants.{Empty, One, Index}
 use Rattle.wasm_ast.specs.declared.instr.MemArg.{MemArg}
 use Rattle.wasm_ast.specs.declared.instr.Simple.{Simple}
 use Rattle.wasm_ast.specs.declared.instr.Simple.TheVariants.{Unreachable, Nop, Br, BrIf, BrTable, Return, Call, CallIndirect, Drop, Select, Local, Global, Load, Store, MemorySize, MemoryGrow, Const, Unary, Binary, Test, Compare, Convert}
@@ -35,7 +35,7 @@ use Rattle.wasm_ast.specs.declared.module.ExportKind.TheVariants as kinds
 use Rattle.wasm_ast.specs.declared.module.Export.{Export}
 use Rattle.wasm_ast.specs.declared.module.Module.{Module}
 use Rattle.wasm_ast.specs.Syntax.{Op, simple, block, loop, if', Ops, ops_of}
-use Rattle.wasm_ast.specs.Limits.{max_module_bytes, max_functions, max_locals, max_nesting, max_table_entries, max_memory_pages, params_of}
+use Rattle.wasm_ast.specs.Limits.{max_module_bytes, max_functions, max_locals, max_results, max_nesting, max_table_entries, max_memory_pages, params_of}
 use Rattle.wasm_binary.specs.declared.fault.Fault.{Fault}
 use Rattle.wasm_binary.specs.declared.fault.Fault.TheVariants.{Bad, Over}
 use Rattle.wasm_binary.specs.declared.fault.ReadError.{ReadError}
@@ -138,12 +138,12 @@ read_vector read bytes = do
   n ← read_u32 bytes
   read_items read n.0 n.1
 
--- a vector whose items, with this many before it, are limited as functions are
-unfoldable pub read_functions :
-    {X : Type 0} → (limited : Bool) → (before : ℕ) → (List ℕ → Read X) → List ℕ → Read (List X)
-read_functions limited before read bytes = do
+-- a vector whose count, together with this many before it, may not be over this limit
+unfoldable pub read_bounded :
+    {X : Type 0} → (limited : Bool) → (most before : ℕ) → (List ℕ → Read X) → List ℕ → Read (List X)
+read_bounded limited most before read bytes = do
   n ← read_u32 bytes
-  if limited && nat_lt max_functions (before + n.0) then Err Over else read_items read n.0 n.1
+  if limited && nat_lt most (before + n.0) then Err Over else read_items read n.0 n.1
 
 -- a vector of bytes
 unfoldable pub read_byte_vector : List ℕ → Read (List ℕ)
@@ -166,16 +166,23 @@ val_type_of b bs =
 unfoldable pub read_val_type : List ℕ → Read ValType
 read_val_type bytes = read_byte bytes >>= λ b. val_type_of b.0 b.1
 
-unfoldable pub read_func_type : List ℕ → Read FuncType
-read_func_type bytes = need (begins_with func_type_byte bytes) Bad (do
+unfoldable pub read_func_type : (limited : Bool) → List ℕ → Read FuncType
+read_func_type limited bytes = need (begins_with func_type_byte bytes) Bad (do
   params ← read_vector read_val_type (drop 1 bytes)
-  results ← read_vector read_val_type params.1
+  results ← read_bounded limited max_results 0 read_val_type params.1
   Ok (record { params = params.0; results = results.0 }, results.1))
+
+-- a signed number of 33 bits that is not negative
+unfoldable pub read_block_index : List ℕ → Read BlockType
+read_block_index bytes =
+    read_signed 33 bytes >>= λ n. need (nat_lt n.0 (2 ^ 32)) Bad (Ok (Index n.0, n.1))
 
 unfoldable pub read_block_type : List ℕ → Read BlockType
 read_block_type bytes =
     if begins_with empty_byte bytes then Ok (Empty, drop 1 bytes)
-    else (read_val_type bytes >>= λ t. Ok (One t.0, t.1))
+    else (if begins_with (type_byte type.I32) bytes then Ok (One type.I32, drop 1 bytes)
+    else (if begins_with (type_byte type.I64) bytes then Ok (One type.I64, drop 1 bytes)
+    else read_block_index bytes))
 
 -- a size that may not be over this limit
 unfoldable pub read_min : (limited : Bool) → (most : ℕ) → List ℕ → Read ℕ
@@ -223,7 +230,8 @@ comparisons =
     Compare type.I64 relation.LtU ∷ Compare type.I64 relation.GtS ∷ Compare type.I64 relation.GtU ∷
     Compare type.I64 relation.LeS ∷ Compare type.I64 relation.LeU ∷ Compare type.I64 relation.GeS ∷
     Compare type.I64 relation.GeU ∷ Convert convert.Wrap ∷ Convert convert.ExtendS ∷
-    Convert convert.ExtendU ∷ []
+    Convert convert.ExtendU ∷ Convert convert.I32From8S ∷ Convert convert.I32From16S ∷
+    Convert convert.I64From8S ∷ Convert convert.I64From16S ∷ Convert convert.I64From32S ∷ []
 
 -- and operators.
 abbrev pub arithmetics : List Simple
@@ -554,10 +562,10 @@ head_of f = record { types = f.types.items; imports = f.imports.items; indices =
 unfoldable pub read_head : (limited : Bool) → List ℕ → Read Head
 read_head limited bytes = do
   from_types ← skip_customs bytes
-  types ← read_section type_section (read_vector read_func_type) from_types
-  imports ← read_section import_section (read_functions limited 0 read_import) types.1
+  types ← read_section type_section (read_vector (read_func_type limited)) from_types
+  imports ← read_section import_section (read_bounded limited max_functions 0 read_import) types.1
   indices ← read_section function_section
-      (read_functions limited (length imports.0) read_u32) imports.1
+      (read_bounded limited max_functions (length imports.0) read_u32) imports.1
   Ok (record { types = types.0; imports = imports.0; indices = indices.0 }, indices.1)
 
 -- tables, memories and globals
