@@ -21,7 +21,7 @@ use Rattle.text_assembler.specs.Words.{keyword_word}
 use Rattle.text_assembler.specs.Names.{Ids}
 use Rattle.text_assembler.specs.Tokens.{is_empty, tokens_of}
 use Rattle.text_assembler.specs.Phrases.{Tokens, skip_open, skip_close, take_word, begins_word, skip_word, begins_group, skip_group, begins_index, is_past_indices, read_index, one_index, read_indices, read_results, read_bindings}
-use Rattle.text_assembler.specs.Instructions.{params_of_use, read_type_index, read_use, are_nameless, read_call_indirect, read_br_table, exponent_from, digits_after, with_digits, read_option, read_mem_arg, read_const, with_index, read_immediates, read_simple, read_op, Bodies}
+use Rattle.text_assembler.specs.Instructions.{params_of_use, read_type_index, read_use, are_nameless, read_nameless_use, read_call_indirect, read_br_table, exponent_from, digits_after, with_digits, read_option, read_mem_arg, read_const, with_index, read_immediates, read_simple, read_op, Bodies}
 use Rattle.text_assembler.specs.Lines.{keyword_for, signed, line_of, operands, HasAlignment, IsWritten, read_instr_line}
 use Rattle.text_assembler.proofs.Immediates.{last_is}
 use Rattle.text_assembler.proofs.Scanning.{scans_all, after_word_of, both}
@@ -62,24 +62,50 @@ br_table_read :
 unfolding read_br_table read_indices read_parts
 br_table_read ids ns m all fits = rw (table_read ids ns m all fits, last_is ns m) refl
 
--- ---- indirect calls
+-- ---- uses of types
 
 nameless : (k : ℕ) → are_nameless (replicate k None) ≡ true
 unfolding are_nameless
 nameless zero = refl
 nameless (suc k) = nameless k
 
+abbrev pub use_words : ℕ → Tokens → Tokens
+use_words n ts = Open ∷ Word (codes "type") ∷ word n ∷ Close ∷ ts
+
 type_read : (s : Scopes) (n : ℕ) (t : Option FuncType) → n < 2 ^ 32 → slice_get s.signatures n ≡ t → (t ≡ None → ⊥)
-    → read_call_indirect s (Open ∷ Word (codes "type") ∷ word n ∷ Close ∷ []) ≡ Ok (instr.CallIndirect n, [])
-unfolding read_call_indirect read_use read_type_index skip_group skip_open skip_word begins_word read_index take_word
+    → read_nameless_use s (use_words n []) ≡ Ok (n, [])
+unfolding read_nameless_use read_use read_type_index skip_group skip_open skip_word begins_word read_index take_word
     skip_close read_bindings read_results read_parts read_some begins_group params_of_use
 type_read s n (Some t) fits e some = rw (index_is s.types n fits, e, nameless (length t.params)) refl
 type_read s n None fits e some = absurd (some refl)
+
+-- the same before a word
+type_read_before :
+    (s : Scopes) (n : ℕ) (w : List ℕ) (t : Option FuncType) → n < 2 ^ 32 → slice_get s.signatures n ≡ t
+    → (t ≡ None → ⊥)
+    → read_nameless_use s (use_words n (Word w ∷ [])) ≡ Ok (n, Word w ∷ [])
+unfolding read_nameless_use read_use read_type_index skip_group skip_open skip_word begins_word read_index take_word
+    skip_close read_bindings read_results read_parts read_some begins_group params_of_use
+type_read_before s n w (Some t) fits e some = rw (index_is s.types n fits, e, nameless (length t.params)) refl
+type_read_before s n w None fits e some = absurd (some refl)
 
 is_within : (ts : List FuncType) (n : ℕ) → n < length ts → slice_get ts n ≡ None → ⊥
 is_within [] n lt e = omega (arith, lt)
 is_within (t ∷ ts) zero lt e = cc
 is_within (t ∷ ts) (suc n) lt e = is_within ts n (omega (arith, lt)) e
+
+pub use_read :
+    (s : Scopes) (n : ℕ) (w : List ℕ) → n < 2 ^ 32 → n < length s.signatures
+    → read_nameless_use s (use_words n (Word w ∷ [])) ≡ Ok (n, Word w ∷ [])
+use_read s n w fits lt =
+    type_read_before s n w (slice_get s.signatures n) fits refl (λ e. is_within s.signatures n lt e)
+
+call_read :
+    (s : Scopes) (n : ℕ) → n < 2 ^ 32 → n < length s.signatures
+    → read_call_indirect s (use_words n []) ≡ Ok (instr.CallIndirect n, [])
+unfolding read_call_indirect
+call_read s n fits lt =
+    rw (type_read s n (slice_get s.signatures n) fits refl (λ e. is_within s.signatures n lt e)) refl
 
 -- ---- constants
 
@@ -160,7 +186,7 @@ access_read natural at lt fits =
 
 -- ---- all instructions
 
-pub immediates_read : (s : Scopes) (locals labels : Ids) (i : Simple) → RangedSimple i → HasAlignment i → IsWritten s i
+pub immediates_read : (s : Scopes) (locals labels : Ids) (i : Simple) → RangedSimple i → HasAlignment i → IsWritten s (simple i)
     → read_immediates s locals labels (keyword_for i) (operand_words i) ≡ Ok (i, [])
 unfolding read_immediates read_const take_word
 immediates_read s locals labels instr.Unreachable r h w = refl
@@ -170,8 +196,7 @@ immediates_read s locals labels (instr.BrIf label) r h w = index_read labels ins
 immediates_read s locals labels (instr.BrTable ns other) r h w = br_table_read labels ns other r.0 r.1
 immediates_read s locals labels instr.Return r h w = refl
 immediates_read s locals labels (instr.Call func) r h w = index_read s.funcs instr.Call func r
-immediates_read s locals labels (instr.CallIndirect index) r h w =
-    type_read s index (slice_get s.signatures index) r refl (λ e. is_within s.signatures index w e)
+immediates_read s locals labels (instr.CallIndirect index) r h w = call_read s index r w
 immediates_read s locals labels instr.Drop r h w = refl
 immediates_read s locals labels instr.Select r h w = refl
 immediates_read s locals labels (instr.Local op index) r h w = index_read locals (instr.Local op) index r
@@ -190,7 +215,7 @@ immediates_read s locals labels (instr.Convert op) r h w = refl
 
 op_read :
     (s : Scopes) (locals : Ids) (inner : Result Bodies Fault) (labels : Ids) (i : Simple) → RangedSimple i
-    → HasAlignment i → IsWritten s i
+    → HasAlignment i → IsWritten s (simple i)
     → read_op s locals inner labels (Word (keyword_word (keyword_for i)) ∷ operand_words i) ≡ Ok (simple i, [])
 unfolding read_op take_word read_simple
 op_read s locals inner labels i r h w =
@@ -208,6 +233,6 @@ line_scans i r h =
 
 pub line_read :
     (i : Simple) (s : Scopes) (locals : Ids) (inner : Result Bodies Fault) (labels : Ids) → RangedSimple i
-    → HasAlignment i → IsWritten s i
+    → HasAlignment i → IsWritten s (simple i)
     → read_instr_line s locals inner labels (line_of (simple i)) ≡ Ok (simple i, [])
 line_read i s locals inner labels r h w = rw (line_scans i r h) (op_read s locals inner labels i r h w)

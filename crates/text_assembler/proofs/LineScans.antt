@@ -65,7 +65,7 @@ number_then n rest ts fits a s =
     after_space (decimal n ++ rest) (word n ∷ ts)
     (after_word_of (decimal n) rest ts (spelled n fits).1 (decimal_wordlike n fits) a s)
 
-last_word : (w : List ℕ) → is_empty w ≡ false → is_wordlike w ≡ true → Scans (0x20 ∷ w) (Word w ∷ [])
+pub last_word : (w : List ℕ) → is_empty w ≡ false → is_wordlike w ≡ true → Scans (0x20 ∷ w) (Word w ∷ [])
 unfolding is_apart
 last_word w e h =
     after_space w (Word w ∷ [])
@@ -89,15 +89,16 @@ table_scans (n ∷ ns) m all fits =
     (number_then n (flat_map numbered ns ++ numbered m) (words ns m) small (table_apart ns m)
     (table_scans ns m (All-tail IsU32 n ns all) fits))
 
-type_scans :
-    (n : ℕ) → n < 2 ^ 32
-    → Scans (codes " (type " ++ decimal n ++ codes ")") (Open ∷ Word (codes "type") ∷ word n ∷ Close ∷ [])
+pub use_scans :
+    (n : ℕ) (rest : List ℕ) (ts : List Lexeme) → n < 2 ^ 32 → Scans rest ts
+    → Scans (codes " (type " ++ (decimal n ++ 0x29 ∷ rest)) (Open ∷ Word (codes "type") ∷ word n ∷ Close ∷ ts)
 unfolding is_apart
-type_scans n fits =
-    let number = number_then n (codes ")") (Close ∷ []) (omega (arith, fits)) refl (after_close [] [] ended) in
-    after_space (codes "(type " ++ decimal n ++ codes ")") (Open ∷ Word (codes "type") ∷ word n ∷ Close ∷ [])
-    (after_open 0x74 (codes "ype " ++ decimal n ++ codes ")") (Word (codes "type") ∷ word n ∷ Close ∷ []) refl
-    (after_word_of (codes "type") (codes " " ++ decimal n ++ codes ")") (word n ∷ Close ∷ []) refl refl refl number))
+use_scans n rest ts fits s =
+    let number = number_then n (0x29 ∷ rest) (Close ∷ ts) (omega (arith, fits)) refl (after_close rest ts s) in
+    after_space (codes "(type " ++ (decimal n ++ 0x29 ∷ rest)) (Open ∷ Word (codes "type") ∷ word n ∷ Close ∷ ts)
+    (after_open 0x74 (codes "ype " ++ (decimal n ++ 0x29 ∷ rest)) (Word (codes "type") ∷ word n ∷ Close ∷ ts) refl
+    (after_word_of (codes "type") (codes " " ++ (decimal n ++ 0x29 ∷ rest)) (word n ∷ Close ∷ ts) refl refl refl
+    number))
 
 -- ---- constants
 
@@ -158,7 +159,7 @@ operands_scan (instr.BrIf label) r h = number_scans label r
 operands_scan (instr.BrTable labels other) r h = table_scans labels other r.0 r.1
 operands_scan instr.Return r h = ended
 operands_scan (instr.Call func) r h = number_scans func r
-operands_scan (instr.CallIndirect index) r h = type_scans index r
+operands_scan (instr.CallIndirect index) r h = use_scans index [] [] r ended
 operands_scan instr.Drop r h = ended
 operands_scan instr.Select r h = ended
 operands_scan (instr.Local op index) r h = number_scans index r

@@ -106,11 +106,11 @@ abbrev pub BodiesAgree : ℕ → Bodies → Bodies → Type 0
 BodiesAgree k b c = (labels : Ids) (ts : Tokens) → Agrees (Deep k) (b labels ts) (c labels ts)
 
 agrees_enclosed :
-    (k : ℕ) (b c : Bodies) → BodiesAgree k b c → (labels : Ids) (ts : Tokens)
-    → Agrees (λ x. k < ops_depth x.0.1) (read_enclosed b labels ts) (read_enclosed c labels ts)
+    (s : Scopes) (k : ℕ) (b c : Bodies) → BodiesAgree k b c → (labels : Ids) (ts : Tokens)
+    → Agrees (λ x. k < ops_depth x.0.1) (read_enclosed s b labels ts) (read_enclosed s c labels ts)
 unfolding read_enclosed
-agrees_enclosed k b c h labels ts =
-    agrees_after (λ x. k < ops_depth x.0.1) (read_block_type (after_id ts)) _ _
+agrees_enclosed s k b c h labels ts =
+    agrees_after (λ x. k < ops_depth x.0.1) (read_block_type s (after_id ts)) _ _
     (λ t. agrees_bind (Deep k) (λ x. k < ops_depth x.0.1) (b (id_of ts ∷ labels) t.1) (c (id_of ts ∷ labels) t.1) _ _
     (h (id_of ts ∷ labels) t.1) (λ body. inl refl)
     (λ body y d e. after (λ x. k < ops_depth x.0.1) (skip_end (id_of ts) body.1) (λ rest. ((t.0, ops_of body.0), rest))
@@ -127,11 +127,11 @@ agrees_else k b c h label labels ts =
     (inl refl)
 
 agrees_if :
-    (k : ℕ) (b c : Bodies) → BodiesAgree k b c → (labels : Ids) (ts : Tokens)
-    → Agrees (DeepOp (suc k)) (read_if b labels ts) (read_if c labels ts)
+    (s : Scopes) (k : ℕ) (b c : Bodies) → BodiesAgree k b c → (labels : Ids) (ts : Tokens)
+    → Agrees (DeepOp (suc k)) (read_if s b labels ts) (read_if s c labels ts)
 unfolding read_if
-agrees_if k b c h labels ts =
-    agrees_after (DeepOp (suc k)) (read_block_type (after_id ts)) _ _
+agrees_if s k b c h labels ts =
+    agrees_after (DeepOp (suc k)) (read_block_type s (after_id ts)) _ _
     (λ t. agrees_bind (Deep k) (DeepOp (suc k)) (b (id_of ts ∷ labels) t.1) (c (id_of ts ∷ labels) t.1) _ _
     (h (id_of ts ∷ labels) t.1)
     (λ p. agrees_bind (Deep k) (DeepOp (suc k)) (read_else b (id_of ts) (id_of ts ∷ labels) p.1)
@@ -158,13 +158,13 @@ block_or_loop true k t body d = omega (arith, d)
 block_or_loop false k t body d = omega (arith, d)
 
 agrees_nested :
-    (k : ℕ) (b c : Bodies) → BodiesAgree k b c → (word : List ℕ) (labels : Ids) (ts : Tokens)
-    → Agrees (DeepOp (suc k)) (read_nested b word labels ts) (read_nested c word labels ts)
+    (s : Scopes) (k : ℕ) (b c : Bodies) → BodiesAgree k b c → (word : List ℕ) (labels : Ids) (ts : Tokens)
+    → Agrees (DeepOp (suc k)) (read_nested s b word labels ts) (read_nested s c word labels ts)
 unfolding read_nested
-agrees_nested k b c h word labels ts =
-    branch (DeepOp (suc k)) (bytes_eq word (codes "if")) _ _ _ _ (agrees_if k b c h labels ts)
-    (agrees_bind (λ x. k < ops_depth x.0.1) (DeepOp (suc k)) (read_enclosed b labels ts) (read_enclosed c labels ts) _ _
-    (agrees_enclosed k b c h labels ts) (λ x. inl refl)
+agrees_nested s k b c h word labels ts =
+    branch (DeepOp (suc k)) (bytes_eq word (codes "if")) _ _ _ _ (agrees_if s k b c h labels ts)
+    (agrees_bind (λ x. k < ops_depth x.0.1) (DeepOp (suc k)) (read_enclosed s b labels ts) (read_enclosed s c labels ts) _ _
+    (agrees_enclosed s k b c h labels ts) (λ x. inl refl)
     (λ x y d e. subst (DeepOp (suc k)) (ok_inj _ y e) (block_or_loop (bytes_eq word (codes "block")) k x.0.0 x.0.1 d)))
 
 -- ---- what holds of all that is read
@@ -192,21 +192,22 @@ block_is_deep true t body = omega arith
 block_is_deep false t body = omega arith
 
 -- a block opens where none may: what is read there is one
-if_is_deep : (c : Bodies) (labels : Ids) (ts : Tokens) → Always (DeepOp 0) (read_if c labels ts)
+if_is_deep : (s : Scopes) (c : Bodies) (labels : Ids) (ts : Tokens) → Always (DeepOp 0) (read_if s c labels ts)
 unfolding read_if
-if_is_deep c labels ts =
-    always_after (DeepOp 0) (read_block_type (after_id ts)) _ (λ t.
+if_is_deep s c labels ts =
+    always_after (DeepOp 0) (read_block_type s (after_id ts)) _ (λ t.
     always_after (DeepOp 0) (c (id_of ts ∷ labels) t.1) _ (λ p.
     always_after (DeepOp 0) (read_else c (id_of ts) (id_of ts ∷ labels) p.1) _ (λ q.
     always_after (DeepOp 0) (skip_end (id_of ts) q.1) _ (λ rest.
     always_ok (DeepOp 0) (if' t.0 (ops_of p.0) (ops_of q.0), rest) (omega arith)))))
 
 nested_is_deep :
-    (c : Bodies) (word : List ℕ) (labels : Ids) (ts : Tokens) → Always (DeepOp 0) (read_nested c word labels ts)
+    (s : Scopes) (c : Bodies) (word : List ℕ) (labels : Ids) (ts : Tokens)
+    → Always (DeepOp 0) (read_nested s c word labels ts)
 unfolding read_nested
-nested_is_deep c word labels ts =
-    always_branch (DeepOp 0) (bytes_eq word (codes "if")) _ _ (if_is_deep c labels ts)
-    (always_after (DeepOp 0) (read_enclosed c labels ts) _ (λ x.
+nested_is_deep s c word labels ts =
+    always_branch (DeepOp 0) (bytes_eq word (codes "if")) _ _ (if_is_deep s c labels ts)
+    (always_after (DeepOp 0) (read_enclosed s c labels ts) _ (λ x.
     always_ok (DeepOp 0) (if bytes_eq word (codes "block") then block x.0.0 x.0.1 else loop x.0.0 x.0.1, x.1)
     (block_is_deep (bytes_eq word (codes "block")) x.0.0 x.0.1)))
 
@@ -219,15 +220,16 @@ InnersAgree (suc k) (Ok b) (Ok c) = BodiesAgree k b c
 InnersAgree (suc k) less more = ⊥
 
 agrees_opened :
-    (k : ℕ) (less more : Result Bodies Fault) → InnersAgree k less more → (word : List ℕ) (labels : Ids) (ts : Tokens)
-    → Agrees (DeepOp k) (less >>= λ bodies. read_nested bodies word labels ts)
-    (more >>= λ bodies. read_nested bodies word labels ts)
-agrees_opened zero less more h word labels ts =
-    inr (rw h refl, always_after (DeepOp 0) more _ (λ c. nested_is_deep c word labels ts))
-agrees_opened (suc k) (Ok b) (Ok c) h word labels ts = agrees_nested k b c h word labels ts
-agrees_opened (suc k) (Ok b) (Err f) h word labels ts = absurd h
-agrees_opened (suc k) (Err f) (Ok c) h word labels ts = absurd h
-agrees_opened (suc k) (Err f) (Err g) h word labels ts = absurd h
+    (s : Scopes) (k : ℕ) (less more : Result Bodies Fault) → InnersAgree k less more
+    → (word : List ℕ) (labels : Ids) (ts : Tokens)
+    → Agrees (DeepOp k) (less >>= λ bodies. read_nested s bodies word labels ts)
+    (more >>= λ bodies. read_nested s bodies word labels ts)
+agrees_opened s zero less more h word labels ts =
+    inr (rw h refl, always_after (DeepOp 0) more _ (λ c. nested_is_deep s c word labels ts))
+agrees_opened s (suc k) (Ok b) (Ok c) h word labels ts = agrees_nested s k b c h word labels ts
+agrees_opened s (suc k) (Ok b) (Err f) h word labels ts = absurd h
+agrees_opened s (suc k) (Err f) (Ok c) h word labels ts = absurd h
+agrees_opened s (suc k) (Err f) (Err g) h word labels ts = absurd h
 
 agrees_op :
     (s : Scopes) (locals : Ids) (k : ℕ) (less more : Result Bodies Fault) → InnersAgree k less more
@@ -236,7 +238,7 @@ agrees_op :
 unfolding read_op
 agrees_op s locals k less more h labels ts =
     agrees_after (DeepOp k) (take_word ts) _ _ (λ w.
-    branch (DeepOp k) (opens_block w.0) _ _ _ _ (agrees_opened k less more h w.0 labels w.1) (inl refl))
+    branch (DeepOp k) (opens_block w.0) _ _ _ _ (agrees_opened s k less more h w.0 labels w.1) (inl refl))
 
 agrees_one :
     (s : Scopes) (locals : Ids) (k : ℕ) (less more : Result Bodies Fault) → InnersAgree k less more

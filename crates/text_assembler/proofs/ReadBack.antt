@@ -182,3 +182,13 @@ is_read_back (keyword.Convert convert.ExtendS) =
     record { found = refl; simple = refl; wordlike = refl; nonempty = refl }
 is_read_back (keyword.Convert convert.ExtendU) =
     record { found = refl; simple = refl; wordlike = refl; nonempty = refl }
+is_read_back (keyword.Convert convert.I32From8S) =
+    record { found = refl; simple = refl; wordlike = refl; nonempty = refl }
+is_read_back (keyword.Convert convert.I32From16S) =
+    record { found = refl; simple = refl; wordlike = refl; nonempty = refl }
+is_read_back (keyword.Convert convert.I64From8S) =
+    record { found = refl; simple = refl; wordlike = refl; nonempty = refl }
+is_read_back (keyword.Convert convert.I64From16S) =
+    record { found = refl; simple = refl; wordlike = refl; nonempty = refl }
+is_read_back (keyword.Convert convert.I64From32S) =
+    record { found = refl; simple = refl; wordlike = refl; nonempty = refl }

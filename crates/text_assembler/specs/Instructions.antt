@@ -6,7 +6,7 @@ use Rattle.wasm_ast.specs.declared.values.ValType.TheVariants as type
 use Rattle.wasm_ast.specs.declared.values.FuncType.{FuncType}
 use Rattle.wasm_ast.specs.declared.values.Value.TheVariants as value
 use Rattle.wasm_ast.specs.declared.instr.BlockType.{BlockType}
-use Rattle.wasm_ast.specs.declared.instr.BlockType.TheVariants.{Empty, One}
+use Rattle.wasm_ast.specs.declared.instr.BlockType.TheVariants.{Empty, One, Index}
 use Rattle.wasm_ast.specs.declared.instr.MemArg.{MemArg}
 use Rattle.wasm_ast.specs.declared.instr.Simple.{Simple}
 use Rattle.wasm_ast.specs.declared.instr.Simple.TheVariants as instr
@@ -63,17 +63,19 @@ read_use s ts = do
   names ← params_of_use t params.0 results.0
   Ok ((index.0, names), results.1)
 
--- ---- what follows the word of an instruction without a body
-
 unfoldable pub are_nameless : Ids → Bool
 are_nameless [] = true
 are_nameless (None ∷ ids) = are_nameless ids
 are_nameless (Some name ∷ ids) = false
 
--- the parameters of an indirect call's use have no identifiers
+-- the index of a use whose parameters have no identifiers
+unfoldable pub read_nameless_use : Scopes → Reader ℕ
+read_nameless_use s ts = read_use s ts >>= λ u. need (are_nameless u.0.1) (Ok (u.0.0, u.1))
+
+-- ---- what follows the word of an instruction without a body
+
 unfoldable pub read_call_indirect : Scopes → Reader Simple
-read_call_indirect s ts =
-    read_use s ts >>= λ u. need (are_nameless u.0.1) (Ok (instr.CallIndirect u.0.0, u.1))
+read_call_indirect s ts = read_nameless_use s ts >>= λ i. Ok (instr.CallIndirect i.0, i.1)
 
 -- all but the last, and the last
 unfoldable pub last_of : List ℕ → Result (List ℕ × ℕ) Fault
@@ -150,10 +152,12 @@ read_immediates s locals labels (keyword.Convert op) ts = Ok (instr.Convert op, 
 
 -- ---- blocks (6.5.1)
 
--- nothing, or `( result t )`
-unfoldable pub read_block_type : Reader BlockType
-read_block_type ts =
-    if begins_group (codes "result") ts then (do
+-- nothing, or `( result t )`; or the use of a type, whose parameters have no identifiers (Core 2.0, 6.5.2)
+unfoldable pub read_block_type : Scopes → Reader BlockType
+read_block_type s ts =
+    if begins_group (codes "type") ts
+    then (read_nameless_use s ts >>= λ i. Ok (Index i.0, i.1))
+    else if begins_group (codes "result") ts then (do
       from ← skip_group (codes "result") ts
       t ← read_val_type from
       rest ← skip_close t.1
@@ -174,9 +178,9 @@ abbrev pub Bodies : Type 0
 Bodies = Ids → Reader (List Op)
 
 -- the type, the body and the end of a block or a loop
-unfoldable pub read_enclosed : Bodies → Ids → Reader (BlockType × Ops)
-read_enclosed bodies labels ts = do
-  t ← read_block_type (after_id ts)
+unfoldable pub read_enclosed : Scopes → Bodies → Ids → Reader (BlockType × Ops)
+read_enclosed s bodies labels ts = do
+  t ← read_block_type s (after_id ts)
   body ← bodies (id_of ts ∷ labels) t.1
   rest ← skip_end (id_of ts) body.1
   Ok ((t.0, ops_of body.0), rest)
@@ -190,9 +194,9 @@ read_else bodies label labels ts =
       bodies labels start)
     else Ok ([], ts)
 
-unfoldable pub read_if : Bodies → Ids → Reader Op
-read_if bodies labels ts = do
-  t ← read_block_type (after_id ts)
+unfoldable pub read_if : Scopes → Bodies → Ids → Reader Op
+read_if s bodies labels ts = do
+  t ← read_block_type s (after_id ts)
   then_arm ← bodies (id_of ts ∷ labels) t.1
   else_arm ← read_else bodies (id_of ts) (id_of ts ∷ labels) then_arm.1
   rest ← skip_end (id_of ts) else_arm.1
@@ -203,10 +207,10 @@ opens_block word =
     bytes_eq word (codes "block") || bytes_eq word (codes "loop") || bytes_eq word (codes "if")
 
 -- what follows the word of an instruction that has bodies
-unfoldable pub read_nested : Bodies → (word : List ℕ) → Ids → Reader Op
-read_nested bodies word labels ts =
-    if bytes_eq word (codes "if") then read_if bodies labels ts
-    else (read_enclosed bodies labels ts >>= λ x.
+unfoldable pub read_nested : Scopes → Bodies → (word : List ℕ) → Ids → Reader Op
+read_nested s bodies word labels ts =
+    if bytes_eq word (codes "if") then read_if s bodies labels ts
+    else (read_enclosed s bodies labels ts >>= λ x.
     Ok (if bytes_eq word (codes "block") then block x.0.0 x.0.1 else loop x.0.0 x.0.1, x.1))
 
 unfoldable pub read_simple : Scopes → (locals labels : Ids) → (word : List ℕ) → Reader Op
@@ -218,7 +222,7 @@ read_simple s locals labels word ts = do
 -- an instruction, where bodies are read so, or no more blocks may be open
 unfoldable pub read_op : Scopes → (locals : Ids) → Result Bodies Fault → (labels : Ids) → Reader Op
 read_op s locals inner labels ts = take_word ts >>= λ w.
-    if opens_block w.0 then (inner >>= λ bodies. read_nested bodies w.0 labels w.1)
+    if opens_block w.0 then (inner >>= λ bodies. read_nested s bodies w.0 labels w.1)
     else read_simple s locals labels w.0 w.1
 
 unfoldable pub one_op :

@@ -6,7 +6,7 @@ use Rattle.std.specs.List.{flat_map}
 use Rattle.wasm_ast.specs.declared.values.Value.TheVariants.{I32, I64}
 use Rattle.wasm_ast.specs.declared.values.ValType.TheVariants as type
 use Rattle.wasm_ast.specs.declared.instr.BlockType.{BlockType}
-use Rattle.wasm_ast.specs.declared.instr.BlockType.TheVariants.{Empty, One}
+use Rattle.wasm_ast.specs.declared.instr.BlockType.TheVariants.{Empty, One, Index}
 use Rattle.wasm_ast.specs.declared.instr.MemArg.{MemArg}
 use Rattle.wasm_ast.specs.declared.instr.Simple.{Simple}
 use Rattle.wasm_ast.specs.declared.instr.Simple.TheVariants as instr
@@ -63,13 +63,17 @@ abbrev pub align_part : (natural : ℕ) → MemArg → List ℕ
 align_part natural at =
     if 2 ^ at.align == natural then [] else codes " align=" ++ decimal (2 ^ at.align)
 
+-- the use of a type, without its parameters and results
+abbrev pub use_of : ℕ → List ℕ
+use_of index = codes " (type " ++ decimal index ++ codes ")"
+
 -- what follows the keyword
 abbrev pub operands : Simple → List ℕ
 operands (instr.Br label) = numbered label
 operands (instr.BrIf label) = numbered label
 operands (instr.BrTable labels other) = flat_map numbered labels ++ numbered other
 operands (instr.Call func) = numbered func
-operands (instr.CallIndirect index) = codes " (type " ++ decimal index ++ codes ")"
+operands (instr.CallIndirect index) = use_of index
 operands (instr.Local op index) = numbered index
 operands (instr.Global op index) = numbered index
 operands (instr.Load op at) = offset_part at ++ align_part (load_bytes op) at
@@ -78,15 +82,17 @@ operands (instr.Const (I32 n)) = codes " " ++ signed 32 n
 operands (instr.Const (I64 n)) = codes " " ++ signed 64 n
 operands other = []
 
-abbrev pub result_part : BlockType → List ℕ
-result_part Empty = []
-result_part (One t) = codes " (result " ++ type_word t ++ codes ")"
+-- what follows the keyword of an instruction that has bodies
+abbrev pub block_type_part : BlockType → List ℕ
+block_type_part Empty = []
+block_type_part (One t) = codes " (result " ++ type_word t ++ codes ")"
+block_type_part (Index index) = use_of index
 
 abbrev pub line_of : Op → List ℕ
 line_of (simple s) = keyword_word (keyword_for s) ++ operands s
-line_of (block type body) = codes "block" ++ result_part type
-line_of (loop type body) = codes "loop" ++ result_part type
-line_of (if' type then_arm else_arm) = codes "if" ++ result_part type
+line_of (block type body) = codes "block" ++ block_type_part type
+line_of (loop type body) = codes "loop" ++ block_type_part type
+line_of (if' type then_arm else_arm) = codes "if" ++ block_type_part type
 
 -- the exponent of an alignment is below 32
 abbrev pub HasAlignment : Simple → Type 0
@@ -100,10 +106,18 @@ IsAligned other = Unit {0}
 
 -- ---- a line, read by the grammar of instructions
 
--- the type that an instruction names is written
-abbrev pub IsWritten : Scopes → Simple → Type 0
-IsWritten s (instr.CallIndirect index) = index < length s.signatures
-IsWritten s other = Unit {0}
+-- the type that the type of a block names is written
+abbrev pub IsWrittenType : Scopes → BlockType → Type 0
+IsWrittenType s (Index index) = index < length s.signatures
+IsWrittenType s other = Unit {0}
+
+-- the type that an instruction names is written, be it that of an indirect call or of a block
+abbrev pub IsWritten : Scopes → Op → Type 0
+IsWritten s (simple (instr.CallIndirect index)) = index < length s.signatures
+IsWritten s (simple other) = Unit {0}
+IsWritten s (block type body) = IsWrittenType s type
+IsWritten s (loop type body) = IsWrittenType s type
+IsWritten s (if' type then_arm else_arm) = IsWrittenType s type
 
 -- what is read of a line as an instruction, in these scopes and with these labels, where bodies are read so
 abbrev pub read_instr_line :

@@ -105,11 +105,16 @@ relation_word relation.LeU = codes "le_u"
 relation_word relation.GeS = codes "ge_s"
 relation_word relation.GeU = codes "ge_u"
 
--- conversions (6.5.5)
+-- conversions (6.5.5; the last five are of Core 2.0, 6.5.8)
 abbrev pub convert_word : ConvertOp → List ℕ
 convert_word convert.Wrap = codes "i32.wrap_i64"
 convert_word convert.ExtendS = codes "i64.extend_i32_s"
 convert_word convert.ExtendU = codes "i64.extend_i32_u"
+convert_word convert.I32From8S = codes "i32.extend8_s"
+convert_word convert.I32From16S = codes "i32.extend16_s"
+convert_word convert.I64From8S = codes "i64.extend8_s"
+convert_word convert.I64From16S = codes "i64.extend16_s"
+convert_word convert.I64From32S = codes "i64.extend32_s"
 
 -- the word of an operator on this type
 abbrev pub typed : ValType → List ℕ → List ℕ
@@ -178,7 +183,9 @@ numerics t =
 abbrev pub conversions : List Keyword
 conversions =
     keyword.Convert convert.Wrap ∷ keyword.Convert convert.ExtendS ∷
-    keyword.Convert convert.ExtendU ∷ []
+    keyword.Convert convert.ExtendU ∷ keyword.Convert convert.I32From8S ∷
+    keyword.Convert convert.I32From16S ∷ keyword.Convert convert.I64From8S ∷
+    keyword.Convert convert.I64From16S ∷ keyword.Convert convert.I64From32S ∷ []
 
 abbrev pub keywords : List Keyword
 keywords = controls ++ accesses ++ numerics type.I32 ++ numerics type.I64 ++ conversions

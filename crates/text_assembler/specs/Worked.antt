@@ -1,13 +1,14 @@
 -- Worked modules. The first names a function before it is written, and a label inside two blocks.
 use Rattle.std.specs.Prelude.{[], ◌∷◌, Some, None}
-use Rattle.wasm_ast.specs.declared.instr.Simple.TheVariants.{Br, Call, Const, Load}
+use Rattle.wasm_ast.specs.declared.instr.Simple.TheVariants.{Br, Call, Drop, Const, Load, Convert}
 use Rattle.wasm_ast.specs.declared.values.ValType.TheVariants as type
 use Rattle.wasm_ast.specs.declared.values.Value.TheVariants.{I32}
 use Rattle.wasm_ast.specs.declared.operators.LoadOp.TheVariants as load
+use Rattle.wasm_ast.specs.declared.operators.ConvertOp.TheVariants as convert
 use Rattle.wasm_ast.specs.declared.module.Mutability.TheVariants.{Var}
-use Rattle.wasm_ast.specs.declared.instr.BlockType.TheVariants.{Empty}
+use Rattle.wasm_ast.specs.declared.instr.BlockType.TheVariants.{Empty, Index}
 use Rattle.wasm_ast.specs.declared.module.Module.{Module}
-use Rattle.wasm_ast.specs.Syntax.{simple, block, ops_of}
+use Rattle.wasm_ast.specs.Syntax.{simple, block, loop, if', ops_of}
 use Rattle.text_assembler.specs.Modules.{module_from}
 
 abbrev pub worked : Module
@@ -35,3 +36,19 @@ worked_access =
           (simple (Const (I32 4294967295))
           ∷ simple (Load load.I32From16U (record { align = 0; offset = 4 })) ∷ []);
     } ∷ []) [] None [] []
+
+-- blocks with the use of a type, also of one without parameters and results; and three results
+abbrev pub worked_uses : Module
+worked_uses =
+    module_from
+    (record { params = type.I32 ∷ []; results = type.I32 ∷ [] } ∷ record { params = []; results = [] }
+    ∷ record { params = []; results = type.I32 ∷ type.I64 ∷ type.I32 ∷ [] } ∷ []) []
+    (record {
+      type_index = 1;
+      locals = [];
+      body =
+          ops_of
+          (block (Index 1) (ops_of []) ∷ simple (Const (I32 1))
+          ∷ loop (Index 0) (ops_of (simple (Convert convert.I32From8S) ∷ []))
+          ∷ if' (Index 0) (ops_of []) (ops_of []) ∷ simple Drop ∷ []);
+    } ∷ []) [] [] [] [] None [] []

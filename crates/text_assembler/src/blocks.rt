@@ -17,15 +17,23 @@ use crate::phrases::{
 use crate::plain::read_immediates;
 use crate::scopes::Scopes;
 use crate::token::{Lexeme, Token};
-use crate::uses::copy_name;
+use crate::uses::{copy_name, read_nameless_use};
 use std::alloc::Global;
 use wasm_ast::{BlockType, Body, Bytes, Instr};
 
 // The type of a block, and what follows it.
 #[tactic(auto, unfolding(crate::specs::Instructions::read_block_type))]
-fn read_block_type(tokens: &[Token]) -> Result<(BlockType, &[Token]), ReadError>
-    ensures { Gives (λ x. (x.0, x.1.now)) result (read_block_type tokens.now) }
+fn read_block_type<'a>(
+    alloc: Global,
+    scopes: &Scopes,
+    tokens: &'a [Token],
+) -> Result<(BlockType, &'a [Token]), ReadError>
+    ensures { Gives (λ x. (x.0, x.1.now)) result (read_block_type scopes.now tokens.now) }
 {
+    if begins_group("type", tokens) {
+        let (index, rest) = read_nameless_use(alloc, scopes, tokens)?;
+        return Ok((BlockType::Index(index), rest));
+    }
     if !begins_group("result", tokens) {
         return Ok((BlockType::Empty, tokens));
     }
@@ -169,11 +177,11 @@ fn read_if<'a>(
     tokens: &'a [Token],
 ) -> Result<(Instr, &'a [Token]), ReadError>
     ensures value { Gives (λ x. (op_of x.0, x.1.now)) result
-        (read_if (read_body scopes.now locals.now more) labels.old tokens.now) }
+        (read_if scopes.now (read_body scopes.now locals.now more) labels.old tokens.now) }
     ensures kept { IfOk result (λ _. labels.new ≡ labels.old) }
 {
     let label = id_of(alloc, tokens)?;
-    let (block_type, rest) = read_block_type(after_id(tokens))?;
+    let (block_type, rest) = read_block_type(alloc, scopes, after_id(tokens))?;
     let (then_arm, rest) = read_labelled(alloc, scopes, locals, labels, more, &label, rest)?;
     let (else_arm, rest) = read_else(alloc, scopes, locals, labels, more, &label, rest)?;
     let rest = skip_end(&label, rest)?;
@@ -195,11 +203,11 @@ fn read_enclosed<'a>(
     tokens: &'a [Token],
 ) -> Result<((BlockType, Body), &'a [Token]), ReadError>
     ensures value { Gives (λ x. ((x.0.0, x.0.1), x.1.now)) result
-        (read_enclosed (read_body scopes.now locals.now more) labels.old tokens.now) }
+        (read_enclosed scopes.now (read_body scopes.now locals.now more) labels.old tokens.now) }
     ensures kept { IfOk result (λ _. labels.new ≡ labels.old) }
 {
     let label = id_of(alloc, tokens)?;
-    let (block_type, rest) = read_block_type(after_id(tokens))?;
+    let (block_type, rest) = read_block_type(alloc, scopes, after_id(tokens))?;
     let (body, rest) = read_labelled(alloc, scopes, locals, labels, more, &label, rest)?;
     let rest = skip_end(&label, rest)?;
     let body = Body::new(alloc, body)?;
@@ -220,7 +228,8 @@ fn read_nested<'a>(
     tokens: &'a [Token],
 ) -> Result<(Instr, &'a [Token]), ReadError>
     ensures value { Gives (λ x. (op_of x.0, x.1.now)) result
-        (read_nested (read_body scopes.now locals.now more) word.now labels.old tokens.now) }
+        (read_nested scopes.now (read_body scopes.now locals.now more) word.now labels.old
+        tokens.now) }
     ensures kept { IfOk result (λ _. labels.new ≡ labels.old) }
 {
     if word == b"if".as_slice() {

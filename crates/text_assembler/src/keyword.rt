@@ -94,6 +94,11 @@ fn convert_word(op: ConvertOp) -> &'static str
         ConvertOp::Wrap => "i32.wrap_i64",
         ConvertOp::ExtendS => "i64.extend_i32_s",
         ConvertOp::ExtendU => "i64.extend_i32_u",
+        ConvertOp::I32From8S => "i32.extend8_s",
+        ConvertOp::I32From16S => "i32.extend16_s",
+        ConvertOp::I64From8S => "i64.extend8_s",
+        ConvertOp::I64From16S => "i64.extend16_s",
+        ConvertOp::I64From32S => "i64.extend32_s",
     }
 }
 
@@ -344,6 +349,11 @@ fn conversion_of(word: &[u8]) -> Option<Keyword>
         Keyword::Convert(ConvertOp::Wrap),
         Keyword::Convert(ConvertOp::ExtendS),
         Keyword::Convert(ConvertOp::ExtendU),
+        Keyword::Convert(ConvertOp::I32From8S),
+        Keyword::Convert(ConvertOp::I32From16S),
+        Keyword::Convert(ConvertOp::I64From8S),
+        Keyword::Convert(ConvertOp::I64From16S),
+        Keyword::Convert(ConvertOp::I64From32S),
     ];
     find_word(keywords.as_slice(), word)
 }

@@ -1,4 +1,5 @@
-//! The text format of modules (section 6 of the WebAssembly Core Specification 1.0).
+//! The text format of modules (section 6 of the WebAssembly Core Specification 1.0, and of 2.0 for sign
+//! extensions and types of blocks by index).
 #![tactic(auto)]
 
 ghost use Rattle.std.specs.Prelude.{◌≡◌, ◌⊎◌, IfOk, IfErr, string_bytes};
@@ -91,15 +92,15 @@ pub fn instr_text(alloc: Global, instr: &Instr) -> Result<String, Refusal>
         }
         Instr::Block(block_type, _) => {
             text.push_str("block")?;
-            line::push_result(&mut text, *block_type)?;
+            line::push_block_type(&mut text, *block_type)?;
         }
         Instr::Loop(block_type, _) => {
             text.push_str("loop")?;
-            line::push_result(&mut text, *block_type)?;
+            line::push_block_type(&mut text, *block_type)?;
         }
         Instr::If(block_type, _, _) => {
             text.push_str("if")?;
-            line::push_result(&mut text, *block_type)?;
+            line::push_block_type(&mut text, *block_type)?;
         }
     }
     Ok(text)

@@ -4,7 +4,7 @@ ghost use Rattle.std.specs.Prelude.{◌≡◌, ◌<◌, ◌++◌, ◌^◌, OnOk,
 ghost use Rattle.std.specs.List.{flat_map};
 ghost use Rattle.wasm_ast.specs.declared.instr.Simple.TheVariants as instr;
 ghost use Rattle.text_assembler.specs.Words.{type_word};
-ghost use Rattle.text_assembler.specs.Lines.{keyword_for, numbered, signed, offset_part, align_part, operands, result_part, HasAlignment};
+ghost use Rattle.text_assembler.specs.Lines.{keyword_for, numbered, signed, offset_part, align_part, use_of, operands, block_type_part, HasAlignment};
 
 use crate::keyword::Keyword;
 use crate::plain::{load_bytes, store_bytes};
@@ -39,8 +39,7 @@ fn push_numbers(out: &mut String, numbers: &[u32]) -> Result<(), AllocError>
 }
 
 fn push_type_index(out: &mut String, index: u32) -> Result<(), AllocError>
-    ensures { OnOk result (string_bytes out.new
-        ≡ string_bytes out.old ++ codes " (type " ++ decimal index ++ codes ")") }
+    ensures { OnOk result (string_bytes out.new ≡ string_bytes out.old ++ use_of index) }
 {
     out.push_str(" (type ")?;
     push_decimal(out, u64::from(index))?;
@@ -172,13 +171,15 @@ pub fn push_operands(out: &mut String, simple: &Simple) -> Result<(), AllocError
     }
 }
 
-/// Pushes the result of a block's type.
-pub fn push_result(out: &mut String, block_type: BlockType) -> Result<(), AllocError>
-    ensures { OnOk result (string_bytes out.new ≡ string_bytes out.old ++ result_part block_type) }
+/// Pushes the type of a block.
+pub fn push_block_type(out: &mut String, block_type: BlockType) -> Result<(), AllocError>
+    ensures { OnOk result (string_bytes out.new
+        ≡ string_bytes out.old ++ block_type_part block_type) }
 {
     match block_type {
         BlockType::Empty => Ok(()),
         BlockType::One(ValType::I32) => out.push_str(" (result i32)"),
         BlockType::One(ValType::I64) => out.push_str(" (result i64)"),
+        BlockType::Index(index) => push_type_index(out, index),
     }
 }

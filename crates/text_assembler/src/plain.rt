@@ -3,7 +3,7 @@
 ghost use Rattle.std.specs.Prelude.{◌≡◌, ◌<◌, option_map};
 ghost use Rattle.wasm_ast.specs.Access.{load_bytes, store_bytes};
 ghost use Rattle.text_assembler.specs.Inside.Answers.{Gives, Finds};
-ghost use Rattle.text_assembler.specs.Instructions.{are_nameless, read_call_indirect, last_of, read_br_table, exponent_from, digits_after, with_digits, read_option, read_mem_arg, read_const, with_index, read_immediates};
+ghost use Rattle.text_assembler.specs.Instructions.{read_call_indirect, last_of, read_br_table, exponent_from, digits_after, with_digits, read_option, read_mem_arg, read_const, with_index, read_immediates};
 
 use crate::fault::ReadError;
 use crate::ids::Ids;
@@ -13,11 +13,11 @@ use crate::numbers::{constant32, constant64, small_number};
 use crate::phrases::{fault, push_indices, read_index, take_word};
 use crate::scopes::Scopes;
 use crate::token::{Lexeme, Token};
-use crate::uses::read_use;
+use crate::uses::read_nameless_use;
 use std::alloc::Global;
 use wasm_ast::{LoadOp, MemArg, Simple, StoreOp, ValType, Value};
 
-// An indirect call through the table, whose parameters have no identifiers.
+// An indirect call through the table.
 #[tactic(auto, unfolding(crate::specs::Instructions::read_call_indirect))]
 fn read_call_indirect<'a>(
     alloc: Global,
@@ -26,13 +26,8 @@ fn read_call_indirect<'a>(
 ) -> Result<(Simple, &'a [Token]), ReadError>
     ensures { Gives (λ x. (x.0, x.1.now)) result (read_call_indirect scopes.now tokens.now) }
 {
-    let (type_use, rest) = read_use(alloc, scopes, tokens)?;
-    if !type_use.params.are_nameless() {
-        return Err(ReadError::Malformed {
-            left: type_use.first_name,
-        });
-    }
-    Ok((Simple::CallIndirect(type_use.type_index), rest))
+    let (index, rest) = read_nameless_use(alloc, scopes, tokens)?;
+    Ok((Simple::CallIndirect(index), rest))
 }
 
 #[tactic(auto, unfolding(crate::specs::Instructions::read_br_table, crate::specs::Instructions::last_of), using(crate::proofs::Immediates::last_is))]

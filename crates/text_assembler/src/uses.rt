@@ -3,7 +3,7 @@
 ghost use Rattle.std.specs.Prelude.{◌≡◌, [], ◌∷◌, ◌++◌, is_none, Ok, IfOk};
 ghost use Rattle.text_assembler.specs.Inside.Answers.{Gives};
 ghost use Rattle.text_assembler.specs.Phrases.{names_of, types_of};
-ghost use Rattle.text_assembler.specs.Instructions.{declare_all, is_unwritten, fits_signature, params_of_use, read_type_index, read_use};
+ghost use Rattle.text_assembler.specs.Instructions.{declare_all, is_unwritten, fits_signature, params_of_use, read_type_index, read_use, read_nameless_use};
 
 use crate::fault::ReadError;
 use crate::ids::Ids;
@@ -184,4 +184,22 @@ pub fn read_use<'a>(
         },
         rest,
     ))
+}
+
+/// The index of a use whose parameters have no identifiers, and what follows the use.
+#[tactic(auto, unfolding(crate::specs::Instructions::read_nameless_use))]
+pub fn read_nameless_use<'a>(
+    alloc: Global,
+    scopes: &Scopes,
+    tokens: &'a [Token],
+) -> Result<(u32, &'a [Token]), ReadError>
+    ensures { Gives (λ x. (x.0, x.1.now)) result (read_nameless_use scopes.now tokens.now) }
+{
+    let (type_use, rest) = read_use(alloc, scopes, tokens)?;
+    if !type_use.params.are_nameless() {
+        return Err(ReadError::Malformed {
+            left: type_use.first_name,
+        });
+    }
+    Ok((type_use.type_index, rest))
 }
