@@ -7,29 +7,34 @@ use Rattle.wasm_ast.specs.declared.module.Export.{Export}
 use Rattle.wasm_ast.specs.declared.module.Func.{Func}
 use Rattle.wasm_ast.specs.declared.module.Module.{Module}
 use Rattle.wasm_ast.specs.Limits.{are_all}
-use Rattle.validator.specs.Typing.{ValidFunc, AllDifferent, ValidModule}
+use Rattle.validator.specs.Typing.{ValidBody, AllDifferent, ValidModule}
+use Rattle.validator.specs.Inside.FunctionContext.{passes_func}
 use Rattle.validator.specs.Inside.ModuleTests.{declares_validly, defines_validly}
 use Rattle.validator.proofs.StackMatching.{both}
-use Rattle.validator.proofs.ModuleExact.{all_hold, hold_all, and_both, passes_func, func_valid, func_passes, module_valid, module_declares, module_defines}
+use Rattle.validator.proofs.ModuleExact.{all_hold, hold_all, and_both, func_valid, untyped_valid, func_passes, outside_valid, outside_declares, outside_defines}
 
 -- ---- functions
 
 abbrev passes_as : Module → Func → Option FuncType → Bool
-passes_as m f None = false
+passes_as m f None = true
 passes_as m f (Some t) = passes_func m t f
 
 abbrev pub is_valid_func : Module → Func → Bool
 is_valid_func m f = passes_as m f (slice_get m.types f.type_index)
 
-func_sound : (m : Module) (f : Func) → is_valid_func m f ≡ true → ValidFunc m f
+pub func_sound : (m : Module) (f : Func) → is_valid_func m f ≡ true → ValidBody m f
 func_sound m f h = of (slice_get m.types f.type_index) refl h
   where
-    of : (o : Option FuncType) → slice_get m.types f.type_index ≡ o → passes_as m f o ≡ true → ValidFunc m f
-    of None is h = cc
+    of : (o : Option FuncType) → slice_get m.types f.type_index ≡ o → passes_as m f o ≡ true → ValidBody m f
+    of None is h = untyped_valid m f is
     of (Some t) is h = func_valid m t f is h
 
-func_exact : (m : Module) (f : Func) → ValidFunc m f → is_valid_func m f ≡ true
-func_exact m f v = ap (passes_as m f) v.is_type ∙ func_passes m v.type f v.is_type v
+func_exact : (m : Module) (f : Func) → ValidBody m f → is_valid_func m f ≡ true
+func_exact m f v = of (slice_get m.types f.type_index) refl
+  where
+    of : (o : Option FuncType) → slice_get m.types f.type_index ≡ o → passes_as m f o ≡ true
+    of None is = refl
+    of (Some t) is = func_passes m t f is v
 
 -- ---- names
 
@@ -77,16 +82,18 @@ valid_by m h =
     (are_all (is_valid_func m) m.funcs) h in
     let two = both (declares_validly m && defines_validly m) (are_different (names_of m)) three.0 in
     let one = both (declares_validly m) (defines_validly m) two.0 in
-    module_valid m one.0 one.1 (different_sound (names_of m) two.1)
-    (all_hold (ValidFunc m) (is_valid_func m) (func_sound m) m.funcs three.1)
+    record {
+      outside = outside_valid m one.0 one.1 (different_sound (names_of m) two.1);
+      bodies = all_hold (ValidBody m) (is_valid_func m) (func_sound m) m.funcs three.1;
+    }
 
 pub valid_only : (m : Module) → ValidModule m → is_valid m ≡ true
 valid_only m v =
     and_both (declares_validly m && defines_validly m && are_different (names_of m)) (are_all (is_valid_func m) m.funcs)
     (and_both (declares_validly m && defines_validly m) (are_different (names_of m))
-    (and_both (declares_validly m) (defines_validly m) (module_declares m v) (module_defines m v))
-    (different_exact (names_of m) v.names))
-    (hold_all (ValidFunc m) (is_valid_func m) (func_exact m) m.funcs v.funcs)
+    (and_both (declares_validly m) (defines_validly m) (outside_declares m v.outside) (outside_defines m v.outside))
+    (different_exact (names_of m) v.outside.names))
+    (hold_all (ValidBody m) (is_valid_func m) (func_exact m) m.funcs v.bodies)
 
 pub invalid_by : (m : Module) → is_valid m ≡ false → ValidModule m → ⊥
 invalid_by m h v = true≢false (sym (valid_only m v) ∙ h)

@@ -12,3 +12,4 @@ pub mod ModuleExact
 pub mod ExportNames
 pub mod Decided
 pub mod TypingLemmas
+pub mod FaultLemmas

@@ -1,5 +1,5 @@
 -- The tests of the parts of a module decide its rules of validity.
-use Rattle.std.proofs.Common.{◌≡◌, ℕ, ◌+◌, ◌^◌, ◌<◌, ◌≤◌, nat_le, nat_lt, Bool, true, ◌&&◌, List, [], ◌∷◌, length, map, All, Option, Some, None, refl, sym, ap, subst, ◌∙◌, arith}
+use Rattle.std.proofs.Common.{◌≡◌, ℕ, ◌+◌, ◌^◌, ◌<◌, ◌≤◌, nat_le, nat_lt, Bool, true, ◌&&◌, List, [], ◌∷◌, reverse, length, map, All, Option, Some, None, refl, sym, ap, subst, ◌∙◌, arith}
 use Rattle.std.specs.Prelude.{slice_get}
 use Rattle.std.proofs.lemmas.Bool.Decides.{nat_tests}
 use Rattle.std.proofs.lemmas.List.Elements.{All-cons, All-nil, All-head, All-tail}
@@ -20,9 +20,10 @@ use Rattle.wasm_ast.specs.declared.module.Module.{Module}
 use Rattle.wasm_ast.specs.Syntax.{simple, Ops, stop, next}
 use Rattle.wasm_ast.specs.Types.{type_of, func_types, type_at}
 use Rattle.wasm_ast.specs.Limits.{are_all}
-use Rattle.validator.specs.Typing.{standard_pages, body_context, ValidFunc, IsConstant, ValidMax, ValidLimits, IsFunction, IsThere, ValidStart, ValidElement, ValidSegment, AllDifferent, ValidModule}
+use Rattle.validator.specs.Typing.{standard_pages, body_context, Typed, ValidBody, IsConstant, ValidMax, ValidLimits, IsFunction, IsThere, ValidStart, ValidElement, ValidSegment, AllDifferent, ValidOutside}
 use Rattle.validator.specs.Inside.Algorithm.{is_same, start, ends, check_ops}
-use Rattle.validator.specs.Inside.ModuleTests.{has_few_results, is_typed_import, is_valid_max, are_valid_limits, is_constant, is_valid_global, is_function, is_there, is_valid_export, is_nil, is_bare, is_valid_start, is_valid_element, is_valid_segment, is_alone, declares_validly, defines_validly}
+use Rattle.validator.specs.Inside.FunctionContext.{passes_func}
+use Rattle.validator.specs.Inside.ModuleTests.{is_typed_import, is_typed_func, is_valid_max, are_valid_limits, is_constant, is_valid_global, is_function, is_there, is_valid_export, is_nil, is_bare, is_valid_start, is_valid_element, is_valid_segment, is_alone, declares_validly, defines_validly}
 use Rattle.validator.proofs.StackMatching.{same, itself, both}
 use Rattle.validator.proofs.SequenceExact.{body_sound, body_exact, ops_sound, ops_exact}
 
@@ -173,38 +174,31 @@ segment_exact m s h =
 
 -- ---- functions
 
--- the check of a function's body passes
-abbrev pub passes_func : Module → FuncType → Func → Bool
-passes_func m t f = ends t.results (check_ops (body_context m t f) f.body (start []))
-
 pub func_valid :
     (m : Module) (t : FuncType) (f : Func) → slice_get m.types f.type_index ≡ Some t
-    → passes_func m t f ≡ true → ValidFunc m f
-func_valid m t f is h =
-    record {
-      type = t;
-      is_type = is;
-      typed =
-          body_sound (body_context m t f) f.body (record { params = []; results = t.results })
-          (ops_sound (body_context m t f) f.body) h;
-    }
+    → passes_func m t f ≡ true → ValidBody m f
+func_valid m t f is h u other =
+    let some : Some t ≡ Some u = sym is ∙ other in
+    let same : t ≡ u = cc in
+    subst (λ (t : FuncType). Typed (body_context m t f) f.body [] (reverse t.results)) same
+    (body_sound (body_context m t f) f.body (record { params = []; results = t.results })
+    (ops_sound (body_context m t f) f.body) h)
+
+-- nothing is asked of the body of a function without a type
+pub untyped_valid : (m : Module) (f : Func) → slice_get m.types f.type_index ≡ None → ValidBody m f
+untyped_valid m f none t is = cc
 
 pub func_passes :
-    (m : Module) (t : FuncType) (f : Func) → slice_get m.types f.type_index ≡ Some t → ValidFunc m f
+    (m : Module) (t : FuncType) (f : Func) → slice_get m.types f.type_index ≡ Some t → ValidBody m f
     → passes_func m t f ≡ true
 func_passes m t f is v =
-    let same : v.type ≡ t = some_same v.type t (sym v.is_type ∙ is) in
-    subst (λ (t : FuncType). passes_func m t f ≡ true) same
-    (body_exact (body_context m v.type f) f.body (record { params = []; results = v.type.results })
-    (ops_exact (body_context m v.type f) f.body) v.typed)
-  where
-    some_same : (t u : FuncType) → Some t ≡ Some u → t ≡ u
-    some_same t u h = cc
+    body_exact (body_context m t f) f.body (record { params = []; results = t.results })
+    (ops_exact (body_context m t f) f.body) (v t is)
 
 -- ---- modules
 
-abbrev OfTypes : FuncType → Type 0
-OfTypes t = length t.results ≤ 1
+abbrev OfFuncs : Module → Func → Type 0
+OfFuncs m f = f.type_index < length m.types
 
 abbrev OfImports : Module → Import → Type 0
 OfImports m i = i.type_index < length m.types
@@ -215,19 +209,18 @@ OfGlobals g = IsConstant g.val_type g.init
 abbrev OfExports : Module → Export → Type 0
 OfExports m e = IsThere m e.kind e.index
 
-pub module_valid :
+pub outside_valid :
     (m : Module) → declares_validly m ≡ true → defines_validly m ≡ true
-    → AllDifferent (map (λ (e : Export). e.name) m.exports)
-    → All (ValidFunc m) m.funcs → ValidModule m
-module_valid m declared defined names funcs =
-    let types = are_all has_few_results m.types in
+    → AllDifferent (map (λ (e : Export). e.name) m.exports) → ValidOutside m
+outside_valid m declared defined names =
     let imports = are_all (is_typed_import m.types) m.imports in
+    let funcs = are_all (is_typed_func m.types) m.funcs in
     let tables = are_all (are_valid_limits (2 ^ 32)) m.tables in
     let memories = are_all (are_valid_limits standard_pages) m.memories in
-    let d5 = both (types && imports && is_alone m.tables && tables && is_alone m.memories) memories declared in
-    let d4 = both (types && imports && is_alone m.tables && tables) (is_alone m.memories) d5.0 in
-    let d3 = both (types && imports && is_alone m.tables) tables d4.0 in
-    let d2 = both_of_three types imports (is_alone m.tables) d3.0 in
+    let d5 = both (imports && funcs && is_alone m.tables && tables && is_alone m.memories) memories declared in
+    let d4 = both (imports && funcs && is_alone m.tables && tables) (is_alone m.memories) d5.0 in
+    let d3 = both (imports && funcs && is_alone m.tables) tables d4.0 in
+    let d2 = both_of_three imports funcs (is_alone m.tables) d3.0 in
     let globals = are_all is_valid_global m.globals in
     let exports = are_all (is_valid_export m) m.exports in
     let elements = are_all (is_valid_element m) m.elements in
@@ -236,10 +229,9 @@ module_valid m declared defined names funcs =
     let e3 = both (globals && exports && is_valid_start m m.start) elements e4.0 in
     let e2 = both_of_three globals exports (is_valid_start m m.start) e3.0 in
     record {
-      types = all_hold OfTypes has_few_results (λ t. at_most (length t.results) 1) m.types d2.0;
       imports =
-          all_hold (OfImports m) (is_typed_import m.types) (λ i. below i.type_index (length m.types)) m.imports d2.1;
-      funcs = funcs;
+          all_hold (OfImports m) (is_typed_import m.types) (λ i. below i.type_index (length m.types)) m.imports d2.0;
+      funcs = all_hold (OfFuncs m) (is_typed_func m.types) (λ f. below f.type_index (length m.types)) m.funcs d2.1;
       one_table = at_most (length m.tables) 1 d2.2;
       tables = all_hold (ValidLimits (2 ^ 32)) (are_valid_limits (2 ^ 32)) (limits_sound (2 ^ 32)) m.tables d3.1;
       one_memory = at_most (length m.memories) 1 d4.1;
@@ -254,27 +246,27 @@ module_valid m declared defined names funcs =
       segments = all_hold (ValidSegment m) (is_valid_segment m) (segment_sound m) m.segments e4.1;
     }
 
-pub module_declares : (m : Module) → ValidModule m → declares_validly m ≡ true
-module_declares m v =
-    let types = are_all has_few_results m.types in
+pub outside_declares : (m : Module) → ValidOutside m → declares_validly m ≡ true
+outside_declares m v =
     let imports = are_all (is_typed_import m.types) m.imports in
+    let funcs = are_all (is_typed_func m.types) m.funcs in
     let tables = are_all (are_valid_limits (2 ^ 32)) m.tables in
     let memories = are_all (are_valid_limits standard_pages) m.memories in
-    and_both (types && imports && is_alone m.tables && tables && is_alone m.memories) memories
-    (and_both (types && imports && is_alone m.tables && tables) (is_alone m.memories)
-    (and_both (types && imports && is_alone m.tables) tables
-    (and_both (types && imports) (is_alone m.tables)
-    (and_both types imports
-    (hold_all OfTypes has_few_results (λ t. within (length t.results) 1) m.types v.types)
-    (hold_all (OfImports m) (is_typed_import m.types) (λ i. under i.type_index (length m.types)) m.imports v.imports))
+    and_both (imports && funcs && is_alone m.tables && tables && is_alone m.memories) memories
+    (and_both (imports && funcs && is_alone m.tables && tables) (is_alone m.memories)
+    (and_both (imports && funcs && is_alone m.tables) tables
+    (and_both (imports && funcs) (is_alone m.tables)
+    (and_both imports funcs
+    (hold_all (OfImports m) (is_typed_import m.types) (λ i. under i.type_index (length m.types)) m.imports v.imports)
+    (hold_all (OfFuncs m) (is_typed_func m.types) (λ f. under f.type_index (length m.types)) m.funcs v.funcs))
     (within (length m.tables) 1 v.one_table))
     (hold_all (ValidLimits (2 ^ 32)) (are_valid_limits (2 ^ 32)) (limits_exact (2 ^ 32)) m.tables v.tables))
     (within (length m.memories) 1 v.one_memory))
     (hold_all (ValidLimits standard_pages) (are_valid_limits standard_pages) (limits_exact standard_pages)
     m.memories v.memories)
 
-pub module_defines : (m : Module) → ValidModule m → defines_validly m ≡ true
-module_defines m v =
+pub outside_defines : (m : Module) → ValidOutside m → defines_validly m ≡ true
+outside_defines m v =
     let globals = are_all is_valid_global m.globals in
     let exports = are_all (is_valid_export m) m.exports in
     let elements = are_all (is_valid_element m) m.elements in

@@ -9,7 +9,7 @@ use Rattle.wasm_ast.specs.declared.module.Func.{Func}
 use Rattle.wasm_ast.specs.declared.module.Module.{Module}
 use Rattle.wasm_ast.specs.Syntax.{Op, Ops, ops_count, ops_at}
 use Rattle.wasm_ast.proofs.PlaceLemmas.{ops_counted}
-use Rattle.validator.specs.Typing.{body_context, Typed, ValidFunc, ValidModule}
+use Rattle.validator.specs.Typing.{body_context, ValidBody, ValidModule}
 use Rattle.validator.specs.PlaceTypes.{Point, Reaches, IsOwn, IsPlace, ReachesAt, PassesAt, Known, Stack, MatchTypes, MatchStacks, MatchPoint}
 use Rattle.validator.specs.Inside.Algorithm.{knowns, start}
 use Rattle.validator.specs.Inside.PlaceWalk.{ops_known}
@@ -21,19 +21,23 @@ element P [] k x h e = cc
 element P (y ∷ ys) zero x h e = let same : y ≡ x = cc in subst P same (All-head P y ys h)
 element P (y ∷ ys) (suc k) x h e = element P ys k x (All-tail P y ys h) e
 
--- the function at an index of a valid module's own is valid
-pub own_valid : (m : Module) (func : ℕ) (f : Func) → ValidModule m → IsOwn m func f → ValidFunc m f
-own_valid m func f valid own = element (ValidFunc m) m.funcs (func - length m.imports) f valid.funcs own.1
+-- the function at an index of a valid module's own has a body that is valid, and a type
+pub own_valid : (m : Module) (func : ℕ) (f : Func) → ValidModule m → IsOwn m func f → ValidBody m f
+own_valid m func f valid own = element (ValidBody m) m.funcs (func - length m.imports) f valid.bodies own.1
+
+there_at : (types : List FuncType) (k : ℕ) → k < length types → (t : FuncType) × (slice_get types k ≡ Some t)
+there_at [] k h = absurd (omega arith)
+there_at (t ∷ ts) zero h = (t, refl)
+there_at (t ∷ ts) (suc k) h = there_at ts k (omega arith)
+
+pub own_type : (m : Module) (func : ℕ) (f : Func) → ValidModule m → IsOwn m func f
+    → (t : FuncType) × (slice_get m.types f.type_index ≡ Some t)
+own_type m func f valid own =
+    there_at m.types f.type_index
+    (element (λ (g : Func). g.type_index < length m.types) m.funcs (func - length m.imports) f valid.outside.funcs own.1)
 
 abbrev pub HasType : Module → Func → FuncType → Type 0
 HasType m f t = slice_get m.types f.type_index ≡ Some t
-
-own_typed : (m : Module) (f : Func) (t : FuncType) → ValidFunc m f → HasType m f t
-    → Typed (body_context m t f) f.body [] (reverse t.results)
-own_typed m f t v is =
-    let some : Some v.type ≡ Some t = sym v.is_type ∙ is in
-    let same : v.type ≡ t = cc in
-    subst (λ (u : FuncType). Typed (body_context m u f) f.body [] (reverse u.results)) same v.typed
 
 is_there : (os : Ops) (k : ℕ) (o : Op) → ops_at os k ≡ Some o → k < ops_count os
 is_there os k o h =
@@ -89,11 +93,11 @@ module _ (m : Module) (func place : ℕ) (f : Func) (t : FuncType) (own : IsOwn 
       (h.0, h.1, h.2, h.3, passes_reaches (body_context m h.1 h.0) [] h.0.body [] (reverse h.1.results) place p h.4)
 
   -- a typing passes through the place
-  pub passed_at : (o : Op) → ValidFunc m f → ops_at f.body place ≡ Some o → (p : Point) × PassesAt m func place p
+  pub passed_at : (o : Op) → ValidBody m f → ops_at f.body place ≡ Some o → (p : Point) × PassesAt m func place p
   passed_at o v there =
       let found =
       typed_passes (body_context m t f) [] f.body [] (reverse t.results) place (is_there f.body place o there)
-      (own_typed m f t v is) in
+      (v t is) in
       (found.0, (f, t, own, is, found.1))
 
 -- what the algorithm answers at a place of a function
@@ -183,4 +187,5 @@ pub some_passes : (m : Module) (func place : ℕ) → ValidModule m → IsPlace 
     → (p : Point) × PassesAt m func place p
 some_passes m func place valid there =
     let v = own_valid m func there.0 valid there.2 in
-    passed_at m func place there.0 v.type there.2 v.is_type there.1 v there.3
+    let t = own_type m func there.0 valid there.2 in
+    passed_at m func place there.0 t.0 there.2 t.1 there.1 v there.3

@@ -5,7 +5,7 @@ use Rattle.wasm_ast.specs.declared.values.ValType.{ValType}
 use Rattle.wasm_ast.specs.declared.values.ValType.TheVariants.{I32, I64}
 use Rattle.wasm_ast.specs.declared.values.FuncType.{FuncType}
 use Rattle.wasm_ast.specs.declared.operators.ConvertOp.{ConvertOp}
-use Rattle.wasm_ast.specs.declared.operators.ConvertOp.TheVariants.{Wrap, ExtendS, ExtendU}
+use Rattle.wasm_ast.specs.declared.operators.ConvertOp.TheVariants.{Wrap, ExtendS, ExtendU, I32From8S, I32From16S, I64From8S, I64From16S, I64From32S}
 use Rattle.wasm_ast.specs.declared.instr.LocalOp.{LocalOp}
 use Rattle.wasm_ast.specs.declared.instr.LocalOp.TheVariants as local
 use Rattle.wasm_ast.specs.declared.instr.GlobalOp.{GlobalOp}
@@ -76,11 +76,21 @@ abbrev pub source_of : ConvertOp → ValType
 source_of Wrap = I64
 source_of ExtendS = I32
 source_of ExtendU = I32
+source_of I32From8S = I32
+source_of I32From16S = I32
+source_of I64From8S = I64
+source_of I64From16S = I64
+source_of I64From32S = I64
 
 abbrev pub target_of : ConvertOp → ValType
 target_of Wrap = I32
 target_of ExtendS = I64
 target_of ExtendU = I64
+target_of I32From8S = I32
+target_of I32From16S = I32
+target_of I64From8S = I64
+target_of I64From16S = I64
+target_of I64From32S = I64
 
 -- this label takes these types
 abbrev pub IsLabel : Context → (ts : List ValType) → (label : ℕ) → Type 0
@@ -162,11 +172,12 @@ body_context m t f = record {
   results = t.results;
 }
 
--- a function of the module (3.4.1)
-pub record ValidFunc (m : Module) (f : Func) : Type 0 where
-  pub type : FuncType
-  pub is_type : slice_get m.types f.type_index ≡ Some type
-  pub typed : Typed (body_context m type f) f.body [] (reverse type.results)
+-- the body of a function leads from no operands to its results (3.4.1). Nothing is asked of it where its
+-- function's index names no type
+abbrev pub ValidBody : Module → Func → Type 0
+ValidBody m f =
+    (t : FuncType) → slice_get m.types f.type_index ≡ Some t
+    → Typed (body_context m t f) f.body [] (reverse t.results)
 
 -- a constant expression of this type (3.3.7): in this profile, one constant
 abbrev pub IsConstant : ValType → Ops → Type 0
@@ -216,13 +227,13 @@ abbrev pub AllDifferent : List (List ℕ) → Type 0
 AllDifferent [] = Unit {0}
 AllDifferent (x ∷ xs) = All (λ y. x ≢ y) xs × AllDifferent xs
 
--- a module (3.4.10): a function type has at most one result (3.2.2), the type of each import is there
--- (3.4.9), there is at most one table and one memory, their limits are valid (3.4.2, 3.4.3), globals begin
--- with a constant of their type (3.4.4), and the names of exports differ
-pub record ValidModule (m : Module) : Type 0 where
-  pub types : All (λ t. length t.results ≤ 1) m.types
+-- what a module has outside its functions' bodies (3.4.10): the type of each import (3.4.9) and of each
+-- function (3.4.1) is there, there is at most one table and one memory, their limits are valid (3.4.2,
+-- 3.4.3), globals begin with a constant of their type (3.4.4), and the names of exports differ. A
+-- function type may have any number of results (Core 2.0, 3.2.3)
+pub record ValidOutside (m : Module) : Type 0 where
   pub imports : All (λ i. i.type_index < length m.types) m.imports
-  pub funcs : All (ValidFunc m) m.funcs
+  pub funcs : All (λ f. f.type_index < length m.types) m.funcs
   pub one_table : length m.tables ≤ 1
   pub tables : All (ValidLimits (2 ^ 32)) m.tables
   pub one_memory : length m.memories ≤ 1
@@ -233,3 +244,8 @@ pub record ValidModule (m : Module) : Type 0 where
   pub start : ValidStart m m.start
   pub elements : All (ValidElement m) m.elements
   pub segments : All (ValidSegment m) m.segments
+
+-- a module (3.4.10)
+pub record ValidModule (m : Module) : Type 0 where
+  pub outside : ValidOutside m
+  pub bodies : All (ValidBody m) m.funcs

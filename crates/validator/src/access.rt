@@ -86,8 +86,10 @@ pub fn source_of(op: ConvertOp) -> ValType
     ensures { result ≡ source_of op }
 {
     match op {
-        ConvertOp::Wrap => ValType::I64,
-        ConvertOp::ExtendS | ConvertOp::ExtendU => ValType::I32,
+        ConvertOp::ExtendS | ConvertOp::ExtendU | ConvertOp::I32From8S | ConvertOp::I32From16S =>
+            ValType::I32,
+        ConvertOp::Wrap | ConvertOp::I64From8S | ConvertOp::I64From16S | ConvertOp::I64From32S =>
+            ValType::I64,
     }
 }
 
@@ -96,7 +98,11 @@ pub fn target_of(op: ConvertOp) -> ValType
     ensures { result ≡ target_of op }
 {
     match op {
-        ConvertOp::Wrap => ValType::I32,
-        ConvertOp::ExtendS | ConvertOp::ExtendU => ValType::I64,
+        ConvertOp::Wrap | ConvertOp::I32From8S | ConvertOp::I32From16S => ValType::I32,
+        ConvertOp::ExtendS
+        | ConvertOp::ExtendU
+        | ConvertOp::I64From8S
+        | ConvertOp::I64From16S
+        | ConvertOp::I64From32S => ValType::I64,
     }
 }

@@ -1,16 +1,20 @@
 //! The check of sequences of instructions and of instructions that have bodies (3.3.5, 3.3.6).
 
-ghost use Rattle.std.specs.Prelude.{◌≡◌, ◌≤◌, ◌∷◌, ◌&&◌, IsTrue, IfOk, OnOk, Err, Some, None, false, true, drop, length};
+ghost use Rattle.std.specs.Prelude.{◌≡◌, ◌<◌, ◌≤◌, ◌+◌, ◌∷◌, ◌&&◌, ℕ, IsTrue, IfOk, OnOk, Err, Some, None, false, true, drop, length};
+ghost use Rattle.wasm_ast.specs.Syntax.{count, ops_count};
 ghost use Rattle.wasm_ast.specs.View.{op_of};
 ghost use Rattle.validator.specs.Inside.Algorithm.{after_i32, encloses, ends, start, check_op, check_ops};
 ghost use Rattle.validator.specs.Inside.Blocks.{Blocks, Leads, inside, begun, IsOuter};
+ghost use Rattle.validator.specs.Inside.CheckErrors.{IsLater};
+ghost use Rattle.validator.specs.declared.check_error.BodyError.TheVariants.{Invalid};
 ghost use Rattle.validator.specs.Inside.FunctionContext.{context_of, func_type_of};
 
 use crate::block_types::{BlockTypes, block_types};
-use crate::check_error::CheckError;
+use crate::check_error::BodyError;
 use crate::function::Function;
 use crate::labels::Labels;
 use crate::operands::{Operands, Outer};
+use crate::places::{count_body, count_instrs};
 use crate::simple::check_simple;
 use std::alloc::AllocError;
 use wasm_ast::{Body, Instr, ValType};
@@ -61,32 +65,33 @@ pub fn check_instr<'a>(
     labels: &mut Labels<'a>,
     instr: &Instr,
     operands: &mut Operands,
-) -> Result<(), CheckError>
+) -> Result<(), BodyError>
     ensures ok { OnOk result
         (Leads (check_op (context_of function.now labels.old) (op_of instr.now))
         operands.old operands.new) }
     ensures labels { OnOk result (labels.new ≡ labels.old) }
-    ensures invalid { result ≡ Err CheckError.Invalid
+    ensures invalid { (at : ℕ) → result ≡ Err (Invalid at)
         → check_op (context_of function.now labels.old) (op_of instr.now) operands.old.stack
         ≡ None }
+    ensures place { (at : ℕ) → result ≡ Err (Invalid at) → at < count (op_of instr.now) }
 {
     match instr {
-        Instr::Simple(simple) => check_simple(function, labels, simple, operands),
+        Instr::Simple(simple) => Ok(check_simple(function, labels, simple, operands)?),
         Instr::Block(kind, body) => {
             let Some(types) = block_types(function.of, *kind) else {
-                return Err(CheckError::Invalid);
+                return Err(BodyError::Invalid(0));
             };
             check_block(function, labels, types, types.results, body, operands)
         }
         Instr::Loop(kind, body) => {
             let Some(types) = block_types(function.of, *kind) else {
-                return Err(CheckError::Invalid);
+                return Err(BodyError::Invalid(0));
             };
             check_block(function, labels, types, types.params, body, operands)
         }
         Instr::If(kind, then_arm, else_arm) => {
             let Some(types) = block_types(function.of, *kind) else {
-                return Err(CheckError::Invalid);
+                return Err(BodyError::Invalid(0));
             };
             check_if(function, labels, types, then_arm, else_arm, operands)
         }
@@ -102,21 +107,22 @@ fn check_block<'a>(
     label: &'a [ValType],
     body: &Body,
     operands: &mut Operands,
-) -> Result<(), CheckError>
+) -> Result<(), BodyError>
     ensures ok { OnOk result (let t = func_type_of types.entry in
         let context = context_of function.now (label.now ∷ labels.old) in
         Leads (encloses t (ends t.results (check_ops context body.now (start t.params))))
         operands.old operands.new) }
     ensures labels { OnOk result (labels.new ≡ labels.old) }
-    ensures invalid { result ≡ Err CheckError.Invalid → let t = func_type_of types.entry in
+    ensures invalid { (at : ℕ) → result ≡ Err (Invalid at) → let t = func_type_of types.entry in
         let context = context_of function.now (label.now ∷ labels.old) in
         encloses t (ends t.results (check_ops context body.now (start t.params)))
         operands.old.stack ≡ None }
+    ensures place { (at : ℕ) → result ≡ Err (Invalid at) → at < 1 + ops_count body.now }
 {
     if !operands.pop_all(types.params) {
-        return Err(CheckError::Invalid);
+        return Err(BodyError::Invalid(0));
     }
-    check_body(function, labels, types, label, body, operands)?;
+    check_arm(function, labels, types, label, body, operands)?;
     operands.push_all(types.results)?;
     Ok(())
 }
@@ -130,7 +136,7 @@ fn check_if<'a>(
     then_arm: &Body,
     else_arm: &Body,
     operands: &mut Operands,
-) -> Result<(), CheckError>
+) -> Result<(), BodyError>
     ensures ok { OnOk result (let t = func_type_of types.entry in
         let context = context_of function.now (t.results ∷ labels.old) in
         Leads (after_i32 (encloses t
@@ -138,23 +144,81 @@ fn check_if<'a>(
         && ends t.results (check_ops context else_arm.now (start t.params)))))
         operands.old operands.new) }
     ensures labels { OnOk result (labels.new ≡ labels.old) }
-    ensures invalid { result ≡ Err CheckError.Invalid → let t = func_type_of types.entry in
+    ensures invalid { (at : ℕ) → result ≡ Err (Invalid at) → let t = func_type_of types.entry in
         let context = context_of function.now (t.results ∷ labels.old) in
         after_i32 (encloses t
         (ends t.results (check_ops context then_arm.now (start t.params))
         && ends t.results (check_ops context else_arm.now (start t.params))))
         operands.old.stack ≡ None }
+    ensures place { (at : ℕ) → result ≡ Err (Invalid at)
+        → at < 1 + ops_count then_arm.now + ops_count else_arm.now }
 {
     if !operands.pop(ValType::I32) || !operands.pop_all(types.params) {
-        return Err(CheckError::Invalid);
+        return Err(BodyError::Invalid(0));
     }
-    check_body(function, labels, types, types.results, then_arm, operands)?;
-    check_body(function, labels, types, types.results, else_arm, operands)?;
+    check_arm(function, labels, types, types.results, then_arm, operands)?;
+    check_else(function, labels, types, then_arm, else_arm, operands)?;
     operands.push_all(types.results)?;
     Ok(())
 }
 
-/// A body inside this label, from the parameters alone to exactly the results.
+// The else arm of an `if` of these types. Its places follow those of the then arm.
+#[cycle(check)]
+fn check_else<'a>(
+    function: &Function<'a>,
+    labels: &mut Labels<'a>,
+    types: BlockTypes<'a>,
+    then_arm: &Body,
+    else_arm: &Body,
+    operands: &mut Operands,
+) -> Result<(), BodyError>
+    ensures ok { OnOk result (let t = func_type_of types.entry in
+        let context = context_of function.now (t.results ∷ labels.old) in
+        ends t.results (check_ops context else_arm.now (start t.params)) ≡ true) }
+    ensures labels { OnOk result (labels.new ≡ labels.old) }
+    ensures operands { OnOk result (operands.new ≡ operands.old) }
+    ensures invalid { (at : ℕ) → result ≡ Err (Invalid at) → let t = func_type_of types.entry in
+        let context = context_of function.now (t.results ∷ labels.old) in
+        ends t.results (check_ops context else_arm.now (start t.params)) ≡ false }
+    ensures place { (at : ℕ) → result ≡ Err (Invalid at)
+        → at < 1 + ops_count then_arm.now + ops_count else_arm.now }
+{
+    match check_arm(function, labels, types, types.results, else_arm, operands) {
+        Ok(()) => Ok(()),
+        Err(BodyError::Invalid(0)) => Err(BodyError::Invalid(0)),
+        Err(error) => Err(error.later(count_body(then_arm))),
+    }
+}
+
+// A body of a block, with places counted from the block. A fault at its end is the block's.
+#[cycle(check)]
+fn check_arm<'a>(
+    function: &Function<'a>,
+    labels: &mut Labels<'a>,
+    types: BlockTypes<'a>,
+    label: &'a [ValType],
+    body: &Body,
+    operands: &mut Operands,
+) -> Result<(), BodyError>
+    ensures ok { OnOk result (let t = func_type_of types.entry in
+        let context = context_of function.now (label.now ∷ labels.old) in
+        ends t.results (check_ops context body.now (start t.params)) ≡ true) }
+    ensures labels { OnOk result (labels.new ≡ labels.old) }
+    ensures operands { OnOk result (operands.new ≡ operands.old) }
+    ensures invalid { (at : ℕ) → result ≡ Err (Invalid at) → let t = func_type_of types.entry in
+        let context = context_of function.now (label.now ∷ labels.old) in
+        ends t.results (check_ops context body.now (start t.params)) ≡ false }
+    ensures place { (at : ℕ) → result ≡ Err (Invalid at) → at < 1 + ops_count body.now }
+{
+    match check_body(function, labels, types, label, body, operands) {
+        Ok(true) => Ok(()),
+        Ok(false) => Err(BodyError::Invalid(0)),
+        Err(error) => Err(error.later(1)),
+    }
+}
+
+/// A body inside this label, from the parameters alone. False if its end is not reached with exactly the
+/// results; an error if an instruction of it is at fault.
 #[cycle(check)]
 pub fn check_body<'a>(
     function: &Function<'a>,
@@ -163,23 +227,20 @@ pub fn check_body<'a>(
     label: &'a [ValType],
     body: &Body,
     operands: &mut Operands,
-) -> Result<(), CheckError>
-    ensures ok { OnOk result (let t = func_type_of types.entry in
+) -> Result<bool, BodyError>
+    ensures ok { IfOk result (λ passes. let t = func_type_of types.entry in
         let context = context_of function.now (label.now ∷ labels.old) in
-        ends t.results (check_ops context body.now (start t.params)) ≡ true) }
+        ends t.results (check_ops context body.now (start t.params)) ≡ passes) }
     ensures labels { OnOk result (labels.new ≡ labels.old) }
-    ensures operands { OnOk result (operands.new ≡ operands.old) }
-    ensures invalid { result ≡ Err CheckError.Invalid → let t = func_type_of types.entry in
+    ensures operands { IfOk result (λ passes. IsTrue passes → operands.new ≡ operands.old) }
+    ensures invalid { (at : ℕ) → result ≡ Err (Invalid at) → let t = func_type_of types.entry in
         let context = context_of function.now (label.now ∷ labels.old) in
         ends t.results (check_ops context body.now (start t.params)) ≡ false }
+    ensures place { (at : ℕ) → result ≡ Err (Invalid at) → at < ops_count body.now }
 {
     let outer = open(labels, label, types.params, operands)?;
     check_instrs(function, labels, body, operands)?;
-    if close(labels, outer, types.results, operands) {
-        Ok(())
-    } else {
-        Err(CheckError::Invalid)
-    }
+    Ok(close(labels, outer, types.results, operands))
 }
 
 // A sequence of instructions.
@@ -189,16 +250,20 @@ fn check_instrs<'a>(
     labels: &mut Labels<'a>,
     body: &Body,
     operands: &mut Operands,
-) -> Result<(), CheckError>
+) -> Result<(), BodyError>
     ensures ok { OnOk result
         (Leads (check_ops (context_of function.now labels.old) body.now)
         operands.old operands.new) }
     ensures labels { OnOk result (labels.new ≡ labels.old) }
-    ensures invalid { result ≡ Err CheckError.Invalid
+    ensures invalid { (at : ℕ) → result ≡ Err (Invalid at)
         → check_ops (context_of function.now labels.old) body.now operands.old.stack ≡ None }
+    ensures place { (at : ℕ) → result ≡ Err (Invalid at) → at < ops_count body.now }
 {
-    for instr in body.as_slice() {
-        check_instr(function, labels, instr, operands)?;
+    let instrs = body.as_slice();
+    for (i, instr) in instrs.iter().enumerate() {
+        if let Err(error) = check_instr(function, labels, instr, operands) {
+            return Err(error.later(count_instrs(&instrs[..i])));
+        }
     }
     Ok(())
 }

@@ -1,7 +1,7 @@
 //! What is proved of the definitions themselves: each rule of validity, with modules that it
 //! accepts and modules that it refuses. Each function has a contract and no body.
 
-ghost use Rattle.std.specs.Prelude.{◌≡◌, ℕ, ◌+◌, ◌^◌, true, false, List, [], ◌∷◌, reverse, Some, None};
+ghost use Rattle.std.specs.Prelude.{◌≡◌, ℕ, ◌+◌, ◌^◌, true, false, List, [], ◌∷◌, reverse, Option, Some, None};
 ghost use Rattle.wasm_ast.specs.declared.values.ValType.{ValType};
 ghost use Rattle.wasm_ast.specs.declared.values.FuncType.{FuncType};
 ghost use Rattle.wasm_ast.specs.declared.module.Func.{Func};
@@ -11,14 +11,17 @@ ghost use Rattle.wasm_ast.specs.declared.operators.UnaryOp.{UnaryOp};
 ghost use Rattle.wasm_ast.specs.declared.operators.BinaryOp.{BinaryOp};
 ghost use Rattle.wasm_ast.specs.declared.operators.TestOp.{TestOp};
 ghost use Rattle.wasm_ast.specs.declared.operators.RelationOp.{RelationOp};
-ghost use Rattle.wasm_ast.specs.declared.operators.ConvertOp.TheVariants.{Wrap, ExtendS, ExtendU};
+ghost use Rattle.wasm_ast.specs.declared.operators.ConvertOp.TheVariants.{Wrap, ExtendS, ExtendU, I32From8S, I32From16S, I64From8S, I64From16S, I64From32S};
+ghost use Rattle.wasm_ast.specs.declared.operators.BinaryOp.TheVariants.{Add};
+ghost use Rattle.wasm_ast.specs.declared.place.Place.{Place};
 ghost use Rattle.wasm_ast.specs.declared.operators.LoadOp.TheVariants as load;
 ghost use Rattle.wasm_ast.specs.declared.operators.StoreOp.TheVariants as store;
-ghost use Rattle.wasm_ast.specs.declared.instr.BlockType.TheVariants.{Empty, One};
+ghost use Rattle.wasm_ast.specs.declared.instr.BlockType.TheVariants.{Empty, One, Index};
 ghost use Rattle.wasm_ast.specs.declared.module.ExportKind.TheVariants as kind;
 ghost use Rattle.validator.specs.Typing.{ValidModule, Typed, body_context};
+ghost use Rattle.validator.specs.Faults.{NamesFault};
 ghost use Rattle.validator.specs.PlaceTypes.{Point, IsOwn, IsPlace, ReachesAt, PassesAt, Known, Matches, MatchPoint};
-ghost use Rattle.validator.specs.Worked.{i32_const, i64_const, local_get, local_set, local_tee, global_get, global_set, load_at, store_at, memory_size, memory_grow, nop, unary, binary, test, compare, convert, unreachable, drop', select, br, br_if, br_table, return', call, call_indirect, block_of, loop_of, if_of, func_type, func, limits, constant_of, variable_of, export_of, element, segment, import_of, plain, with_types, Types, Gives, WithLocals, TypesWithoutMemory, TypesWithoutTable, point_of, known_stack, known_point, LeadsTo, MayLeadTo, MayPass, branch_body, arms_body};
+ghost use Rattle.validator.specs.Worked.{i32_const, i64_const, local_get, local_set, local_tee, global_get, global_set, load_at, store_at, memory_size, memory_grow, nop, unary, binary, test, compare, convert, unreachable, drop', select, br, br_if, br_table, return', call, call_indirect, block_of, loop_of, if_of, func_type, func, limits, constant_of, variable_of, export_of, element, segment, import_of, plain, with_body, with_types, Types, Gives, WithLocals, TypesWithoutMemory, TypesWithoutTable, point_of, known_stack, known_point, LeadsTo, MayLeadTo, MayPass, branch_body, arms_body};
 
 /// Constants, and operators with one operand (3.3.1).
 pub fn constants_and_operators_are_typed()
@@ -321,6 +324,35 @@ pub fn calls_are_typed()
         (call_indirect 3 ∷ []) → ⊥ }
 {}
 
+/// Blocks whose type is given by an index (Core 2.0, 3.3.8): a body begins with the parameters alone, a
+/// branch to a loop takes them, and an `if` without an else arm gives what it takes. `with_body` has the
+/// types: the function's own, i32 to nothing, nothing to i32, i32 and i64 to i64.
+pub fn blocks_by_index_are_typed()
+    ensures block { Types (I32 ∷ I64 ∷ []) (I64 ∷ []) (block_of (Index 3)
+        (convert Wrap ∷ binary I32 Add ∷ convert ExtendU ∷ []) ∷ []) }
+    ensures block_without_parameters { Types (I32 ∷ I64 ∷ []) (I64 ∷ []) (block_of (One I64)
+        (convert Wrap ∷ binary I32 Add ∷ convert ExtendU ∷ []) ∷ []) → ⊥ }
+    ensures parameter_left_over { Types (I32 ∷ I64 ∷ []) (I64 ∷ []) (block_of (Index 3) [] ∷ []) → ⊥ }
+    ensures parameters_out_of_order { Types (I64 ∷ I32 ∷ []) (I64 ∷ []) (block_of (Index 3) (br 0 ∷ []) ∷ []) → ⊥ }
+    ensures parameter_not_there { Types (I64 ∷ []) (I64 ∷ []) (block_of (Index 3) (br 0 ∷ []) ∷ []) → ⊥ }
+    ensures below_the_parameters { Types (I64 ∷ I32 ∷ []) [] (block_of (Index 1) (drop' ∷ drop' ∷ []) ∷ []) → ⊥ }
+    ensures no_type { Gives [] (block_of (Index 4) [] ∷ []) → ⊥ }
+    ensures branch_to_a_block { Types (I32 ∷ []) [] (block_of (Index 1) (drop' ∷ br 0 ∷ []) ∷ []) }
+    ensures branch_to_a_loop { Types (I32 ∷ I64 ∷ []) (I64 ∷ []) (loop_of (Index 3) (br 0 ∷ []) ∷ []) }
+    ensures branch_to_a_loop_without_parameters { Types (I32 ∷ []) [] (loop_of (Index 1) (drop' ∷ br 0 ∷ []) ∷ []) → ⊥ }
+    ensures two_results { Gives (I32 ∷ I64 ∷ []) (block_of (Index 0) (i32_const 1 ∷ i64_const 1 ∷ []) ∷ []) }
+    ensures branch_with_two { Gives (I32 ∷ I64 ∷ []) (block_of (Index 0)
+        (i32_const 1 ∷ i64_const 1 ∷ br 0 ∷ []) ∷ []) }
+    ensures branch_with_one_of_two { Gives (I32 ∷ I64 ∷ []) (block_of (Index 0) (i64_const 1 ∷ br 0 ∷ []) ∷ []) → ⊥ }
+    ensures if_without_else { Types (I32 ∷ []) (I32 ∷ []) (i32_const 1 ∷ if_of (Index 0) [] [] ∷ []) }
+    ensures if_without_else_of_other_results { Types (I32 ∷ []) [] (i32_const 1 ∷ if_of (Index 1) (drop' ∷ []) []
+        ∷ []) → ⊥ }
+    ensures if_with_else { Types (I32 ∷ []) [] (i32_const 1 ∷ if_of (Index 1) (drop' ∷ []) (drop' ∷ []) ∷ []) }
+    ensures call { Gives (I32 ∷ I64 ∷ []) (call 1 ∷ []) }
+    ensures tables_of_unequal_labels { Gives (I32 ∷ I64 ∷ []) (block_of (One I64) (i32_const 1 ∷ i64_const 1
+        ∷ i32_const 0 ∷ br_table (0 ∷ []) 1 ∷ []) ∷ []) → ⊥ }
+{}
+
 /// Blocks, loops and ifs (3.3.5): a body begins with no operands and ends with the results.
 pub fn blocks_are_typed()
     ensures block { Gives (I32 ∷ []) (block_of (One I32) (i32_const 1 ∷ []) ∷ []) }
@@ -363,7 +395,47 @@ pub fn blocks_are_typed()
         (if_of (One I32) (i32_const 1 ∷ []) (i32_const 2 ∷ []) ∷ []) → ⊥ }
 {}
 
-/// Functions, their types, and those of imports (3.4.1, 3.4.9, 3.2.2).
+/// A module that is refused as invalid is not valid, wherever its fault is.
+pub fn invalid_modules_are_not_valid()
+    ensures { (m : Module) (at : Option Place) → NamesFault m at → ValidModule m → ⊥ }
+{}
+
+/// Where faults may be named: nowhere in a valid module; outside the bodies only where there is a fault; and
+/// in a body that has no typing, up to its end.
+pub fn faults_are_where_they_are_named()
+    ensures outside { NamesFault (record plain { memories = limits 1 None ∷ limits 1 None ∷ [] })
+        None }
+    ensures not_outside { NamesFault (with_body (func_type [] []) [] (i32_const 1 ∷ [])) None → ⊥ }
+    ensures at_the_end { NamesFault (with_body (func_type [] []) [] (i32_const 1 ∷ []))
+        (Some (record { func = 1; instr = 1 })) }
+    ensures past_the_end { NamesFault (with_body (func_type [] []) [] (i32_const 1 ∷ []))
+        (Some (record { func = 1; instr = 2 })) → ⊥ }
+    ensures other_function { NamesFault (with_body (func_type [] []) [] (i32_const 1 ∷ []))
+        (Some (record { func = 2; instr = 0 })) → ⊥ }
+    ensures import { NamesFault (with_body (func_type [] []) [] (i32_const 1 ∷ []))
+        (Some (record { func = 0; instr = 0 })) → ⊥ }
+{}
+
+/// Sign extensions (Core 2.0, 3.3.1): from a type to itself.
+pub fn sign_extensions_are_typed()
+    ensures extend8 { Types (I32 ∷ []) (I32 ∷ []) (convert I32From8S ∷ []) }
+    ensures extend8_of_other { Types (I64 ∷ []) (I32 ∷ []) (convert I32From8S ∷ []) → ⊥ }
+    ensures extend8_to_other { Types (I32 ∷ []) (I64 ∷ []) (convert I32From8S ∷ []) → ⊥ }
+    ensures extend16 { Types (I32 ∷ []) (I32 ∷ []) (convert I32From16S ∷ []) }
+    ensures extend16_of_other { Types (I64 ∷ []) (I32 ∷ []) (convert I32From16S ∷ []) → ⊥ }
+    ensures extend16_to_other { Types (I32 ∷ []) (I64 ∷ []) (convert I32From16S ∷ []) → ⊥ }
+    ensures extend8_64 { Types (I64 ∷ []) (I64 ∷ []) (convert I64From8S ∷ []) }
+    ensures extend8_64_of_other { Types (I32 ∷ []) (I64 ∷ []) (convert I64From8S ∷ []) → ⊥ }
+    ensures extend8_64_to_other { Types (I64 ∷ []) (I32 ∷ []) (convert I64From8S ∷ []) → ⊥ }
+    ensures extend16_64 { Types (I64 ∷ []) (I64 ∷ []) (convert I64From16S ∷ []) }
+    ensures extend16_64_of_other { Types (I32 ∷ []) (I64 ∷ []) (convert I64From16S ∷ []) → ⊥ }
+    ensures extend16_64_to_other { Types (I64 ∷ []) (I32 ∷ []) (convert I64From16S ∷ []) → ⊥ }
+    ensures extend32_64 { Types (I64 ∷ []) (I64 ∷ []) (convert I64From32S ∷ []) }
+    ensures extend32_64_of_other { Types (I32 ∷ []) (I64 ∷ []) (convert I64From32S ∷ []) → ⊥ }
+    ensures extend32_64_to_other { Types (I64 ∷ []) (I32 ∷ []) (convert I64From32S ∷ []) → ⊥ }
+{}
+
+/// Functions, their types, and those of imports (3.4.1, 3.4.9, Core 2.0, 3.2.3).
 pub fn functions_and_types_are_valid()
     ensures plain { ValidModule plain }
     ensures no_result { Gives (I32 ∷ []) (nop ∷ []) → ⊥ }
@@ -377,11 +449,13 @@ pub fn functions_and_types_are_valid()
         (record plain { imports = import_of 4 ∷ []; funcs = [] }) → ⊥ }
     ensures second_import { ValidModule
         (record plain { imports = import_of 1 ∷ import_of 4 ∷ []; funcs = [] }) → ⊥ }
-    ensures two_results { ValidModule (with_types (func_type [] (I32 ∷ I32 ∷ []) ∷ [])) → ⊥ }
+    ensures two_results { ValidModule (with_types (func_type [] (I32 ∷ I64 ∷ []) ∷ [])) }
+    ensures two_results_in_order { Gives (I32 ∷ I64 ∷ []) (i32_const 1 ∷ i64_const 1 ∷ []) }
+    ensures two_results_out_of_order { Gives (I32 ∷ I64 ∷ []) (i64_const 1 ∷ i32_const 1 ∷ [])
+        → ⊥ }
+    ensures one_result_of_two { Gives (I32 ∷ I64 ∷ []) (i64_const 1 ∷ []) → ⊥ }
     ensures many_parameters { ValidModule
         (with_types (func_type (I32 ∷ I32 ∷ I64 ∷ []) (I32 ∷ []) ∷ [])) }
-    ensures second_type { ValidModule
-        (with_types (func_type [] [] ∷ func_type [] (I32 ∷ I32 ∷ []) ∷ [])) → ⊥ }
 {}
 
 /// Tables and memories

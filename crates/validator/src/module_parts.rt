@@ -2,27 +2,27 @@
 
 ghost use Rattle.std.specs.Prelude.{◌≡◌};
 ghost use Rattle.wasm_ast.specs.Limits.{are_all};
-ghost use Rattle.validator.specs.Inside.ModuleTests.{has_few_results, is_typed_import, are_valid_limits, is_constant, is_valid_global, is_function, is_there, is_valid_export, is_valid_start, is_valid_element, is_valid_segment, declares_validly, defines_validly};
+ghost use Rattle.validator.specs.Inside.ModuleTests.{is_typed_import, is_typed_func, are_valid_limits, is_constant, is_valid_global, is_function, is_there, is_valid_export, is_valid_start, is_valid_element, is_valid_segment, declares_validly, defines_validly};
 
 use crate::access::type_of;
 use crate::operands::is_same;
 use wasm_ast::{
-    Body, Element, Export, ExportKind, FuncType, Global, Import, Instr, Limits, Module, Segment,
-    Simple, ValType,
+    Body, Element, Export, ExportKind, Func, FuncType, Global, Import, Instr, Limits, Module,
+    Segment, Simple, ValType,
 };
 
-/// Entries that a table may have (3.2.4).
+/// Entries that a table may have (3.2.3).
 const TABLE_RANGE: u64 = 1 << 32;
 
-/// Pages that a memory may have (3.2.5).
+/// Pages that a memory may have (3.2.4).
 const PAGE_RANGE: u64 = 65_536;
 
-/// Whether types, imports, tables and memories are valid.
+/// Whether imports, the types of functions, tables and memories are valid.
 pub fn declares_validly(of: &Module) -> bool
     ensures { result ≡ declares_validly of.now }
 {
-    have_few_results(of.types.as_slice())
-        && are_typed_imports(of.types.as_slice(), of.imports.as_slice())
+    are_typed_imports(of.types.as_slice(), of.imports.as_slice())
+        && are_typed_funcs(of.types.as_slice(), of.funcs.as_slice())
         && of.tables.len() <= 1
         && are_valid_limits(TABLE_RANGE, of.tables.as_slice())
         && of.memories.len() <= 1
@@ -40,24 +40,24 @@ pub fn defines_validly(of: &Module) -> bool
         && are_valid_segments(of, of.segments.as_slice())
 }
 
-// A function type has at most one result (3.2.2).
-fn have_few_results(types: &[FuncType]) -> bool
-    ensures { result ≡ are_all has_few_results types.now }
-{
-    for func_type in types {
-        if func_type.results.len() > 1 {
-            return false;
-        }
-    }
-    true
-}
-
 // The type of an import is there (3.4.9).
 fn are_typed_imports(types: &[FuncType], imports: &[Import]) -> bool
     ensures { result ≡ are_all (is_typed_import types.now) imports.now }
 {
     for import in imports {
         if import.type_index as usize >= types.len() {
+            return false;
+        }
+    }
+    true
+}
+
+// The type of a function is there (3.4.1).
+fn are_typed_funcs(types: &[FuncType], funcs: &[Func]) -> bool
+    ensures { result ≡ are_all (is_typed_func types.now) funcs.now }
+{
+    for func in funcs {
+        if func.type_index as usize >= types.len() {
             return false;
         }
     }

@@ -1,7 +1,7 @@
 //! Places of instructions in sequences, numbered in written order.
 
-ghost use Rattle.std.specs.Prelude.{◌≡◌};
-ghost use Rattle.wasm_ast.specs.Syntax.{count, ops_count};
+ghost use Rattle.std.specs.Prelude.{◌≡◌, ◌-◌, ◌^◌, map, min};
+ghost use Rattle.wasm_ast.specs.Syntax.{count, ops_count, ops_of};
 ghost use Rattle.wasm_ast.specs.View.{op_of};
 ghost use Rattle.validator.specs.Inside.PlaceWalk.{past};
 
@@ -26,9 +26,33 @@ pub fn past_instr(instr: &Instr, place: u32) -> Option<u32>
 pub fn past_body(body: &Body, place: u32) -> Option<u32>
     ensures { result ≡ past (ops_count body.now) place }
 {
+    past_instrs(body.as_slice(), place)
+}
+
+#[cycle(past)]
+fn past_instrs(instrs: &[Instr], place: u32) -> Option<u32>
+    ensures { result ≡ past (ops_count (ops_of (map op_of instrs.now))) place }
+{
     let mut left = place;
-    for instr in body.as_slice() {
+    for instr in instrs {
         left = past_instr(instr, left)?;
     }
     Some(left)
+}
+
+/// How many instructions these are, those inside blocks included; 2^32 - 1 if there are more.
+pub fn count_instrs(instrs: &[Instr]) -> u32
+    ensures { result ≡ min (ops_count (ops_of (map op_of instrs.now))) (2 ^ 32 - 1) }
+{
+    match past_instrs(instrs, u32::MAX) {
+        Some(left) => u32::MAX - left,
+        None => u32::MAX,
+    }
+}
+
+/// How many instructions the sequence has, those inside blocks included; 2^32 - 1 if there are more.
+pub fn count_body(body: &Body) -> u32
+    ensures { result ≡ min (ops_count body.now) (2 ^ 32 - 1) }
+{
+    count_instrs(body.as_slice())
 }

@@ -1,9 +1,11 @@
 //! Modules that are valid (3).
 
-ghost use Rattle.std.specs.Prelude.{◌≡◌, ◌⊎◌, ◌↔◌, IfOk, OnOk, OnErr, Err};
+ghost use Rattle.std.specs.Prelude.{◌≡◌, ◌⊎◌, ◌↔◌, Option, IfOk, OnOk, OnErr, Err};
 ghost use Rattle.std.specs.Arc.{arc_value};
 ghost use Rattle.wasm_ast.specs.declared.refusal.Refusal.TheVariants as refusal;
+ghost use Rattle.wasm_ast.specs.declared.place.Place.{Place};
 ghost use Rattle.validator.specs.Typing.{ValidModule};
+ghost use Rattle.validator.specs.Faults.{NamesFault};
 ghost use Rattle.validator.specs.PlaceTypes.{Point, IsPlace, ReachesAt, PassesAt, MatchPoint};
 
 use crate::check_error::CheckError;
@@ -87,14 +89,18 @@ impl Valid {
     }
 }
 
-/// Takes a module that is valid. `Invalid` exactly if it is not; `NoMemory` if memory for the check
-/// or for sharing the module cannot be allocated. Blocks may be nested to any depth: recursion is
+/// Takes a module that is valid. `Invalid` only if it is not: with a place, whose function has a body
+/// without a typing, or without one, if the fault is outside the bodies; of several faults it is one of
+/// those outside, or else the first one. `NoMemory` if memory for the check or for sharing the module
+/// cannot be allocated, or if the index of a function at fault has more than 32 bits. Blocks may be nested to any depth: recursion is
 /// as deep as they are, which is as deep as that of dropping the module.
 pub fn validate(alloc: Global, unchecked: Module) -> Result<Valid, Refusal>
     ensures ok { IfOk result (λ v. v ≡ unchecked) }
     ensures valid { OnOk result (ValidModule unchecked) }
-    ensures invalid { result ≡ Err refusal.Invalid → ValidModule unchecked → ⊥ }
-    ensures err { OnErr result ((result ≡ Err refusal.Invalid) ⊎ (result ≡ Err refusal.NoMemory)) }
+    ensures invalid { (at : Option Place) → result ≡ Err (refusal.Invalid at)
+        → NamesFault unchecked at }
+    ensures err { OnErr result (((at : Option Place) × (result ≡ Err (refusal.Invalid at)))
+        ⊎ (result ≡ Err refusal.NoMemory)) }
 {
     check_module(alloc, &unchecked)?;
     let module = shared(alloc, unchecked)?;

@@ -1,35 +1,54 @@
 //! The validation of a module (3.4.10).
 
-ghost use Rattle.std.specs.Prelude.{◌≡◌, IsTrue, IfOk, OnOk, Err, true, false, Some, [], All, map};
-ghost use Rattle.validator.specs.Typing.{ValidFunc, ValidModule, AllDifferent};
+ghost use Rattle.std.specs.Prelude.{◌≡◌, ◌≤◌, ◌<◌, ◌^◌, ◌+◌, ◌⊎◌, ℕ, IsTrue, IfOk, IfSome, OnOk, OnErr, Err, true, false, Option, Some, [], All, map, length};
+ghost use Rattle.wasm_ast.specs.Syntax.{ops_count};
+ghost use Rattle.wasm_ast.specs.declared.place.Place.{Place};
+ghost use Rattle.wasm_ast.specs.declared.refusal.Refusal.TheVariants as refusal;
+ghost use Rattle.validator.specs.Typing.{ValidOutside, ValidBody, ValidModule, AllDifferent};
+ghost use Rattle.validator.specs.Faults.{NamesFault};
+ghost use Rattle.validator.specs.Inside.FunctionContext.{passes_func};
+ghost use Rattle.validator.specs.Inside.CheckErrors.{IsAt};
+ghost use Rattle.validator.specs.declared.check_error.BodyError.TheVariants.{Invalid};
 
 use crate::block_types::BlockTypes;
 use crate::bodies::check_body;
-use crate::check_error::CheckError;
+use crate::check_error::BodyError;
 use crate::function::Function;
 use crate::labels::Labels;
 use crate::module_parts::{declares_validly, defines_validly};
 use crate::operands::Operands;
+use crate::places::count_body;
 use std::alloc::{AllocError, Global};
 use std::collections::BTreeMap;
-use wasm_ast::{Export, Func, Module};
+use wasm_ast::{Export, Func, Module, Place, Refusal};
 
-/// Checks that a module is valid.
-pub fn check_module(alloc: Global, unchecked: &Module) -> Result<(), CheckError>
+/// Checks that a module is valid: first what it has outside its functions' bodies, then these in order.
+pub fn check_module(alloc: Global, unchecked: &Module) -> Result<(), Refusal>
     ensures valid { OnOk result (ValidModule unchecked.now) }
-    ensures invalid { result ≡ Err CheckError.Invalid → ValidModule unchecked.now → ⊥ }
+    ensures invalid { (at : Option Place) → result ≡ Err (refusal.Invalid at)
+        → NamesFault unchecked.now at }
+    ensures err { OnErr result (((at : Option Place) × (result ≡ Err (refusal.Invalid at)))
+        ⊎ (result ≡ Err refusal.NoMemory)) }
 {
-    if !declares_validly(unchecked) {
-        return Err(CheckError::Invalid);
-    }
-    if !defines_validly(unchecked) {
-        return Err(CheckError::Invalid);
-    }
-    let differ = names_differ(alloc, unchecked.exports.as_slice())?;
-    if !differ {
-        return Err(CheckError::Invalid);
+    let passes = check_outside(alloc, unchecked)?;
+    if !passes {
+        return Err(Refusal::Invalid(None));
     }
     check_funcs(alloc, unchecked)
+}
+
+// Whether all outside the functions' bodies is valid. An error if the names of exports cannot be held.
+fn check_outside(alloc: Global, unchecked: &Module) -> Result<bool, AllocError>
+    ensures valid { IfOk result (λ passes. IsTrue passes → ValidOutside unchecked.now) }
+    ensures invalid { IfOk result (λ passes. passes ≡ false → ValidOutside unchecked.now → ⊥) }
+{
+    if !declares_validly(unchecked) {
+        return Ok(false);
+    }
+    if !defines_validly(unchecked) {
+        return Ok(false);
+    }
+    names_differ(alloc, unchecked.exports.as_slice())
 }
 
 // The names of exports differ. An error if the names cannot be held.
@@ -49,48 +68,94 @@ fn names_differ(alloc: Global, exports: &[Export]) -> Result<bool, AllocError>
 }
 
 // The functions of the module. One list of operands and one of labels serve all of them.
-fn check_funcs(alloc: Global, of: &Module) -> Result<(), CheckError>
-    ensures valid { OnOk result (All (ValidFunc of.now) of.now.funcs) }
-    ensures invalid { result ≡ Err CheckError.Invalid → All (ValidFunc of.now) of.now.funcs → ⊥ }
+fn check_funcs(alloc: Global, of: &Module) -> Result<(), Refusal>
+    ensures valid { OnOk result (All (ValidBody of.now) of.now.funcs) }
+    ensures invalid { (at : Option Place) → result ≡ Err (refusal.Invalid at)
+        → NamesFault of.now at }
+    ensures err { OnErr result (((at : Option Place) × (result ≡ Err (refusal.Invalid at)))
+        ⊎ (result ≡ Err refusal.NoMemory)) }
 {
     let mut labels = Labels::new(alloc);
     let mut operands = Operands::new(alloc);
-    for func in of.funcs.as_slice() {
-        check_func(of, func, &mut labels, &mut operands)?;
+    let funcs = of.funcs.as_slice();
+    for (i, func) in funcs.iter().enumerate() {
+        if let Err(error) = check_func(of, func, &mut labels, &mut operands) {
+            return Err(refusal_at(of, i, error));
+        }
     }
     Ok(())
 }
 
-// A function's type is there, and its body is a block of its results (3.4.1).
+// The refusal of a module whose own function with this number is at fault. `NoMemory` also where the
+// function's index has more than 32 bits.
+fn refusal_at(of: &Module, own: usize, error: BodyError) -> Refusal
+    ensures at { (at : Option Place) → result ≡ refusal.Invalid at → IsAt of.now own error at }
+    ensures err { ((at : Option Place) × (result ≡ refusal.Invalid at)) ⊎ (result ≡ refusal.NoMemory) }
+{
+    let BodyError::Invalid(instr) = error else {
+        return Refusal::NoMemory;
+    };
+    match index_of(of, own) {
+        Some(func) => Refusal::Invalid(Some(Place { func, instr })),
+        None => Refusal::NoMemory,
+    }
+}
+
+// The index of the module's own function with this number. None if it has more than 32 bits.
+fn index_of(of: &Module, own: usize) -> Option<u32>
+    ensures { IfSome result (λ func. func ≡ length of.now.imports + own) }
+{
+    let index = of.imports.len().checked_add(own)?;
+    u32::try_from(index).ok()
+}
+
+// A function's body is a block of its results (3.4.1).
 fn check_func<'a>(
     of: &'a Module,
     func: &'a Func,
     labels: &mut Labels<'a>,
     operands: &mut Operands,
-) -> Result<(), CheckError>
+) -> Result<(), BodyError>
     requires { labels.old ≡ [] }
-    ensures valid { OnOk result (ValidFunc of.now func.now) }
+    ensures valid { OnOk result (ValidBody of.now func.now) }
     ensures labels { OnOk result (labels.new ≡ []) }
-    ensures invalid { result ≡ Err CheckError.Invalid → ValidFunc of.now func.now → ⊥ }
+    ensures invalid { (at : ℕ) → result ≡ Err (Invalid at) → ValidBody of.now func.now → ⊥ }
+    ensures place { (at : ℕ) → result ≡ Err (Invalid at) → at ≤ ops_count func.now.body }
 {
     let Some(func_type) = of.type_with(func.type_index) else {
-        return Err(CheckError::Invalid);
+        return Ok(());
     };
     let function = Function {
         of,
         func_type,
         func,
     };
+    check_whole(&function, labels, operands)
+}
+
+// The whole body of a function. A fault at its end has the number of its instructions.
+fn check_whole<'a>(
+    function: &Function<'a>,
+    labels: &mut Labels<'a>,
+    operands: &mut Operands,
+) -> Result<(), BodyError>
+    requires { labels.old ≡ [] }
+    ensures valid { OnOk result
+        (passes_func function.now.of.now function.now.func_type.now function.now.func.now ≡ true) }
+    ensures labels { OnOk result (labels.new ≡ []) }
+    ensures invalid { (at : ℕ) → result ≡ Err (Invalid at)
+        → passes_func function.now.of.now function.now.func_type.now function.now.func.now ≡ false }
+    ensures place { (at : ℕ) → result ≡ Err (Invalid at)
+        → at ≤ ops_count function.now.func.now.body }
+{
     let types = BlockTypes {
         params: &[],
-        results: func_type.results.as_slice(),
+        results: function.func_type.results.as_slice(),
     };
-    check_body(
-        &function,
-        labels,
-        types,
-        types.results,
-        &func.body,
-        operands,
-    )
+    let body = &function.func.body;
+    match check_body(function, labels, types, types.results, body, operands) {
+        Ok(true) => Ok(()),
+        Ok(false) => Err(BodyError::Invalid(count_body(body))),
+        Err(error) => Err(error),
+    }
 }

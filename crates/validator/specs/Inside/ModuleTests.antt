@@ -5,6 +5,7 @@ use Rattle.wasm_ast.specs.declared.values.ValType.TheVariants.{I32}
 use Rattle.wasm_ast.specs.declared.values.FuncType.{FuncType}
 use Rattle.wasm_ast.specs.declared.instr.Simple.TheVariants as instr
 use Rattle.wasm_ast.specs.declared.module.Import.{Import}
+use Rattle.wasm_ast.specs.declared.module.Func.{Func}
 use Rattle.wasm_ast.specs.declared.module.Export.{Export}
 use Rattle.wasm_ast.specs.declared.module.Limits.{Limits}
 use Rattle.wasm_ast.specs.declared.module.Global.{Global}
@@ -19,11 +20,11 @@ use Rattle.wasm_ast.specs.Limits.{are_all}
 use Rattle.validator.specs.Typing.{standard_pages}
 use Rattle.validator.specs.Inside.Algorithm.{is_same}
 
-abbrev pub has_few_results : FuncType → Bool
-has_few_results t = nat_le (length t.results) 1
-
 abbrev pub is_typed_import : List FuncType → Import → Bool
 is_typed_import types i = nat_lt i.type_index (length types)
+
+abbrev pub is_typed_func : List FuncType → Func → Bool
+is_typed_func types f = nat_lt f.type_index (length types)
 
 abbrev pub is_valid_max : (range min : ℕ) → Option ℕ → Bool
 is_valid_max range min None = true
@@ -74,10 +75,10 @@ is_valid_segment m s = nat_lt s.memory (length m.memories) && is_constant I32 s.
 abbrev pub is_alone : {A : Type 0} → List A → Bool
 is_alone xs = nat_le (length xs) 1
 
--- types, imports, tables and memories
+-- imports, the types of functions, tables and memories
 abbrev pub declares_validly : Module → Bool
 declares_validly m =
-    are_all has_few_results m.types && are_all (is_typed_import m.types) m.imports
+    are_all (is_typed_import m.types) m.imports && are_all (is_typed_func m.types) m.funcs
     && is_alone m.tables
     && are_all (are_valid_limits (2 ^ 32)) m.tables && is_alone m.memories
     && are_all (are_valid_limits standard_pages) m.memories

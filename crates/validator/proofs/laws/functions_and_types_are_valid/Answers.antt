@@ -30,10 +30,16 @@ pub returns-clause-second_import : goal.returns-clause-second_import
 returns-clause-second_import c = invalid_by _ refl
 
 pub returns-clause-two_results : goal.returns-clause-two_results
-returns-clause-two_results c = invalid_by _ refl
+returns-clause-two_results c = valid_by _ refl
+
+pub returns-clause-two_results_in_order : goal.returns-clause-two_results_in_order
+returns-clause-two_results_in_order c = valid_by _ refl
+
+pub returns-clause-two_results_out_of_order : goal.returns-clause-two_results_out_of_order
+returns-clause-two_results_out_of_order c = invalid_by _ refl
+
+pub returns-clause-one_result_of_two : goal.returns-clause-one_result_of_two
+returns-clause-one_result_of_two c = invalid_by _ refl
 
 pub returns-clause-many_parameters : goal.returns-clause-many_parameters
 returns-clause-many_parameters c = valid_by _ refl
-
-pub returns-clause-second_type : goal.returns-clause-second_type
-returns-clause-second_type c = invalid_by _ refl

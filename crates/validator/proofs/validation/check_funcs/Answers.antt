@@ -1,21 +1,23 @@
-use Rattle.std.proofs.Common.{All, subst, ◌∙◌}
+use Rattle.std.proofs.Common.{All, Err, ap, subst, sym, ◌∙◌, ◌≡◌, Some, List}
+use Rattle.std.specs.Prelude.{slice_get}
 use Rattle.std.proofs.lemmas.List.{take_all}
-use Rattle.std.proofs.lemmas.List.Elements.{All-more}
-use Rattle.validator.specs.Typing.{ValidFunc}
+use Rattle.validator.specs.Typing.{ValidBody}
+use Rattle.wasm_ast.specs.declared.module.Func.{Func}
+use Rattle.validator.proofs.FaultLemmas.{get_there, own_fault, err_refusal}
 use Rattle.validator.proofs.validation.check_funcs.Goals as goal
 
-pub loop-func-preserved : goal.loop-func-preserved
-loop-func-preserved c = record {
-  items = c.loop-func.invariant.items;
-  labels = c.in_ok-check_func.ensures.labels;
-  valid =
-      All-more (ValidFunc c.args.of.now) c.as_slice-func-items.result.now c.loop-func.func-index c.func-item.result
-      c.loop-func-test.true c.loop-func.invariant.valid
-      (subst (ValidFunc c.args.of.now) c.func-item.is c.in_ok-check_func.ensures.valid);
-}
+pub returns-in-Err-clause-invalid : goal.returns-in-Err-clause-invalid
+returns-in-Err-clause-invalid c = λ at is.
+    let m = c.args.of.now in
+    let f = c.index-funcs-i.result in
+    let there : slice_get m.funcs c.loop-i.i ≡ Some f =
+    ap (λ (fs : List Func). slice_get fs c.loop-i.i) (sym c.as_slice-funcs.ensures)
+    ∙ get_there c.as_slice-funcs.result.now c.loop-i.i f c.loop-i-test.true ∙ ap Some (sym c.index-funcs-i.is) in
+    own_fault m c.loop-i.i f c.in-Err.error at there (c.refusal_at.ensures.at at (err_refusal c.refusal_at.result at is))
+    (λ k e. c.in-Err.ensures.invalid k (ap Err e)) (λ k e. c.in-Err.ensures.place k (ap Err e))
 
 pub returns-clause-valid : goal.returns-clause-valid
 returns-clause-valid c =
-    subst (All (ValidFunc c.args.of.now))
-    (take_all c.loop-func.func-index c.as_slice-func-items.result.now c.loop-func-test.false
-    ∙ c.loop-func.invariant.items) c.loop-func.invariant.valid
+    subst (All (ValidBody c.args.of.now))
+    (take_all c.loop-i.i c.as_slice-funcs.result.now c.loop-i-test.false
+    ∙ c.loop-i.invariant.items) c.loop-i.invariant.valid
