@@ -78,3 +78,7 @@ extend_s a = unsigned w64 (signed w32 a)
 
 abbrev pub extend_u : ℕ → ℕ
 extend_u a = a
+
+-- the low bits, read as signed, in the width w (Core 2.0, 4.3.2)
+abbrev pub extend_low : (low w : Width) → ℕ → ℕ
+extend_low low w a = unsigned w (signed low (a % 2 ^ bits low))

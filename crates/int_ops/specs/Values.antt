@@ -9,7 +9,7 @@ use Rattle.wasm_ast.specs.declared.values.Value.TheVariants.{I32, I64}
 use Rattle.wasm_ast.specs.declared.operators.UnaryOp.{UnaryOp}
 use Rattle.wasm_ast.specs.declared.operators.TestOp.{TestOp}
 use Rattle.wasm_ast.specs.declared.operators.ConvertOp.{ConvertOp}
-use Rattle.wasm_ast.specs.declared.operators.ConvertOp.TheVariants.{Wrap, ExtendS, ExtendU}
+use Rattle.wasm_ast.specs.declared.operators.ConvertOp.TheVariants.{Wrap, ExtendS, ExtendU, I32From8S, I32From16S, I64From8S, I64From16S, I64From32S}
 use Rattle.int_ops.specs.Integers.{unary, test}
 
 abbrev pub type_of : Value → ValType
@@ -41,3 +41,8 @@ abbrev pub source_of : ConvertOp → ValType
 source_of Wrap = type.I64
 source_of ExtendS = type.I32
 source_of ExtendU = type.I32
+source_of I32From8S = type.I32
+source_of I32From16S = type.I32
+source_of I64From8S = type.I64
+source_of I64From16S = type.I64
+source_of I64From32S = type.I64

@@ -2,8 +2,8 @@
 //! numbers are the edges of both widths.
 
 ghost use Rattle.std.specs.Prelude.{◌≡◌, ◌^◌, ◌-◌, Ok, Err, true, false};
-ghost use Rattle.std.specs.Int.{w32, w64};
-ghost use Rattle.int_ops.specs.Integers.{unary, binary, test, compare, wrap, extend_s, extend_u};
+ghost use Rattle.std.specs.Int.{w8, w16, w32, w64};
+ghost use Rattle.int_ops.specs.Integers.{unary, binary, test, compare, wrap, extend_s, extend_u, extend_low};
 ghost use Rattle.wasm_ast.specs.declared.trap.Trap.TheVariants.{IntegerDivideByZero, IntegerOverflow};
 ghost use Rattle.wasm_ast.specs.declared.operators.UnaryOp.TheVariants.{Clz, Ctz, Popcnt};
 ghost use Rattle.wasm_ast.specs.declared.operators.BinaryOp.TheVariants.{Add, Sub, Mul, DivS, DivU, RemS, RemU, And, Or, Xor, Shl, ShrS, ShrU, Rotl, Rotr};
@@ -83,4 +83,22 @@ pub fn conversions_keep_numbers()
     ensures extend_s { extend_s 4294967295 ≡ 18446744073709551615 }
     ensures extend_s_positive { extend_s 2147483647 ≡ 2147483647 }
     ensures extend_u { extend_u 4294967295 ≡ 4294967295 }
+{}
+
+/// Sign extensions on both sides of the sign bit; bits above the low ones are not read.
+pub fn low_bits_are_read_as_signed()
+    ensures positive_8 { extend_low w8 w32 127 ≡ 127 }
+    ensures negative_8 { extend_low w8 w32 128 ≡ 4294967168 }
+    ensures all_ones_8 { extend_low w8 w32 255 ≡ 4294967295 }
+    ensures above_8 { extend_low w8 w32 256 ≡ 0 }
+    ensures above_negative_8 { extend_low w8 w32 4294967168 ≡ 4294967168 }
+    ensures positive_16 { extend_low w16 w32 32767 ≡ 32767 }
+    ensures negative_16 { extend_low w16 w32 32768 ≡ 4294934528 }
+    ensures above_16 { extend_low w16 w32 65536 ≡ 0 }
+    ensures negative_8_64 { extend_low w8 w64 128 ≡ 18446744073709551488 }
+    ensures above_8_64 { extend_low w8 w64 4294967296 ≡ 0 }
+    ensures negative_16_64 { extend_low w16 w64 32768 ≡ 18446744073709518848 }
+    ensures positive_32 { extend_low w32 w64 2147483647 ≡ 2147483647 }
+    ensures negative_32 { extend_low w32 w64 2147483648 ≡ 18446744071562067968 }
+    ensures above_32 { extend_low w32 w64 4294967296 ≡ 0 }
 {}
