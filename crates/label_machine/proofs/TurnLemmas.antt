@@ -1,18 +1,20 @@
 -- What a turn makes of the machine's data, by what its instruction comes to.
-use Rattle.std.proofs.Common.{◌≡◌, ℕ, zero, suc, ◌+◌, ◌<◌, List, [], ◌∷◌, map, length, false, subst, refl, sym, ap, ◌∙◌, arith}
+use Rattle.std.proofs.Common.{◌≡◌, ℕ, zero, suc, ◌+◌, ◌<◌, ◌≤◌, List, ◌∷◌, ◌++◌, map, take, drop, length, append_assoc, Option, false, subst, refl, sym, ap, ◌∙◌, arith}
+use Rattle.std.proofs.lemmas.List.{take-append-drop}
 use Rattle.wasm_ast.specs.declared.values.Value.{Value}
 use Rattle.wasm_ast.specs.declared.trap.Trap.{Trap}
 use Rattle.wasm_ast.specs.declared.trap.Trap.TheVariants as trap
 use Rattle.wasm_ast.specs.declared.values.Value.TheVariants.{I32}
 use Rattle.wasm_ast.specs.declared.instr.BlockType.{BlockType}
-use Rattle.wasm_ast.specs.declared.instr.BlockType.TheVariants.{Empty, One}
-use Rattle.wasm_ast.specs.Syntax.{Op, block, loop, if', Ops, next, count, ops_count}
+use Rattle.wasm_ast.specs.declared.values.FuncType.{FuncType}
+use Rattle.wasm_ast.specs.Types.{block_type}
+use Rattle.wasm_ast.specs.Syntax.{Op, if', Ops, next, count, ops_count}
 use Rattle.step_machine.specs.Limits.{max_frames, max_values}
 use Rattle.step_machine.specs.Program.{Program}
 use Rattle.step_machine.specs.Configuration.{Store, Target, onward, again, Items, done, more, Item, enter, items_of, running, trapped, items_values, items_frames}
-use Rattle.step_machine.specs.Effects.{Env, becomes, effect}
+use Rattle.step_machine.specs.Effects.{Env, becomes, enter_block, enter_loop, effect}
 use Rattle.step_machine.specs.Turns.{settled, turn}
-use Rattle.step_machine.specs.Inside.Levels.{Open, Level, tree_with, all_values}
+use Rattle.step_machine.specs.Inside.Levels.{Open, Level, tree_with, below_all, all_values}
 use Rattle.step_machine.proofs.LevelSettling.{conf, enters}
 use Rattle.step_machine.proofs.LevelTurns.{turn_gives, turn_exhausts, turn_becomes, turn_halts}
 use Rattle.label_machine.specs.declared.effect.Effect.{Effect as Answer}
@@ -22,7 +24,7 @@ use Rattle.label_machine.specs.declared.run.Doing.{Doing}
 use Rattle.label_machine.specs.declared.run.Doing.TheVariants.{Next}
 use Rattle.label_machine.specs.Inside.View.{opened, open_of, level_of}
 use Rattle.label_machine.specs.Inside.Effects.{effect_of, is_done}
-use Rattle.label_machine.specs.Inside.Turns.{env_of, Does, arity_of, Enters}
+use Rattle.label_machine.specs.Inside.Turns.{env_of, Does, HasCounts, Enters}
 use Rattle.label_machine.specs.declared.frame.Target.{Target as LabelTarget}
 use Rattle.label_machine.specs.Inside.Runs.{store_of, items_for, tail_from, config, configured, about_to, IsWithin, IsBeyond, values, frames, IsOf, LeadsTo}
 use Rattle.label_machine.specs.declared.run.Step.{Step}
@@ -136,14 +138,17 @@ abbrev pub with_operands : Run → List Value → Run
 with_operands x vs = record x { top = record x.top { operands = vs } }
 
 module _ (p : Program) (x : Run) (vs : List Value) where
-  module _ (y : Run) (place : ℕ) (o : Op) (n first : ℕ) (g : LabelTarget) (t : Target) (body : Ops)
-      (counted : x.top.ahead.place ≡ place + count o) (e : Enters (with_operands x vs) y n place g first body)
+  module _ (y : Run) (place : ℕ) (o : Op) (m n first : ℕ) (g : LabelTarget) (t : Target) (body : Ops)
+      (counted : x.top.ahead.place ≡ place + count o) (e : Enters (with_operands x vs) y m n place g first body)
       (within : IsWithin y) where
     abbrev store_x : Store
     store_x = store_of x.store
 
     abbrev others : List Level
     others = map level_of x.callers
+
+    abbrev opens_x : List Open
+    opens_x = map open_of x.top.labels
 
     abbrev rest_x : Ops
     rest_x = (level_of x.top).rest
@@ -155,12 +160,19 @@ module _ (p : Program) (x : Run) (vs : List Value) where
     past_it = record at_it { operands = vs; place = place + count o; rest = rest_x }
 
     abbrev around_body : (next_place : ℕ) → Open
-    around_body k = record { arity = n; place = place; target = t; below = vs; next_place = k; rest = rest_x }
+    around_body k = record {
+      arity = n;
+      place = place;
+      target = t;
+      below = drop m vs;
+      next_place = k;
+      rest = rest_x;
+    }
 
     abbrev in_body : Level
     in_body = record past_it {
-      opens = around_body (place + count o) ∷ map open_of x.top.labels;
-      operands = [];
+      opens = around_body (place + count o) ∷ opens_x;
+      operands = take m vs;
       place = first;
       rest = body;
     }
@@ -168,61 +180,74 @@ module _ (p : Program) (x : Run) (vs : List Value) where
     abbrev tail_y : Items
     tail_y = tail_from y.pending
 
-    pub enters_body : opened n place vs g ≡ around_body x.top.ahead.place
-        → effect p (env_of x) x.top.operands place o ≡ becomes vs (enter 0 n place first t body)
+    -- what the body takes was above what stays below its label
+    same_operands : take m vs ++ (drop m vs ++ below_all opens_x) ≡ vs ++ below_all opens_x
+    same_operands =
+        sym (append_assoc (take m vs) (drop m vs) (below_all opens_x))
+        ∙ ap (λ (us : List Value). us ++ below_all opens_x) (take-append-drop m vs)
+
+    pub enters_body : opened n place (drop m vs) g ≡ around_body x.top.ahead.place
+        → effect p (env_of x) x.top.operands place o ≡ becomes vs (enter m n place first t body)
         → turn p (about_to x place o) ≡ settled p (config y Next)
     enters_body open_is eff =
         let inside : level_of y.top ≡ in_body =
         e.top
-        ∙ ap (λ (b : Open). record in_body { opens = b ∷ map open_of x.top.labels })
+        ∙ ap (λ (b : Open). record in_body { opens = b ∷ opens_x })
         (open_is ∙ ap around_body counted) in
         let fit = fits_in y store_x in_body others inside e.callers e.store p within in
+        let before =
+        subst (λ (us : List Value). (length x.top.locals.items + length us) + all_values others ≤ max_values)
+        same_operands fit.values in
         ap (λ (tl : Items). turn p (conf store_x (running (tree_with (record at_it { rest = next o rest_x }) others tl
         (items_of place (next o rest_x)))))) (sym (ap tail_from e.pending))
-        ∙ (turn_becomes p store_x tail_y at_it others o rest_x vs (enter 0 n place first t body) eff refl refl
-        (record { values = fit.values; frames = fit.frames; no_values = fit.no_values; no_frames = fit.no_frames })
-        ∙ (enters p store_x tail_y past_it others 0 n place first t body fit
+        ∙ (turn_becomes p store_x tail_y at_it others o rest_x vs (enter m n place first t body) eff refl refl
+        (record { values = before; frames = fit.frames; no_values = fit.no_values; no_frames = fit.no_frames })
+        ∙ (enters p store_x tail_y past_it others m n place first t body fit
         ∙ ap (settled p) (config_is y store_x in_body others inside e.callers e.store (λ k. items_of k.place k.rest))))
 
     -- with what an enter answers
-    pub leads_into : opened n place vs g ≡ around_body x.top.ahead.place
-        → effect p (env_of x) x.top.operands place o ≡ becomes vs (enter 0 n place first t body)
+    pub leads_into : opened n place (drop m vs) g ≡ around_body x.top.ahead.place
+        → effect p (env_of x) x.top.operands place o ≡ becomes vs (enter m n place first t body)
         → (s : Step) → s ≡ Goes y Next → IsOf p x.store → LeadsTo p (turn p (about_to x place o)) s
     leads_into open_is eff s is of =
         subst (LeadsTo p (turn p (about_to x place o))) (sym is) (enters_body open_is eff, within, e.process ∙ of)
 
--- what blocks and loops come to
-pub block_enters :
-    (p : Program) (en : Env) (vs : List Value) (place : ℕ) (b : BlockType) (body : Ops)
-    → effect p en vs place (block b body) ≡ becomes vs (enter 0 (arity_of b) place (suc place) onward body)
-block_enters p en vs place Empty body = refl
-block_enters p en vs place (One t) body = refl
+-- what a block comes to, by the type that was found and the place of its first instruction
+module _ (found : Option FuncType) (m n : ℕ) (c : HasCounts found m n) (vs : List Value) (place : ℕ) (body : Ops) where
+  enters_with :
+      {i j k k' : ℕ} {t : Target} → i ≡ m → j ≡ n → k ≡ k'
+      → becomes vs (enter i j place k t body) ≡ becomes vs (enter m n place k' t body)
+  enters_with {i = i} {j = j} {k = k} {k' = k'} {t = t} a b d =
+      ap (λ q. becomes vs (enter q j place k t body)) a
+      ∙ (ap (λ q. becomes vs (enter m q place k t body)) b ∙ ap (λ q. becomes vs (enter m n place q t body)) d)
 
-pub loop_enters :
-    (p : Program) (en : Env) (vs : List Value) (place : ℕ) (b : BlockType) (body : Ops)
-    → effect p en vs place (loop b body) ≡ becomes vs (enter 0 0 place (suc place) (again (loop b body)) body)
-loop_enters p en vs place Empty body = refl
-loop_enters p en vs place (One t) body = refl
+  pub block_enters :
+      (first start : ℕ) → first ≡ start
+      → enter_block vs place first found body ≡ becomes vs (enter m n place start onward body)
+  block_enters first start there =
+      ap (λ (f : Option FuncType). enter_block vs place first f body) c.is
+      ∙ enters_with (sym c.takes) (sym c.gives) there
+
+-- and a loop, whose label takes its parameters
+module _ (found : Option FuncType) (m n : ℕ) (c : HasCounts found m n) (vs : List Value) (place : ℕ) (body : Ops) where
+  pub loop_enters :
+      (itself : Op) (start : ℕ) → suc place ≡ start
+      → enter_loop vs place found itself body ≡ becomes vs (enter m m place start (again itself) body)
+  loop_enters itself start there =
+      ap (λ (f : Option FuncType). enter_loop vs place f itself body) c.is
+      ∙ (ap (λ q. becomes vs (enter q q place (suc place) (again itself) body)) (sym c.takes)
+      ∙ ap (λ q. becomes vs (enter m m place q (again itself) body)) there)
 
 -- an if enters one of its arms
-pub then_enters :
+pub chooses_then :
     (p : Program) (en : Env) (vs : List Value) (place c : ℕ) (b : BlockType) (first second : Ops) → 0 < c
     → effect p en (I32 c ∷ vs) place (if' b first second)
-    ≡ becomes vs (enter 0 (arity_of b) place (suc place) onward first)
-then_enters p en vs place zero b first second h = absurd (omega (arith, h))
-then_enters p en vs place (suc c) Empty first second h = refl
-then_enters p en vs place (suc c) (One t) first second h = refl
+    ≡ enter_block vs place (suc place) (block_type p.types b) first
+chooses_then p en vs place zero b first second h = absurd (omega (arith, h))
+chooses_then p en vs place (suc c) b first second h = refl
 
-pub else_enters :
+pub chooses_else :
     (p : Program) (en : Env) (vs : List Value) (place : ℕ) (b : BlockType) (first second : Ops)
     → effect p en (I32 0 ∷ vs) place (if' b first second)
-    ≡ becomes vs (enter 0 (arity_of b) place (suc place + ops_count first) onward second)
-else_enters p en vs place Empty first second = refl
-else_enters p en vs place (One t) first second = refl
-
--- a body that is entered, by the arity and the place that were found
-pub entered :
-    {n m j k place : ℕ} {body : Ops} (vs : List Value) → n ≡ m → j ≡ k
-    → becomes vs (enter 0 n place j onward body) ≡ becomes vs (enter 0 m place k onward body)
-entered {n = n} {m = m} {j = j} {k = k} {place = place} {body = body} vs a b =
-    ap (λ i. becomes vs (enter 0 i place j onward body)) a ∙ ap (λ i. becomes vs (enter 0 m place i onward body)) b
+    ≡ enter_block vs place (suc place + ops_count first) (block_type p.types b) second
+chooses_else p en vs place b first second = refl

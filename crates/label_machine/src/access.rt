@@ -66,7 +66,7 @@ fn stored_number(op: StoreOp, value: Value) -> Result<u64, Refusal>
             StoreOp::I64 | StoreOp::I64To8 | StoreOp::I64To16 | StoreOp::I64To32,
             Value::I64(number),
         ) => Ok(number),
-        _ => Err(Refusal::Invalid),
+        _ => Err(Refusal::Invalid(None)),
     }
 }
 

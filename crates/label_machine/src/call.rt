@@ -88,7 +88,7 @@ fn call_system<'m>(alloc: Global, run: Run<'m>, call: HostCall) -> Result<Step<'
         .take(alloc, call.params().len())?
         .into_oldest_first();
     if types_of(alloc, args.as_slice())?.as_slice() != call.params() {
-        return Err(Refusal::Invalid);
+        return Err(Refusal::Invalid(None));
     }
     match host(
         call,
@@ -106,7 +106,7 @@ fn call_system<'m>(alloc: Global, run: Run<'m>, call: HostCall) -> Result<Step<'
             };
             Ok(limited(run))
         }
-        HostEnd::Nothing => Err(Refusal::Invalid),
+        HostEnd::Nothing => Err(Refusal::Invalid(None)),
         HostEnd::Exit(number) => Ok(Step::Ends(End::Exited(number), store)),
     }
 }
@@ -121,6 +121,6 @@ pub fn call<'m>(alloc: Global, of: &'m Module, run: Run<'m>, func: u32) -> Resul
     match function_at(of, func) {
         Some(Callee::System(call)) => call_system(alloc, run, call),
         Some(Callee::Own(func_type, found)) => call_own(alloc, run, func, func_type, found),
-        None => Err(Refusal::Invalid),
+        None => Err(Refusal::Invalid(None)),
     }
 }

@@ -102,6 +102,6 @@ pub fn first_frame(alloc: Global, of: &Module, func: u32) -> Result<Frame, Refus
         Some(Callee::Own(func_type, found)) if func_type.params.len() == 0 => {
             Ok(called(alloc, func, func_type, found, Vec::new(alloc))?)
         }
-        _ => Err(Refusal::Invalid),
+        _ => Err(Refusal::Invalid(None)),
     }
 }

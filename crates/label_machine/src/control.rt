@@ -67,17 +67,17 @@ fn is_function_of(of: &Module, expected: &FuncType, func: u32) -> Result<bool, R
             found.params.as_slice(),
             found.results.as_slice(),
         )),
-        None => Err(Refusal::Invalid),
+        None => Err(Refusal::Invalid(None)),
     }
 }
 
 /// The type with this index. `Invalid` if there is none.
-fn type_with(of: &Module, index: u32) -> Result<&FuncType, Refusal>
+pub fn type_with(of: &Module, index: u32) -> Result<&FuncType, Refusal>
     ensures { IfOk result (λ t. slice_get of.now.types index ≡ Some t.now) }
 {
     match of.type_with(index) {
         Some(found) => Ok(found),
-        None => Err(Refusal::Invalid),
+        None => Err(Refusal::Invalid(None)),
     }
 }
 

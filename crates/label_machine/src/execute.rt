@@ -4,20 +4,21 @@ ghost use Rattle.std.specs.Prelude.{◌≡◌, ◌+◌, ◌∷◌, ℕ, IfOk};
 ghost use Rattle.oci_config.specs.declared.process.ProcessConfig.{ProcessConfig};
 ghost use Rattle.wasm_ast.specs.Syntax.{Op, simple, if', count};
 ghost use Rattle.wasm_ast.specs.View.{op_of};
+ghost use Rattle.wasm_ast.specs.Types.{block_type as type_of_block};
 ghost use Rattle.wasm_ast.specs.declared.instr.BlockType.{BlockType as AnyBlockType};
 ghost use Rattle.step_machine.specs.Program.{Program, program};
 ghost use Rattle.step_machine.specs.Turns.{turn};
 ghost use Rattle.label_machine.specs.declared.run.Run.{Run as AnyRun};
 ghost use Rattle.label_machine.specs.declared.run.Step.TheVariants as step;
 ghost use Rattle.label_machine.specs.declared.run.Doing.TheVariants as doing;
-ghost use Rattle.label_machine.specs.Inside.Turns.{arity_of, Does, Enters};
+ghost use Rattle.label_machine.specs.Inside.Turns.{HasCounts, Does, Enters};
 ghost use Rattle.label_machine.specs.Inside.Runs.{about_to, config, IsWithin, IsOf, LeadsTo};
 
 use crate::call::limited;
+use crate::control::type_with;
 use crate::effect::Effect;
 use crate::frame::{Ahead, Frame, Label, Target};
 use crate::numeric::take_i32;
-use crate::pile::Pile;
 use crate::places::{places_in, places_of, sum};
 use crate::run::{Doing, Run, Step};
 use crate::settle::goes;
@@ -80,20 +81,44 @@ fn run_simple<'m>(of: &'m Module, run: Run<'m>, instr: &Simple) -> Result<Step<'
     after_effect(run, effect)
 }
 
-/// How many values a block gives.
-fn results_of(block_type: BlockType) -> usize
-    ensures { result ≡ arity_of block_type }
+/// How many values a block takes and gives.
+#[derive(Clone, Copy)]
+struct Counts {
+    params: usize,
+    results: usize,
+}
+
+/// What a block of this type takes and gives (2.4.5; by index Core 2.0, 2.4.8). `Invalid` if the index
+/// names no type.
+fn counts_of(of: &Module, block_type: BlockType) -> Result<Counts, Refusal>
+    ensures { IfOk result
+        (λ c. HasCounts (type_of_block of.now.types block_type) c.params c.results) }
 {
     match block_type {
-        BlockType::Empty => 0,
-        BlockType::One(_) => 1,
+        BlockType::Empty => Ok(Counts {
+            params: 0,
+            results: 0,
+        }),
+        BlockType::One(_) => Ok(Counts {
+            params: 0,
+            results: 1,
+        }),
+        BlockType::Index(index) => {
+            let found = type_with(of, index)?;
+            Ok(Counts {
+                params: found.params.len(),
+                results: found.results.len(),
+            })
+        }
     }
 }
 
-/// Enters a body, of which the first instruction has this place. The operands that are there stay below it.
+/// Enters a body, of which the first instruction has this place. It takes this many of the newest operands;
+/// the others stay below its label. `Invalid` if there are not as many.
 fn enter<'m>(
     alloc: Global,
     run: Run<'m>,
+    taken: usize,
     arity: usize,
     place: u64,
     target: Target<'m>,
@@ -101,7 +126,7 @@ fn enter<'m>(
     body: &'m Body,
 ) -> Result<Step<'m>, Refusal>
     ensures { IfOk result (λ s. (y : AnyRun) × (s ≡ step.Goes y doing.Next) × IsWithin y
-        × Enters run.entry y arity place target.entry first body.now) }
+        × Enters run.entry y taken arity place target.entry first body.now) }
 {
     let Run {
         top,
@@ -114,9 +139,10 @@ fn enter<'m>(
         func,
         locals,
         mut labels,
-        operands,
+        mut operands,
         ahead: _,
     } = top;
+    let params = operands.take(alloc, taken)?;
     labels.push(Label {
         arity,
         place,
@@ -129,7 +155,7 @@ fn enter<'m>(
             func,
             locals,
             labels,
-            operands: Pile::new(alloc),
+            operands: params,
             ahead: Ahead {
                 place: first,
                 rest: body.as_slice(),
@@ -143,16 +169,17 @@ fn enter<'m>(
 }
 
 /// An if (4.4.5), after which the data go on at the next instruction: enters the arm that its condition
-/// chooses. `Invalid` if there is no condition.
+/// chooses. `Invalid` if there is no condition or there are too few operands.
 fn choose<'m>(
     alloc: Global,
     run: Run<'m>,
-    arity: usize,
+    counts: Counts,
     place: u64,
     then_arm: &'m Body,
     else_arm: &'m Body,
 ) -> Result<Step<'m>, Refusal>
-    ensures { IfOk result (λ s. (p : Program) (b : AnyBlockType) → arity ≡ arity_of b
+    ensures { IfOk result (λ s. (p : Program) (b : AnyBlockType)
+        → HasCounts (type_of_block p.types b) counts.params counts.results
         → run.entry.top.ahead.place ≡ place + count (if' b then_arm.now else_arm.now)
         → IsOf p run.entry.store
         → LeadsTo p (turn p (about_to run.entry place (if' b then_arm.now else_arm.now))) s) }
@@ -171,24 +198,26 @@ fn choose<'m>(
         pending,
         store,
     };
+    let Counts { params, results } = counts;
     let first = sum(place, 1)?;
     if condition > 0 {
-        return enter(alloc, run, arity, place, after, first, then_arm);
+        return enter(alloc, run, params, results, place, after, first, then_arm);
     }
     let second = sum(first, places_in(then_arm)?)?;
-    enter(alloc, run, arity, place, after, second, else_arm)
+    enter(alloc, run, params, results, place, after, second, else_arm)
 }
 
 /// The turn of a block, a loop or an if (4.4.5), after which the data go on at the next instruction. `from`
-/// are the instructions from it on.
+/// are the instructions from it on. `Invalid` if it has no type or there are too few operands.
 fn run_block<'m>(
     alloc: Global,
+    of: &'m Module,
     run: Run<'m>,
     place: u64,
     from: &'m [Instr],
     instr: &'m Instr,
 ) -> Result<Step<'m>, Refusal>
-    ensures { IfOk result (λ s. (p : Program)
+    ensures { IfOk result (λ s. (p : Program) → p.types ≡ of.now.types
         → run.entry.top.ahead.place ≡ place + count (op_of instr.now)
         → from.now ≡ instr.now ∷ run.entry.top.ahead.rest.now → IsOf p run.entry.store
         → LeadsTo p (turn p (about_to run.entry place (op_of instr.now))) s) }
@@ -196,12 +225,21 @@ fn run_block<'m>(
     let after = Target::After(run.top.ahead);
     let first = sum(place, 1)?;
     match instr {
-        Instr::Block(t, body) => enter(alloc, run, results_of(*t), place, after, first, body),
-        Instr::Loop(_, body) => enter(alloc, run, 0, place, Target::Again(from), first, body),
-        Instr::If(t, then_arm, else_arm) => {
-            choose(alloc, run, results_of(*t), place, then_arm, else_arm)
+        Instr::Block(t, body) => {
+            let counts = counts_of(of, *t)?;
+            let Counts { params, results } = counts;
+            enter(alloc, run, params, results, place, after, first, body)
         }
-        Instr::Simple(_) => Err(Refusal::Invalid),
+        Instr::Loop(t, body) => {
+            let counts = counts_of(of, *t)?;
+            let params = counts.params;
+            let again = Target::Again(from);
+            enter(alloc, run, params, params, place, again, first, body)
+        }
+        Instr::If(t, then_arm, else_arm) => {
+            choose(alloc, run, counts_of(of, *t)?, place, then_arm, else_arm)
+        }
+        Instr::Simple(_) => Err(Refusal::Invalid(None)),
     }
 }
 
@@ -222,7 +260,7 @@ pub fn execute<'m>(alloc: Global, of: &'m Module, run: Run<'m>) -> Result<Step<'
     } = run;
     let Ahead { place, rest: from } = top.ahead;
     let Some((instr, rest)) = from.split_first() else {
-        return Err(Refusal::Invalid);
+        return Err(Refusal::Invalid(None));
     };
     top.ahead = Ahead {
         place: sum(place, places_of(instr)?)?,
@@ -236,6 +274,6 @@ pub fn execute<'m>(alloc: Global, of: &'m Module, run: Run<'m>) -> Result<Step<'
     };
     match instr {
         Instr::Simple(simple) => run_simple(of, run, simple),
-        _ => run_block(alloc, run, place, from, instr),
+        _ => run_block(alloc, of, run, place, from, instr),
     }
 }

@@ -1,7 +1,7 @@
 //! A second machine, which keeps labels at run time: it does what the reduction of the standard says, with
 //! values that have their types. It is slow, and is there to be compared with.
 //!
-//! Sections are those of the WebAssembly Core Specification 1.0.
+//! Sections are those of the WebAssembly Core Specification 1.0, but where Core 2.0 is named.
 #![tactic(auto)]
 
 mod access;

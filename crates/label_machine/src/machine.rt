@@ -65,7 +65,7 @@ fn state_from(step: Step) -> Result<State, Refusal>
     match step {
         Step::Waits(run) => Ok(State::Going(run)),
         Step::Ends(end, store) => Ok(State::Ended(end, store)),
-        Step::Goes(_, _) => Err(Refusal::Invalid),
+        Step::Goes(_, _) => Err(Refusal::Invalid(None)),
     }
 }
 
@@ -205,7 +205,7 @@ impl<'m> LabelMachine<'m> {
             turns,
         } = self;
         let State::Going(run) = state else {
-            return Err(Refusal::Invalid);
+            return Err(Refusal::Invalid(None));
         };
         let turns = sum(turns, 1)?;
         Ok(LabelMachine {

@@ -18,7 +18,7 @@ pub fn take(operands: &mut Pile<Value>) -> Result<Value, Refusal>
 {
     match operands.pop() {
         Some(value) => Ok(value),
-        None => Err(Refusal::Invalid),
+        None => Err(Refusal::Invalid(None)),
     }
 }
 
@@ -28,7 +28,7 @@ pub fn take_i32(operands: &mut Pile<Value>) -> Result<u32, Refusal>
 {
     match take(operands)? {
         Value::I32(number) => Ok(number),
-        Value::I64(_) => Err(Refusal::Invalid),
+        Value::I64(_) => Err(Refusal::Invalid(None)),
     }
 }
 
@@ -54,7 +54,7 @@ fn unary_value(t: ValType, op: UnaryOp, operand: Value) -> Result<Result<Value, 
         (ValType::I32, Value::I32(_)) | (ValType::I64, Value::I64(_)) => {
             Ok(integers::unary(op, operand))
         }
-        _ => Err(Refusal::Invalid),
+        _ => Err(Refusal::Invalid(None)),
     }
 }
 
@@ -80,7 +80,7 @@ fn binary_value(
     match (t, first, second) {
         (ValType::I32, Value::I32(_), Value::I32(_)) => Ok(integers::binary(op, first, second)),
         (ValType::I64, Value::I64(_), Value::I64(_)) => Ok(integers::binary(op, first, second)),
-        _ => Err(Refusal::Invalid),
+        _ => Err(Refusal::Invalid(None)),
     }
 }
 
@@ -102,7 +102,7 @@ fn test_value(t: ValType, op: TestOp, operand: Value) -> Result<Result<Value, Tr
         (ValType::I32, Value::I32(_)) | (ValType::I64, Value::I64(_)) => {
             Ok(integers::test(op, operand))
         }
-        _ => Err(Refusal::Invalid),
+        _ => Err(Refusal::Invalid(None)),
     }
 }
 
@@ -127,7 +127,7 @@ fn compare_value(
     match (t, first, second) {
         (ValType::I32, Value::I32(_), Value::I32(_))
         | (ValType::I64, Value::I64(_), Value::I64(_)) => Ok(integers::compare(op, first, second)),
-        _ => Err(Refusal::Invalid),
+        _ => Err(Refusal::Invalid(None)),
     }
 }
 
@@ -146,10 +146,12 @@ fn convert_value(op: ConvertOp, operand: Value) -> Result<Result<Value, Trap>, R
         → convert env (operand ∷ rest) op ≡ gives_or_traps env v rest) }
 {
     match (op, operand) {
-        (ConvertOp::Wrap, Value::I64(_))
-        | (ConvertOp::ExtendS, Value::I32(_))
-        | (ConvertOp::ExtendU, Value::I32(_)) => Ok(integers::convert(op, operand)),
-        _ => Err(Refusal::Invalid),
+        (ConvertOp::ExtendS | ConvertOp::ExtendU, Value::I32(_))
+        | (ConvertOp::I32From8S | ConvertOp::I32From16S, Value::I32(_))
+        | (ConvertOp::Wrap, Value::I64(_))
+        | (ConvertOp::I64From8S | ConvertOp::I64From16S, Value::I64(_))
+        | (ConvertOp::I64From32S, Value::I64(_)) => Ok(integers::convert(op, operand)),
+        _ => Err(Refusal::Invalid(None)),
     }
 }
 

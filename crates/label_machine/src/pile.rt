@@ -72,7 +72,7 @@ impl Pile<Value> {
     {
         let items = self.items.as_slice();
         if items.len() < count {
-            return Err(Refusal::Invalid);
+            return Err(Refusal::Invalid(None));
         }
         let left = items.len() - count;
         let top = Vec::from_slice(alloc, &items[left..])?;

@@ -29,7 +29,7 @@ pub fn goes<'m>(run: Run<'m>, doing: Doing) -> Result<Step<'m>, Refusal>
     if is_within(&run) {
         Ok(Step::Goes(run, doing))
     } else {
-        Err(Refusal::Invalid)
+        Err(Refusal::Invalid(None))
     }
 }
 
@@ -87,7 +87,7 @@ fn give<'m>(
     } = outside;
     let Some(mut top) = callers.pop() else {
         if results.len() > 0 {
-            return Err(Refusal::Invalid);
+            return Err(Refusal::Invalid(None));
         }
         return finish(alloc, of, pending, store);
     };
@@ -154,7 +154,7 @@ fn branch<'m>(alloc: Global, of: &'m Module, run: Run<'m>, label: u32) -> Result
     } = run;
     let Some(innermost) = top.labels.pop() else {
         if label > 0 {
-            return Err(Refusal::Invalid);
+            return Err(Refusal::Invalid(None));
         }
         let arity = top.arity;
         let results = top.operands.take(alloc, arity)?;
@@ -252,5 +252,5 @@ pub fn settle<'m>(alloc: Global, of: &'m Module, from: Step<'m>) -> Result<Step<
             settled => return Ok(settled),
         }
     }
-    Err(Refusal::Invalid)
+    Err(Refusal::Invalid(None))
 }

@@ -17,7 +17,7 @@ fn read(values: &[Value], index: u32) -> Result<Value, Refusal>
 {
     match values.get(index as usize) {
         Some(value) => Ok(*value),
-        None => Err(Refusal::Invalid),
+        None => Err(Refusal::Invalid(None)),
     }
 }
 
@@ -27,7 +27,7 @@ fn write(values: &mut [Value], index: u32, value: Value) -> Result<(), Refusal>
 {
     let index = index as usize;
     if index >= values.len() {
-        return Err(Refusal::Invalid);
+        return Err(Refusal::Invalid(None));
     }
     values[index] = value;
     Ok(())

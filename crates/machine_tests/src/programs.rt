@@ -8,6 +8,8 @@ pub const BEFORE: &str = "(module
   (type $p (func (param i32)))
   (type $v (func))
   (type $i (func (param i32) (result i32)))
+  (type $a (func (param i32 i32) (result i32)))
+  (type $t (func (result i32 i32)))
   (type $w (func (param i32 i32 i32 i32) (result i32)))
   (import \"wasi_snapshot_preview1\" \"proc_exit\" (func $exit (type $p)))
   (import \"wasi_snapshot_preview1\" \"fd_write\" (func $write (type $w)))
@@ -139,5 +141,131 @@ pub const PROGRAMS: &[Program] = &[
         end: End::Exited(8),
         turns: 12,
         out: "ab",
+    },
+    Program {
+        what: "a sign extension of 8 bits in 32",
+        text: "(memory 1) (func $s (type $v) i32.const 128 i32.extend8_s call $exit)",
+        end: End::Exited(4294967168),
+        turns: 3,
+        out: "",
+    },
+    Program {
+        what: "a sign extension of 16 bits in 32",
+        text: "(memory 1) (func $s (type $v) i32.const 98304 i32.extend16_s call $exit)",
+        end: End::Exited(4294934528),
+        turns: 3,
+        out: "",
+    },
+    Program {
+        what: "sign extensions of 8 and 16 bits in 64",
+        text: "(memory 1) (func $s (type $v)
+            i64.const 128 i64.extend8_s i64.const 32768 i64.extend16_s i64.add i32.wrap_i64
+            call $exit)",
+        end: End::Exited(4294934400),
+        turns: 7,
+        out: "",
+    },
+    Program {
+        what: "a sign extension of 32 bits in 64",
+        text: "(memory 1) (func $s (type $v)
+            i64.const 4294967295 i64.extend32_s i64.const -1 i64.eq call $exit)",
+        end: End::Exited(1),
+        turns: 5,
+        out: "",
+    },
+    Program {
+        what: "a loop that adds to its parameter",
+        text: "(memory 1) (global $g (mut i32) i32.const 3) (func $s (type $v)
+            i32.const 10 loop (type $i) i32.const 1 i32.add
+            global.get $g i32.const 1 i32.sub global.set $g global.get $g br_if 0 end
+            call $exit)",
+        end: End::Exited(13),
+        turns: 29,
+        out: "",
+    },
+    Program {
+        what: "a loop that is left by its end, with an operand below its parameters",
+        text: "(memory 1) (func $s (type $v) i32.const 1 i32.const 2 i32.const 3
+            loop (type $a) i32.add end i32.add call $exit)",
+        end: End::Exited(6),
+        turns: 7,
+        out: "",
+    },
+    Program {
+        what: "a function of two results",
+        text: "(memory 1) (func $f (type $t) i32.const 9 i32.const 4)
+            (func $s (type $v) call $f i32.sub call $exit)",
+        end: End::Exited(5),
+        turns: 5,
+        out: "",
+    },
+    Program {
+        what: "a function of two results that returns above an operand",
+        text: "(memory 1)
+            (func $f (type $t) i32.const 1 block i32.const 8 i32.const 9 i32.const 4 return end
+            unreachable)
+            (func $s (type $v) call $f i32.sub call $exit)",
+        end: End::Exited(5),
+        turns: 9,
+        out: "",
+    },
+    Program {
+        what: "a branch out of a function of two results",
+        text: "(memory 1) (func $f (type $t) i32.const 1 i32.const 9 i32.const 4 br 0)
+            (func $s (type $v) call $f i32.sub call $exit)",
+        end: End::Exited(5),
+        turns: 7,
+        out: "",
+    },
+    Program {
+        what: "a branch with two values, above another",
+        text: "(memory 1) (func $s (type $v)
+            block (type $t) i32.const -29 i32.const 9 i32.const 4 br 0 end i32.sub call $exit)",
+        end: End::Exited(5),
+        turns: 7,
+        out: "",
+    },
+    Program {
+        what: "a branch out of two blocks that take operands",
+        text: "(memory 1) (func $s (type $v)
+            i32.const 1 i32.const 2 block (type $i) i32.const 3 block (type $a) br 1 end end
+            i32.add call $exit)",
+        end: End::Exited(4),
+        turns: 8,
+        out: "",
+    },
+    Program {
+        what: "a table of branches with two values",
+        text: "(memory 1) (func $s (type $v)
+            block (type $t) i32.const 9 i32.const 4 i32.const 11 i32.const 12
+            i32.const 0 br_table 0 0 end i32.sub call $exit)",
+        end: End::Exited(4294967295),
+        turns: 9,
+        out: "",
+    },
+    Program {
+        what: "an if without else that keeps its parameter",
+        text: "(memory 1) (func $s (type $v)
+            i32.const 7 i32.const 0 if (type $i) drop i32.const 1 end call $exit)",
+        end: End::Exited(7),
+        turns: 4,
+        out: "",
+    },
+    Program {
+        what: "an if without else that drops its parameter",
+        text: "(memory 1) (func $s (type $v)
+            i32.const 7 i32.const 1 if (type $i) drop i32.const 1 end call $exit)",
+        end: End::Exited(1),
+        turns: 6,
+        out: "",
+    },
+    Program {
+        what: "an if of which both arms take two values",
+        text: "(memory 1) (func $s (type $v)
+            i32.const 7 i32.const 1 i32.const 1 if (type $a) i32.add else i32.sub end
+            call $exit)",
+        end: End::Exited(8),
+        turns: 6,
+        out: "",
     },
 ];

@@ -166,21 +166,21 @@ module _ (m : Module) where
 
   module _ (p : ProcessConfig) (valid : ValidModule m) (ranged : Ranged m) where
     pub first_typed : map type_of (first_store m p).globals ≡ map (λ g. g.val_type) m.globals
-    first_typed = globals_typed m.globals valid.globals ranged.globals
+    first_typed = globals_typed m.globals valid.outside.globals ranged.globals
 
     pub first_in_table : All (InTable m) (first_store m p).table
-    first_in_table = elements_in_table (empty_table m.tables) m.elements valid.elements (nothing_in_table m.tables)
+    first_in_table = elements_in_table (empty_table m.tables) m.elements valid.outside.elements (nothing_in_table m.tables)
 
     pub first_ranged :
         p.cap < 2 ^ 32 → are_segments_inside (zero_memory m.memories p.cap) m.segments ≡ true
         → All (λ b. b < 256) (first_memory m p.cap).bytes → RangedStore (first_store m p)
     first_ranged few inside bytes =
         let n = fold_length (zero_memory m.memories p.cap) m.segments inside in
-        let pages = zero_pages m.memories p.cap valid.memories in
+        let pages = zero_pages m.memories p.cap valid.outside.memories in
         let cap = zero_cap m.memories p.cap few in
         let same = fold_cap (zero_memory m.memories p.cap) m.segments in
         record {
-          globals = globals_ranged m.globals valid.globals ranged.globals;
+          globals = globals_ranged m.globals valid.outside.globals ranged.globals;
           bytes = bytes;
           pages = subst (λ k. k / page_bytes < 2 ^ 32) (sym n) pages;
           cap = subst (λ k. k < 2 ^ 32) (sym same) cap;

@@ -2,7 +2,7 @@
 -- (4.3.2, 4.4.4).
 use Rattle.std.proofs.Common.{◌≡◌, ℕ, zero, suc, ◌+◌, ◌-◌, ◌*◌, ◌/◌, ◌%◌, ◌^◌, ◌==◌, ◌<◌, ◌≤◌, List, [], ◌∷◌, ◌++◌, take, drop, length, All, Bool, true, false, nat_lt, cond, Ok, Err, refl, sym, ap, ◌∙◌, subst, arith}
 use Rattle.std.specs.Prelude.{Result, ℤ, pos, negsuc, int_lt, int_div, int_rem, bit_and, bit_or, bit_xor, count_ones, FitsSigned}
-use Rattle.std.specs.Int.{Width, w32, w64, int_shr, leading_zeros, trailing_zeros, rotate_left, rotate_right}
+use Rattle.std.specs.Int.{Width, w8, w16, w32, w64, int_shr, leading_zeros, trailing_zeros, rotate_left, rotate_right}
 use Rattle.std.proofs.lemmas.Bool.Decides.{nat_tests}
 use Rattle.std.proofs.lemmas.Nat.{pow_pos, pow-add, leading_le, trailing_le, ones_le_self, and_le_l, or_lt, xor_lt, mod_below}
 use Rattle.std.proofs.lemmas.List.{length-take}
@@ -244,3 +244,32 @@ loaded_ranged op m a h = ranged_value (load_type op) _ (by_sign (is_sign_extende
         let g :
         2 ^ (8 * load_bytes op) ≤ 2 ^ bits (width_of (load_type op)) =
         pow_mono (few_bits op) in omega (arith, number, g)
+
+-- ---- sign extensions
+
+extend_low_below :
+    (low w : Width) (a : ℕ) → a % 2 ^ bits low < 2 ^ bits low
+    → ((n : ℕ) → FitsSigned low (pos n) → n < 2 ^ bits w) → integers.extend_low low w a < 2 ^ bits w
+extend_low_below low w a less small =
+    bits_below w (to_z low (a % 2 ^ bits low))
+    (λ n e. small n (subst (FitsSigned low) e (to_z-Fits low (a % 2 ^ bits low) (record { fits = less }))))
+
+pub extend_8_32_below : (a : ℕ) → integers.extend_low w8 w32 a < 2 ^ 32
+extend_8_32_below a =
+    extend_low_below w8 w32 a (omega arith) (λ n f. let g = f.sfits in omega (arith, g))
+
+pub extend_16_32_below : (a : ℕ) → integers.extend_low w16 w32 a < 2 ^ 32
+extend_16_32_below a =
+    extend_low_below w16 w32 a (omega arith) (λ n f. let g = f.sfits in omega (arith, g))
+
+pub extend_8_64_below : (a : ℕ) → integers.extend_low w8 w64 a < 2 ^ 64
+extend_8_64_below a =
+    extend_low_below w8 w64 a (omega arith) (λ n f. let g = f.sfits in omega (arith, g))
+
+pub extend_16_64_below : (a : ℕ) → integers.extend_low w16 w64 a < 2 ^ 64
+extend_16_64_below a =
+    extend_low_below w16 w64 a (omega arith) (λ n f. let g = f.sfits in omega (arith, g))
+
+pub extend_32_64_below : (a : ℕ) → integers.extend_low w32 w64 a < 2 ^ 64
+extend_32_64_below a =
+    extend_low_below w32 w64 a (omega arith) (λ n f. let g = f.sfits in omega (arith, g))

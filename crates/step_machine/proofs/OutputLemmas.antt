@@ -9,7 +9,7 @@ use Rattle.wasm_ast.specs.declared.values.FuncType.{FuncType}
 use Rattle.wasm_ast.specs.declared.trap.Trap.{Trap}
 use Rattle.wasm_ast.specs.declared.trap.Trap.TheVariants as trap
 use Rattle.wasm_ast.specs.declared.operators.ConvertOp.{ConvertOp}
-use Rattle.wasm_ast.specs.declared.operators.ConvertOp.TheVariants.{Wrap, ExtendS, ExtendU}
+use Rattle.wasm_ast.specs.declared.operators.ConvertOp.TheVariants.{Wrap, ExtendS, ExtendU, I32From8S, I32From16S, I64From8S, I64From16S, I64From32S}
 use Rattle.wasm_ast.specs.declared.operators.LoadOp.{LoadOp}
 use Rattle.wasm_ast.specs.declared.operators.StoreOp.{StoreOp}
 use Rattle.wasm_ast.specs.declared.instr.LocalOp.{LocalOp}
@@ -22,6 +22,7 @@ use Rattle.wasm_ast.specs.declared.module.Module.{Module}
 use Rattle.wasm_ast.specs.Syntax.{Op, simple, block, loop, if', Ops}
 use Rattle.wasm_ast.specs.Types.{block_type}
 use Rattle.wasm_ast.specs.Access.{load_bytes, store_type, store_bytes}
+use Rattle.std.specs.Int.{w8, w16, w32, w64}
 use Rattle.int_ops.specs.Integers as integers
 use Rattle.flat_code.specs.TypeClasses.{is_of_type}
 use Rattle.linear_memory.specs.Memory.{Memory, is_inside, range, with_range, low_bytes, grown, grow_result}
@@ -158,6 +159,11 @@ module _ (env : Env) where
   converted vs Wrap = pushed type.I64 vs (λ a. I32 (integers.wrap a))
   converted vs ExtendS = pushed type.I32 vs (λ a. I64 (integers.extend_s a))
   converted vs ExtendU = pushed type.I32 vs (λ a. I64 (integers.extend_u a))
+  converted vs I32From8S = pushed type.I32 vs (λ a. I32 (integers.extend_low w8 w32 a))
+  converted vs I32From16S = pushed type.I32 vs (λ a. I32 (integers.extend_low w16 w32 a))
+  converted vs I64From8S = pushed type.I64 vs (λ a. I64 (integers.extend_low w8 w64 a))
+  converted vs I64From16S = pushed type.I64 vs (λ a. I64 (integers.extend_low w16 w64 a))
+  converted vs I64From32S = pushed type.I64 vs (λ a. I64 (integers.extend_low w32 w64 a))
 
   abbrev outside : Effect
   outside = traps trap.OutOfBoundsMemoryAccess

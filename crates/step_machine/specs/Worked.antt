@@ -7,7 +7,7 @@ use Rattle.wasm_ast.specs.declared.values.Value.TheVariants.{I32, I64}
 use Rattle.wasm_ast.specs.declared.values.FuncType.{FuncType}
 use Rattle.wasm_ast.specs.declared.instr.Simple.TheVariants.{Const, Drop, Br, Return, Call}
 use Rattle.wasm_ast.specs.declared.instr.BlockType.{BlockType}
-use Rattle.wasm_ast.specs.declared.instr.BlockType.TheVariants.{Empty, One}
+use Rattle.wasm_ast.specs.declared.instr.BlockType.TheVariants.{Empty, One, Index}
 use Rattle.wasm_ast.specs.declared.module.Import.{Import}
 use Rattle.wasm_ast.specs.declared.module.Func.{Func}
 use Rattle.wasm_ast.specs.declared.module.Export.{Export}
@@ -200,17 +200,29 @@ call_with_two =
     with_funcs (i32_const 5 ∷ i32_const 1 ∷ i64_const 2 ∷ call 2 ∷ call 0 ∷ []) two_to_nothing
     (func 2 (type.I64 ∷ []) (i32_const 4 ∷ drop' ∷ []) ∷ [])
 
--- i32.const n if (result i32) i32.const 2 br 0 else i32.const 3 br 0 end drop
-abbrev pub if_and_branch : (n : ℕ) → Module
-if_and_branch n =
-    with_entry
-    (i32_const n
-    ∷ if' (One type.I32) (ops_of (i32_const 2 ∷ br 0 ∷ []))
-    (ops_of (i32_const 3 ∷ br 0 ∷ [])) ∷ drop' ∷ [])
+abbrev pub one_to_one : FuncType
+one_to_one = record { params = type.I32 ∷ []; results = type.I32 ∷ [] }
 
--- loop (result i32) br 0 end drop
-abbrev pub loop_result : Module
-loop_result = with_entry (loop (One type.I32) (ops_of (br 0 ∷ [])) ∷ drop' ∷ [])
+abbrev pub to_two : FuncType
+to_two = record { params = []; results = type.I32 ∷ type.I64 ∷ [] }
+
+-- i32.const 5 i32.const 3 loop (type 2) br 0 end, and then that, where type 2 is from an i32 to an i32
+abbrev pub loop_taking : Module
+loop_taking =
+    with_callee (i32_const 5 ∷ i32_const 3 ∷ loop_of (Index 2) (br 0 ∷ []) ∷ finish) one_to_one
+    (i32_const 0 ∷ [])
+
+-- i32.const 5 i32.const 3 i32.const n if (type 2) drop i32.const 6 end, and then that
+abbrev pub if_taking : (n : ℕ) → Module
+if_taking n =
+    with_callee
+    (i32_const 5 ∷ i32_const 3 ∷ i32_const n
+    ∷ if' (Index 2) (ops_of (drop' ∷ i32_const 6 ∷ [])) stop ∷ finish) one_to_one
+    (i32_const 0 ∷ [])
+
+-- i32.const 5 call 2 drop, and then that, where function 2 gives an i32 and an i64 and has this body
+abbrev pub call_for_two : (callee : List Op) → Module
+call_for_two callee = with_callee (i32_const 5 ∷ call 2 ∷ drop' ∷ finish) to_two callee
 
 -- ---- configurations
 

@@ -4,7 +4,7 @@ ghost use Rattle.std.specs.Prelude.{◌≡◌, ℕ, ◌+◌, ◌<◌, ◌≤◌,
 ghost use Rattle.wasm_ast.specs.declared.values.ValType.TheVariants as type;
 ghost use Rattle.wasm_ast.specs.declared.values.Value.{Value};
 ghost use Rattle.wasm_ast.specs.declared.values.Value.TheVariants.{I32, I64};
-ghost use Rattle.wasm_ast.specs.declared.instr.BlockType.TheVariants.{Empty, One};
+ghost use Rattle.wasm_ast.specs.declared.instr.BlockType.TheVariants.{Empty, One, Index};
 ghost use Rattle.wasm_ast.specs.declared.trap.Trap.TheVariants as trap;
 ghost use Rattle.wasm_ast.specs.Syntax.{Op, block, loop, if', Ops, stop, next, ops_of};
 ghost use Rattle.oci_config.specs.declared.process.ProcessConfig.{ProcessConfig};
@@ -20,7 +20,7 @@ ghost use Rattle.step_machine.specs.Reduction.{to, ends, call_function, reduce};
 ghost use Rattle.step_machine.specs.Turns.{turn};
 ghost use Rattle.step_machine.specs.Instantiation.{after, ended};
 ghost use Rattle.step_machine.specs.Slices.{at_break, turns_made, slice_end};
-ghost use Rattle.step_machine.specs.Worked.{bare_process, finish, two_to_one, i32_const, drop', br, call, exit_seven, branch_out, endless, two_ways, call_and_return, empty_entry, fall_through, branch_above, branch_through, loop_body, loop_above, if_above, call_above, call_with_two, place, entered, entered_at, exits_next, deep, measured, pile, fresh, above_five, loop_of, by_return, by_return_in_a_block, by_branch, by_branch_in_a_block, calls_nothing, empty_store};
+ghost use Rattle.step_machine.specs.Worked.{bare_process, finish, two_to_one, i32_const, i64_const, drop', br, return', call, loop_taking, if_taking, call_for_two, exit_seven, branch_out, endless, two_ways, call_and_return, empty_entry, fall_through, branch_above, branch_through, loop_body, loop_above, if_above, call_above, call_with_two, place, entered, entered_at, exits_next, deep, measured, pile, fresh, above_five, loop_of, by_return, by_return_in_a_block, by_branch, by_branch_in_a_block, calls_nothing, empty_store};
 
 /// `i32.const 7 call 0`, where function 0 is `proc_exit`, exits with 7 at its second turn.
 pub fn exit_takes_a_turn()
@@ -153,6 +153,35 @@ pub fn blocks_take_parameters()
         → reduce p env (seq (u ∷ v ∷ w ∷ []) (more (enter 2 1 3 4 onward body) rest))
         ≡ to env (seq (w ∷ [])
         (more (label 1 3 onward (seq (u ∷ v ∷ []) (items_of 4 body))) rest)) }
+{}
+
+/// A loop takes its parameters along, above what was below them, and so does each branch to it.
+pub fn loops_take_parameters_again()
+    ensures inside { (after loop_taking bare_process 3).state
+        ≡ above_five (label 1 2 (again (loop_of (Index 2) (br 0 ∷ [])))
+        (seq (I32 3 ∷ []) (items_of 3 (ops_of (br 0 ∷ []))))) 4 finish }
+    ensures again { (after loop_taking bare_process 4).state
+        ≡ (after loop_taking bare_process 2).state }
+{}
+
+/// An `if` without an else arm gives what it takes, where its condition is 0.
+pub fn arms_take_parameters()
+    ensures taken { (after (if_taking 1) bare_process 4).state
+        ≡ above_five (label 1 3 onward
+        (seq (I32 3 ∷ []) (items_of 4 (ops_of (drop' ∷ i32_const 6 ∷ []))))) 6 finish }
+    ensures not_taken { (after (if_taking 0) bare_process 4).state
+        ≡ exits_next 6 (I32 3 ∷ I32 5 ∷ []) }
+    ensures left { (after (if_taking 1) bare_process 6).state ≡ exits_next 6 (I32 6 ∷ I32 5 ∷ []) }
+{}
+
+/// A function with two results leaves both, in their order, above what its caller had; a return keeps no
+/// other operand.
+pub fn functions_give_two_results()
+    ensures at_the_end { (after (call_for_two (i32_const 8 ∷ i64_const 9 ∷ [])) bare_process 4).state
+        ≡ entered_at 2 (I64 9 ∷ I32 8 ∷ I32 5 ∷ []) (ops_of (drop' ∷ finish)) }
+    ensures by_return { (after (call_for_two
+        (i32_const 1 ∷ i32_const 8 ∷ i64_const 9 ∷ return' ∷ [])) bare_process 6).state
+        ≡ entered_at 2 (I64 9 ∷ I32 8 ∷ I32 5 ∷ []) (ops_of (drop' ∷ finish)) }
 {}
 
 /// What no valid module reaches has no reduction: a branch or a return outside all frames, a branch out

@@ -60,6 +60,21 @@ pub fn numbers_are_computed()
     ensures extend_u { (p : Program) (env : Env) (vs : List Value)
         → simple_effect p env (I32 4294967295 ∷ vs) (instr.Convert cvt.ExtendU)
         ≡ gives env (I64 4294967295 ∷ vs) }
+    ensures i32_from_8 { (p : Program) (env : Env) (vs : List Value)
+        → simple_effect p env (I32 384 ∷ vs) (instr.Convert cvt.I32From8S)
+        ≡ gives env (I32 4294967168 ∷ vs) }
+    ensures i32_from_16 { (p : Program) (env : Env) (vs : List Value)
+        → simple_effect p env (I32 98304 ∷ vs) (instr.Convert cvt.I32From16S)
+        ≡ gives env (I32 4294934528 ∷ vs) }
+    ensures i64_from_8 { (p : Program) (env : Env) (vs : List Value)
+        → simple_effect p env (I64 384 ∷ vs) (instr.Convert cvt.I64From8S)
+        ≡ gives env (I64 18446744073709551488 ∷ vs) }
+    ensures i64_from_16 { (p : Program) (env : Env) (vs : List Value)
+        → simple_effect p env (I64 98304 ∷ vs) (instr.Convert cvt.I64From16S)
+        ≡ gives env (I64 18446744073709518848 ∷ vs) }
+    ensures i64_from_32 { (p : Program) (env : Env) (vs : List Value)
+        → simple_effect p env (I64 6442450944 ∷ vs) (instr.Convert cvt.I64From32S)
+        ≡ gives env (I64 18446744071562067968 ∷ vs) }
     ensures of_another_type { (p : Program) (env : Env) (vs : List Value)
         → simple_effect p env (I64 1 ∷ vs) (instr.Unary type.I32 un.Clz) ≡ no_rule }
 {}

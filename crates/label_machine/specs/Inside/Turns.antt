@@ -1,8 +1,7 @@
 -- What a turn does to the machine's data.
-use Rattle.std.specs.Prelude.{◌≡◌, ℕ, ◌+◌, [], ◌∷◌, map, false}
+use Rattle.std.specs.Prelude.{◌≡◌, ℕ, ◌+◌, ◌∷◌, map, take, drop, length, Option, Some, false}
 use Rattle.wasm_ast.specs.Syntax.{Op, Ops, count}
-use Rattle.wasm_ast.specs.declared.instr.BlockType.{BlockType}
-use Rattle.wasm_ast.specs.declared.instr.BlockType.TheVariants.{Empty, One}
+use Rattle.wasm_ast.specs.declared.values.FuncType.{FuncType}
 use Rattle.oci_config.specs.Processes.{config_of}
 use Rattle.step_machine.specs.Program.{Program}
 use Rattle.step_machine.specs.Effects.{Env, effect}
@@ -31,19 +30,23 @@ pub record Does (p : Program) (x y : Run) (place : ℕ) (o : Op) (e : Answer) : 
   pub callers : map level_of y.callers ≡ map level_of x.callers
   pub pending : y.pending ≡ x.pending
 
--- how many values a block gives
-abbrev pub arity_of : BlockType → ℕ
-arity_of Empty = 0
-arity_of (One t) = 1
+-- a block has a type, by which it takes this number of values and gives that
+pub record HasCounts (found : Option FuncType) (params results : ℕ) : Type 0 where
+  pub t : FuncType
+  pub is : found ≡ Some t
+  pub takes : params ≡ length t.params
+  pub gives : results ≡ length t.results
 
--- the data before and after a body is entered, of which the first instruction has this place
-pub record Enters (x y : Run) (arity place : ℕ) (target : Target) (first : ℕ) (body : Ops) :
+-- the data before and after a body is entered, of which the first instruction has this place, with this
+-- number of operands
+pub record Enters (x y : Run) (taken arity place : ℕ) (target : Target) (first : ℕ) (body : Ops) :
     Type 0 where
   pub top :
       level_of y.top
       ≡ record (level_of x.top) {
-        opens = opened arity place x.top.operands target ∷ map open_of x.top.labels;
-        operands = [];
+        opens =
+            opened arity place (drop taken x.top.operands) target ∷ map open_of x.top.labels;
+        operands = take taken x.top.operands;
         place = first;
         rest = body;
       }

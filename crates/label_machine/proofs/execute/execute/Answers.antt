@@ -1,4 +1,4 @@
-use Rattle.std.proofs.Common.{subst, ◌≡◌, ◌+◌, ◌∷◌, map, sym, ap, ◌∙◌, arith}
+use Rattle.std.proofs.Common.{subst, ◌≡◌, ◌+◌, ◌∷◌, map, refl, sym, ap, ◌∙◌, arith}
 use Rattle.wasm_ast.specs.declared.instr.Instr.{Instr}
 use Rattle.wasm_ast.specs.Syntax.{Ops, next, count}
 use Rattle.wasm_ast.specs.View.{op_of}
@@ -57,8 +57,8 @@ returns-in_default-instr c p =
     (running (tree_of (record (level_of x.top) { rest = os }) (map level_of x.callers) (tail_from x.pending))))
     (ap ops_in c.in-Some.ensures.cases.0) in
     on_ok
-    (λ s. (p' : Program) → y.top.ahead.place ≡ place + count (op_of i) → x.top.ahead.rest.now ≡ i ∷ rest.now
+    (λ s. (p' : Program) → p'.types ≡ c.args.of.now.types → y.top.ahead.place ≡ place + count (op_of i) → x.top.ahead.rest.now ≡ i ∷ rest.now
     → IsOf p' x.store → LeadsTo p' (turn p' (about_to y place (op_of i))) s)
     (λ s. IsWithin x → IsOf q x.store → LeadsTo q (turn q (config x doing.Next)) s) c.run_block.result
-    (λ s leads within of. subst (λ d. LeadsTo q (turn q d) s) (sym same) (leads q counted c.in-Some.ensures.cases.0 of))
+    (λ s leads within of. subst (λ d. LeadsTo q (turn q d) s) (sym same) (leads q refl counted c.in-Some.ensures.cases.0 of))
     c.run_block.ensures
