@@ -8,7 +8,6 @@ ghost use Rattle.content_leases.specs.Digests.{digest_of};
 ghost use Rattle.content_leases.specs.Limits.{max_members};
 ghost use Rattle.content_leases.specs.Refusals.{first_refusal, put_refusals, remove_refusals, lease_create_refusals, lease_add_refusals, lease_delete_refusals};
 ghost use Rattle.content_leases.specs.Requests.{IsAnswered};
-ghost use Rattle.content_leases.specs.StoreValue.{UsesRoom};
 ghost use Rattle.content_leases.specs.StoreState.{empty, content_in, lease_in, is_among, with_content, without_content, with_lease, with_member, without_lease, unheld, collected};
 
 use crate::contents::{Contents, is_used};
@@ -187,7 +186,6 @@ impl Store {
         requires named { string_bytes digest ≡ digest_of (arc_value bytes) }
         requires new { content_in self.old.state.contents (string_bytes digest) ≡ None }
         ensures leaves { self.new.state ≡ with_content self.old.state (arc_value bytes) }
-        ensures room { UsesRoom 1 0 self.old self.new }
     {
         self.contents.push_reserved(digest, bytes);
     }
@@ -195,7 +193,6 @@ impl Store {
     /// Removes the content under a digest. No memory is taken.
     pub fn remove_reserved(&mut self, digest: &str)
         ensures leaves { self.new.state ≡ without_content self.old.state digest.now }
-        ensures room { UsesRoom 0 0 self.old self.new }
     {
         self.contents.remove(digest);
     }
@@ -206,7 +203,6 @@ impl Store {
         requires new { lease_in self.old.state.leases (string_bytes name) ≡ None }
         requires none { members ≡ [] }
         ensures leaves { self.new.state ≡ with_lease self.old.state (string_bytes name) }
-        ensures room { UsesRoom 0 1 self.old self.new }
     {
         self.leases.push_reserved(name, members);
     }
@@ -218,7 +214,6 @@ impl Store {
             × (is_among (string_bytes digest) ms ≡ false) × (length ms < max_members) }
         ensures leaves { self.new.state
             ≡ with_member self.old.state (string_bytes digest) name.now }
-        ensures room { UsesRoom 0 0 self.old self.new }
     {
         self.leases.add_reserved(name, digest);
     }
@@ -226,7 +221,6 @@ impl Store {
     /// Deletes the lease with a name. No memory is taken.
     pub fn delete_lease_reserved(&mut self, name: &str)
         ensures leaves { self.new.state ≡ without_lease self.old.state name.now }
-        ensures room { UsesRoom 0 0 self.old self.new }
     {
         self.leases.remove(name);
     }
@@ -242,7 +236,6 @@ impl Store {
     /// Removes those contents. No memory is taken.
     pub fn collect_reserved(&mut self, used: &[Text])
         ensures leaves { self.new.state ≡ collected used.now self.old.state }
-        ensures room { UsesRoom 0 0 self.old self.new }
     {
         self.contents.retain_held(&self.leases, used);
     }

@@ -17,21 +17,21 @@ use Rattle.task_board.specs.declared.request.Request.{Request}
 use Rattle.task_board.specs.declared.request.Request.TheVariants as request
 use Rattle.task_board.specs.declared.request.Reply.{Reply}
 use Rattle.task_board.specs.declared.request.Reply.TheVariants as reply
+use Rattle.task_board.specs.declared.request.TaskState.{TaskState}
 use Rattle.wasm_ast.specs.Identifiers.{is_id}
 use Rattle.content_leases.specs.Digests.{digest_of}
 use Rattle.content_leases.specs.StoreState.{StoreState, with_content, without_content, with_lease, with_member, without_lease, unheld, collected}
 use Rattle.content_leases.specs.Refusals.{Refusals, first_refusal, put_refusals, remove_refusals, lease_create_refusals, lease_add_refusals, lease_delete_refusals}
 use Rattle.task_board.specs.BoardState.{Task, BoardState, used_by, with_store, entry_of, task_of, with_task, without_task}
-use Rattle.oci_config.specs.Streams.{stream_of}
-use Rattle.task_board.specs.Tasks.{started, paused, resumed, killed_while, killed_by, state_of, output_of}
-use Rattle.task_board.specs.Refusals.{create_refusals, start_refusals, pause_refusals, resume_refusals, kill_refusals, delete_refusals, state_refusals, wait_refusals, output_refusals, task_refusals}
-use Rattle.task_board.specs.Step.{Answer, DecidedBy, OnStore, Puts, PutsText, refused, stored, OnFound, OnTask, Creates, Answers, output_reply}
+use Rattle.task_board.specs.Tasks.{killed_while, killed_by, state_of}
+use Rattle.task_board.specs.Refusals.{create_refusals, unless_allowed, kill_refusals, state_refusals, output_refusals, task_refusals}
+use Rattle.task_board.specs.Step.{Answer, DecidedBy, OnStore, Puts, PutsText, refused, stored, Done, with_left, OnFound, OnTask, Creates, on_start, on_pause, on_resume, on_kill, on_delete, on_state, on_wait, on_output, Answers}
 use Rattle.task_board.specs.Sound.{IsSound, IsBoard}
 use Rattle.task_board.specs.Inside.Changes.{change_call, change_request, change_reply, change_refusals, changed}
 use Rattle.task_board.specs.Inside.Plans.{IsAllowed, RefusesTask, RefusesKill}
 use Rattle.task_board.proofs.EntryLemmas.{none_is_not, some_is}
 use Rattle.task_board.proofs.SoundLemmas.{started_sound, paused_sound, resumed_sound, killed_sound, remove_sound}
-use Rattle.task_board.proofs.StepLemmas.{found, task_named, sound_of, changed_sound, decided, none_first, not_true, create_leaves}
+use Rattle.task_board.proofs.StepLemmas.{found, task_named, unchanged, sound_of, changed_sound, decided, none_first, not_true, create_leaves}
 use Rattle.task_board.proofs.StoreLemmas.{StoreEffect, puts, removes, leases, adds, ends, collects, store_sound}
 
 -- ---- signals by their numbers
@@ -139,30 +139,31 @@ change_accepted (change.Kill signal.Terminate) id t ok can = rw (ok, can) refl
 
 pub delete_accepted :
     (id : List ℕ) (t : Task) → is_id id ≡ true → allowed call.Delete t.status ≡ true
-    → first_refusal (task_refusals id delete_refusals (Some t)) ≡ None
+    → first_refusal (task_refusals id (unless_allowed call.Delete refusal.WrongStatus) (Some t)) ≡ None
 delete_accepted id t ok can = rw (ok, can) refl
 
 -- ---- answers to requests of one task
 
 -- a refusal of its own list
 pub refused_on :
-    (s : BoardState) (id : List ℕ) (own : Task → Refusals) (rep : Task → Reply) (new : Task → BoardState)
+    (s : BoardState) (id : List ℕ) (own : Task → Refusals) (does : Task → Done)
     (o : Option Task) (e : Refusal)
-    → first_refusal (task_refusals id own o) ≡ Some e → OnFound id own rep new o s (Err e) s
-refused_on s id own rep new None e h = subst (λ (x : Option Refusal). DecidedBy x ⊥ s (Err e) s) (sym h) (refl, refl)
-refused_on s id own rep new (Some t) e h =
-    subst (λ (x : Option Refusal). DecidedBy x ((Err e ≡ Ok (rep t)) × (s ≡ new t)) s (Err e) s) (sym h) (refl, refl)
+    → first_refusal (task_refusals id own o) ≡ Some e → OnFound id own does o s (Err e) s
+refused_on s id own does None e h = subst (λ (x : Option Refusal). DecidedBy x ⊥ s (Err e) s) (sym h) (refl, refl)
+refused_on s id own does (Some t) e h =
+    subst (λ (x : Option Refusal). DecidedBy x ((Err e ≡ Ok (does t).0) × (s ≡ with_left s t (does t).1)) s (Err e) s) (sym h) (refl, refl)
 
 -- the effect, if no refusal's condition holds
 pub accepted_on :
-    (s : BoardState) (id : List ℕ) (own : Task → Refusals) (rep : Task → Reply) (new : Task → BoardState) (t : Task)
+    (s : BoardState) (id : List ℕ) (own : Task → Refusals) (does : Task → Done) (t : Task)
     (s' : BoardState)
-    → task_of id s.tasks ≡ Some t → first_refusal (task_refusals id own (Some t)) ≡ None → s' ≡ new t
-    → OnTask id own rep new s (Ok (rep t)) s'
-accepted_on s id own rep new t s' at none is =
-    let a : Answer = Ok (rep t) in
-    let P : Option Refusal → Type 0 = λ x. DecidedBy x ((a ≡ Ok (rep t)) × (s' ≡ new t)) s a s' in
-    subst (λ (o : Option Task). OnFound id own rep new o s a s') (sym at) (subst P (sym none) (refl, is))
+    → task_of id s.tasks ≡ Some t → first_refusal (task_refusals id own (Some t)) ≡ None → s' ≡ with_left s t (does t).1
+    → OnTask id own does s (Ok (does t).0) s'
+accepted_on s id own does t s' at none is =
+    let a : Answer = Ok (does t).0 in
+    let P :
+    Option Refusal → Type 0 = λ x. DecidedBy x ((a ≡ Ok (does t).0) × (s' ≡ with_left s t (does t).1)) s a s' in
+    subst (λ (o : Option Task). OnFound id own does o s a s') (sym at) (subst P (sym none) (refl, is))
 
 -- the answer to a change that is made
 pub change_answers :
@@ -170,26 +171,47 @@ pub change_answers :
     → first_refusal (task_refusals id (change_refusals c) (Some t)) ≡ None → s' ≡ with_task s (changed c t)
     → Answers s (change_request c id) (Ok (change_reply c t.id (changed c t).status)) s'
 change_answers change.Start s id t s' at none is =
-    accepted_on s id start_refusals (λ u. reply.Start u.id (started u).status)
-    (λ u. with_task s (started u)) t s' at none is
+    accepted_on s id (unless_allowed call.Start refusal.WrongStatus) on_start t s' at none is
 change_answers change.Pause s id t s' at none is =
-    accepted_on s id pause_refusals (λ u. reply.Pause u.id (paused u).status)
-    (λ u. with_task s (paused u)) t s' at none is
+    accepted_on s id (unless_allowed call.Pause refusal.WrongStatus) on_pause t s' at none is
 change_answers change.Resume s id t s' at none is =
-    accepted_on s id resume_refusals (λ u. reply.Resume u.id (resumed u).status)
-    (λ u. with_task s (resumed u)) t s' at none is
+    accepted_on s id (unless_allowed call.Resume refusal.WrongStatus) on_resume t s' at none is
 change_answers (change.Kill signal.Kill) s id t s' at none is =
-    accepted_on s id (kill_refusals 9) (λ u. reply.Kill u.id (killed_by (signal_of 9) u).status)
-    (λ u. with_task s (killed_by (signal_of 9) u)) t s' at none is
+    accepted_on s id (kill_refusals 9) (on_kill 9) t s' at none is
 change_answers (change.Kill signal.Terminate) s id t s' at none is =
-    accepted_on s id (kill_refusals 15) (λ u. reply.Kill u.id (killed_by (signal_of 15) u).status)
-    (λ u. with_task s (killed_by (signal_of 15) u)) t s' at none is
+    accepted_on s id (kill_refusals 15) (on_kill 15) t s' at none is
 
 pub delete_answers : (s : BoardState) (id : List ℕ) (t : Task) (s' : BoardState) → task_of id s.tasks ≡ Some t
-    → first_refusal (task_refusals id delete_refusals (Some t)) ≡ None → s' ≡ without_task s t.id
+    → first_refusal (task_refusals id (unless_allowed call.Delete refusal.WrongStatus) (Some t)) ≡ None → s' ≡ without_task s t.id
     → Answers s (request.Delete id) (Ok (reply.Delete (state_of t))) s'
 delete_answers s id t s' at none is =
-    accepted_on s id delete_refusals (λ u. reply.Delete (state_of u)) (λ u. without_task s u.id) t s' at none is
+    accepted_on s id (unless_allowed call.Delete refusal.WrongStatus) on_delete t s' at none is
+
+-- ---- questions for the state of a task
+
+pub state_answers :
+    (s : BoardState) (id name : List ℕ) (e : ℕ × Task) (x : TaskState) → name ≡ id → IsAllowed s name call.State e
+    → x ≡ state_of e.1 → Answers s (request.State id) (Ok (reply.State x)) s
+state_answers s id name e x same is told =
+    let at : task_of name s.tasks ≡ Some e.1 = ap (option_map (λ (y : ℕ × Task). y.1)) is.found in
+    let named = is.named in
+    let done =
+    accepted_on s name state_refusals on_state e.1 s at (rw named refl) (sym (unchanged s name e.1 at)) in
+    subst (λ (y : TaskState). Answers s (request.State id) (Ok (reply.State y)) s) (sym told)
+    (subst (λ (y : List ℕ). Answers s (request.State y) (Ok (reply.State (state_of e.1))) s) same done)
+
+pub wait_answers :
+    (s : BoardState) (id name : List ℕ) (e : ℕ × Task) (x : TaskState) → name ≡ id → IsAllowed s name call.Wait e
+    → x ≡ state_of e.1 → Answers s (request.Wait id) (Ok (reply.Wait x)) s
+wait_answers s id name e x same is told =
+    let at : task_of name s.tasks ≡ Some e.1 = ap (option_map (λ (y : ℕ × Task). y.1)) is.found in
+    let named = is.named in
+    let can = is.allowed in
+    let done =
+    accepted_on s name (unless_allowed call.Wait refusal.Busy) on_wait e.1 s at (rw (named, can) refl)
+    (sym (unchanged s name e.1 at)) in
+    subst (λ (y : TaskState). Answers s (request.Wait id) (Ok (reply.Wait y)) s) (sym told)
+    (subst (λ (y : List ℕ). Answers s (request.Wait y) (Ok (reply.Wait (state_of e.1))) s) same done)
 
 -- ---- refusals of requests of one task
 
@@ -201,14 +223,14 @@ not_memory false true x e known h is = known (some_is x e h ∙ is)
 not_memory false false x e known h is = cc
 
 task_known : (id : List ℕ) (c : TaskCall) (o : Option Task) (e : Refusal)
-    → first_refusal (task_refusals id (λ t. (not (allowed c t.status), refusal.WrongStatus) ∷ []) o) ≡ Some e
+    → first_refusal (task_refusals id (unless_allowed c refusal.WrongStatus) o) ≡ Some e
     → e ≢ refusal.NoMemory
 task_known id c None e h = not_memory (not (is_id id)) true refusal.NotFound e (λ x. cc) h
 task_known id c (Some t) e h = not_memory (not (is_id id)) (not (allowed c t.status)) refusal.WrongStatus e (λ x. cc) h
 
 same_refusal :
     (id : List ℕ) (c : Change) (o : Option Task) (e : Refusal)
-    → first_refusal (task_refusals id (λ t. (not (allowed (change_call c) t.status), refusal.WrongStatus) ∷ []) o)
+    → first_refusal (task_refusals id (unless_allowed (change_call c) refusal.WrongStatus) o)
     ≡ Some e
     → first_refusal (task_refusals id (change_refusals c) o) ≡ Some e
 same_refusal id change.Start None e h = h
@@ -227,18 +249,17 @@ refused_change_by :
     → first_refusal (task_refusals id (change_refusals c) (task_of id s.tasks)) ≡ Some e
     → Answers s (change_request c id) (Err e) s
 refused_change_by change.Start s id e h =
-    refused_on s id start_refusals (λ u. reply.Start u.id (started u).status) (λ u. with_task s (started u))
+    refused_on s id (unless_allowed call.Start refusal.WrongStatus) on_start
     (task_of id s.tasks) e h
 refused_change_by change.Pause s id e h =
-    refused_on s id pause_refusals (λ u. reply.Pause u.id (paused u).status) (λ u. with_task s (paused u))
+    refused_on s id (unless_allowed call.Pause refusal.WrongStatus) on_pause
     (task_of id s.tasks) e h
 refused_change_by change.Resume s id e h =
-    refused_on s id resume_refusals (λ u. reply.Resume u.id (resumed u).status) (λ u. with_task s (resumed u))
+    refused_on s id (unless_allowed call.Resume refusal.WrongStatus) on_resume
     (task_of id s.tasks) e h
 refused_change_by (change.Kill x) s id e h =
     refused_on s id (kill_refusals (signal_number x))
-    (λ u. reply.Kill u.id (killed_by (signal_of (signal_number x)) u).status)
-    (λ u. with_task s (killed_by (signal_of (signal_number x)) u)) (task_of id s.tasks) e h
+    (on_kill (signal_number x)) (task_of id s.tasks) e h
 
 -- a change that is not allowed, or of no task
 pub refused_change :
@@ -253,7 +274,7 @@ pub refused_delete : (s : BoardState) (id : List ℕ) (e : Refusal) → RefusesT
     → (e ≢ refusal.NoMemory) × Answers s (request.Delete id) (Err e) s
 refused_delete s id e h = (
   task_known id call.Delete (task_of id s.tasks) e h,
-  refused_on s id delete_refusals (λ u. reply.Delete (state_of u)) (λ u. without_task s u.id)
+  refused_on s id (unless_allowed call.Delete refusal.WrongStatus) on_delete
       (task_of id s.tasks) e h,
 )
 
@@ -273,7 +294,7 @@ no_signal s id number e none is =
 -- of a call that no status refuses, the refusals before a request's own
 pub no_task_by :
     (id : List ℕ) (own : Task → Refusals) (o : Option Task) (e : Refusal)
-    → first_refusal (task_refusals id (λ t. (not (allowed call.State t.status), refusal.WrongStatus) ∷ []) o) ≡ Some e
+    → first_refusal (task_refusals id (unless_allowed call.State refusal.WrongStatus) o) ≡ Some e
     → first_refusal (task_refusals id own o) ≡ Some e
 no_task_by id own None e h = h
 no_task_by id own (Some t) e h = by (not (is_id id)) h
@@ -310,8 +331,7 @@ pub refused_kill :
     → (e ≢ refusal.NoMemory) × Answers s (request.Kill id number) (Err e) s
 refused_kill s id number e h = (
   kill_known id number (task_of id s.tasks) e h,
-  refused_on s id (kill_refusals number) (λ u. reply.Kill u.id (killed_by (signal_of number) u).status)
-      (λ u. with_task s (killed_by (signal_of number) u)) (task_of id s.tasks) e h,
+  refused_on s id (kill_refusals number) (on_kill number) (task_of id s.tasks) e h,
 )
 
 -- ---- what requests do
@@ -344,18 +364,19 @@ on_store_effect s refusals rep new r s' on f =
     (decided (first_refusal refusals) ((r ≡ Ok rep) × (s' ≡ with_store s new)) s r s' on)
 
 on_task_effect :
-    (s : BoardState) (id : List ℕ) (own : Task → Refusals) (rep : Task → Reply) (new : Task → BoardState)
+    (s : BoardState) (id : List ℕ) (own : Task → Refusals) (does : Task → Done)
     (o : Option Task) (r : Answer) (s' : BoardState)
-    → OnFound id own rep new o s r s'
-    → ((t : Task) → o ≡ Some t → first_refusal (task_refusals id own (Some t)) ≡ None → s' ≡ new t → Effect s s')
+    → OnFound id own does o s r s'
+    → ((t : Task) → o ≡ Some t → first_refusal (task_refusals id own (Some t)) ≡ None
+    → s' ≡ with_left s t (does t).1 → Effect s s')
     → Effect s s'
-on_task_effect s id own rep new None r s' on f =
+on_task_effect s id own does None r s' on f =
     effect_by s s' (first_refusal (task_refusals id own None)) ⊥ (λ none e. absurd e)
     (decided (first_refusal (task_refusals id own None)) ⊥ s r s' on)
-on_task_effect s id own rep new (Some t) r s' on f =
-    effect_by s s' (first_refusal (task_refusals id own (Some t))) ((r ≡ Ok (rep t)) × (s' ≡ new t))
+on_task_effect s id own does (Some t) r s' on f =
+    effect_by s s' (first_refusal (task_refusals id own (Some t))) ((r ≡ Ok (does t).0) × (s' ≡ with_left s t (does t).1))
     (λ none e. f t refl none e.1)
-    (decided (first_refusal (task_refusals id own (Some t))) ((r ≡ Ok (rep t)) × (s' ≡ new t)) s r s' on)
+    (decided (first_refusal (task_refusals id own (Some t))) ((r ≡ Ok (does t).0) × (s' ≡ with_left s t (does t).1)) s r s' on)
 
 -- a kill by a number is one by its signal
 kill_effect : (s s' : BoardState) (id : List ℕ) (t : Task) (o : Option Signal) → task_of id s.tasks ≡ Some t
@@ -404,34 +425,33 @@ effect_of s (request.Create config id) r s' a =
     (λ none e. enters config id r none e)
     (decided (first_refusal (create_refusals s config id)) (Creates s config id r s') s r s' a)
 effect_of s (request.Start id) r s' a =
-    on_task_effect s id start_refusals (λ t. reply.Start t.id (started t).status) (λ t. with_task s (started t))
+    on_task_effect s id (unless_allowed call.Start refusal.WrongStatus) on_start
     (task_of id s.tasks) r s' a
     (λ t at none is. changes change.Start id t at (change_allowed change.Start id t none) is)
 effect_of s (request.Pause id) r s' a =
-    on_task_effect s id pause_refusals (λ t. reply.Pause t.id (paused t).status) (λ t. with_task s (paused t))
+    on_task_effect s id (unless_allowed call.Pause refusal.WrongStatus) on_pause
     (task_of id s.tasks) r s' a
     (λ t at none is. changes change.Pause id t at (change_allowed change.Pause id t none) is)
 effect_of s (request.Resume id) r s' a =
-    on_task_effect s id resume_refusals (λ t. reply.Resume t.id (resumed t).status) (λ t. with_task s (resumed t))
+    on_task_effect s id (unless_allowed call.Resume refusal.WrongStatus) on_resume
     (task_of id s.tasks) r s' a
     (λ t at none is. changes change.Resume id t at (change_allowed change.Resume id t none) is)
 effect_of s (request.Kill id number) r s' a =
-    on_task_effect s id (kill_refusals number) (λ t. reply.Kill t.id (killed_by (signal_of number) t).status)
-    (λ t. with_task s (killed_by (signal_of number) t)) (task_of id s.tasks) r s' a
+    on_task_effect s id (kill_refusals number) (on_kill number) (task_of id s.tasks) r s' a
     (λ t at none is. kill_effect s s' id t (signal_of number) at none is)
 effect_of s (request.Delete id) r s' a =
-    on_task_effect s id delete_refusals (λ t. reply.Delete (state_of t)) (λ t. without_task s t.id)
+    on_task_effect s id (unless_allowed call.Delete refusal.WrongStatus) on_delete
     (task_of id s.tasks) r s' a
     (λ t at none is. deletes id t at (one_accepted id t call.Delete none) is)
 effect_of s (request.State id) r s' a =
-    on_task_effect s id state_refusals (λ t. reply.State (state_of t)) (λ t. s) (task_of id s.tasks) r s' a
-    (λ t at none is. nothing is)
+    on_task_effect s id state_refusals on_state (task_of id s.tasks) r s' a
+    (λ t at none is. nothing (is ∙ unchanged s id t at))
 effect_of s (request.Wait id) r s' a =
-    on_task_effect s id wait_refusals (λ t. reply.Wait (state_of t)) (λ t. s) (task_of id s.tasks) r s' a
-    (λ t at none is. nothing is)
+    on_task_effect s id (unless_allowed call.Wait refusal.Busy) on_wait (task_of id s.tasks) r s' a
+    (λ t at none is. nothing (is ∙ unchanged s id t at))
 effect_of s (request.Output id number) r s' a =
-    on_task_effect s id (output_refusals number) (λ t. output_reply t.id (output_of (stream_of number) t)) (λ t. s)
-    (task_of id s.tasks) r s' a (λ t at none is. nothing is)
+    on_task_effect s id (output_refusals number) (on_output number) (task_of id s.tasks) r s' a
+    (λ t at none is. nothing (is ∙ unchanged s id t at))
 
 -- ---- soundness
 

@@ -1,6 +1,7 @@
 -- Why no task can be created from bytes.
-use Rattle.std.proofs.Common.{◌≡◌, ◌≢◌, ◌≤◌, ◌⊎◌, inl, inr, ℕ, List, length, Result, Ok, Err, sym, subst, OnErr}
+use Rattle.std.proofs.Common.{◌≡◌, ◌≢◌, ◌≤◌, ◌⊎◌, inl, inr, ℕ, List, length, Option, Result, Ok, Err, sym, subst, OnErr}
 use Rattle.wasm_ast.specs.declared.module.Module.{Module}
+use Rattle.wasm_ast.specs.declared.place.Place.{Place}
 use Rattle.wasm_ast.specs.declared.refusal.Refusal.{Refusal}
 use Rattle.wasm_ast.specs.declared.refusal.Refusal.TheVariants as refusal
 use Rattle.wasm_ast.specs.Limits.{max_module_bytes, Within}
@@ -24,9 +25,13 @@ undecoded bytes p e u (inr (inl over)) other =
     subst (CannotOpen bytes p) (sym over) (too_much (u.over over) (λ m s. u.none over m s.spells s.within s.short))
 undecoded bytes p e u (inr (inr no_memory)) other = absurd (other no_memory)
 
+-- what a checker's refusal says
 pub unchecked :
-    (r : Result Module Refusal) (e : Refusal) → OnErr r ((r ≡ Err refusal.Invalid) ⊎ (r ≡ Err refusal.NoMemory))
-    → r ≡ Err e → e ≢ refusal.NoMemory → e ≡ refusal.Invalid
-unchecked (Ok v) e h is other = cc
-unchecked (Err x) e (inl p) is other = cc
+    (r : Result Module Refusal) (e : Refusal)
+    → OnErr r (((at : Option Place) × (r ≡ Err (refusal.Invalid at))) ⊎ (r ≡ Err refusal.NoMemory))
+    → r ≡ Err e → e ≢ refusal.NoMemory → (at : Option Place) × (e ≡ refusal.Invalid at)
+unchecked (Ok v) e h is other = let n : ⊥ = cc in absurd n
+unchecked (Err x) e (inl p) is other =
+    let why = p.1 in
+    let same : e ≡ refusal.Invalid p.0 = cc in (p.0, same)
 unchecked (Err x) e (inr p) is other = let n : e ≡ refusal.NoMemory = cc in absurd (other n)

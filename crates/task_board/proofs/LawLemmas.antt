@@ -2,11 +2,13 @@
 use Rattle.std.proofs.Common.{◌≡◌, ◌≢◌, ℕ, List, [], ◌∷◌, ◌+◌, ◌≤◌, arith, nat_le, ◌&&◌, length, Bool, true, false, true≢false, cond, Option, Some, None, is_some, option_and_then, Ok, Err, MatchBool, inl, inr, ◌⊎◌, refl, sym, ap, ◌∙◌, subst, bytes_eq, nat_eq}
 use Rattle.std.proofs.lemmas.Bool.Decides.{nat_tests}
 use Rattle.wasm_ast.specs.declared.module.Module.{Module}
+use Rattle.wasm_ast.specs.declared.place.Place.{Place}
 use Rattle.wasm_ast.specs.declared.refusal.Refusal.{Refusal}
 use Rattle.wasm_ast.specs.declared.refusal.Refusal.TheVariants as refusal
 use Rattle.wasm_binary.specs.Grammar.{Spells}
 use Rattle.oci_config.specs.declared.process.ProcessConfig.{ProcessConfig}
 use Rattle.validator.specs.Typing.{ValidModule}
+use Rattle.validator.specs.Faults.{NamesFault}
 use Rattle.step_machine.specs.Instantiation.{instantiation_refusal, ended}
 use Rattle.task_board.specs.declared.event.Event.{Event}
 use Rattle.task_board.specs.declared.event.Event.TheVariants as event
@@ -26,12 +28,10 @@ use Rattle.task_lifecycle.specs.declared.status.Status.TheVariants.{Created, Run
 use Rattle.task_lifecycle.specs.declared.status.Signal.{Signal}
 use Rattle.task_lifecycle.specs.declared.status.ExitRecord.TheVariants as exit
 use Rattle.task_lifecycle.specs.Lifecycle.{allowed, takes_turns, is_going}
-use Rattle.task_lifecycle.specs.Names.{signal_of}
 use Rattle.task_board.specs.BoardState.{Task, Entries, BoardState, empty, created_task, used_by, with_store, task_in, entry_of, task_of, put_task, change_task, remove_task, with_task, without_task, with_new_task}
-use Rattle.oci_config.specs.Streams.{stream_of}
-use Rattle.task_board.specs.Tasks.{execution_at, started, paused, resumed, killed_while, killed_by, can_lend, lent, advanced, slice_turns, state_of, output_of}
-use Rattle.task_board.specs.Refusals.{create_refusals, start_refusals, pause_refusals, resume_refusals, kill_refusals, delete_refusals, state_refusals, wait_refusals, output_refusals, task_refusals, Openable, CannotOpen, no_module, too_much, invalid, refused, IsSpelled}
-use Rattle.task_board.specs.Step.{Answer, DecidedBy, OnStore, OnFound, Opens, Creates, Answers, output_reply, is_budget, lends, taken, is_out, Returns, Step}
+use Rattle.task_board.specs.Tasks.{execution_at, killed_while, can_lend, lent, advanced, slice_turns}
+use Rattle.task_board.specs.Refusals.{create_refusals, unless_allowed, kill_refusals, state_refusals, output_refusals, task_refusals, Openable, CannotOpen, no_module, too_much, invalid, refused, IsSpelled}
+use Rattle.task_board.specs.Step.{Answer, DecidedBy, OnStore, Done, with_left, OnFound, Opens, Creates, on_start, on_pause, on_resume, on_kill, on_delete, on_state, on_wait, on_output, Answers, is_budget, lends, taken, is_out, Returns, Step}
 use Rattle.task_board.specs.Run.{met_no_memory, Happens, Run}
 use Rattle.task_board.specs.Sound.{AreRising, slots_of, IsSound, IsBoard}
 use Rattle.task_board.specs.declared.change.Change.{Change}
@@ -55,8 +55,11 @@ empty_sound = record {
   incarnations = tt;
   contents = tt;
   digests = tt;
+  leases = tt;
+  names = tt;
   few_tasks = omega arith;
   few_contents = omega arith;
+  few_leases = omega arith;
   few_creates = omega arith;
 }
 
@@ -64,7 +67,7 @@ and_true : (a b : Bool) → (a && b) ≡ true → (a ≡ true) × (b ≡ true)
 and_true true b h = (refl, h)
 and_true false b h = cc
 
-budget_range : (budget : ℕ) → is_budget budget ≡ true → (1 ≤ budget) × (budget ≤ max_budget)
+pub budget_range : (budget : ℕ) → is_budget budget ≡ true → (1 ≤ budget) × (budget ≤ max_budget)
 budget_range budget h =
     let both = and_true (nat_le 1 budget) (nat_le budget max_budget) h in
     let low = both.0 in
@@ -445,13 +448,13 @@ refused_same None s r s1 r' s2 a b = absurd a
 refused_same (Some e) s r s1 r' s2 a b = (a.0 ∙ sym b.0, a.1 ∙ sym b.1)
 
 on_task_same :
-    (s : BoardState) (id : List ℕ) (own : Task → Refusals) (rep : Task → Reply) (new : Task → BoardState)
-    (o : Option Task) (r : Answer) (s1 : BoardState) (r' : Answer) (s2 : BoardState)
-    → OnFound id own rep new o s r s1 → OnFound id own rep new o s r' s2 → Same r s1 r' s2
-on_task_same s id own rep new None r s1 r' s2 a b =
+    (s : BoardState) (id : List ℕ) (own : Task → Refusals) (does : Task → Done) (o : Option Task) (r : Answer)
+    (s1 : BoardState) (r' : Answer) (s2 : BoardState)
+    → OnFound id own does o s r s1 → OnFound id own does o s r' s2 → Same r s1 r' s2
+on_task_same s id own does None r s1 r' s2 a b =
     refused_same (first_refusal (task_refusals id own None)) s r s1 r' s2 a b
-on_task_same s id own rep new (Some t) r s1 r' s2 a b =
-    decided_same (first_refusal (task_refusals id own (Some t))) (rep t) (new t) s r s1 r' s2 a b
+on_task_same s id own does (Some t) r s1 r' s2 a b =
+    decided_same (first_refusal (task_refusals id own (Some t))) (does t).0 (with_left s t (does t).1) s r s1 r' s2 a b
 
 on_store_same :
     (s : BoardState) (refusals : Refusals) (rep : Reply) (new : StoreState) (r : Answer) (s1 : BoardState) (r' : Answer)
@@ -483,27 +486,21 @@ answers_same s request.Gc r s1 r' s2 d a b =
     (collected (used_by s.tasks) s.store) r s1 r' s2 a b
 answers_same s (request.Create config id) r s1 r' s2 d a b = absurd d
 answers_same s (request.Start id) r s1 r' s2 d a b =
-    on_task_same s id start_refusals (λ t. reply.Start t.id (started t).status) (λ t. with_task s (started t))
-    (task_of id s.tasks) r s1 r' s2 a b
+    on_task_same s id (unless_allowed call.Start refusal.WrongStatus) on_start (task_of id s.tasks) r s1 r' s2 a b
 answers_same s (request.Pause id) r s1 r' s2 d a b =
-    on_task_same s id pause_refusals (λ t. reply.Pause t.id (paused t).status) (λ t. with_task s (paused t))
-    (task_of id s.tasks) r s1 r' s2 a b
+    on_task_same s id (unless_allowed call.Pause refusal.WrongStatus) on_pause (task_of id s.tasks) r s1 r' s2 a b
 answers_same s (request.Resume id) r s1 r' s2 d a b =
-    on_task_same s id resume_refusals (λ t. reply.Resume t.id (resumed t).status) (λ t. with_task s (resumed t))
-    (task_of id s.tasks) r s1 r' s2 a b
+    on_task_same s id (unless_allowed call.Resume refusal.WrongStatus) on_resume (task_of id s.tasks) r s1 r' s2 a b
 answers_same s (request.Kill id number) r s1 r' s2 d a b =
-    on_task_same s id (kill_refusals number) (λ t. reply.Kill t.id (killed_by (signal_of number) t).status)
-    (λ t. with_task s (killed_by (signal_of number) t)) (task_of id s.tasks) r s1 r' s2 a b
+    on_task_same s id (kill_refusals number) (on_kill number) (task_of id s.tasks) r s1 r' s2 a b
 answers_same s (request.Delete id) r s1 r' s2 d a b =
-    on_task_same s id delete_refusals (λ t. reply.Delete (state_of t)) (λ t. without_task s t.id)
-    (task_of id s.tasks) r s1 r' s2 a b
+    on_task_same s id (unless_allowed call.Delete refusal.WrongStatus) on_delete (task_of id s.tasks) r s1 r' s2 a b
 answers_same s (request.State id) r s1 r' s2 d a b =
-    on_task_same s id state_refusals (λ t. reply.State (state_of t)) (λ t. s) (task_of id s.tasks) r s1 r' s2 a b
+    on_task_same s id state_refusals on_state (task_of id s.tasks) r s1 r' s2 a b
 answers_same s (request.Wait id) r s1 r' s2 d a b =
-    on_task_same s id wait_refusals (λ t. reply.Wait (state_of t)) (λ t. s) (task_of id s.tasks) r s1 r' s2 a b
+    on_task_same s id (unless_allowed call.Wait refusal.Busy) on_wait (task_of id s.tasks) r s1 r' s2 a b
 answers_same s (request.Output id number) r s1 r' s2 d a b =
-    on_task_same s id (output_refusals number) (λ t. output_reply t.id (output_of (stream_of number) t)) (λ t. s)
-    (task_of id s.tasks) r s1 r' s2 a b
+    on_task_same s id (output_refusals number) (on_output number) (task_of id s.tasks) r s1 r' s2 a b
 
 -- a task returns in one way
 return_same : (s : BoardState) (o : Option Task) (s1 s2 : BoardState) → Returns s o s1 → Returns s o s2 → s1 ≡ s2
@@ -565,51 +562,57 @@ events_same s e r s1 r' s2 d a b h g = step_same s e r s1 r' s2 d (is_step s e r
 abbrev pub One : Type 0
 One = (bytes : List ℕ) (m n : Module) → Spells bytes m → Spells bytes n → m ≡ n
 
+-- a module with a fault is not valid
+abbrev pub Faulty : Type 0
+Faulty = (m : Module) (at : Option Place) → NamesFault m at → ValidModule m → ⊥
+
 -- bytes that can be opened are not refused
 opened_refused :
-    (bytes : List ℕ) (p : ProcessConfig) (m : Module) (e : Refusal) → One → Openable bytes p m
+    (bytes : List ℕ) (p : ProcessConfig) (m : Module) (e : Refusal) → One → Faulty → Openable bytes p m
     → CannotOpen bytes p e → ⊥
-opened_refused bytes p m _ one opens (no_module none) = none m opens.spelled.spells
-opened_refused bytes p m _ one opens (too_much over none) = none m opens.spelled
-opened_refused bytes p m _ one opens (invalid n spelled unfit) =
-    unfit (subst ValidModule (one bytes m n opens.spelled.spells spelled.spells) opens.valid)
-opened_refused bytes p m _ one opens (refused n e spelled valid is) =
+opened_refused bytes p m _ one faulty opens (no_module none) = none m opens.spelled.spells
+opened_refused bytes p m _ one faulty opens (too_much over none) = none m opens.spelled
+opened_refused bytes p m _ one faulty opens (invalid n at spelled fault) =
+    faulty n at fault (subst ValidModule (one bytes m n opens.spelled.spells spelled.spells) opens.valid)
+opened_refused bytes p m _ one faulty opens (refused n e spelled valid is) =
     let same : n ≡ m = one bytes n m spelled.spells opens.spelled.spells in
     none_is_not e (sym opens.opens ∙ subst (λ (x : Module). instantiation_refusal x p ≡ Some e) same is)
 
 -- two refusals of the same bytes
 refused_agree :
-    (bytes : List ℕ) (p : ProcessConfig) (e e' : Refusal) → One → CannotOpen bytes p e → CannotOpen bytes p e'
+    (bytes : List ℕ) (p : ProcessConfig) (e e' : Refusal) → One → Faulty → CannotOpen bytes p e
+    → CannotOpen bytes p e'
     → AgreeOnRefusal e e'
-refused_agree bytes p _ _ one (no_module none) (no_module none') = inl refl
-refused_agree bytes p _ _ one (no_module none) (too_much over none') = inr (inl (refl, refl))
-refused_agree bytes p _ _ one (no_module none) (invalid m spelled unfit) = absurd (none m spelled.spells)
-refused_agree bytes p _ _ one (no_module none) (refused m e spelled valid is) = absurd (none m spelled.spells)
-refused_agree bytes p _ _ one (too_much over none) (no_module none') = inr (inr (refl, refl))
-refused_agree bytes p _ _ one (too_much over none) (too_much over' none') = inl refl
-refused_agree bytes p _ _ one (too_much over none) (invalid m spelled unfit) = absurd (none m spelled)
-refused_agree bytes p _ _ one (too_much over none) (refused m e spelled valid is) = absurd (none m spelled)
-refused_agree bytes p _ _ one (invalid m spelled unfit) (no_module none) = absurd (none m spelled.spells)
-refused_agree bytes p _ _ one (invalid m spelled unfit) (too_much over none) = absurd (none m spelled)
-refused_agree bytes p _ _ one (invalid m spelled unfit) (invalid n spelled' unfit') = inl refl
-refused_agree bytes p _ _ one (invalid m spelled unfit) (refused n e spelled' valid is) =
-    absurd (unfit (subst ValidModule (one bytes n m spelled'.spells spelled.spells) valid))
-refused_agree bytes p _ _ one (refused m e spelled valid is) (no_module none) = absurd (none m spelled.spells)
-refused_agree bytes p _ _ one (refused m e spelled valid is) (too_much over none) = absurd (none m spelled)
-refused_agree bytes p _ _ one (refused m e spelled valid is) (invalid n spelled' unfit) =
-    absurd (unfit (subst ValidModule (one bytes m n spelled.spells spelled'.spells) valid))
-refused_agree bytes p _ _ one (refused m e spelled valid is) (refused n e' spelled' valid' is') =
+refused_agree bytes p _ _ one faulty (no_module none) (no_module none') = inl refl
+refused_agree bytes p _ _ one faulty (no_module none) (too_much over none') = inr (inl (inl (refl, refl)))
+refused_agree bytes p _ _ one faulty (no_module none) (invalid m at spelled fault) = absurd (none m spelled.spells)
+refused_agree bytes p _ _ one faulty (no_module none) (refused m e spelled valid is) = absurd (none m spelled.spells)
+refused_agree bytes p _ _ one faulty (too_much over none) (no_module none') = inr (inl (inr (refl, refl)))
+refused_agree bytes p _ _ one faulty (too_much over none) (too_much over' none') = inl refl
+refused_agree bytes p _ _ one faulty (too_much over none) (invalid m at spelled fault) = absurd (none m spelled)
+refused_agree bytes p _ _ one faulty (too_much over none) (refused m e spelled valid is) = absurd (none m spelled)
+refused_agree bytes p _ _ one faulty (invalid m at spelled fault) (no_module none) = absurd (none m spelled.spells)
+refused_agree bytes p _ _ one faulty (invalid m at spelled fault) (too_much over none) = absurd (none m spelled)
+refused_agree bytes p _ _ one faulty (invalid m at spelled fault) (invalid n at' spelled' fault') = inr (inr (tt, tt))
+refused_agree bytes p _ _ one faulty (invalid m at spelled fault) (refused n e spelled' valid is) =
+    absurd (faulty m at fault (subst ValidModule (one bytes n m spelled'.spells spelled.spells) valid))
+refused_agree bytes p _ _ one faulty (refused m e spelled valid is) (no_module none) =
+    absurd (none m spelled.spells)
+refused_agree bytes p _ _ one faulty (refused m e spelled valid is) (too_much over none) = absurd (none m spelled)
+refused_agree bytes p _ _ one faulty (refused m e spelled valid is) (invalid n at spelled' fault) =
+    absurd (faulty n at fault (subst ValidModule (one bytes m n spelled.spells spelled'.spells) valid))
+refused_agree bytes p _ _ one faulty (refused m e spelled valid is) (refused n e' spelled' valid' is') =
     let same : n ≡ m = one bytes n m spelled'.spells spelled.spells in
     inl (some_is e e' (sym is ∙ subst (λ (x : Module). instantiation_refusal x p ≡ Some e') same is'))
 
 opens_agree :
     (s : BoardState) (id bytes : List ℕ) (p : ProcessConfig) (r : Answer) (s1 : BoardState) (r' : Answer)
-    (s2 : BoardState) → One
+    (s2 : BoardState) → One → Faulty
     → Opens s id bytes p r s1 → Opens s id bytes p r' s2 → AgreeOnCreate s r s1 r' s2
-opens_agree s id bytes p (Err e) s1 (Err e') s2 one a b = (a.1, b.1, refused_agree bytes p e e' one a.0 b.0)
-opens_agree s id bytes p (Err e) s1 (Ok y) s2 one a b = opened_refused bytes p b.0 e one b.1 a.0
-opens_agree s id bytes p (Ok x) s1 (Err e') s2 one a b = opened_refused bytes p a.0 e' one a.1 b.0
-opens_agree s id bytes p (Ok x) s1 (Ok y) s2 one a b =
+opens_agree s id bytes p (Err e) s1 (Err e') s2 one faulty a b = (a.1, b.1, refused_agree bytes p e e' one faulty a.0 b.0)
+opens_agree s id bytes p (Err e) s1 (Ok y) s2 one faulty a b = opened_refused bytes p b.0 e one faulty b.1 a.0
+opens_agree s id bytes p (Ok x) s1 (Err e') s2 one faulty a b = opened_refused bytes p a.0 e' one faulty a.1 b.0
+opens_agree s id bytes p (Ok x) s1 (Ok y) s2 one faulty a b =
     let same : b.0 ≡ a.0 = one bytes b.0 a.0 b.1.spelled.spells a.1.spelled.spells in
     let t = created_task id s.creates bytes a.0 p in (
       a.2 ∙ sym b.2,
@@ -621,61 +624,66 @@ opens_agree s id bytes p (Ok x) s1 (Ok y) s2 one a b =
     )
 
 creates_agree :
-    (s : BoardState) (config id : List ℕ) (r : Answer) (s1 : BoardState) (r' : Answer) (s2 : BoardState) → One
+    (s : BoardState) (config id : List ℕ) (r : Answer) (s1 : BoardState) (r' : Answer) (s2 : BoardState) → One → Faulty
     → Creates s config id r s1 → Creates s config id r' s2 → AgreeOnCreate s r s1 r' s2
-creates_agree s config id r s1 r' s2 one a b =
+creates_agree s config id r s1 r' s2 one faulty a b =
     let process : b.0 ≡ a.0 = some_is b.0 a.0 (sym b.2 ∙ a.2) in
     let stored :
     b.1 ≡ a.1 =
     some_is b.1 a.1 (sym b.3 ∙ (ap (λ (p : ProcessConfig). content_in s.store.contents p.module) process ∙ a.3)) in
     let moved = subst (λ (x : List ℕ). Opens s id x b.0 r' s2) stored b.4 in
-    opens_agree s id a.1 a.0 r s1 r' s2 one a.4 (subst (λ (p : ProcessConfig). Opens s id a.1 p r' s2) process moved)
+    opens_agree s id a.1 a.0 r s1 r' s2 one faulty a.4 (subst (λ (p : ProcessConfig). Opens s id a.1 p r' s2) process moved)
 
 create_agrees_by :
     (s : BoardState) (config id : List ℕ) (o : Option Refusal) (r : Answer) (s1 : BoardState) (r' : Answer)
-    (s2 : BoardState) → One
+    (s2 : BoardState) → One → Faulty
     → DecidedBy o (Creates s config id r s1) s r s1 → DecidedBy o (Creates s config id r' s2) s r' s2
     → AgreeOnCreate s r s1 r' s2
-create_agrees_by s config id None r s1 r' s2 one a b = creates_agree s config id r s1 r' s2 one a b
-create_agrees_by s config id (Some e) r s1 r' s2 one a b =
+create_agrees_by s config id None r s1 r' s2 one faulty a b = creates_agree s config id r s1 r' s2 one faulty a b
+create_agrees_by s config id (Some e) r s1 r' s2 one faulty a b =
     let P : Answer → Answer → Type 0 = λ x y. AgreeOnCreate s x s1 y s2 in
     let both : P (Err e) (Err e) = (a.1, b.1, inl refl) in
     subst (λ (x : Answer). P x r') (sym a.0) (subst (λ (y : Answer). P (Err e) y) (sym b.0) both)
 
 pub create_agrees :
-    (s : BoardState) (config id : List ℕ) (r : Answer) (s1 : BoardState) (r' : Answer) (s2 : BoardState) → One
+    (s : BoardState) (config id : List ℕ) (r : Answer) (s1 : BoardState) (r' : Answer) (s2 : BoardState) → One → Faulty
     → Answers s (request.Create config id) r s1 → Answers s (request.Create config id) r' s2
     → AgreeOnCreate s r s1 r' s2
-create_agrees s config id r s1 r' s2 one a b =
-    create_agrees_by s config id (first_refusal (create_refusals s config id)) r s1 r' s2 one a b
+create_agrees s config id r s1 r' s2 one faulty a b =
+    create_agrees_by s config id (first_refusal (create_refusals s config id)) r s1 r' s2 one faulty a b
 
 -- ---- what is never invalid
 
 never_invalid_by :
-    (a b c d : Bool)
+    (a b c d : Bool) (at : Option Place)
     → cond a (Some refusal.NoEntry)
     (cond b (Some refusal.BadImport) (cond c (Some refusal.Limit) (cond d (Some refusal.SegmentOutOfBounds) None)))
-    ≡ Some refusal.Invalid → ⊥
-never_invalid_by true b c d h = cc
-never_invalid_by false true c d h = cc
-never_invalid_by false false true d h = cc
-never_invalid_by false false false true h = cc
-never_invalid_by false false false false h = cc
+    ≡ Some (refusal.Invalid at) → ⊥
+never_invalid_by true b c d at h = cc
+never_invalid_by false true c d at h = cc
+never_invalid_by false false true d at h = cc
+never_invalid_by false false false true at h = cc
+never_invalid_by false false false false at h = cc
 
-never_invalid : (m : Module) (p : ProcessConfig) → instantiation_refusal m p ≡ Some refusal.Invalid → ⊥
-never_invalid m p h = never_invalid_by _ _ _ _ h
+never_invalid :
+    (m : Module) (p : ProcessConfig) (at : Option Place)
+    → instantiation_refusal m p ≡ Some (refusal.Invalid at) → ⊥
+never_invalid m p at h = never_invalid_by _ _ _ _ at h
 
 not_invalid_by :
-    (bytes : List ℕ) (p : ProcessConfig) (m : Module) (e : Refusal) → One → IsSpelled bytes m → ValidModule m
-    → e ≡ refusal.Invalid → CannotOpen bytes p e → ⊥
-not_invalid_by bytes p m _ one spelled valid is (no_module none) = none m spelled.spells
-not_invalid_by bytes p m _ one spelled valid is (too_much over none) = none m spelled
-not_invalid_by bytes p m _ one spelled valid is (invalid n other unfit) =
+    (bytes : List ℕ) (p : ProcessConfig) (m : Module) (at : Option Place) (e : Refusal) → One → Faulty
+    → IsSpelled bytes m → ValidModule m
+    → e ≡ refusal.Invalid at → CannotOpen bytes p e → ⊥
+not_invalid_by bytes p m at _ one faulty spelled valid is (no_module none) = none m spelled.spells
+not_invalid_by bytes p m at _ one faulty spelled valid is (too_much over none) = none m spelled
+not_invalid_by bytes p m at _ one faulty spelled valid is (invalid n at' other fault) =
     let same : m ≡ n = one bytes m n spelled.spells other.spells in
-    unfit (subst ValidModule same valid)
-not_invalid_by bytes p m _ one spelled valid is (refused n e other ok why) = never_invalid n p (why ∙ ap Some is)
+    faulty n at' fault (subst ValidModule same valid)
+not_invalid_by bytes p m at _ one faulty spelled valid is (refused n e other ok why) =
+    never_invalid n p at (why ∙ ap Some is)
 
 pub not_invalid :
-    (bytes : List ℕ) (p : ProcessConfig) (m : Module) → One → IsSpelled bytes m → ValidModule m
-    → CannotOpen bytes p refusal.Invalid → ⊥
-not_invalid bytes p m one spelled valid h = not_invalid_by bytes p m refusal.Invalid one spelled valid refl h
+    (bytes : List ℕ) (p : ProcessConfig) (m : Module) (at : Option Place) → One → Faulty → IsSpelled bytes m
+    → ValidModule m → CannotOpen bytes p (refusal.Invalid at) → ⊥
+not_invalid bytes p m at one faulty spelled valid h =
+    not_invalid_by bytes p m at (refusal.Invalid at) one faulty spelled valid refl h

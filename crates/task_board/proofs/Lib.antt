@@ -16,4 +16,5 @@ pub mod InstantiateLemmas
 pub mod RunLemmas
 pub mod LifecycleLemmas
 pub mod LawLemmas
+pub mod AdvanceLemmas
 pub mod HeldLemmas

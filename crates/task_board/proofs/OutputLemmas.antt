@@ -12,9 +12,9 @@ use Rattle.task_board.specs.declared.request.Reply.TheVariants as reply
 use Rattle.task_board.specs.BoardState.{Task, BoardState, task_of}
 use Rattle.task_board.specs.Tasks.{output_of}
 use Rattle.task_board.specs.Refusals.{output_refusals, task_refusals}
-use Rattle.task_board.specs.Step.{Answers, output_reply}
+use Rattle.task_board.specs.Step.{Answers, output_reply, on_output}
 use Rattle.task_board.specs.Inside.Plans.{IsAllowed, RefusesTask, RefusesOutput, TellsOutput}
-use Rattle.task_board.proofs.StepLemmas.{task_named}
+use Rattle.task_board.proofs.StepLemmas.{task_named, unchanged}
 use Rattle.task_board.proofs.EffectLemmas.{accepted_on, refused_on, no_task_by, not_memory}
 
 module _ (s : BoardState) (id : List ℕ) (number : ℕ) where
@@ -71,8 +71,8 @@ module _ (s : BoardState) (id : List ℕ) (number : ℕ) where
       subst (λ (x : List ℕ). Answers s (request.Output id number) (Ok (output_reply x bytes)) s)
       (task_named id s.tasks t.task t.found)
       (subst (λ (x : List ℕ). Answers s (request.Output id number) (Ok (output_reply t.task.id x)) s) (sym t.is)
-      (accepted_on s id (output_refusals number) (λ u. output_reply u.id (output_of (stream_of number) u)) (λ u. s)
-      t.task s t.found t.accepted refl))
+      (accepted_on s id (output_refusals number) (on_output number) t.task s t.found t.accepted
+      (sym (unchanged s id t.task t.found))))
 
   output_known :
       (o : Option Task) (e : Refusal) → first_refusal (task_refusals id (output_refusals number) o) ≡ Some e
@@ -94,6 +94,5 @@ module _ (s : BoardState) (id : List ℕ) (number : ℕ) where
       → (e ≢ refusal.NoMemory) × Answers s (request.Output id number) (Err e) s
   refused_output e h = (
     output_known (task_of id s.tasks) e h,
-    refused_on s id (output_refusals number) (λ u. output_reply u.id (output_of (stream_of number) u)) (λ u. s)
-        (task_of id s.tasks) e h,
+    refused_on s id (output_refusals number) (on_output number) (task_of id s.tasks) e h,
   )

@@ -1,15 +1,11 @@
 -- Sound boards stay sound.
-use Rattle.std.proofs.Common.{◌≡◌, ◌≢◌, ℕ, zero, suc, ◌+◌, ◌<◌, ◌≤◌, List, [], ◌∷◌, ◌++◌, map, length, Bool, true, false, cond, bytes_eq, nat_eq, nat_lt, Option, Some, None, is_some, option_map, refl, sym, ap, ◌∙◌, subst, arith}
+use Rattle.std.proofs.Common.{◌≡◌, ◌≢◌, ℕ, suc, ◌+◌, ◌<◌, ◌≤◌, List, [], ◌∷◌, ◌++◌, map, length, Bool, true, false, cond, ◌||◌, bytes_eq, nat_eq, nat_lt, Option, Some, None, is_some, option_map, refl, sym, ap, ◌∙◌, subst, arith}
 use Rattle.std.proofs.lemmas.Bool.Decides.{nat_tests}
 use Rattle.wasm_ast.specs.declared.module.Module.{Module}
-use Rattle.wasm_ast.specs.declared.place.Place.{Place}
 use Rattle.step_machine.specs.declared.ends.End.{End}
 use Rattle.step_machine.specs.declared.ends.End.TheVariants as own
-use Rattle.step_machine.specs.declared.ends.SliceEnd.{SliceEnd}
-use Rattle.step_machine.specs.declared.ends.SliceEnd.TheVariants as slice
 use Rattle.step_machine.specs.Configuration.{State as ExecutionState}
 use Rattle.step_machine.specs.Instantiation.{ended}
-use Rattle.step_machine.specs.Slices.{end_after, end_at, at_break}
 use Rattle.task_lifecycle.specs.declared.lifecycle.TaskCall.TheVariants as call
 use Rattle.task_lifecycle.specs.declared.status.Status.{Status}
 use Rattle.task_lifecycle.specs.declared.status.Status.TheVariants.{Created, Running, Pausing, Paused, Stopped}
@@ -22,7 +18,7 @@ use Rattle.content_leases.specs.Digests.{digest_of}
 use Rattle.content_leases.specs.StoreState.{Content, content_in}
 use Rattle.task_lifecycle.specs.Lifecycle.{allowed, takes_turns, is_pausing, is_stopped, is_going}
 use Rattle.task_board.specs.BoardState.{Task, Entries, BoardState, created_task, task_in, entry_of, task_of, put_task, with_task, without_task, with_new_task}
-use Rattle.task_board.specs.Tasks.{execution_at, Standing, stopped_by, going, idle_task, exit_of, IsTrueOf, standing_at_start, started, paused, resumed, killed_while, killed, standing_onward, standing_after, advanced}
+use Rattle.task_board.specs.Tasks.{execution_at, is_break_at, Standing, idle_task, exit_of, IsTrueOf, landing, idle_after, started, paused, resumed, killed_while, killed, advanced}
 use Rattle.task_board.specs.Refusals.{Openable}
 use Rattle.task_board.specs.Sound.{Each, AreDistinct, AreRising, IsSound, IsContent, slots_of, ids_of, incarnations_of, IsBoard}
 use Rattle.task_board.proofs.EntryLemmas.{none_is_not, some_is, cond_true, cond_false, by_slot, by_id, change_length, change_slots, change_ids, change_incarnations, change_each, put_length, put_each, remove_entries, remove_distinct, remove_rising, remove_length}
@@ -69,8 +65,11 @@ change_sound s k old t b found same sound = record {
       subst (λ (xs : List ℕ). AreDistinct xs) (sym (change_incarnations t old k s.tasks found same)) b.incarnations;
   contents = b.contents;
   digests = b.digests;
+  leases = b.leases;
+  names = b.names;
   few_tasks = subst (λ (n : ℕ). n ≤ max_tasks) (sym (change_length t s.tasks)) b.few_tasks;
   few_contents = b.few_contents;
+  few_leases = b.few_leases;
   few_creates = b.few_creates;
 }
 
@@ -86,8 +85,11 @@ remove_sound s id k old b found = record {
   incarnations = remove_distinct (λ (e : ℕ × Task). e.1.incarnation) id s.tasks b.incarnations;
   contents = b.contents;
   digests = b.digests;
+  leases = b.leases;
+  names = b.names;
   few_tasks = let less = remove_length id (k, old) s.tasks found in let few = b.few_tasks in omega (arith, less, few);
   few_contents = b.few_contents;
+  few_leases = b.few_leases;
   few_creates = b.few_creates;
 }
 
@@ -230,8 +232,11 @@ put_sound s k t b free new number sound few low = record {
       (earlier_all s.creates s.tasks b.tasks));
   contents = b.contents;
   digests = b.digests;
+  leases = b.leases;
+  names = b.names;
   few_tasks = let more = put_length k t s.tasks in omega (arith, more, few);
   few_contents = b.few_contents;
+  few_leases = b.few_leases;
   few_creates = omega (arith, low);
 }
 
@@ -304,7 +309,8 @@ idle_sound creates t x named earlier opens digest standing = record {
 
 -- a standing that is not going, since the task has ended so
 stopped_standing :
-    (r : ExitRecord) (turns : ℕ) (e : ExecutionState) → IsTrueOf r turns (ended e) → IsStanding (stopped_by r) turns e
+    (r : ExitRecord) (turns : ℕ) (e : ExecutionState) → IsTrueOf r turns (ended e)
+    → IsStanding (Stopped, Some r) turns e
 stopped_standing r turns e so = record {
   begun = λ h. cc;
   resting = λ h. cc;
@@ -319,28 +325,38 @@ own_true own.Returned turns o is = is
 own_true (own.Exited n) turns o is = is
 own_true (own.Trapped t) turns o is = is
 
-paused_standing : (turns : ℕ) (e : ExecutionState) → ended e ≡ None → IsStanding (going Paused) turns e
-paused_standing turns e is =
-    record { begun = λ h. cc; resting = λ h. cc; stopped = refl; goes = λ h. is; end = λ r h. cc }
+-- a standing that goes on
+going_standing :
+    (status : Status) (turns : ℕ) (e : ExecutionState) → (status ≡ Created → ⊥) → (status ≡ Pausing → ⊥)
+    → is_stopped status ≡ false → ended e ≡ None → IsStanding (status, None) turns e
+going_standing status turns e begun resting on is =
+    record { begun = begun; resting = resting; stopped = on; goes = λ h. is; end = λ r h. cc }
 
-running_standing : (turns : ℕ) (e : ExecutionState) → ended e ≡ None → IsStanding (going Running) turns e
-running_standing turns e is =
-    record { begun = λ h. cc; resting = λ h. cc; stopped = refl; goes = λ h. is; end = λ r h. cc }
+-- where a task lands is so
+landing_stands :
+    (o : Option End) (signal : Option Signal) (pauses : Bool) (turns : ℕ) (e : ExecutionState) → ended e ≡ o
+    → IsStanding (landing o signal pauses) turns e
+landing_stands (Some x) signal pauses turns e is =
+    stopped_standing (exit_of x) turns e (own_true x turns (ended e) is)
+landing_stands None (Some s) pauses turns e is = stopped_standing (exit.Kill s) turns e (λ some. is)
+landing_stands None None true turns e is = going_standing Paused turns e (λ h. cc) (λ h. cc) refl is
+landing_stands None None false turns e is = going_standing Running turns e (λ h. cc) (λ h. cc) refl is
 
-standing_begun :
-    (o : Option End) (b : Bool) (turns : ℕ) (e : ExecutionState) → ended e ≡ o
-    → IsStanding (standing_at_start o b) turns e
-standing_begun (Some x) b turns e is = stopped_standing (exit_of x) turns e (own_true x turns (ended e) is)
-standing_begun None true turns e is = paused_standing turns e is
-standing_begun None false turns e is = running_standing turns e is
+-- a task that is idle again
+pub after_sound :
+    (creates : ℕ) (t : Task) (n : ℕ) (signal : Option Signal) (pauses : Bool) → IsSound creates t
+    → IsSound creates (idle_after t n signal pauses)
+after_sound creates t n signal pauses h =
+    let e = execution_at t n in
+    idle_sound creates (record t { turns = n }) (landing (ended e) signal pauses) h.named h.earlier h.opens h.digest
+    (landing_stands (ended e) signal pauses n e refl)
 
 pub started_sound : (creates : ℕ) (t : Task) → IsSound creates t → IsSound creates (started t)
-started_sound creates t h =
-    idle_sound creates t
-    (standing_at_start (ended (execution_at t t.turns)) (at_break t.breaks (execution_at t t.turns))) h.named
-    h.earlier h.opens h.digest
-    (standing_begun (ended (execution_at t t.turns)) (at_break t.breaks (execution_at t t.turns)) t.turns
-    (execution_at t t.turns) refl)
+started_sound creates t h = after_sound creates t t.turns None (is_break_at t t.turns) h
+
+pub advanced_sound : (creates : ℕ) (t : Task) (k : ℕ) → IsSound creates t → IsSound creates (advanced t k)
+advanced_sound creates t k h =
+    after_sound creates t (t.turns + k) t.signal (is_pausing t.status || is_break_at t (t.turns + k)) h
 
 -- what a pause makes of the status
 pub record IsPausing (out : Option ℕ) (status : Status) : Type 0 where
@@ -400,7 +416,7 @@ killed_sound_by :
     (creates : ℕ) (signal : Signal) (t : Task) (out : Option ℕ) → t.out ≡ out → IsSound creates t
     → allowed call.Kill t.status ≡ true → IsSound creates (killed_while out signal t)
 killed_sound_by creates signal t None is h can =
-    idle_sound creates t (stopped_by (exit.Kill signal)) h.named h.earlier h.opens h.digest
+    idle_sound creates t (Stopped, Some (exit.Kill signal)) h.named h.earlier h.opens h.digest
     (stopped_standing (exit.Kill signal) t.turns (execution_at t t.turns)
     (not_ended t.status t.turns (ended (execution_at t t.turns)) can h.fresh h.goes))
 killed_sound_by creates signal t (Some n) is h can = record {
@@ -422,47 +438,3 @@ pub killed_sound :
     (creates : ℕ) (signal : Signal) (t : Task) → IsSound creates t → allowed call.Kill t.status ≡ true
     → IsSound creates (killed signal t)
 killed_sound creates signal t h can = killed_sound_by creates signal t t.out refl h can
-
-standing_goes_on :
-    (signal : Option Signal) (b : Bool) (turns : ℕ) (e : ExecutionState) → ended e ≡ None
-    → IsStanding (standing_onward signal b) turns e
-standing_goes_on (Some x) b turns e is = stopped_standing (exit.Kill x) turns e (λ some. is)
-standing_goes_on None true turns e is = paused_standing turns e is
-standing_goes_on None false turns e is = running_standing turns e is
-
--- what the end of a slice says of the execution
-abbrev pub IsEndAt : SliceEnd → Option End → Type 0
-IsEndAt slice.Budget o = o ≡ None
-IsEndAt slice.Break o = o ≡ None
-IsEndAt slice.Returned o = o ≡ Some own.Returned
-IsEndAt (slice.Exited n) o = o ≡ Some (own.Exited n)
-IsEndAt (slice.Trapped x) o = o ≡ Some (own.Trapped x)
-
-slice_end_true :
-    (bs : List Place) (k : ℕ) (e : ExecutionState) (o : Option End) → IsEndAt (end_after bs k e o) o
-slice_end_true bs k e (Some own.Returned) = refl
-slice_end_true bs k e (Some (own.Exited n)) = refl
-slice_end_true bs k e (Some (own.Trapped t)) = refl
-slice_end_true bs zero e None = refl
-slice_end_true bs (suc k) e None = by (at_break bs e)
-  where
-    by : (b : Bool) → IsEndAt (cond b slice.Break slice.Budget) None
-    by true = refl
-    by false = refl
-
-standing_lasts :
-    (x : SliceEnd) (signal : Option Signal) (status : Status) (turns : ℕ) (e : ExecutionState) → IsEndAt x (ended e)
-    → IsStanding (standing_after x signal status) turns e
-standing_lasts slice.Budget signal status turns e is = standing_goes_on signal (is_pausing status) turns e is
-standing_lasts slice.Break signal status turns e is = standing_goes_on signal true turns e is
-standing_lasts slice.Returned signal status turns e is = stopped_standing exit.Return turns e is
-standing_lasts (slice.Exited n) signal status turns e is = stopped_standing (exit.Exit n) turns e is
-standing_lasts (slice.Trapped x) signal status turns e is = stopped_standing (exit.Trapped x) turns e is
-
-pub advanced_sound : (creates : ℕ) (t : Task) (k : ℕ) → IsSound creates t → IsSound creates (advanced t k)
-advanced_sound creates t k h =
-    let e = execution_at t (t.turns + k) in
-    idle_sound creates (record t { turns = t.turns + k }) (standing_after (end_at t.breaks k e) t.signal t.status)
-    h.named h.earlier h.opens h.digest
-    (standing_lasts (end_at t.breaks k e) t.signal t.status (t.turns + k) e
-    (slice_end_true t.breaks k e (ended e)))

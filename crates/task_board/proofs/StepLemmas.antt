@@ -1,5 +1,5 @@
 -- What the steps do to a board: by the task that they concern, and that the board stays sound.
-use Rattle.std.proofs.Common.{◌≡◌, ◌≢◌, ℕ, ◌+◌, ◌<◌, ◌≤◌, List, [], ◌∷◌, ◌++◌, length, Bool, true, false, true≢false, cond, not, ◌||◌, ◌&&◌, nat_le, Option, Some, None, is_some, is_none, option_map, option_and_then, Ok, Err, inl, inr, ◌⊎◌, refl, sym, ap, ◌∙◌, subst, arith}
+use Rattle.std.proofs.Common.{◌≡◌, ◌≢◌, ℕ, ◌+◌, ◌<◌, ◌≤◌, List, [], ◌∷◌, ◌++◌, length, Bool, true, false, true≢false, cond, not, ◌||◌, ◌&&◌, nat_le, bytes_eq, Option, Some, None, is_some, is_none, option_map, option_and_then, Ok, Err, inl, inr, ◌⊎◌, refl, sym, ap, ◌∙◌, subst, arith}
 use Rattle.std.proofs.lemmas.Bool.Decides.{nat_tests}
 use Rattle.wasm_ast.specs.declared.module.Module.{Module}
 use Rattle.wasm_ast.specs.declared.refusal.Refusal.{Refusal}
@@ -19,13 +19,13 @@ use Rattle.content_leases.specs.Digests.{digest_of}
 use Rattle.content_leases.specs.Refusals.{Refusals, first_refusal}
 use Rattle.oci_config.specs.Config.{process_read}
 use Rattle.task_lifecycle.specs.Lifecycle.{is_running, is_going, takes_turns}
-use Rattle.task_board.specs.BoardState.{Task, Entries, BoardState, created_task, task_in, entry_of, task_of, with_task, with_new_task}
+use Rattle.task_board.specs.BoardState.{Task, Entries, BoardState, created_task, task_in, entry_of, task_of, change_task, with_task, with_new_task}
 use Rattle.task_board.specs.Tasks.{advanced, can_lend, lent, slice_turns, MayAdvance, HasReturned}
 use Rattle.task_board.specs.Refusals.{create_refusals, named_bytes, is_full}
 use Rattle.task_board.specs.Step.{Answer, DecidedBy, Creates, Answers, is_budget, lends, taken, Returns}
 use Rattle.task_board.specs.Sound.{IsSound, IsBoard}
 use Rattle.task_board.specs.Inside.Plans.{id_refusals, CreatePrepared}
-use Rattle.task_board.proofs.EntryLemmas.{none_is_not, some_is, cond_is_true, each_in, entry_at, named, in_slot}
+use Rattle.task_board.proofs.EntryLemmas.{none_is_not, some_is, by_id, cond_true, cond_false, cond_is_true, cond_is_false, each_in, entry_at, named, in_slot}
 use Rattle.task_board.proofs.SoundLemmas.{change_sound, put_sound, created_sound, content_named, advanced_sound}
 
 -- ---- the task with an id
@@ -41,6 +41,27 @@ found id es t h = found_by (entry_of id es) t h
 
 pub task_named : (id : List ℕ) (es : Entries) (t : Task) → task_of id es ≡ Some t → t.id ≡ id
 task_named id es t h = let f = found id es t h in named id es (f.0, t) f.1
+
+unchanged_by : (t : Task) (k : ℕ) (es : Entries) → entry_of t.id es ≡ Some (k, t) → change_task t es ≡ es
+unchanged_by t k [] h = absurd (none_is_not (k, t) h)
+unchanged_by t k (e ∷ es) h =
+    by_id e.1.id t.id
+    (λ y same.
+    let own : e ≡ (k, t) =
+    some_is e (k, t) (cond_true (bytes_eq e.1.id t.id) (Some e) (entry_of t.id es) (Some (k, t)) y h) in
+    cond_is_true (bytes_eq e.1.id t.id) ((e.0, t) ∷ es) (e ∷ change_task t es) y
+    ∙ ap (λ (x : ℕ × Task). (e.0, x.1) ∷ es) (sym own))
+    (λ n differs.
+    cond_is_false (bytes_eq e.1.id t.id) ((e.0, t) ∷ es) (e ∷ change_task t es) n
+    ∙ ap (λ (xs : Entries). e ∷ xs)
+    (unchanged_by t k es (cond_false (bytes_eq e.1.id t.id) (Some e) (entry_of t.id es) (Some (k, t)) n h)))
+
+-- a task that is changed to itself leaves the board as it is
+pub unchanged : (s : BoardState) (id : List ℕ) (t : Task) → task_of id s.tasks ≡ Some t → with_task s t ≡ s
+unchanged s id t at =
+    let f = found id s.tasks t at in
+    ap (λ (es : Entries). record s { tasks = es })
+    (unchanged_by t f.0 s.tasks (ap (λ (x : List ℕ). entry_of x s.tasks) (task_named id s.tasks t at) ∙ f.1))
 
 pub sound_of : (s : BoardState) (id : List ℕ) (t : Task) → IsBoard s → task_of id s.tasks ≡ Some t → IsSound s.creates t
 sound_of s id t b h =

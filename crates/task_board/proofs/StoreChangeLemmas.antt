@@ -1,10 +1,9 @@
 -- Changes of the store that were prepared: the store can take them, and they answer their requests.
-use Rattle.std.proofs.Common.{◌≡◌, ℕ, ◌-◌, ◌≤◌, List, [], length, Option, None, Ok, refl, sym, subst, arith}
+use Rattle.std.proofs.Common.{◌≡◌, ℕ, List, [], length, Option, None, Ok, refl, sym, subst}
 use Rattle.std.specs.Arc.{arc_value}
 use Rattle.wasm_ast.specs.declared.refusal.Refusal.{Refusal}
 use Rattle.content_leases.specs.Digests.{digest_of}
 use Rattle.content_leases.specs.StoreState.{StoreState, with_content, without_content, with_lease, with_member, without_lease, unheld, collected}
-use Rattle.content_leases.specs.StoreValue.{StoreValue, UsesRoom}
 use Rattle.content_leases.specs.Refusals.{Refusals, first_refusal, put_refusals, remove_refusals, lease_create_refusals, lease_add_refusals, lease_delete_refusals}
 use Rattle.content_leases.proofs.StoreLemmas.{put_new, create_new, add_takes}
 use Rattle.task_board.specs.declared.request.Request.{Request}
@@ -15,13 +14,11 @@ use Rattle.task_board.specs.declared.store_change.StoreChange.{StoreChange}
 use Rattle.task_board.specs.declared.store_change.StoreChange.TheVariants as change
 use Rattle.task_board.specs.declared.tables.Tables.TheInside as tables
 use Rattle.task_board.specs.BoardState.{BoardState, used_by, with_store}
-use Rattle.task_board.specs.BoardValue.{Room, KeepsRoom}
+use Rattle.task_board.specs.BoardValue.{Room}
 use Rattle.task_board.specs.Texts.{IsAssembled}
 use Rattle.task_board.specs.Step.{Answer, DecidedBy, OnStore, Puts, stored, Answers}
-use Rattle.task_board.specs.Inside.StoreChanges.{store_request, IsMadeFor, store_reply, store_after, StorePrepared, CanTake, contents_added, leases_added}
-use Rattle.task_board.specs.Inside.OpenedModules.{OpenedModule}
+use Rattle.task_board.specs.Inside.StoreChanges.{store_request, IsMadeFor, store_reply, store_after, StorePrepared, CanTake}
 use Rattle.task_board.specs.Inside.Shown.{board_state_of, board_of}
-use Rattle.task_board.proofs.SoundLemmas.{length_append}
 
 -- the effect, if no refusal's condition holds
 accepted_store :
@@ -128,48 +125,3 @@ can_take b (change.LeaseAdd key digest id) p =
     let t = add_takes b.store.state digest id p.accepted in (p.fitted, t.0, t.1, t.2, t.3)
 can_take b (change.LeaseDelete id) p = tt
 can_take b (change.Gc used removed) p = tt
-
--- ---- room
-
--- the tables with another store
-abbrev pub with_shelf : tables.Inside → StoreValue → List OpenedModule → tables.Inside
-with_shelf b store opened =
-    record { store = store; opened = opened; tasks = b.tasks; creates = b.creates; waiting = b.waiting }
-
-contents_more :
-    (s : StoreState) (c : StoreChange) → contents_added c ≤ length (store_after s c).contents - length s.contents
-contents_more s (change.Put key bytes digest) =
-    let more =
-    length_append s.contents (record { digest = digest_of (arc_value bytes); bytes = arc_value bytes })
-    in omega (arith, more)
-contents_more s (change.Remove digest) = omega arith
-contents_more s (change.LeaseCreate key members id) = omega arith
-contents_more s (change.LeaseAdd key digest id) = omega arith
-contents_more s (change.LeaseDelete id) = omega arith
-contents_more s (change.Gc used removed) = omega arith
-
-leases_more : (s : StoreState) (c : StoreChange) → leases_added c ≤ length (store_after s c).leases - length s.leases
-leases_more s (change.Put key bytes digest) = omega arith
-leases_more s (change.Remove digest) = omega arith
-leases_more s (change.LeaseCreate key members id) =
-    let more = length_append s.leases (record { name = id; members = [] }) in omega (arith, more)
-leases_more s (change.LeaseAdd key digest id) = omega arith
-leases_more s (change.LeaseDelete id) = omega arith
-leases_more s (change.Gc used removed) = omega arith
-
-pub store_keeps :
-    (b : tables.Inside) (c : StoreChange) (new : StoreValue) (opened : List OpenedModule)
-    → new.state ≡ store_after b.store.state c → UsesRoom (contents_added c) (leases_added c) b.store new
-    → KeepsRoom (board_of b) (board_of (with_shelf b new opened))
-store_keeps b c new opened is uses =
-    let contents =
-    subst (λ (s : StoreState). contents_added c ≤ length s.contents - length b.store.state.contents) (sym is)
-    (contents_more b.store.state c) in
-    let leases =
-    subst (λ (s : StoreState). leases_added c ≤ length s.leases - length b.store.state.leases) (sym is)
-    (leases_more b.store.state c) in
-    record {
-      contents = omega (arith, contents, uses.0);
-      leases = omega (arith, leases, uses.1);
-      tasks = refl;
-    }

@@ -1,18 +1,18 @@
 -- What requests do to the store: its contents stay sound, what is held stays, and what a lease names is there.
-use Rattle.std.proofs.Common.{◌≡◌, ◌≢◌, ℕ, suc, ◌<◌, ◌≤◌, List, [], ◌∷◌, ◌++◌, filter, length, Bool, true, false, cond, not, ◌||◌, bytes_eq, nat_le, nat_lt, Option, Some, None, is_some, is_none, inl, inr, ◌⊎◌, refl, sym, ap, ◌∙◌, subst, arith}
+use Rattle.std.proofs.Common.{◌≡◌, ◌≢◌, ℕ, suc, ◌<◌, ◌≤◌, List, [], ◌∷◌, ◌++◌, filter, length, Bool, true, false, true≢false, cond, not, ◌||◌, bytes_eq, nat_le, nat_lt, Option, Some, None, is_some, is_none, inl, inr, ◌⊎◌, refl, sym, ap, ◌∙◌, subst, arith}
 use Rattle.std.proofs.lemmas.Bool.Decides.{nat_tests}
 use Rattle.std.proofs.lemmas.Slice.Eq.{bytes_eq-Decides}
 use Rattle.wasm_ast.specs.Limits.{max_module_bytes}
 use Rattle.wasm_ast.specs.declared.refusal.Refusal.TheVariants as refusal
-use Rattle.content_leases.specs.Limits.{max_contents}
+use Rattle.content_leases.specs.Limits.{max_contents, max_leases, max_members}
 use Rattle.wasm_ast.specs.Identifiers.{is_id, is_digest}
 use Rattle.content_leases.specs.Digests.{digest_of}
 use Rattle.content_leases.specs.StoreState.{Content, Lease, StoreState, content_in, lease_in, with_content, remove_content, without_content, with_lease, add_member, with_member, remove_lease, without_lease, is_among, is_leased, is_held, collected}
 use Rattle.content_leases.specs.Refusals.{first_refusal, is_bytes, has_conflict, put_refusals, remove_refusals, lease_create_refusals, lease_add_refusals, lease_delete_refusals}
-use Rattle.content_leases.proofs.StoreLemmas.{put_new, held_kept, held_refused}
+use Rattle.content_leases.proofs.StoreLemmas.{put_new, create_new, add_takes, held_kept, held_refused}
 use Rattle.task_board.specs.BoardState.{BoardState, with_store}
-use Rattle.task_board.specs.Sound.{Each, AreDistinct, IsContent, digests_of, IsBoard}
-use Rattle.task_board.proofs.EntryLemmas.{none_is_not, by_id, cond_true, cond_false, cond_is_true, cond_is_false, other_id}
+use Rattle.task_board.specs.Sound.{Each, AreDistinct, IsContent, IsLease, digests_of, names_of, IsBoard}
+use Rattle.task_board.proofs.EntryLemmas.{none_is_not, some_is, by_id, cond_true, cond_false, cond_is_true, cond_is_false, other_id}
 use Rattle.task_board.proofs.SoundLemmas.{each_append, distinct_append, map_append, length_append}
 use Rattle.task_board.proofs.StepLemmas.{none_first}
 
@@ -31,6 +31,10 @@ pub data StoreEffect (used : List (List ℕ)) (s s' : StoreState) : Type 0 where
       (id : List ℕ) → first_refusal (lease_delete_refusals s id) ≡ None → s' ≡ without_lease s id
       → StoreEffect used s s'
   collects : s' ≡ collected used s → StoreEffect used s s'
+
+pub or_left : (a b : Bool) → a ≡ true → (a || b) ≡ true
+or_left true b h = refl
+or_left false b h = cc
 
 -- ---- contents less
 
@@ -170,6 +174,158 @@ sound_after used s s' b (collects is) =
       few = omega (arith, few, less);
     })
 
+-- ---- leases
+
+record AreLeases (ls : List Lease) : Type 0 where
+  pub each : Each IsLease ls
+  pub distinct : AreDistinct (names_of ls)
+  pub few : length ls ≤ max_leases
+
+ended_each : (name : List ℕ) (ls : List Lease) → Each IsLease ls → Each IsLease (remove_lease name ls)
+ended_each name [] each = tt
+ended_each name (l ∷ ls) each =
+    elim (bytes_eq l.name name) as (λ (b : Bool). Each IsLease (cond b ls (l ∷ remove_lease name ls)))
+    [ true ↦ each.1 | false ↦ (each.0, ended_each name ls each.1) ]
+
+ended_names :
+    (P : List ℕ → Type 0) (name : List ℕ) (ls : List Lease) → Each P (names_of ls)
+    → Each P (names_of (remove_lease name ls))
+ended_names P name [] each = tt
+ended_names P name (l ∷ ls) each =
+    elim (bytes_eq l.name name) as (λ (b : Bool). Each P (names_of (cond b ls (l ∷ remove_lease name ls))))
+    [ true ↦ each.1 | false ↦ (each.0, ended_names P name ls each.1) ]
+
+ended_distinct :
+    (name : List ℕ) (ls : List Lease) → AreDistinct (names_of ls) → AreDistinct (names_of (remove_lease name ls))
+ended_distinct name [] d = tt
+ended_distinct name (l ∷ ls) d =
+    elim (bytes_eq l.name name) as (λ (b : Bool). AreDistinct (names_of (cond b ls (l ∷ remove_lease name ls))))
+    [ true ↦ d.1 | false ↦ (ended_names (λ x. l.name ≢ x) name ls d.0, ended_distinct name ls d.1) ]
+
+ended_length : (name : List ℕ) (ls : List Lease) → length (remove_lease name ls) ≤ length ls
+ended_length name [] = omega arith
+ended_length name (l ∷ ls) =
+    let rest = ended_length name ls in
+    elim (bytes_eq l.name name) as (λ (b : Bool). length (cond b ls (l ∷ remove_lease name ls)) ≤ suc (length ls))
+    [ true ↦ omega arith | false ↦ omega (arith, rest) ]
+
+no_lease :
+    (name : List ℕ) (ls : List Lease) → lease_in ls name ≡ None → Each (λ (y : List ℕ). y ≢ name) (names_of ls)
+no_lease name [] none = tt
+no_lease name (l ∷ ls) none =
+    by_id l.name name
+    (λ y same_y. absurd
+    (none_is_not l.members (sym (cond_true (bytes_eq l.name name) (Some l.members) (lease_in ls name) None y none))))
+    (λ n other_n. (
+      other_n,
+      no_lease name ls (cond_false (bytes_eq l.name name) (Some l.members) (lease_in ls name) None n none),
+    ))
+
+-- a digest that is not among these is none of them
+none_among : (digest : List ℕ) (ms : List (List ℕ)) → is_among digest ms ≡ false → Each (λ m. m ≢ digest) ms
+none_among digest [] off = tt
+none_among digest (m ∷ ms) off =
+    by_id m digest
+    (λ y same. absurd (true≢false (sym (or_left (bytes_eq m digest) (is_among digest ms) y) ∙ off)))
+    (λ n other. (other, none_among digest ms (rest (bytes_eq m digest) off)))
+  where
+    rest : (b : Bool) → (b || is_among digest ms) ≡ false → is_among digest ms ≡ false
+    rest true h = cc
+    rest false h = h
+
+added_names :
+    (digest name : List ℕ) (ls : List Lease) → names_of (add_member digest name ls) ≡ names_of ls
+added_names digest name [] = refl
+added_names digest name (l ∷ ls) =
+    elim (bytes_eq l.name name) as
+    (λ (b : Bool). names_of (cond b (record l { members = l.members ++ digest ∷ [] } ∷ ls) (l ∷ add_member digest name ls))
+    ≡ l.name ∷ names_of ls)
+    [ true ↦ refl | false ↦ ap (λ (xs : List (List ℕ)). l.name ∷ xs) (added_names digest name ls) ]
+
+added_length : (digest name : List ℕ) (ls : List Lease) → length (add_member digest name ls) ≡ length ls
+added_length digest name [] = refl
+added_length digest name (l ∷ ls) =
+    elim (bytes_eq l.name name) as
+    (λ (b : Bool). length (cond b (record l { members = l.members ++ digest ∷ [] } ∷ ls) (l ∷ add_member digest name ls))
+    ≡ suc (length ls))
+    [ true ↦ refl | false ↦ ap (λ (n : ℕ). suc n) (added_length digest name ls) ]
+
+added_each :
+    (digest name : List ℕ) (ms : List (List ℕ)) (ls : List Lease) → is_among digest ms ≡ false
+    → length ms < max_members → lease_in ls name ≡ Some ms → Each IsLease ls → Each IsLease (add_member digest name ls)
+added_each digest name ms [] off few at each = tt
+added_each digest name ms (l ∷ ls) off few at each =
+    by_id l.name name
+    (λ y same.
+    let own : l.members ≡ ms =
+    some_is l.members ms (cond_true (bytes_eq l.name name) (Some l.members) (lease_in ls name) (Some ms) y at) in
+    let fits = subst (λ (xs : List (List ℕ)). length xs < max_members) (sym own) few in
+    let more = length_append l.members digest in
+    let new : IsLease (record l { members = l.members ++ digest ∷ [] }) =
+    record {
+      distinct =
+          distinct_append l.members digest each.0.distinct
+          (none_among digest l.members (ap (is_among digest) own ∙ off));
+      few = omega (arith, more, fits);
+    } in
+    subst (Each IsLease) (sym (cond_is_true (bytes_eq l.name name) _ _ y)) (new, each.1))
+    (λ n other.
+    subst (Each IsLease) (sym (cond_is_false (bytes_eq l.name name) _ _ n)) (
+      each.0,
+      added_each digest name ms ls off few
+          (cond_false (bytes_eq l.name name) (Some l.members) (lease_in ls name) (Some ms) n at) each.1,
+    ))
+
+lease_sound :
+    (s : StoreState) (id : List ℕ) → AreLeases s.leases → first_refusal (lease_create_refusals s id) ≡ None
+    → AreLeases (with_lease s id).leases
+lease_sound s id b h =
+    let n = none_first (not (is_id id)) refusal.BadId _ h in
+    let x = none_first (is_some (lease_in s.leases id)) refusal.Exists _ n.1 in
+    let m = none_first (nat_le max_leases (length s.leases)) refusal.TooMany None x.1 in
+    let full = m.0 in
+    let few : length s.leases < max_leases = grind (arith, nat_tests, full) in
+    let one : Lease = record { name = id; members = [] } in
+    let more = length_append s.leases one in
+    record {
+      each = each_append IsLease s.leases one b.each (record { distinct = tt; few = omega arith });
+      distinct =
+          subst (λ (xs : List (List ℕ)). AreDistinct xs) (sym (map_append (λ (l : Lease). l.name) s.leases one))
+          (distinct_append (names_of s.leases) id b.distinct (no_lease id s.leases (create_new s id h)));
+      few = omega (arith, more, few);
+    }
+
+member_sound :
+    (s : StoreState) (digest id : List ℕ) → AreLeases s.leases → first_refusal (lease_add_refusals s digest id) ≡ None
+    → AreLeases (with_member s digest id).leases
+member_sound s digest id b h =
+    let t = add_takes s digest id h in
+    record {
+      each = added_each digest id t.0 s.leases t.2 t.3 t.1 b.each;
+      distinct =
+          subst (λ (xs : List (List ℕ)). AreDistinct xs) (sym (added_names digest id s.leases)) b.distinct;
+      few = subst (λ (n : ℕ). n ≤ max_leases) (sym (added_length digest id s.leases)) b.few;
+    }
+
+leases_after :
+    (used : List (List ℕ)) (s s' : StoreState) → AreLeases s.leases → StoreEffect used s s' → AreLeases s'.leases
+leases_after used s s' b (puts bytes none is) = subst (λ (x : StoreState). AreLeases x.leases) (sym is) b
+leases_after used s s' b (removes digest none is) = subst (λ (x : StoreState). AreLeases x.leases) (sym is) b
+leases_after used s s' b (leases id none is) =
+    subst (λ (x : StoreState). AreLeases x.leases) (sym is) (lease_sound s id b none)
+leases_after used s s' b (adds digest id none is) =
+    subst (λ (x : StoreState). AreLeases x.leases) (sym is) (member_sound s digest id b none)
+leases_after used s s' b (ends id none is) =
+    let few = b.few in
+    let less = ended_length id s.leases in
+    subst (λ (x : StoreState). AreLeases x.leases) (sym is)
+    (record {
+      each = ended_each id s.leases b.each;
+      distinct = ended_distinct id s.leases b.distinct;
+      few = omega (arith, few, less);
+    })
+leases_after used s s' b (collects is) = subst (λ (x : StoreState). AreLeases x.leases) (sym is) b
+
 pub store_sound :
     (s : BoardState) (used : List (List ℕ)) (new : StoreState) → IsBoard s → StoreEffect used s.store new
     → IsBoard (with_store s new)
@@ -177,6 +333,7 @@ store_sound s used new b change =
     let c =
     sound_after used s.store new (record { each = b.contents; distinct = b.digests; few = b.few_contents }) change
     in
+    let l = leases_after used s.store new (record { each = b.leases; distinct = b.names; few = b.few_leases }) change in
     record {
       tasks = b.tasks;
       slots = b.slots;
@@ -184,8 +341,11 @@ store_sound s used new b change =
       incarnations = b.incarnations;
       contents = c.each;
       digests = c.distinct;
+      leases = l.each;
+      names = l.distinct;
       few_tasks = b.few_tasks;
       few_contents = c.few;
+      few_leases = l.few;
       few_creates = b.few_creates;
     }
 
@@ -247,10 +407,6 @@ held_stays used s s' (collects is) digest bytes held h =
 pub or_true : (a b : Bool) → (a || b) ≡ true → (a ≡ true) ⊎ (b ≡ true)
 or_true true b h = inl refl
 or_true false b h = inr h
-
-pub or_left : (a b : Bool) → a ≡ true → (a || b) ≡ true
-or_left true b h = refl
-or_left false b h = cc
 
 pub or_right : (a b : Bool) → b ≡ true → (a || b) ≡ true
 or_right true b h = refl

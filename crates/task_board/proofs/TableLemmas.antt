@@ -1,18 +1,19 @@
 -- The tables of a board after a write in a slot and after an insert.
-use Rattle.std.proofs.Common.{slice_set, ◌≡◌, ℕ, suc, ◌+◌, ◌-◌, ◌≤◌, List, length, Bool, true, IsTrue, ◌↔◌, Option, Some, None, option_map, Ok, sym, ap, ◌∙◌, subst, arith}
+use Rattle.std.proofs.Common.{slice_set, ◌≡◌, ℕ, ◌+◌, ◌≤◌, List, Bool, true, IsTrue, ◌↔◌, Option, Some, None, option_map, Ok, sym, ap, ◌∙◌, subst, arith}
 use Rattle.slab.specs.Slab.{Slab, entries, entries_from, get, with_value, Updates, HasRoomFor}
 use Rattle.task_board.specs.declared.tables.Tables.TheInside as tables
 use Rattle.task_board.specs.declared.ticket.Ticket.{Ticket}
 use Rattle.task_board.specs.declared.request.Request.{Request}
 use Rattle.task_board.specs.declared.request.Request.TheVariants as request
 use Rattle.task_board.specs.declared.request.Reply.TheVariants as reply
+use Rattle.wasm_ast.specs.declared.refusal.Refusal.TheVariants as refusal
+use Rattle.task_lifecycle.specs.declared.lifecycle.TaskCall.TheVariants as call
 use Rattle.task_lifecycle.specs.declared.status.Status.TheVariants.{Created}
 use Rattle.task_board.specs.Limits.{max_budget}
 use Rattle.task_board.specs.BoardState.{Task, Entries, BoardState, task_in, entry_of, task_of, remove_task, with_task, without_task, with_new_task}
-use Rattle.task_board.specs.BoardValue.{KeepsRoom}
 use Rattle.task_board.specs.Tasks.{can_lend, lent, advanced, slice_turns, state_of}
 use Rattle.content_leases.specs.Refusals.{Refusals}
-use Rattle.task_board.specs.Refusals.{delete_refusals}
+use Rattle.task_board.specs.Refusals.{unless_allowed}
 use Rattle.task_board.specs.Step.{Answers, taken, Returns}
 use Rattle.task_board.specs.Sound.{IsBoard}
 use Rattle.task_board.specs.Loans.{Lent, loan_of, FitsTask, Fits}
@@ -21,8 +22,8 @@ use Rattle.task_board.specs.Waiting.{running_ticket, AreWaiting}
 use Rattle.task_board.specs.declared.change.Change.{Change}
 use Rattle.task_board.specs.Inside.Plans.{CreatePrepared, CallPrepared}
 use Rattle.task_board.specs.Inside.Changes.{change_request, change_reply, change_refusals, changed as changed_by}
-use Rattle.task_board.specs.Inside.Shown.{board_state_of, board_of}
-use Rattle.task_board.proofs.EntryLemmas.{none_is_not, some_is, entry_at, change_length, put_length, remove_length, named, in_slot, changed_in}
+use Rattle.task_board.specs.Inside.Shown.{board_state_of}
+use Rattle.task_board.proofs.EntryLemmas.{none_is_not, some_is, entry_at, named, in_slot, changed_in}
 use Rattle.task_board.proofs.SlabLemmas.{in_slab, changed, removed, inserted, count}
 use Rattle.task_board.proofs.EffectLemmas.{change_id, change_incarnation, change_answers, delete_answers, answers_sound}
 use Rattle.task_board.proofs.WaitingLemmas.{same_ticket, stay_changed, stay_more}
@@ -69,19 +70,6 @@ written_waits b k old new sound waits h same number =
     ap (λ (x : List ℕ). entry_of x s.tasks) (sym same) ∙ entry_at k old s.tasks sound.ids (there b k old h) in
     let Q : BoardState → Type 0 = λ x. AreWaiting x.tasks b.waiting in
     subst Q (sym (written b k old new sound h same)) (stay_changed s k old new b.waiting entry number waits)
-
-pub write_keeps :
-    (b : tables.Inside) (k : ℕ) (new : Task) → board_state_of (with_write b k new) ≡ with_task (board_state_of b) new
-    → KeepsRoom (board_of b) (board_of (with_write b k new))
-write_keeps b k new is = record {
-  contents = omega arith;
-  leases = omega arith;
-  tasks =
-      let same :
-      length (entries (with_value b.tasks k new)) ≡ length (entries b.tasks) =
-      ap (λ (s : BoardState). length s.tasks) is ∙ change_length new (entries b.tasks) in
-      ap (λ (n : ℕ). n + (b.tasks.capacity - n)) same;
-}
 
 -- ---- take
 
@@ -130,7 +118,6 @@ pub record IsChangedThere (b : tables.Inside) (c : Change) (slot : ℕ) (id : Li
       running_ticket id (board_state_of (with_write b slot new)).tasks
       ≡ ticket_in slot (board_state_of (with_write b slot new)).tasks
   pub waiting : AreWaiting (board_state_of (with_write b slot new)).tasks b.waiting
-  pub room : KeepsRoom (board_of b) (board_of (with_write b slot new))
 
 pub changed_there :
     (b : tables.Inside) (c : Change) (slot : ℕ) (id : List ℕ) (old new : Task) → IsBoard (board_state_of b)
@@ -167,28 +154,20 @@ changed_there b c slot id old new sound waits p here is =
       answers = answers;
       ticket = subst P (sym leaves) (same_ticket s slot id p.task new after own_id p.found);
       waiting = subst Q (sym leaves) (stay_changed s slot p.task new b.waiting entry number waits);
-      room = write_keeps b slot new leaves;
     }
 
 -- ---- delete
 
--- what a removal from a slot does
-pub record IsRemovedThere (b : tables.Inside) (slot : ℕ) (id : List ℕ) (new : Slab Task) (waiting : List Ticket)
-    (old : Task) : Type 0 where
-  pub answers :
-      Answers (board_state_of b) (request.Delete id) (Ok (reply.Delete (state_of old)))
-      (board_state_of (with_slab b new waiting))
-  pub room : KeepsRoom (board_of b) (board_of (with_slab b new waiting))
-
+-- what a removal from a slot answers
 pub removed_there :
     (b : tables.Inside) (slot : ℕ) (id : List ℕ) (new : Slab Task) (waiting : List Ticket) (old : Task)
-    → 64 ≤ b.tasks.capacity → IsBoard (board_state_of b)
-    → (p : CallPrepared (board_state_of b) delete_refusals slot id) → get b.tasks slot ≡ Some old
-    → new.slots ≡ slice_set b.tasks.slots slot None → new.capacity ≡ b.tasks.capacity
-    → IsRemovedThere b slot id new waiting old
-removed_there b slot id new waiting old room sound p here slots capacity =
+    → IsBoard (board_state_of b) → CallPrepared (board_state_of b) (unless_allowed call.Delete refusal.WrongStatus) slot id → get b.tasks slot ≡ Some old
+    → new.slots ≡ slice_set b.tasks.slots slot None
+    → Answers (board_state_of b) (request.Delete id) (Ok (reply.Delete (state_of old)))
+    (board_state_of (with_slab b new waiting))
+removed_there b slot id new waiting old sound p here slots =
     let s = board_state_of b in
-    let same : old ≡ p.task = some_is old p.task (sym here ∙ call_there b delete_refusals slot id sound p) in
+    let same : old ≡ p.task = some_is old p.task (sym here ∙ call_there b (unless_allowed call.Delete refusal.WrongStatus) slot id sound p) in
     let left :
     entries new ≡ remove_task old.id (entries b.tasks) =
     ap (λ (xs : List (Option Task)). entries_from 0 xs) slots ∙ removed b.tasks slot old here sound.ids in
@@ -199,26 +178,9 @@ removed_there b slot id new waiting old room sound p here slots capacity =
     let done =
     delete_answers s id p.task (board_state_of (with_slab b new waiting)) at p.accepted
     (leaves ∙ ap (λ (u : Task). without_task s u.id) same) in
-    let name : p.task.id ≡ id = named id s.tasks (slot, p.task) p.found in
-    let own :
-    entry_of old.id s.tasks ≡ Some (slot, p.task) =
-    ap (λ (x : List ℕ). entry_of x s.tasks) (ap (λ (u : Task). u.id) same ∙ name) ∙ p.found in
-    let less = remove_length old.id (slot, p.task) s.tasks own in
-    let fewer :
-    length (entries new) ≡ length (remove_task old.id (entries b.tasks)) = ap (λ (es : Entries). length es) left in
-    let few = sound.few_tasks in
-    record {
-      answers =
-          subst
-          (λ (u : Task). Answers s (request.Delete id) (Ok (reply.Delete (state_of u)))
-          (board_state_of (with_slab b new waiting))) (sym same) done;
-      room =
-          record {
-            contents = omega arith;
-            leases = omega arith;
-            tasks = omega (arith, less, fewer, few, room, capacity);
-          };
-    }
+    subst
+    (λ (u : Task). Answers s (request.Delete id) (Ok (reply.Delete (state_of u))) (board_state_of (with_slab b new waiting)))
+    (sym same) done
 
 -- ---- create
 
@@ -259,22 +221,6 @@ pub inserted_answers :
 inserted_answers b new key t r id free updates p =
     create_answers (board_state_of b) r t id key (board_state_of (with_insert b new)) p (in_slab b.tasks key ∙ free)
     (inserted_leaves b new key t free updates)
-
-pub insert_keeps :
-    (b : tables.Inside) (new : Slab Task) (key : ℕ) (t : Task) → get b.tasks key ≡ None
-    → Updates b.tasks new key (Some t)
-    → HasRoomFor b.tasks 1 → new.capacity ≡ b.tasks.capacity → KeepsRoom (board_of b) (board_of (with_insert b new))
-insert_keeps b new key t free updates room capacity = record {
-  contents = omega arith;
-  leases = omega arith;
-  tasks =
-      let more :
-      length (entries new) ≡ suc (length (entries b.tasks)) =
-      ap (λ (es : Entries). length es) (inserted b.tasks new key t free updates)
-      ∙ put_length key t (entries b.tasks) in
-      let n = count b.tasks in
-      omega (arith, more, n, room, capacity);
-}
 
 -- ---- the loan of a task
 

@@ -1,18 +1,13 @@
 -- A task and its machine: what is kept while it is idle, while it is out, and when it comes back.
-use Rattle.std.proofs.Common.{◌≡◌, ℕ, ◌+◌, List, Bool, true, false, true≢false, IsTrue, ◌↔◌, Option, Some, None, refl, sym, ap, ap₂, ◌∙◌, subst}
+use Rattle.std.proofs.Common.{◌≡◌, ℕ, List, Bool, false, IsTrue, ◌↔◌, Option, Some, None, refl, sym, ap, ◌∙◌, subst}
 use Rattle.std.specs.Arc.{arc_value}
 use Rattle.wasm_ast.specs.declared.module.Module.{Module}
 use Rattle.wasm_binary.specs.Grammar.{Spells}
 use Rattle.oci_config.specs.declared.process.ProcessConfig.{ProcessConfig}
-use Rattle.step_machine.specs.declared.ends.SliceEnd.{SliceEnd}
-use Rattle.step_machine.specs.MachineView.{MachineView}
-use Rattle.step_machine.specs.Slices.{slice_end}
 use Rattle.task_board.specs.declared.checkout.Checkout.{Checkout}
 use Rattle.task_board.specs.BoardState.{Task}
-use Rattle.task_lifecycle.specs.Lifecycle.{takes_turns}
 use Rattle.task_board.specs.Loans.{Lent, loan_of, FitsTask}
 use Rattle.task_board.specs.Refusals.{Openable}
-use Rattle.task_board.specs.Tasks.{Standing, idle_task, standing_after, advanced, slice_turns}
 use Rattle.task_board.specs.Inside.Machines.{IsMachine}
 use Rattle.task_board.specs.declared.task.Task.TheInside as task
 use Rattle.task_board.specs.Inside.Kept.{IsOwn, SharesWith, IsPlaced, IsKept, IsLoan}
@@ -30,22 +25,6 @@ idle_by t c (Some n) is placed = absurd placed
 
 pub idle : (t : Task) (o : Option Checkout) (c : Checkout) → IsKept t o → o ≡ Some c → IsIdle t c
 idle t o c kept is = idle_by t c t.out refl (subst (λ (x : Option Checkout). IsPlaced t x t.out) is kept.1)
-
-away_by : (t : Task) (out : Option ℕ) → IsPlaced t None out → takes_turns t.status ≡ true
-away_by t None placed = absurd placed
-away_by t (Some n) placed = placed
-
--- a task that takes no turns has its machine
-pub not_away : (t : Task) (o : Option Checkout) → IsKept t o → takes_turns t.status ≡ false → o ≡ None → ⊥
-not_away t o kept quiet none =
-    true≢false (sym (away_by t t.out (subst (λ (x : Option Checkout). IsPlaced t x t.out) none kept.1)) ∙ quiet)
-
--- a task with its machine stays one with another standing
-pub kept_idle :
-    (t : Task) (c : Checkout) (x : Standing) → Openable t.bytes t.process t.module
-    → IsMachine c.machine.value t.module t.process t.turns
-    → IsOwn c t.id t.bytes t.module t.process t.breaks → IsKept (idle_task t x) (Some c)
-kept_idle t c x opens machine own = (opens, (machine, own))
 
 -- ---- a loan
 
@@ -67,57 +46,9 @@ lent_own t c slot budget own =
     { id = t.id; bytes = t.bytes; «module» = t.module; process = t.process; breaks = x }) own.same_breaks)))
 
 pub loan_kept : (t : Task) (c : Checkout) (slot budget : ℕ) → Openable t.bytes t.process t.module → IsIdle t c
-    → IsLoan (lent_with slot t.incarnation t.turns budget c) c.machine.value None
+    → IsLoan (lent_with slot t.incarnation t.turns budget c) c.machine.value false
 loan_kept t c slot budget opens is =
-    subst (λ (l : Lent). IsLoan l c.machine.value None) (sym (lent_own t c slot budget is.own)) (opens, is.machine)
-
--- ---- a machine that comes back
-
-pub record IsBack (t : Task) (c : Checkout) (e : SliceEnd) (budget : ℕ) : Type 0 where
-  pub opens : Openable t.bytes t.process t.module
-  pub machine : IsMachine c.machine.value t.module t.process (t.turns + slice_turns t budget)
-  pub ends : e ≡ slice_end t.module t.process t.turns t.breaks budget
-  pub own : IsOwn c t.id t.bytes t.module t.process t.breaks
-
-back_by : (l : Lent) (t : Task) (c : Checkout) (e : SliceEnd) → l ≡ record (loan_of l.slot l.budget t) { ran = l.ran }
-    → IsLoan l c.machine.value (Some e) → IsOwn c l.id l.bytes l.module l.process l.breaks
-    → (budget : ℕ) → l.budget ≡ budget → IsBack t c e budget
-back_by l t c e same loan own budget is =
-    let P : Lent → Type 0 = λ x. IsLoan x c.machine.value (Some e) × IsOwn c x.id x.bytes x.module x.process x.breaks in
-    let moved = subst P same (loan, own) in
-    let Q : ℕ → Type 0 = λ n. IsBack t c e n in
-    subst Q is (record { opens = moved.0.0; machine = moved.0.1.0; ends = moved.0.1.1; own = moved.1 })
-
-pub back : (l : Lent) (t : Task) (c : Checkout) (e : SliceEnd) → IsLoan l c.machine.value (Some e)
-    → IsOwn c l.id l.bytes l.module l.process l.breaks → FitsTask l t → IsBack t c e l.budget
-back l t c e loan own fits = back_by l t c e fits.0 loan own l.budget refl
-
--- the count of the machine that came back
-pub counted :
-    (t : Task) (c : Checkout) (e : SliceEnd) (budget turns : ℕ) → IsBack t c e budget → turns ≡ c.machine.value.turns
-    → turns ≡ t.turns + slice_turns t budget
-counted t c e budget turns is same = same ∙ ap (λ (r : MachineView). r.turns) is.machine
-
--- the task as its slice leaves it
-pub landed :
-    (t : Task) (c : Checkout) (e : SliceEnd) (budget turns : ℕ) (x : Standing) → IsBack t c e budget
-    → turns ≡ c.machine.value.turns
-    → x ≡ standing_after e t.signal t.status
-    → idle_task (record t { turns = turns }) x ≡ advanced t (slice_turns t budget)
-landed t c e budget turns x is same lands =
-    ap₂ (λ (n : ℕ) (y : Standing). idle_task (record t { turns = n }) y) (counted t c e budget turns is same)
-    (lands ∙ ap (λ (z : SliceEnd). standing_after z t.signal t.status) is.ends)
-
-pub kept_back :
-    (t : Task) (c : Checkout) (e : SliceEnd) (budget turns : ℕ) (x : Standing) → IsBack t c e budget
-    → turns ≡ c.machine.value.turns
-    → IsKept (idle_task (record t { turns = turns }) x) (Some c)
-kept_back t c e budget turns x is same =
-    let at :
-    IsMachine c.machine.value t.module t.process turns =
-    subst (λ (n : ℕ). IsMachine c.machine.value t.module t.process n)
-    (sym (counted t c e budget turns is same)) is.machine in
-    (is.opens, (at, is.own))
+    subst (λ (l : Lent). IsLoan l c.machine.value false) (sym (lent_own t c slot budget is.own)) (opens, is.machine)
 
 -- ---- which loan fits
 

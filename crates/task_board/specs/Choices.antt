@@ -5,6 +5,7 @@ use Rattle.wasm_ast.specs.declared.refusal.Refusal.TheVariants as refusal
 use Rattle.task_board.specs.declared.event.Event.{Event}
 use Rattle.task_board.specs.declared.event.Event.TheVariants as event
 use Rattle.task_board.specs.declared.request.Request.TheVariants as request
+use Rattle.validator.specs.Faults.{IsInvalid}
 use Rattle.task_board.specs.BoardState.{Task, BoardState, with_new_task}
 use Rattle.text_assembler.specs.Modules.{IsTooDeep}
 use Rattle.task_board.specs.Texts.{DenotesNone}
@@ -22,10 +23,10 @@ AreEither e e' =
     ((e ≡ refusal.BadModule) × (e' ≡ refusal.Limit))
     ⊎ ((e ≡ refusal.Limit) × (e' ≡ refusal.BadModule))
 
--- two refusals of one create: the same; or BadModule and Limit, of bytes that spell no module and pass a
--- limit
+-- two refusals of one create: the same; BadModule and Limit, of bytes that spell no module and pass a limit;
+-- or both Invalid, of a module that is not valid, at whatever places
 abbrev pub AgreeOnRefusal : Refusal → Refusal → Type 0
-AgreeOnRefusal e e' = (e ≡ e') ⊎ AreEither e e'
+AgreeOnRefusal e e' = (e ≡ e') ⊎ (AreEither e e' ⊎ (IsInvalid e × IsInvalid e'))
 
 -- two answers to one create on one board, and the boards that they leave. Both are refusals, which leave the
 -- board; or both accept it with the same task, each in an empty slot of its choice

@@ -11,7 +11,3 @@ max_creates = 2 ^ 60
 -- turns of a slice
 abbrev pub max_budget : ℕ
 max_budget = 1000000
-
--- characters of an id
-abbrev pub max_id : ℕ
-max_id = 64

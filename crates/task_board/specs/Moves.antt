@@ -1,10 +1,22 @@
 -- What an event may make of a task.
-use Rattle.std.specs.Prelude.{◌≡◌, ℕ, true, Option, Some, None}
+use Rattle.std.specs.Prelude.{◌≡◌, ℕ, ◌+◌, List, [], ◌∷◌, true, Option, Some, None}
 use Rattle.task_lifecycle.specs.declared.lifecycle.TaskCall.TheVariants as call
+use Rattle.task_lifecycle.specs.declared.status.Status.TheVariants.{Running}
 use Rattle.task_lifecycle.specs.declared.status.Signal.{Signal}
 use Rattle.task_lifecycle.specs.Lifecycle.{allowed}
 use Rattle.task_board.specs.BoardState.{Task}
-use Rattle.task_board.specs.Tasks.{started, paused, resumed, killed, can_lend, lent, HasReturned}
+use Rattle.task_board.specs.Tasks.{started, paused, resumed, killed, advanced, can_lend, lent, slice_turns, HasReturned}
+use Rattle.task_board.specs.Step.{is_budget}
+
+-- slices of these budgets, taken of a task one after another, make k turns in all; each but the last returns
+-- it running
+abbrev pub MakeTurns : Task → (budgets : List ℕ) → (k : ℕ) → Type 0
+MakeTurns t [] k = ⊥
+MakeTurns t (budget ∷ []) k = (is_budget budget ≡ true) × (k ≡ slice_turns t budget)
+MakeTurns t (budget ∷ next ∷ budgets) k =
+    (is_budget budget ≡ true) × ((advanced t (slice_turns t budget)).status ≡ Running)
+    × (j : ℕ) × (k ≡ slice_turns t budget + j)
+    × MakeTurns (advanced t (slice_turns t budget)) (next ∷ budgets) j
 
 -- a task stays as it is, or one of these happens to it
 pub data Moves (t t' : Task) : Type 0 where

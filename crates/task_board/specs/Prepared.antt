@@ -1,4 +1,5 @@
--- Requests for which all memory has been taken.
+-- Requests for which all memory has been taken. What is prepared, and how, is the board's own affair:
+-- `prepare` promises it, `apply` asks for it, and nobody else reads it.
 use Rattle.std.specs.Prelude.{Option, Some, None, Ok, Err}
 use Rattle.wasm_ast.specs.declared.refusal.Refusal.{Refusal}
 use Rattle.task_board.specs.declared.prepared.Prepared.{Prepared}

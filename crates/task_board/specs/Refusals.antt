@@ -2,6 +2,7 @@
 -- store are content_leases'.
 use Rattle.std.specs.Prelude.{◌≡◌, ℕ, ◌≤◌, List, [], ◌∷◌, length, nat_le, Bool, true, not, ◌||◌, Option, Some, None, is_some, is_none, option_and_then}
 use Rattle.wasm_ast.specs.declared.module.Module.{Module}
+use Rattle.wasm_ast.specs.declared.place.Place.{Place}
 use Rattle.wasm_ast.specs.declared.refusal.Refusal.{Refusal}
 use Rattle.wasm_ast.specs.declared.refusal.Refusal.TheVariants as refusal
 use Rattle.wasm_ast.specs.Limits.{max_module_bytes, Within}
@@ -9,7 +10,9 @@ use Rattle.wasm_binary.specs.Grammar.{Spells}
 use Rattle.wasm_binary.specs.Limits.{Over}
 use Rattle.oci_config.specs.declared.process.ProcessConfig.{ProcessConfig}
 use Rattle.validator.specs.Typing.{ValidModule}
+use Rattle.validator.specs.Faults.{NamesFault}
 use Rattle.step_machine.specs.Instantiation.{instantiation_refusal}
+use Rattle.task_lifecycle.specs.declared.lifecycle.TaskCall.{TaskCall}
 use Rattle.task_lifecycle.specs.declared.lifecycle.TaskCall.TheVariants as call
 use Rattle.task_board.specs.Limits.{max_tasks, max_creates}
 use Rattle.wasm_ast.specs.Identifiers.{is_id}
@@ -55,9 +58,10 @@ pub data CannotOpen (bytes : List ℕ) (p : ProcessConfig) : Refusal → Type 0 
   no_module : ((m : Module) → Spells bytes m → ⊥) → CannotOpen bytes p refusal.BadModule
   -- they pass a limit, and spell no module within the limits
   too_much : Over bytes → ((m : Module) → IsSpelled bytes m → ⊥) → CannotOpen bytes p refusal.Limit
-  -- they spell a module that is not valid
+  -- they spell a module that is not valid, and the place is that of a fault of it
   invalid :
-      (m : Module) → IsSpelled bytes m → (ValidModule m → ⊥) → CannotOpen bytes p refusal.Invalid
+      (m : Module) → (at : Option Place) → IsSpelled bytes m → NamesFault m at
+      → CannotOpen bytes p (refusal.Invalid at)
   -- a valid module that cannot be instantiated under the process
   refused :
       (m : Module) → (e : Refusal) → IsSpelled bytes m → ValidModule m
@@ -72,28 +76,17 @@ pub record Openable (bytes : List ℕ) (p : ProcessConfig) (m : Module) : Type 0
 
 -- ---- requests to a task
 
-abbrev pub start_refusals : Task → Refusals
-start_refusals t = (not (allowed call.Start t.status), refusal.WrongStatus) ∷ []
-
-abbrev pub pause_refusals : Task → Refusals
-pause_refusals t = (not (allowed call.Pause t.status), refusal.WrongStatus) ∷ []
-
-abbrev pub resume_refusals : Task → Refusals
-resume_refusals t = (not (allowed call.Resume t.status), refusal.WrongStatus) ∷ []
+-- the status of the task does not allow the call
+abbrev pub unless_allowed : TaskCall → (e : Refusal) → Task → Refusals
+unless_allowed c e t = (not (allowed c t.status), e) ∷ []
 
 abbrev pub kill_refusals : (signal : ℕ) → Task → Refusals
 kill_refusals signal t =
     (is_none (signal_of signal), refusal.OutOfRange)
-    ∷ (not (allowed call.Kill t.status), refusal.WrongStatus) ∷ []
-
-abbrev pub delete_refusals : Task → Refusals
-delete_refusals t = (not (allowed call.Delete t.status), refusal.WrongStatus) ∷ []
+    ∷ unless_allowed call.Kill refusal.WrongStatus t
 
 abbrev pub state_refusals : Task → Refusals
 state_refusals t = []
-
-abbrev pub wait_refusals : Task → Refusals
-wait_refusals t = (not (allowed call.Wait t.status), refusal.Busy) ∷ []
 
 abbrev pub output_refusals : (stream : ℕ) → Task → Refusals
 output_refusals stream t =

@@ -5,10 +5,10 @@ use Rattle.wasm_ast.specs.Limits.{max_module_bytes}
 use Rattle.task_lifecycle.specs.declared.status.Status.TheVariants.{Created, Pausing}
 use Rattle.task_lifecycle.specs.declared.status.ExitRecord.{ExitRecord}
 use Rattle.task_board.specs.Limits.{max_tasks, max_creates, max_budget}
-use Rattle.content_leases.specs.Limits.{max_contents}
+use Rattle.content_leases.specs.Limits.{max_contents, max_leases, max_members}
 use Rattle.wasm_ast.specs.Identifiers.{is_id}
 use Rattle.content_leases.specs.Digests.{digest_of}
-use Rattle.content_leases.specs.StoreState.{Content}
+use Rattle.content_leases.specs.StoreState.{Content, Lease}
 use Rattle.task_lifecycle.specs.Lifecycle.{takes_turns, is_stopped, is_going}
 use Rattle.task_board.specs.BoardState.{Task, Entries, BoardState}
 use Rattle.task_board.specs.Tasks.{execution_at, EndsSo}
@@ -53,6 +53,11 @@ pub record IsContent (c : Content) : Type 0 where
   pub digest : c.digest ≡ digest_of c.bytes
   pub short : length c.bytes ≤ max_module_bytes
 
+-- a lease names no digest twice
+pub record IsLease (l : Lease) : Type 0 where
+  pub distinct : AreDistinct l.members
+  pub few : length l.members ≤ max_members
+
 abbrev pub slots_of : Entries → List ℕ
 slots_of es = map (λ (e : ℕ × Task). e.0) es
 
@@ -65,6 +70,9 @@ incarnations_of es = map (λ (e : ℕ × Task). e.1.incarnation) es
 abbrev pub digests_of : List Content → List (List ℕ)
 digests_of cs = map (λ (c : Content). c.digest) cs
 
+abbrev pub names_of : List Lease → List (List ℕ)
+names_of ls = map (λ (l : Lease). l.name) ls
+
 pub record IsBoard (s : BoardState) : Type 0 where
   pub tasks : Each (λ (e : ℕ × Task). IsSound s.creates e.1) s.tasks
   pub slots : AreRising (slots_of s.tasks)
@@ -72,6 +80,9 @@ pub record IsBoard (s : BoardState) : Type 0 where
   pub incarnations : AreDistinct (incarnations_of s.tasks)
   pub contents : Each IsContent s.store.contents
   pub digests : AreDistinct (digests_of s.store.contents)
+  pub leases : Each IsLease s.store.leases
+  pub names : AreDistinct (names_of s.store.leases)
   pub few_tasks : length s.tasks ≤ max_tasks
   pub few_contents : length s.store.contents ≤ max_contents
+  pub few_leases : length s.store.leases ≤ max_leases
   pub few_creates : s.creates ≤ max_creates

@@ -3,6 +3,7 @@
 use Rattle.std.specs.Prelude.{◌≡◌, ℕ, [], ◌&&◌, nat_le, List, length, Bool, true, false, if◌then◌else◌, Option, Some, None, is_some, option_and_then, Result, Ok, Err}
 use Rattle.wasm_ast.specs.declared.module.Module.{Module}
 use Rattle.wasm_ast.specs.declared.refusal.Refusal.{Refusal}
+use Rattle.wasm_ast.specs.declared.refusal.Refusal.TheVariants as refusal
 use Rattle.oci_config.specs.declared.process.ProcessConfig.{ProcessConfig}
 use Rattle.task_board.specs.declared.event.Event.{Event}
 use Rattle.task_board.specs.declared.event.Event.TheVariants as event
@@ -12,6 +13,7 @@ use Rattle.task_board.specs.declared.request.Request.{Request}
 use Rattle.task_board.specs.declared.request.Request.TheVariants as request
 use Rattle.task_board.specs.declared.request.Reply.{Reply}
 use Rattle.task_board.specs.declared.request.Reply.TheVariants as reply
+use Rattle.task_lifecycle.specs.declared.lifecycle.TaskCall.TheVariants as call
 use Rattle.task_lifecycle.specs.declared.status.Status.TheVariants.{Created}
 use Rattle.task_lifecycle.specs.Names.{signal_of}
 use Rattle.task_board.specs.Limits.{max_budget}
@@ -23,7 +25,7 @@ use Rattle.oci_config.specs.Streams.{stream_of}
 use Rattle.task_board.specs.BoardState.{Task, created_task, BoardState, used_by, with_store, task_in, task_of, with_task, without_task, with_new_task}
 use Rattle.task_board.specs.Tasks.{state_of, output_of, started, paused, resumed, killed_by, can_lend, lent, HasReturned}
 use Rattle.task_board.specs.Texts.{IsAssembled, CannotAssemble}
-use Rattle.task_board.specs.Refusals.{create_refusals, CannotOpen, Openable, start_refusals, pause_refusals, resume_refusals, kill_refusals, delete_refusals, state_refusals, wait_refusals, output_refusals, task_refusals}
+use Rattle.task_board.specs.Refusals.{create_refusals, CannotOpen, Openable, unless_allowed, kill_refusals, state_refusals, output_refusals, task_refusals}
 
 -- ---- requests
 
@@ -57,18 +59,27 @@ pub data PutsText (s : BoardState) (text : List ℕ) (r : Answer) (s' : BoardSta
   refused : (e : Refusal) → CannotAssemble text e → r ≡ Err e → s' ≡ s → PutsText s text r s'
   stored : (bytes : List ℕ) → IsAssembled text bytes → Puts s bytes r s' → PutsText s text r s'
 
--- a request to the task with an id, if there is one: the request's own refusals, what it is answered,
--- and the board that it leaves
-abbrev pub OnFound :
-    (id : List ℕ) → (own : Task → Refusals) → (Task → Reply) → (Task → BoardState) → Option Task
-    → BoardState → Answer → BoardState → Type 0
-OnFound id own reply new None s r s' = Decided (task_refusals id own None) ⊥ s r s'
-OnFound id own reply new (Some t) s r s' =
-    Decided (task_refusals id own (Some t)) ((r ≡ Ok (reply t)) × (s' ≡ new t)) s r s'
+-- what a request does to a task: what it is answered, and the task that it leaves (None: the task is removed)
+abbrev pub Done : Type 0
+Done = Reply × Option Task
 
-abbrev pub OnTask : (id : List ℕ) → (own : Task → Refusals) → (Task → Reply) → (Task → BoardState)
+-- the board with what a request leaves of a task
+abbrev pub with_left : BoardState → Task → Option Task → BoardState
+with_left s t None = without_task s t.id
+with_left s t (Some t') = with_task s t'
+
+-- a request to the task with an id, if there is one: the request's own refusals, and what it does. Both
+-- look at the task alone
+abbrev pub OnFound : (id : List ℕ) → (own : Task → Refusals) → (does : Task → Done) → Option Task
     → BoardState → Answer → BoardState → Type 0
-OnTask id own reply new s r s' = OnFound id own reply new (task_of id s.tasks) s r s'
+OnFound id own does None s r s' = Decided (task_refusals id own None) ⊥ s r s'
+OnFound id own does (Some t) s r s' =
+    Decided (task_refusals id own (Some t))
+    ((r ≡ Ok (does t).0) × (s' ≡ with_left s t (does t).1)) s r s'
+
+abbrev pub OnTask : (id : List ℕ) → (own : Task → Refusals) → (does : Task → Done)
+    → BoardState → Answer → BoardState → Type 0
+OnTask id own does s r s' = OnFound id own does (task_of id s.tasks) s r s'
 
 -- the task of an accepted create: it enters an empty slot, whose choice is open
 abbrev pub Enters : BoardState → Task → BoardState → Type 0
@@ -90,6 +101,32 @@ Creates s config id r s' =
 -- the reply that tells these bytes, and how many they are
 abbrev pub output_reply : (id bytes : List ℕ) → Reply
 output_reply id bytes = reply.Output bytes id (length bytes)
+
+-- what each request to a task does to it
+abbrev pub on_start : Task → Done
+on_start t = (reply.Start t.id (started t).status, Some (started t))
+
+abbrev pub on_pause : Task → Done
+on_pause t = (reply.Pause t.id (paused t).status, Some (paused t))
+
+abbrev pub on_resume : Task → Done
+on_resume t = (reply.Resume t.id (resumed t).status, Some (resumed t))
+
+abbrev pub on_kill : (signal : ℕ) → Task → Done
+on_kill signal t =
+    (reply.Kill t.id (killed_by (signal_of signal) t).status, Some (killed_by (signal_of signal) t))
+
+abbrev pub on_delete : Task → Done
+on_delete t = (reply.Delete (state_of t), None)
+
+abbrev pub on_state : Task → Done
+on_state t = (reply.State (state_of t), Some t)
+
+abbrev pub on_wait : Task → Done
+on_wait t = (reply.Wait (state_of t), Some t)
+
+abbrev pub on_output : (stream : ℕ) → Task → Done
+on_output stream t = (output_reply t.id (output_of (stream_of stream) t), Some t)
 
 -- What a request may be answered on a board, and the board that it leaves. A refusal leaves the board. What
 -- a task names is held until the task is deleted.
@@ -113,26 +150,18 @@ Answers s request.Gc r s' =
 Answers s (request.Create config id) r s' =
     Decided (create_refusals s config id) (Creates s config id r s') s r s'
 Answers s (request.Start id) r s' =
-    OnTask id start_refusals (λ t. reply.Start t.id (started t).status)
-    (λ t. with_task s (started t)) s r s'
+    OnTask id (unless_allowed call.Start refusal.WrongStatus) on_start s r s'
 Answers s (request.Pause id) r s' =
-    OnTask id pause_refusals (λ t. reply.Pause t.id (paused t).status)
-    (λ t. with_task s (paused t)) s r s'
+    OnTask id (unless_allowed call.Pause refusal.WrongStatus) on_pause s r s'
 Answers s (request.Resume id) r s' =
-    OnTask id resume_refusals (λ t. reply.Resume t.id (resumed t).status)
-    (λ t. with_task s (resumed t)) s r s'
-Answers s (request.Kill id signal) r s' =
-    OnTask id (kill_refusals signal) (λ t. reply.Kill t.id (killed_by (signal_of signal) t).status)
-    (λ t. with_task s (killed_by (signal_of signal) t)) s r s'
+    OnTask id (unless_allowed call.Resume refusal.WrongStatus) on_resume s r s'
+Answers s (request.Kill id signal) r s' = OnTask id (kill_refusals signal) (on_kill signal) s r s'
 Answers s (request.Delete id) r s' =
-    OnTask id delete_refusals (λ t. reply.Delete (state_of t)) (λ t. without_task s t.id) s r s'
-Answers s (request.State id) r s' =
-    OnTask id state_refusals (λ t. reply.State (state_of t)) (λ t. s) s r s'
-Answers s (request.Wait id) r s' =
-    OnTask id wait_refusals (λ t. reply.Wait (state_of t)) (λ t. s) s r s'
+    OnTask id (unless_allowed call.Delete refusal.WrongStatus) on_delete s r s'
+Answers s (request.State id) r s' = OnTask id state_refusals on_state s r s'
+Answers s (request.Wait id) r s' = OnTask id (unless_allowed call.Wait refusal.Busy) on_wait s r s'
 Answers s (request.Output id stream) r s' =
-    OnTask id (output_refusals stream)
-    (λ t. output_reply t.id (output_of (stream_of stream) t)) (λ t. s) s r s'
+    OnTask id (output_refusals stream) (on_output stream) s r s'
 
 -- ---- slices
 

@@ -1,14 +1,12 @@
 -- What happens to a task: it is started, its slice goes out, and it advances by turns.
-use Rattle.std.specs.Prelude.{◌≡◌, ℕ, ◌+◌, ◌<◌, ◌≤◌, ◌&&◌, List, [], Bool, true, false, Option, Some, None, is_some, is_none}
+use Rattle.std.specs.Prelude.{◌≡◌, ℕ, ◌+◌, ◌<◌, ◌≤◌, ◌&&◌, ◌||◌, List, [], Bool, true, false, Option, Some, None, is_some, is_none}
 use Rattle.step_machine.specs.declared.ends.End.{End}
 use Rattle.step_machine.specs.declared.ends.End.TheVariants as ends
-use Rattle.step_machine.specs.declared.ends.SliceEnd.{SliceEnd}
-use Rattle.step_machine.specs.declared.ends.SliceEnd.TheVariants as slice
-use Rattle.step_machine.specs.Configuration.{State as ExecutionState}
+use Rattle.step_machine.specs.Configuration.{Configuration, State as ExecutionState}
 use Rattle.step_machine.specs.Instantiation.{after, ended}
 use Rattle.step_machine.specs.MachineView.{written_to}
 use Rattle.oci_config.specs.declared.stream.Stream.{Stream}
-use Rattle.step_machine.specs.Slices.{at_break, ends_slice, end_at, turns_made}
+use Rattle.step_machine.specs.Slices.{at_break, ends_slice, turns_made}
 use Rattle.task_lifecycle.specs.declared.lifecycle.Situation.{Situation}
 use Rattle.task_lifecycle.specs.declared.lifecycle.TaskCall.TheVariants as call
 use Rattle.task_board.specs.declared.request.TaskState.{TaskState}
@@ -24,24 +22,28 @@ use Rattle.task_board.specs.BoardState.{Task}
 abbrev pub state_of : Task → TaskState
 state_of t = record { id = t.id; n = t.turns; status = t.status; end = t.end }
 
--- where its execution is after that number of turns
-abbrev pub execution_at : Task → ℕ → ExecutionState
-execution_at t n = (after t.module t.process n).state
+-- the configuration of its execution after n turns
+abbrev pub configuration_of : Task → (n : ℕ) → Configuration
+configuration_of t n = after t.module t.process n
+
+-- where its execution is after n turns
+abbrev pub execution_at : Task → (n : ℕ) → ExecutionState
+execution_at t n = (configuration_of t n).state
+
+-- after n turns the next instruction is at one of its breakpoints
+abbrev pub is_break_at : Task → (n : ℕ) → Bool
+is_break_at t n = at_break t.breaks (execution_at t n)
 
 -- what it has written to an output stream, if that is one
 abbrev pub output_of : Option Stream → Task → List ℕ
 output_of None t = []
-output_of (Some stream) t = written_to stream (after t.module t.process t.turns).store
+output_of (Some stream) t = written_to stream (configuration_of t t.turns).store
+
+-- ---- where a task lands
 
 -- a status, and how the task has ended if it is stopped
 abbrev pub Standing : Type 0
 Standing = Status × Option ExitRecord
-
-abbrev pub stopped_by : ExitRecord → Standing
-stopped_by e = (Stopped, Some e)
-
-abbrev pub going : Status → Standing
-going status = (status, None)
 
 -- the task with its machine on the board, no signal pending, and this status and end
 abbrev pub idle_task : Task → Standing → Task
@@ -65,35 +67,40 @@ IsTrueOf (exit.Kill signal) turns end = 1 ≤ turns → end ≡ None
 abbrev pub EndsSo : Task → ExitRecord → Type 0
 EndsSo t e = IsTrueOf e t.turns (ended (execution_at t t.turns))
 
+-- where a task lands that is idle again: its own end comes first, then a pending signal, then what pauses it;
+-- else it is running
+abbrev pub landing : Option End → Option Signal → (pauses : Bool) → Standing
+landing (Some e) signal pauses = (Stopped, Some (exit_of e))
+landing None (Some signal) pauses = (Stopped, Some (exit.Kill signal))
+landing None None true = (Paused, None)
+landing None None false = (Running, None)
+
+-- the task idle again after n turns
+abbrev pub idle_after : Task → (n : ℕ) → Option Signal → (pauses : Bool) → Task
+idle_after t n signal pauses =
+    idle_task (record t { turns = n }) (landing (ended (execution_at t n)) signal pauses)
+
 -- ---- start
 
--- stopped if it has halted already, paused if the next place is a breakpoint, else running
-abbrev pub standing_at_start : Option End → (is_at_break : Bool) → Standing
-standing_at_start (Some e) b = stopped_by (exit_of e)
-standing_at_start None true = going Paused
-standing_at_start None false = going Running
-
+-- a breakpoint at the first instruction pauses it
 abbrev pub started : Task → Task
-started t =
-    idle_task t
-    (standing_at_start (ended (execution_at t t.turns))
-    (at_break t.breaks (execution_at t t.turns)))
+started t = idle_after t t.turns None (is_break_at t t.turns)
 
 -- ---- pause, resume, kill
 
--- what decides where a call leads
-abbrev pub situation_of : Task → Situation
-situation_of t = record {
+-- what decides where a call leads that leaves the task with n turns
+abbrev pub situation_at : Task → (n : ℕ) → Situation
+situation_at t n = record {
   out = is_some t.out;
-  ended = is_some (ended (execution_at t t.turns));
-  at_break = at_break t.breaks (execution_at t t.turns);
+  ended = is_some (ended (execution_at t n));
+  at_break = is_break_at t n;
 }
 
 abbrev pub paused : Task → Task
-paused t = record t { status = after_call call.Pause (situation_of t) t.status }
+paused t = record t { status = after_call call.Pause (situation_at t t.turns) t.status }
 
 abbrev pub resumed : Task → Task
-resumed t = record t { status = after_call call.Resume (situation_of t) t.status }
+resumed t = record t { status = after_call call.Resume (situation_at t t.turns) t.status }
 
 -- the first of two signals is kept
 abbrev pub first_signal : Option Signal → Signal → Signal
@@ -102,7 +109,7 @@ first_signal (Some first) signal = first
 
 -- stopped at once if its machine is on the board; while its slice is out, the signal is pending
 abbrev pub killed_while : (out : Option ℕ) → Signal → Task → Task
-killed_while None signal t = idle_task t (stopped_by (exit.Kill signal))
+killed_while None signal t = idle_task t (Stopped, Some (exit.Kill signal))
 killed_while (Some budget) signal t = record t { signal = Some (first_signal t.signal signal) }
 
 abbrev pub killed : Signal → Task → Task
@@ -115,26 +122,11 @@ killed_by (Some signal) t = killed signal t
 
 -- ---- turns
 
--- of a task that goes on: a pending signal ends it; else it is paused if it is to pause, else running
-abbrev pub standing_onward : Option Signal → (pauses : Bool) → Standing
-standing_onward (Some signal) pauses = stopped_by (exit.Kill signal)
-standing_onward None true = going Paused
-standing_onward None false = going Running
-
--- of a task that has made its turns: its own end comes first, then a pending signal, then pausing or a
--- breakpoint
-abbrev pub standing_after : SliceEnd → Option Signal → Status → Standing
-standing_after slice.Budget signal status = standing_onward signal (is_pausing status)
-standing_after slice.Break signal status = standing_onward signal true
-standing_after slice.Returned signal status = stopped_by exit.Return
-standing_after (slice.Exited code) signal status = stopped_by (exit.Exit code)
-standing_after (slice.Trapped trap) signal status = stopped_by (exit.Trapped trap)
-
--- the task after k more turns, idle again
-abbrev pub advanced : Task → ℕ → Task
+-- the task after k more turns, idle again: a pending signal ends it, and a breakpoint pauses it, as does a
+-- pause that came meanwhile
+abbrev pub advanced : Task → (k : ℕ) → Task
 advanced t k =
-    idle_task (record t { turns = t.turns + k })
-    (standing_after (end_at t.breaks k (execution_at t (t.turns + k))) t.signal t.status)
+    idle_after t (t.turns + k) t.signal (is_pausing t.status || is_break_at t (t.turns + k))
 
 -- it may make k turns at one go: it is running or pausing, has not ended, and none of the turns before
 -- the last ends a slice

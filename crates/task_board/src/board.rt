@@ -9,7 +9,6 @@ ghost use Rattle.task_board.specs.declared.request.Request.TheVariants as reques
 ghost use Rattle.task_board.specs.declared.event.Event.TheVariants as event;
 ghost use Rattle.task_board.specs.declared.event.EventReply.TheVariants as answer;
 ghost use Rattle.task_board.specs.BoardState.{Task as TaskValue, empty};
-ghost use Rattle.task_board.specs.BoardValue.{KeepsRoom};
 ghost use Rattle.task_board.specs.Limits.{max_budget};
 ghost use Rattle.task_board.specs.Loans.{Fits};
 ghost use Rattle.task_board.specs.Prepared.{Prepares, refusal_of, refusal_answered};
@@ -296,7 +295,6 @@ impl Board {
         ensures memory { result ≢ Err Refusal.NoMemory }
         ensures waiting { (r : RequestValue) → Prepares self.old r prepared → self.new.waiting
             ≡ waiting_after r result self.new.state.tasks self.old.waiting }
-        ensures room { KeepsRoom self.old self.new }
     {
         self.tables.apply(prepared)
     }
@@ -334,7 +332,6 @@ impl Board {
         ensures none { IfNone result ((t : TaskValue) → CanLend ticket self.old.state.tasks t → ⊥) }
         ensures same { IfNone result (self.new ≡ self.old) }
         ensures waiting { self.new.waiting ≡ self.old.waiting }
-        ensures room { KeepsRoom self.old self.new }
     {
         self.tables.take(ticket, budget)
     }
@@ -352,14 +349,13 @@ impl Board {
     /// afterwards. No memory is taken.
     pub fn give_back(&mut self, loan: Loan) -> Option<Ticket>
         requires { loan.ran ≡ true }
-        ensures home { Fits loan self.old.state.tasks
+        ensures step { Fits loan self.old.state.tasks
             → Step self.old.state (event.Return loan.id) (answer.Returned true) self.new.state }
         ensures ticket { Fits loan self.old.state.tasks
             → result ≡ ticket_in loan.slot self.new.state.tasks }
         ensures unfit { (Fits loan self.old.state.tasks → ⊥)
             → (self.new ≡ self.old) × (result ≡ None) }
         ensures waiting { self.new.waiting ≡ self.old.waiting }
-        ensures room { KeepsRoom self.old self.new }
     {
         self.tables.give_back(loan)
     }
@@ -370,11 +366,10 @@ impl Board {
     pub fn receive(&mut self, loan: Loan) -> Option<Ticket>
         requires ran { loan.ran ≡ true }
         requires fits { Fits loan self.old.state.tasks }
-        ensures home { Step self.old.state
+        ensures step { Step self.old.state
             (event.Return loan.id) (answer.Returned true) self.new.state }
         ensures ticket { result ≡ ticket_in loan.slot self.new.state.tasks }
         ensures waiting { self.new.waiting ≡ self.old.waiting }
-        ensures room { KeepsRoom self.old self.new }
     {
         self.tables.receive(loan)
     }

@@ -1,12 +1,17 @@
 //! What a task gives away while its slice is out, and gets back.
 
-ghost use Rattle.std.specs.Prelude.{[], ◌≡◌, IfOk};
+ghost use Rattle.std.specs.Prelude.{[], ◌≡◌, ◌||◌, IfOk};
 ghost use Rattle.std.specs.Arc.{arc_value};
+ghost use Rattle.step_machine.specs.Instantiation.{ended};
+ghost use Rattle.step_machine.specs.MachineView.{state_of};
+ghost use Rattle.step_machine.specs.Slices.{at_break};
+ghost use Rattle.task_board.specs.Tasks.{exit_of, landing};
 
 use oci_config::ProcessConfig;
 use std::alloc::{AllocError, Global};
 use std::sync::Arc;
-use step_machine::{Breaks, FlatModule, Machine};
+use step_machine::{Breaks, End, FlatModule, Machine};
+use task_lifecycle::{ExitRecord, Signal, Status};
 use wasm_ast::{Bytes, Text};
 
 /// What a task shares with the worker that runs a slice of it.
@@ -43,6 +48,45 @@ impl Checkout {
             shared,
             breaks,
         })
+    }
+
+    /// Where its task lands, with this signal pending, if anything else pauses it or not.
+    pub fn landing(&self, signal: Option<Signal>, pauses: bool) -> (Status, Option<ExitRecord>)
+        ensures { let state = state_of self.now.machine.value in result
+            ≡ landing (ended state) signal (pauses || at_break (arc_value self.now.breaks) state) }
+    {
+        let halted = self.machine.halted();
+        let pauses = pauses || (halted.is_none() && self.machine.is_at(&self.breaks));
+        landing(halted, signal, pauses)
+    }
+}
+
+fn exit_of(end: End) -> ExitRecord
+    ensures { result ≡ exit_of end }
+{
+    match end {
+        End::Returned => ExitRecord::Return,
+        End::Exited(code) => ExitRecord::Exit(code),
+        End::Trapped(trap) => ExitRecord::Trapped(trap),
+    }
+}
+
+// Where a task lands that is idle again.
+fn landing(
+    halted: Option<End>,
+    signal: Option<Signal>,
+    pauses: bool,
+) -> (Status, Option<ExitRecord>)
+    ensures { result ≡ landing halted signal pauses }
+{
+    match (halted, signal) {
+        (Some(end), _) => (Status::Stopped, Some(exit_of(end))),
+        (None, Some(signal)) => (Status::Stopped, Some(ExitRecord::Kill(signal))),
+        (None, None) => if pauses {
+            (Status::Paused, None)
+        } else {
+            (Status::Running, None)
+        },
     }
 }
 

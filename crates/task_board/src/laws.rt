@@ -1,7 +1,8 @@
 //! Laws of the abstract board. Each function is nothing but its contract.
 
-ghost use Rattle.std.specs.Prelude.{◌≡◌, ℕ, List, Some, is_some, true, false, Err};
+ghost use Rattle.std.specs.Prelude.{◌≡◌, ℕ, ◌^◌, List, Option, Some, None, is_some, true, false, Err};
 ghost use Rattle.wasm_ast.specs.declared.module.Module.{Module};
+ghost use Rattle.wasm_ast.specs.declared.place.Place.{Place};
 ghost use Rattle.oci_config.specs.declared.process.ProcessConfig.{ProcessConfig};
 ghost use Rattle.step_machine.specs.declared.ends.End.{End as EndValue};
 ghost use Rattle.step_machine.specs.Instantiation.{ended};
@@ -17,7 +18,8 @@ ghost use Rattle.task_board.specs.Choices.{IsDetermined, AgreeOnCreate, AgreeOnT
 ghost use Rattle.task_lifecycle.specs.declared.status.Signal.{Signal as SignalValue};
 ghost use Rattle.task_lifecycle.specs.declared.status.ExitRecord.{ExitRecord as RecordValue};
 ghost use Rattle.task_lifecycle.specs.Lifecycle.{after, takes_turns, is_going};
-ghost use Rattle.task_board.specs.Moves.{Becomes};
+ghost use Rattle.task_board.specs.Limits.{max_tasks, max_creates, max_budget};
+ghost use Rattle.task_board.specs.Moves.{MakeTurns, Becomes};
 ghost use Rattle.task_board.specs.Refusals.{IsSpelled, CannotOpen};
 ghost use Rattle.task_board.specs.Run.{takes_memory, met_no_memory, Happens, Run};
 ghost use Rattle.task_board.specs.Sound.{AreRising, slots_of, IsSound, IsBoard};
@@ -25,11 +27,12 @@ ghost use Rattle.task_board.specs.Step.{Answer, Answers};
 ghost use Rattle.text_assembler.specs.Modules.{Denotes, IsTooDeep, IsBadText};
 ghost use Rattle.wasm_binary.specs.Canonical.{canon, FitsLimits};
 ghost use Rattle.task_board.specs.Texts.{DenotesNone};
-ghost use Rattle.task_board.specs.Tasks.{execution_at, exit_of, EndsSo, situation_of, started, paused, resumed, killed, slice_turns, MayAdvance, HasReturned};
+ghost use Rattle.task_board.specs.Tasks.{execution_at, exit_of, EndsSo, is_break_at, situation_at, started, paused, resumed, killed, can_lend, slice_turns, MayAdvance, HasReturned};
 
 use step_machine::laws::{slices_go_forward, slices_stop_first};
 use task_lifecycle::{ExitRecord, Status, TaskCall};
 use text_assembler::laws::{denotes_one, too_deep_denotes_none_within};
+use validator::laws::invalid_modules_are_not_valid;
 use wasm_ast::Refusal;
 use wasm_binary::laws::spells_one;
 
@@ -54,13 +57,13 @@ pub fn tasks_move()
 /// Start, pause, resume and kill change the status of a task as the lifecycle's table says.
 pub fn calls_follow_the_table()
     ensures start { (t : Task)
-        → (started t).status ≡ after TaskCall.Start (situation_of t) t.status }
+        → (started t).status ≡ after TaskCall.Start (situation_at t t.turns) t.status }
     ensures pause { (t : Task)
-        → (paused t).status ≡ after TaskCall.Pause (situation_of t) t.status }
+        → (paused t).status ≡ after TaskCall.Pause (situation_at t t.turns) t.status }
     ensures resume { (t : Task)
-        → (resumed t).status ≡ after TaskCall.Resume (situation_of t) t.status }
+        → (resumed t).status ≡ after TaskCall.Resume (situation_at t t.turns) t.status }
     ensures kill { (t : Task) (signal : SignalValue)
-        → (killed signal t).status ≡ after TaskCall.Kill (situation_of t) t.status }
+        → (killed signal t).status ≡ after TaskCall.Kill (situation_at t t.turns) t.status }
 {}
 
 /// A task whose slice returns is stopped by its own end if that has come, whatever signal is pending; else
@@ -72,6 +75,18 @@ pub fn pending_signals_end_tasks()
     ensures signal { (t t' : Task) (signal : SignalValue) → HasReturned t t'
         → t.signal ≡ Some signal → ended (execution_at t' t'.turns) ≡ None
         → (t'.status ≡ Status.Stopped) × (t'.end ≡ Some (ExitRecord.Kill signal)) }
+{}
+
+/// A task whose slice returns, which has not ended and has no signal pending, is paused if a pause came
+/// meanwhile or its next instruction is at a breakpoint; else it is running.
+pub fn returned_tasks_pause()
+    ensures pausing { (t t' : Task) → HasReturned t t' → ended (execution_at t' t'.turns) ≡ None
+        → t.signal ≡ None → t.status ≡ Status.Pausing → t'.status ≡ Status.Paused }
+    ensures at_break { (t t' : Task) → HasReturned t t' → ended (execution_at t' t'.turns) ≡ None
+        → t.signal ≡ None → is_break_at t' t'.turns ≡ true → t'.status ≡ Status.Paused }
+    ensures running { (t t' : Task) → HasReturned t t' → ended (execution_at t' t'.turns) ≡ None
+        → t.signal ≡ None → t.status ≡ Status.Running → is_break_at t' t'.turns ≡ false
+        → t'.status ≡ Status.Running }
 {}
 
 /// On every board that events lead to, the record of a stopped task is true of its execution after its
@@ -112,6 +127,18 @@ pub fn slices_advance_legally()
     slices_stop_first();
 }
 
+/// How far a sound task that is running and idle may advance: by k turns exactly if slices make k turns in
+/// all, of which each but the last returns the task running.
+pub fn advances_are_slices()
+    ensures slices { (creates : ℕ) (t : Task) (k : ℕ) → IsSound creates t → can_lend t ≡ true
+        → MayAdvance t k → (budgets : List ℕ) × MakeTurns t budgets k }
+    ensures advance { (creates : ℕ) (t : Task) (k : ℕ) → IsSound creates t → can_lend t ≡ true
+        → (budgets : List ℕ) → MakeTurns t budgets k → MayAdvance t k }
+{
+    slices_go_forward();
+    slices_stop_first();
+}
+
 /// A held content is never removed: no event takes the bytes of a digest that a lease or a task names. So on
 /// every board that events lead to, what a lease names is stored, and of each task the bytes that it was
 /// created from.
@@ -139,8 +166,8 @@ pub fn events_are_determined()
 {}
 
 /// Whether a create is accepted is determined, and so are its task and its refusal, but for the
-/// choices that are open: the slot of the task, and whether bytes that encode no module and pass a
-/// limit are refused as `BadModule` or as `Limit`.
+/// choices that are open: the slot of the task, whether bytes that encode no module and pass a limit are
+/// refused as `BadModule` or as `Limit`, and which fault of a module that is not valid is named.
 pub fn creates_are_determined()
     ensures { (s : BoardState) (config id : List ℕ)
         (r : Answer) (s1 : BoardState) (r' : Answer) (s2 : BoardState)
@@ -148,6 +175,7 @@ pub fn creates_are_determined()
         → AgreeOnCreate s r s1 r' s2 }
 {
     spells_one();
+    invalid_modules_are_not_valid();
 }
 
 /// A text that denotes a module within the limits is answered as a put of the canonical encoding of
@@ -207,10 +235,19 @@ pub fn few_requests_allocate()
     ensures give_back { (id : List ℕ) (r : EventReply) → met_no_memory (event.Return id) r ≡ false }
 {}
 
-/// A valid module is never refused as invalid.
+/// A valid module is never refused as invalid, at whatever place.
 pub fn valid_modules_are_not_invalid()
-    ensures { (bytes : List ℕ) (p : ProcessConfig) (m : Module) → IsSpelled bytes m → ValidModule m
-        → CannotOpen bytes p Refusal.Invalid → ⊥ }
+    ensures { (bytes : List ℕ) (p : ProcessConfig) (m : Module) (at : Option Place)
+        → IsSpelled bytes m → ValidModule m
+        → CannotOpen bytes p (Refusal.Invalid at) → ⊥ }
 {
     spells_one();
+    invalid_modules_are_not_valid();
 }
+
+/// The limits of a board: tasks, creates, and turns of a slice.
+pub fn limits_are_these()
+    ensures tasks { max_tasks ≡ 64 }
+    ensures creates { max_creates ≡ 2 ^ 60 }
+    ensures turns { max_budget ≡ 1000000 }
+{}

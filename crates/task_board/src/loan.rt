@@ -9,7 +9,7 @@ ghost use Rattle.task_board.specs.Inside.Shown.{lent_with};
 
 use crate::checkout::{Checkout, Shared};
 use std::marker::Model;
-use step_machine::{Breaks, SliceEnd};
+use step_machine::Breaks;
 use wasm_ast::Text;
 
 /// A task's machine, checked out for one slice. It is not `Drop`, so that its holder has to give it
@@ -21,7 +21,7 @@ pub struct Loan {
     turns: u64,
     budget: u64,
     checkout: Checkout,
-    outcome: Option<SliceEnd>,
+    ran: bool,
 }
 
 impl Model for Loan {
@@ -39,7 +39,7 @@ impl Model for Loan {
 
     ghost view = { lent_of };
 
-    ghost invariant = { λ l. IsLoan (lent_of l) l.checkout.machine.value l.outcome };
+    ghost invariant = { λ l. IsLoan (lent_of l) l.checkout.machine.value l.ran };
 }
 
 impl Loan {
@@ -52,7 +52,7 @@ impl Loan {
         checkout: Checkout,
     ) -> Loan
         requires { let lent = lent_with slot incarnation turns budget checkout in
-            IsLoan lent checkout.machine.value None }
+            IsLoan lent checkout.machine.value false }
         ensures { result ≡ lent_with slot incarnation turns budget checkout }
     {
         Loan {
@@ -61,7 +61,7 @@ impl Loan {
             turns,
             budget,
             checkout,
-            outcome: None,
+            ran: false,
         }
     }
 
@@ -69,7 +69,7 @@ impl Loan {
     pub fn ran(&self) -> bool
         ensures { result ≡ self.now.ran }
     {
-        self.outcome.is_some()
+        self.ran
     }
 
     /// The id of its task.
@@ -84,12 +84,12 @@ impl Loan {
     pub fn run(&mut self)
         ensures { self.new ≡ record self.old { ran = true } }
     {
-        if self.outcome.is_none() {
-            let end = self
+        if !self.ran {
+            let _end = self
                 .checkout
                 .machine
                 .run(self.budget, &self.checkout.breaks);
-            self.outcome = Some(end);
+            self.ran = true;
         }
     }
 
@@ -119,11 +119,11 @@ impl Loan {
             && self.checkout.breaks.is(breaks)
     }
 
-    // The machine of a slice that has been run, and what ended the slice.
-    pub(crate) fn into_parts(self) -> (Checkout, SliceEnd)
+    // The machine of a slice that has been run, and what goes with it.
+    pub(crate) fn into_checkout(self) -> Checkout
         requires { self.ran ≡ true }
-        ensures own { IsOwn result.0 self.id self.bytes self.module self.process self.breaks }
-        ensures slice { IsLoan self result.0.machine.value (Some result.1) }
+        ensures own { IsOwn result self.id self.bytes self.module self.process self.breaks }
+        ensures slice { IsLoan self result.machine.value true }
     {
         let Loan {
             slot: _,
@@ -131,9 +131,9 @@ impl Loan {
             turns: _,
             budget: _,
             checkout,
-            outcome,
+            ran: _,
         } = self;
-        (checkout, outcome.unwrap())
+        checkout
     }
 
     // Ends a machine that is not given back.
@@ -144,7 +144,7 @@ impl Loan {
             turns: _,
             budget: _,
             checkout: _,
-            outcome: _,
+            ran: _,
         } = self;
     }
 }

@@ -1,10 +1,9 @@
 //! What a request changes of the store.
 
 ghost use Rattle.std.specs.Prelude.{◌≡◌};
-ghost use Rattle.content_leases.specs.StoreValue.{UsesRoom};
 ghost use Rattle.task_board.specs.Sound.{Each, AreDistinct, digests_of};
 ghost use Rattle.task_board.specs.Inside.OpenedModules.{IsOpened};
-ghost use Rattle.task_board.specs.Inside.StoreChanges.{store_reply, store_after, removes, CanTake, contents_added, leases_added};
+ghost use Rattle.task_board.specs.Inside.StoreChanges.{store_reply, store_after, removes, CanTake};
 
 use crate::opened::Opened;
 use crate::request::Reply;
@@ -61,7 +60,6 @@ impl StoreChange {
         requires { CanTake store.old self }
         ensures reply { result ≡ store_reply self }
         ensures leaves { store.new.state ≡ store_after store.old.state self }
-        ensures room { UsesRoom (contents_added self) (leases_added self) store.old store.new }
     {
         match self {
             StoreChange::Put { key, bytes, digest } => {
@@ -99,7 +97,6 @@ impl StoreChange {
         requires opened { Each (IsOpened store.old.state.contents) opened.old }
         ensures reply { result ≡ store_reply self }
         ensures leaves { store.new.state ≡ store_after store.old.state self }
-        ensures room { UsesRoom (contents_added self) (leases_added self) store.old store.new }
         ensures opened { Each (IsOpened store.new.state.contents) opened.new }
     {
         let removes = self.removes();

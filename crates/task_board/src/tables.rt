@@ -11,13 +11,12 @@ ghost use Rattle.content_leases.specs.Digests.{digest_of};
 ghost use Rattle.content_leases.specs.StoreState.{content_in, unheld};
 ghost use Rattle.content_leases.specs.Refusals.{first_refusal, put_refusals, lease_create_refusals, lease_add_refusals};
 ghost use Rattle.task_board.specs.BoardState.{Task as TaskValue, empty, used_by};
-ghost use Rattle.task_board.specs.BoardValue.{KeepsRoom};
 ghost use Rattle.task_board.specs.Limits.{max_budget};
 ghost use Rattle.task_board.specs.Loans.{Fits};
 ghost use Rattle.task_board.specs.Prepared.{Prepares, refusal_of, refusal_answered};
 ghost use Rattle.wasm_ast.specs.declared.refusal.Refusal.{Refusal as Reason};
 ghost use Rattle.oci_config.specs.declared.process.ProcessConfig.{ProcessConfig as ProcessValue};
-ghost use Rattle.task_board.specs.Refusals.{is_full, delete_refusals, CannotOpen};
+ghost use Rattle.task_board.specs.Refusals.{is_full, unless_allowed, CannotOpen};
 ghost use Rattle.task_board.specs.Inside.OpenedModules.{IsOpen};
 ghost use Rattle.task_board.specs.Sound.{IsBoard};
 ghost use Rattle.task_board.specs.Step.{Answers, Step};
@@ -383,7 +382,6 @@ impl Tables {
         ensures answers { (r : RequestValue) → IsMadeFor r change
             → Answers self.old.state r (Ok result) self.new.state }
         ensures waiting { self.new.waiting ≡ self.old.waiting }
-        ensures room { KeepsRoom self.old self.new }
     {
         change.make_and_drop(&mut self.store, &mut self.opened)
     }
@@ -394,7 +392,6 @@ impl Tables {
         ensures answers { (r : RequestValue) → CreatePrepared self.old.state r task id
             → Answers self.old.state r (Ok result) self.new.state }
         ensures waiting { self.new.waiting ≡ self.old.waiting }
-        ensures room { KeepsRoom self.old self.new }
     {
         self.tasks.insert_reserved(task);
         self.creates += 1;
@@ -412,7 +409,6 @@ impl Tables {
         ensures ticket { running_ticket id self.new.state.tasks
             ≡ ticket_in slot self.new.state.tasks }
         ensures waiting { self.new.waiting ≡ self.old.waiting }
-        ensures room { KeepsRoom self.old self.new }
     {
         let Some(task) = self.tasks.get_mut(slot) else {
             unreachable!();
@@ -450,7 +446,6 @@ impl Tables {
             (change_request change id) (Ok result) self.new.state }
         ensures waiting { self.new.waiting ≡ waiting_after_call (change_request change id)
             self.new.state.tasks self.old.waiting }
-        ensures room { KeepsRoom self.old self.new }
     {
         let reply = self.change(slot, id, change);
         if change.enters() {
@@ -461,11 +456,11 @@ impl Tables {
 
     // Removes the task in a slot.
     fn delete(&mut self, slot: usize, id: Text) -> Reply
-        requires { CallPrepared self.old.state delete_refusals slot id }
+        requires { CallPrepared self.old.state
+            (unless_allowed TaskCall.Delete Refusal.WrongStatus) slot id }
         ensures answers { Answers self.old.state (request.Delete id) (Ok result) self.new.state }
         ensures waiting { self.new.waiting
             ≡ waiting_after_call (request.Delete id) self.new.state.tasks self.old.waiting }
-        ensures room { KeepsRoom self.old self.new }
     {
         let Some(task) = self.tasks.try_remove(slot) else {
             unreachable!();
@@ -483,7 +478,6 @@ impl Tables {
         ensures memory { result ≢ Err Refusal.NoMemory }
         ensures waiting { (r : RequestValue) → Prepares self.old r prepared → self.new.waiting
             ≡ waiting_after r result self.new.state.tasks self.old.waiting }
-        ensures room { KeepsRoom self.old self.new }
     {
         match prepared.plan {
             Plan::Refused(refusal) => Err(refusal),
@@ -535,7 +529,6 @@ impl Tables {
         ensures none { IfNone result ((t : TaskValue) → CanLend ticket self.old.state.tasks t → ⊥) }
         ensures same { IfNone result (self.new ≡ self.old) }
         ensures waiting { self.new.waiting ≡ self.old.waiting }
-        ensures room { KeepsRoom self.old self.new }
     {
         let task = self.tasks.get_mut(ticket.slot)?;
         if task.incarnation() != ticket.incarnation {
@@ -559,11 +552,10 @@ impl Tables {
     pub fn receive(&mut self, loan: Loan) -> Option<Ticket>
         requires ran { loan.ran ≡ true }
         requires fits { Fits loan self.old.state.tasks }
-        ensures home { Step self.old.state
+        ensures step { Step self.old.state
             (event.Return loan.id) (answer.Returned true) self.new.state }
         ensures ticket { result ≡ ticket_in loan.slot self.new.state.tasks }
         ensures waiting { self.new.waiting ≡ self.old.waiting }
-        ensures room { KeepsRoom self.old self.new }
     {
         slices_go_forward();
         slices_stop_first();
@@ -579,14 +571,13 @@ impl Tables {
     /// Takes the machine of a loan back; a loan that does not fit is ended.
     pub fn give_back(&mut self, loan: Loan) -> Option<Ticket>
         requires { loan.ran ≡ true }
-        ensures home { Fits loan self.old.state.tasks
+        ensures step { Fits loan self.old.state.tasks
             → Step self.old.state (event.Return loan.id) (answer.Returned true) self.new.state }
         ensures ticket { Fits loan self.old.state.tasks
             → result ≡ ticket_in loan.slot self.new.state.tasks }
         ensures unfit { (Fits loan self.old.state.tasks → ⊥)
             → (self.new ≡ self.old) × (result ≡ None) }
         ensures waiting { self.new.waiting ≡ self.old.waiting }
-        ensures room { KeepsRoom self.old self.new }
     {
         if self.fits(&loan) {
             self.receive(loan)

@@ -10,7 +10,7 @@ ghost use Rattle.content_leases.specs.StoreState.{is_among};
 ghost use Rattle.task_board.specs.BoardState.{created_task, entry_of, used_by};
 ghost use Rattle.task_board.specs.Loans.{Lent, loan_of, FitsTask};
 ghost use Rattle.task_board.specs.Refusals.{Openable};
-ghost use Rattle.task_board.specs.Tasks.{exit_of, standing_at_start, started, paused, resumed, first_signal, killed, standing_onward, standing_after, advanced, slice_turns, can_lend, lent, state_of, output_of};
+ghost use Rattle.task_board.specs.Tasks.{started, paused, resumed, first_signal, killed, advanced, slice_turns, can_lend, lent, state_of, output_of};
 ghost use Rattle.task_board.specs.Tickets.{ticket_if_running};
 ghost use Rattle.task_board.specs.Waiting.{is_present};
 ghost use Rattle.task_board.specs.Inside.Machines.{IsMachine};
@@ -26,7 +26,7 @@ use slab::Slab;
 use std::alloc::{AllocError, Global};
 use std::marker::Model;
 use std::sync::Arc;
-use step_machine::{Breaks, End, Machine, SliceEnd};
+use step_machine::{Breaks, Machine};
 use task_lifecycle::{ExitRecord, Signal, Status};
 use wasm_ast::{Sequence, Text};
 use wasm_binary::laws::spells_one;
@@ -163,9 +163,7 @@ impl Task {
         let Some(checkout) = &self.checkout else {
             unreachable!();
         };
-        let halted = checkout.machine.halted();
-        let at_break = halted.is_none() && checkout.machine.is_at(&self.breaks);
-        let (status, end) = standing_at_start(halted, at_break);
+        let (status, end) = checkout.landing(None, false);
         self.status = status;
         self.end = end;
         self.signal = None;
@@ -247,24 +245,14 @@ impl Task {
         requires fits { FitsTask loan self.old }
         ensures { self.new ≡ advanced self.old (slice_turns self.old loan.budget) }
     {
-        let (checkout, outcome) = loan.into_parts();
-        let (status, end) = standing_after(outcome, self.signal, self.status);
+        let checkout = loan.into_checkout();
+        let (status, end) = checkout.landing(self.signal, self.status == Status::Pausing);
         self.turns = checkout.machine.turns();
         self.checkout = Some(checkout);
         self.out = None;
         self.signal = None;
         self.status = status;
         self.end = end;
-    }
-}
-
-fn exit_of(end: End) -> ExitRecord
-    ensures { result ≡ exit_of end }
-{
-    match end {
-        End::Returned => ExitRecord::Return,
-        End::Exited(code) => ExitRecord::Exit(code),
-        End::Trapped(trap) => ExitRecord::Trapped(trap),
     }
 }
 
@@ -275,51 +263,6 @@ fn first_signal(pending: Option<Signal>, signal: Signal) -> Signal
     match pending {
         Some(first) => first,
         None => signal,
-    }
-}
-
-// The status of a task that is started, and how it has ended if it has.
-fn standing_at_start(halted: Option<End>, at_break: bool) -> (Status, Option<ExitRecord>)
-    ensures { result ≡ standing_at_start halted at_break }
-{
-    match halted {
-        Some(end) => (Status::Stopped, Some(exit_of(end))),
-        None => if at_break {
-            (Status::Paused, None)
-        } else {
-            (Status::Running, None)
-        },
-    }
-}
-
-// The same of a task that goes on after a slice.
-fn standing_onward(signal: Option<Signal>, pauses: bool) -> (Status, Option<ExitRecord>)
-    ensures { result ≡ standing_onward signal pauses }
-{
-    match signal {
-        Some(signal) => (Status::Stopped, Some(ExitRecord::Kill(signal))),
-        None => if pauses {
-            (Status::Paused, None)
-        } else {
-            (Status::Running, None)
-        },
-    }
-}
-
-// The same of a task whose slice ended so.
-fn standing_after(
-    outcome: SliceEnd,
-    signal: Option<Signal>,
-    status: Status,
-) -> (Status, Option<ExitRecord>)
-    ensures { result ≡ standing_after outcome signal status }
-{
-    match outcome {
-        SliceEnd::Budget => standing_onward(signal, status == Status::Pausing),
-        SliceEnd::Break => standing_onward(signal, true),
-        SliceEnd::Returned => (Status::Stopped, Some(ExitRecord::Return)),
-        SliceEnd::Exited(code) => (Status::Stopped, Some(ExitRecord::Exit(code))),
-        SliceEnd::Trapped(trap) => (Status::Stopped, Some(ExitRecord::Trapped(trap))),
     }
 }
 

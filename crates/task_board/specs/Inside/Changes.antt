@@ -1,5 +1,6 @@
 -- The requests that change a task, in one.
 use Rattle.std.specs.Prelude.{ℕ, List, Bool, true, false}
+use Rattle.wasm_ast.specs.declared.refusal.Refusal.TheVariants as refusal
 use Rattle.task_lifecycle.specs.declared.lifecycle.TaskCall.{TaskCall}
 use Rattle.task_lifecycle.specs.declared.lifecycle.TaskCall.TheVariants as call
 use Rattle.task_lifecycle.specs.declared.status.Status.{Status}
@@ -13,7 +14,7 @@ use Rattle.task_board.specs.declared.request.Reply.TheVariants as reply
 use Rattle.content_leases.specs.Refusals.{Refusals}
 use Rattle.task_board.specs.BoardState.{Task}
 use Rattle.task_board.specs.Tasks.{started, paused, resumed, killed}
-use Rattle.task_board.specs.Refusals.{start_refusals, pause_refusals, resume_refusals, kill_refusals}
+use Rattle.task_board.specs.Refusals.{unless_allowed, kill_refusals}
 
 abbrev pub change_call : Change → TaskCall
 change_call change.Start = call.Start
@@ -41,9 +42,9 @@ change_reply change.Resume id status = reply.Resume id status
 change_reply (change.Kill signal) id status = reply.Kill id status
 
 abbrev pub change_refusals : Change → Task → Refusals
-change_refusals change.Start t = start_refusals t
-change_refusals change.Pause t = pause_refusals t
-change_refusals change.Resume t = resume_refusals t
+change_refusals change.Start t = unless_allowed call.Start refusal.WrongStatus t
+change_refusals change.Pause t = unless_allowed call.Pause refusal.WrongStatus t
+change_refusals change.Resume t = unless_allowed call.Resume refusal.WrongStatus t
 change_refusals (change.Kill signal) t = kill_refusals (signal_number signal) t
 
 -- the task after the change

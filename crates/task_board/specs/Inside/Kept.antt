@@ -1,12 +1,11 @@
 -- What the code keeps of a task and of a loan beside what a call can see.
-use Rattle.std.specs.Prelude.{◌≡◌, ℕ, ◌+◌, List, true, Option, Some, None}
+use Rattle.std.specs.Prelude.{◌≡◌, ℕ, ◌+◌, List, Bool, true, false, Option, Some, None}
 use Rattle.std.specs.Arc.{arc_value}
 use Rattle.wasm_ast.specs.declared.module.Module.{Module}
 use Rattle.oci_config.specs.declared.process.ProcessConfig.{ProcessConfig}
 use Rattle.wasm_ast.specs.declared.place.Place.{Place}
-use Rattle.step_machine.specs.declared.ends.SliceEnd.{SliceEnd}
 use Rattle.step_machine.specs.MachineView.{MachineView}
-use Rattle.step_machine.specs.Slices.{turns_made, slice_end}
+use Rattle.step_machine.specs.Slices.{turns_made}
 use Rattle.task_board.specs.declared.checkout.Checkout.{Checkout}
 use Rattle.task_board.specs.declared.checkout.Shared.{Shared}
 use Rattle.task_board.specs.BoardState.{Task}
@@ -41,12 +40,11 @@ SharesWith l s breaks =
     (l.id ≡ s.id) × (l.bytes ≡ arc_value s.bytes) × (l.process ≡ s.process) × (l.breaks ≡ breaks)
 
 -- the machine of a loan, before its slice is run and after
-abbrev pub IsSlice : Lent → MachineView → Option SliceEnd → Type 0
-IsSlice l r None = IsMachine r l.module l.process l.turns
-IsSlice l r (Some e) =
+abbrev pub IsSlice : Lent → MachineView → (ran : Bool) → Type 0
+IsSlice l r false = IsMachine r l.module l.process l.turns
+IsSlice l r true =
     IsMachine r l.module l.process
     (l.turns + turns_made l.module l.process l.turns l.breaks l.budget)
-    × (e ≡ slice_end l.module l.process l.turns l.breaks l.budget)
 
-abbrev pub IsLoan : Lent → MachineView → Option SliceEnd → Type 0
-IsLoan l r outcome = Openable l.bytes l.process l.module × IsSlice l r outcome
+abbrev pub IsLoan : Lent → MachineView → (ran : Bool) → Type 0
+IsLoan l r ran = Openable l.bytes l.process l.module × IsSlice l r ran

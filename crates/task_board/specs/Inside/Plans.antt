@@ -9,6 +9,7 @@ use Rattle.task_board.specs.declared.prepared.Plan.TheVariants as plan
 use Rattle.task_board.specs.declared.request.Request.{Request}
 use Rattle.task_board.specs.declared.request.Request.TheVariants as request
 use Rattle.task_lifecycle.specs.declared.lifecycle.TaskCall.{TaskCall}
+use Rattle.task_lifecycle.specs.declared.lifecycle.TaskCall.TheVariants as call
 use Rattle.task_lifecycle.specs.Lifecycle.{allowed}
 use Rattle.wasm_ast.specs.Identifiers.{is_id}
 use Rattle.content_leases.specs.StoreState.{content_in}
@@ -17,7 +18,7 @@ use Rattle.oci_config.specs.Config.{process_read}
 use Rattle.oci_config.specs.Streams.{stream_of}
 use Rattle.task_board.specs.BoardState.{Task, created_task, BoardState, entry_of, task_of}
 use Rattle.task_board.specs.BoardValue.{Room}
-use Rattle.task_board.specs.Refusals.{is_full, create_refusals, kill_refusals, delete_refusals, output_refusals, task_refusals, Openable, CannotOpen}
+use Rattle.task_board.specs.Refusals.{is_full, create_refusals, unless_allowed, kill_refusals, output_refusals, task_refusals, Openable, CannotOpen}
 use Rattle.task_board.specs.Step.{Answers}
 use Rattle.task_board.specs.Tasks.{output_of}
 use Rattle.task_board.specs.Inside.Changes.{change_request, change_refusals}
@@ -41,7 +42,7 @@ pub record IsAllowed (s : BoardState) (id : List ℕ) (c : TaskCall) (e : ℕ ×
 abbrev pub RefusesTask : BoardState → (id : List ℕ) → TaskCall → (refused e : Refusal) → Type 0
 RefusesTask s id c refused e =
     first_refusal
-    (task_refusals id (λ t. (not (allowed c t.status), refused) ∷ []) (task_of id s.tasks))
+    (task_refusals id (unless_allowed c refused) (task_of id s.tasks))
     ≡ Some e
 
 -- why a kill of the task with this id by that number is refused
@@ -102,7 +103,8 @@ Plans s room r (plan.Create task id) = CreatePrepared s r task id
 Plans s room r (plan.Change c slot id) =
     (r ≡ change_request c id) × CallPrepared s (change_refusals c) slot id
 Plans s room r (plan.Delete slot id) =
-    (r ≡ request.Delete id) × CallPrepared s delete_refusals slot id
+    (r ≡ request.Delete id)
+    × CallPrepared s (unless_allowed call.Delete refusal.WrongStatus) slot id
 
 abbrev pub refusal_in : Plan → Option Refusal
 refusal_in (plan.Refused e) = Some e

@@ -1,5 +1,5 @@
 -- What contracts see of tables, tasks and loans.
-use Rattle.std.specs.Prelude.{ℕ, ◌-◌, length, false, is_some}
+use Rattle.std.specs.Prelude.{ℕ, false}
 use Rattle.std.specs.Arc.{arc_value}
 use Rattle.task_board.specs.declared.checkout.Checkout.{Checkout}
 use Rattle.task_board.specs.declared.loan.Loan.TheInside as loan
@@ -27,7 +27,7 @@ lent_with slot incarnation turns budget c = record {
 
 abbrev pub lent_of : loan.Inside → Lent
 lent_of l =
-    record (lent_with l.slot l.incarnation l.turns l.budget l.checkout) { ran = is_some l.outcome }
+    record (lent_with l.slot l.incarnation l.turns l.budget l.checkout) { ran = l.ran }
 
 abbrev pub task_of : task.Inside → Task
 task_of t = record {
@@ -54,6 +54,5 @@ board_of b = record {
   room = record {
     contents = b.store.content_room;
     leases = b.store.lease_room;
-    tasks = b.tasks.capacity - length (entries b.tasks);
   };
 }

@@ -91,12 +91,3 @@ abbrev pub removes : StoreChange → Bool
 removes (change.Remove digest) = true
 removes (change.Gc used removed) = true
 removes other = false
-
--- how much of the room for contents and for leases it uses
-abbrev pub contents_added : StoreChange → ℕ
-contents_added (change.Put key bytes digest) = 1
-contents_added other = 0
-
-abbrev pub leases_added : StoreChange → ℕ
-leases_added (change.LeaseCreate key members id) = 1
-leases_added other = 0

@@ -32,8 +32,8 @@ returns-in_err-valid-clause-refused c e p is other =
       short = c.in_ok-module.ensures.within.1;
     } in
     let why = unchecked c.validate.result e c.validate.ensures.err (c.in_err-valid.was ∙ ap Err same) other in
-    subst (λ (y : Refusal). CannotOpen c.args.bytes.now p y) (sym why)
-    (invalid m spelled (c.validate.ensures.invalid (c.in_err-valid.was ∙ ap Err (same ∙ why))))
+    subst (λ (y : Refusal). CannotOpen c.args.bytes.now p y) (sym why.1)
+    (invalid m why.0 spelled (c.validate.ensures.invalid why.0 (c.in_err-valid.was ∙ ap Err (same ∙ why.1))))
 
 pub returns-clause-refused : goal.returns-clause-refused
 returns-clause-refused c e p is other =

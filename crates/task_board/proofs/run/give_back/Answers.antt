@@ -49,7 +49,7 @@ returns-clause-returned c =
     let ran = fits_run s.tasks c.in-Some.ticket.slot c.remove-loan.result c.run.new.self c.run.ensures taken.1 in
     let of = fitting_id s c.args.id c.in-Some.ticket c.run.new.self c.sound.ensures ticket ran in
     subst (λ (x : List ℕ). Returns s (task_of x s.tasks) c.receive-again.new.self.state) of.own
-    c.receive-again.ensures.home
+    c.receive-again.ensures.step
 
 pub returns-clause-covered : goal.returns-clause-covered
 returns-clause-covered c =
@@ -66,7 +66,7 @@ returns-clause-covered c =
     let of = fitting_id s c.args.id c.in-Some.ticket c.run.new.self c.sound.ensures ticket ran in
     let back =
     subst (λ (x : List ℕ). Returns s (task_of x s.tasks) c.receive-again.new.self.state) of.own
-    c.receive-again.ensures.home in
+    c.receive-again.ensures.step in
     subst (λ (ls : List Lent). Covered ls c.receive-again.new.self.state.tasks) (sym c.remove-loan.ensures.items)
     (returns_covered s c.args.loans.now.items c.in-Some-find_fitting.i c.remove-loan.result mine.task c.args.id
     c.receive-again.new.self.state c.sound.ensures taken.0 mine.there mine.found back c.requires)

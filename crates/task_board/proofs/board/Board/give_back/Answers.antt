@@ -11,9 +11,9 @@ returns-clause-ticket c =
     λ fits. c.give_back.ensures.ticket
     (subst (λ (b : BoardValue). Fits c.args.loan b.state.tasks) (sym c.self.view_is) fits)
 
-pub returns-clause-home : goal.returns-clause-home
-returns-clause-home c = λ fits.
+pub returns-clause-step : goal.returns-clause-step
+returns-clause-step c = λ fits.
     subst
     (λ (b : BoardValue). Step b.state (event.Return c.args.loan.id) (answer.Returned true)
     c.give_back.new.self.state) c.self.view_is
-    (c.give_back.ensures.home (subst (λ (b : BoardValue). Fits c.args.loan b.state.tasks) (sym c.self.view_is) fits))
+    (c.give_back.ensures.step (subst (λ (b : BoardValue). Fits c.args.loan b.state.tasks) (sym c.self.view_is) fits))

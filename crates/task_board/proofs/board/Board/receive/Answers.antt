@@ -10,8 +10,8 @@ pub receive-requires-clause-fits : goal.receive-requires-clause-fits
 receive-requires-clause-fits c =
     subst (λ (b : BoardValue). Fits c.args.loan b.state.tasks) (sym c.self.view_is) c.requires.fits
 
-pub returns-clause-home : goal.returns-clause-home
-returns-clause-home c =
+pub returns-clause-step : goal.returns-clause-step
+returns-clause-step c =
     subst
     (λ (b : BoardValue). Step b.state (event.Return c.args.loan.id) (answer.Returned true) c.receive.new.self.state)
-    c.self.view_is c.receive.ensures.home
+    c.self.view_is c.receive.ensures.step

@@ -1,12 +1,12 @@
 use Rattle.std.proofs.Common.{Ok, subst, ℕ, sym, ◌≤◌}
 use Rattle.task_board.specs.declared.request.Reply.TheVariants as reply
 use Rattle.task_lifecycle.specs.declared.status.Status.TheVariants.{Created}
-use Rattle.task_board.specs.BoardValue.{BoardValue, KeepsRoom}
+use Rattle.task_board.specs.BoardValue.{BoardValue}
 use Rattle.task_board.specs.Step.{Answers}
 use Rattle.task_board.specs.Inside.Plans.{CreatePrepared}
-use Rattle.task_board.specs.Inside.Shown.{board_state_of, board_of}
+use Rattle.task_board.specs.Inside.Shown.{board_state_of}
 use Rattle.task_board.proofs.EffectLemmas.{answers_sound}
-use Rattle.task_board.proofs.TableLemmas.{with_insert, room_for_task, inserted_answers, inserted_waits, insert_keeps}
+use Rattle.task_board.proofs.TableLemmas.{with_insert, room_for_task, inserted_answers, inserted_waits}
 use Rattle.task_board.proofs.tables.Tables.add_task.Goals as goal
 
 pub insert_reserved-requires : goal.insert_reserved-requires
@@ -47,14 +47,3 @@ returns-clause-answers c r given =
     BoardValue → Type 0 =
     λ v. Answers v.state r (Ok (reply.Create c.args.id Created)) (board_state_of (with_insert c.self.inside new)) in
     subst Q c.self.view_is answers
-
-pub returns-clause-room : goal.returns-clause-room
-returns-clause-room c =
-    let P : BoardValue → Type 0 = λ v. CreatePrepared v.state c.requires.0 c.args.task c.args.id in
-    let p = subst P (sym c.self.view_is) c.requires.1 in
-    let new = c.insert_reserved.new.self in
-    let e = c.insert_reserved.ensures in
-    let room = room_for_task c.self.inside c.requires.0 c.args.task c.args.id c.self.invariant.tasks_room p in
-    let Q : BoardValue → Type 0 = λ v. KeepsRoom v (board_of (with_insert c.self.inside new)) in
-    subst Q c.self.view_is
-    (insert_keeps c.self.inside new c.insert_reserved.result c.args.task e.was_vacant e.updates room e.capacity)

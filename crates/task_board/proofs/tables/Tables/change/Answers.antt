@@ -4,11 +4,11 @@ use Rattle.task_lifecycle.specs.declared.status.Status.{Status}
 use Rattle.task_lifecycle.specs.Lifecycle.{allowed}
 use Rattle.task_board.specs.declared.request.Reply.{Reply}
 use Rattle.task_board.specs.BoardState.{Task}
-use Rattle.task_board.specs.BoardValue.{BoardValue, KeepsRoom}
+use Rattle.task_board.specs.BoardValue.{BoardValue}
 use Rattle.task_board.specs.Step.{Answers}
 use Rattle.task_board.specs.Inside.Changes.{change_call, change_request, change_reply, change_refusals}
 use Rattle.task_board.specs.Inside.Plans.{CallPrepared}
-use Rattle.task_board.specs.Inside.Shown.{board_state_of, board_of}
+use Rattle.task_board.specs.Inside.Shown.{board_state_of}
 use Rattle.task_board.proofs.EntryLemmas.{none_is_not, some_is}
 use Rattle.task_board.proofs.EffectLemmas.{change_allowed, answers_sound}
 use Rattle.task_board.proofs.TableLemmas.{with_write, call_there, changed_there}
@@ -70,18 +70,6 @@ returns-clause-answers c =
     (Ok (change_reply c.args.change c.args.id x)) s' in
     let T : Reply → Type 0 = λ x. Answers c.args.self.now.state (change_request c.args.change c.args.id) (Ok x) s' in
     subst T (sym c.reply.ensures) (subst R (sym c.status-status.ensures) (subst Q c.self.view_is done.answers))
-
-pub returns-clause-room : goal.returns-clause-room
-returns-clause-room c =
-    let P : BoardValue → Type 0 = λ v. CallPrepared v.state (change_refusals c.args.change) c.args.slot c.args.id in
-    let p = subst P (sym c.self.view_is) c.requires in
-    let here : get c.self.inside.tasks c.args.slot ≡ Some c.in-Some.task.now = search rules in
-    let done =
-    changed_there c.self.inside c.args.change c.args.slot c.args.id c.in-Some.task.now c.change.new.self
-    c.self.invariant.sound c.self.invariant.waiting p here c.change.ensures in
-    let Q :
-    BoardValue → Type 0 = λ v. KeepsRoom v (board_of (with_write c.self.inside c.args.slot c.change.new.self)) in
-    subst Q c.self.view_is done.room
 
 pub returns-clause-ticket : goal.returns-clause-ticket
 returns-clause-ticket c =

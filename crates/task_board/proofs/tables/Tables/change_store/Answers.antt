@@ -2,12 +2,12 @@ use Rattle.std.proofs.Common.{Ok, sym, subst}
 use Rattle.content_leases.specs.StoreState.{StoreState}
 use Rattle.task_board.specs.declared.request.Reply.{Reply}
 use Rattle.task_board.specs.BoardState.{with_store}
-use Rattle.task_board.specs.BoardValue.{BoardValue, KeepsRoom}
+use Rattle.task_board.specs.BoardValue.{BoardValue}
 use Rattle.task_board.specs.Step.{Answers}
 use Rattle.task_board.specs.Inside.StoreChanges.{store_request, store_reply, StorePrepared}
 use Rattle.task_board.specs.Inside.Shown.{board_state_of, board_of}
 use Rattle.task_board.proofs.EffectLemmas.{answers_sound}
-use Rattle.task_board.proofs.StoreChangeLemmas.{with_shelf, store_answers, made_answers, can_take, store_keeps}
+use Rattle.task_board.proofs.StoreChangeLemmas.{store_answers, made_answers, can_take}
 use Rattle.task_board.proofs.tables.Tables.change_store.Goals as goal
 
 pub make_and_drop-requires-clause-can : goal.make_and_drop-requires-clause-can
@@ -55,13 +55,3 @@ returns-clause-answers c r made =
     let own = subst R (sym c.make_and_drop.ensures.reply) (subst Q c.self.view_is after) in
     made_answers c.args.self.now.state r c.args.change (Ok c.make_and_drop.result)
     (with_store s c.make_and_drop.new.store.state) made own
-
-pub returns-clause-room : goal.returns-clause-room
-returns-clause-room c =
-    let b = c.self.inside in
-    let Q :
-    BoardValue → Type 0 =
-    λ v. KeepsRoom v (board_of (with_shelf b c.make_and_drop.new.store c.make_and_drop.new.opened)) in
-    subst Q c.self.view_is
-    (store_keeps b c.args.change c.make_and_drop.new.store c.make_and_drop.new.opened c.make_and_drop.ensures.leaves
-    c.make_and_drop.ensures.room)

@@ -1,5 +1,7 @@
 use Rattle.std.proofs.Common.{List, ◌≡◌, ◌∙◌, Some, None, Ok, sym, ap, subst, ℕ, ◌≤◌, rules}
 use Rattle.slab.specs.Slab.{get, entries}
+use Rattle.wasm_ast.specs.declared.refusal.Refusal.TheVariants as refusal
+use Rattle.task_lifecycle.specs.declared.lifecycle.TaskCall.TheVariants as call
 use Rattle.task_board.specs.declared.ticket.Ticket.{Ticket}
 use Rattle.task_board.specs.Waiting.{AreWaiting}
 use Rattle.task_board.proofs.WaitingLemmas.{filtered}
@@ -7,12 +9,12 @@ use Rattle.task_board.specs.declared.request.Request.TheVariants as request
 use Rattle.task_board.specs.declared.request.Reply.TheVariants as reply
 use Rattle.task_board.specs.declared.request.TaskState.{TaskState}
 use Rattle.task_board.specs.BoardState.{Task}
-use Rattle.task_board.specs.BoardValue.{BoardValue, KeepsRoom}
-use Rattle.task_board.specs.Refusals.{delete_refusals}
+use Rattle.task_board.specs.BoardValue.{BoardValue}
+use Rattle.task_board.specs.Refusals.{unless_allowed}
 use Rattle.task_board.specs.Step.{Answers}
 use Rattle.task_board.specs.Tasks.{state_of}
 use Rattle.task_board.specs.Inside.Plans.{CallPrepared}
-use Rattle.task_board.specs.Inside.Shown.{board_state_of, board_of}
+use Rattle.task_board.specs.Inside.Shown.{board_state_of}
 use Rattle.task_board.proofs.EntryLemmas.{none_is_not, some_is, named}
 use Rattle.task_board.proofs.EffectLemmas.{answers_sound}
 use Rattle.task_board.proofs.TableLemmas.{with_slab, call_there, removed_there}
@@ -20,17 +22,17 @@ use Rattle.task_board.proofs.tables.Tables.delete.Goals as goal
 
 pub unreachable-requires : goal.unreachable-requires
 unreachable-requires c =
-    let P : BoardValue → Type 0 = λ v. CallPrepared v.state delete_refusals c.args.slot c.args.id in
+    let P : BoardValue → Type 0 = λ v. CallPrepared v.state (unless_allowed call.Delete refusal.WrongStatus) c.args.slot c.args.id in
     let p = subst P (sym c.self.view_is) c.requires in
-    let at = call_there c.self.inside delete_refusals c.args.slot c.args.id c.self.invariant.sound p in
+    let at = call_there c.self.inside (unless_allowed call.Delete refusal.WrongStatus) c.args.slot c.args.id c.self.invariant.sound p in
     let none : get c.self.inside.tasks c.args.slot ≡ None = search rules in
     none_is_not p.task (sym none ∙ at)
 
 pub state-requires : goal.state-requires
 state-requires c =
-    let P : BoardValue → Type 0 = λ v. CallPrepared v.state delete_refusals c.args.slot c.args.id in
+    let P : BoardValue → Type 0 = λ v. CallPrepared v.state (unless_allowed call.Delete refusal.WrongStatus) c.args.slot c.args.id in
     let p = subst P (sym c.self.view_is) c.requires in
-    let at = call_there c.self.inside delete_refusals c.args.slot c.args.id c.self.invariant.sound p in
+    let at = call_there c.self.inside (unless_allowed call.Delete refusal.WrongStatus) c.args.slot c.args.id c.self.invariant.sound p in
     let here : get c.self.inside.tasks c.args.slot ≡ Some c.in-Some.task = search rules in
     let same = some_is p.task c.in-Some.task (sym at ∙ here) in
     sym (named c.args.id (board_state_of c.self.inside).tasks (c.args.slot, p.task) p.found)
@@ -38,14 +40,14 @@ state-requires c =
 
 pub invariant_of-self : goal.invariant_of-self
 invariant_of-self c =
-    let P : BoardValue → Type 0 = λ v. CallPrepared v.state delete_refusals c.args.slot c.args.id in
+    let P : BoardValue → Type 0 = λ v. CallPrepared v.state (unless_allowed call.Delete refusal.WrongStatus) c.args.slot c.args.id in
     let p = subst P (sym c.self.view_is) c.requires in
     let here : get c.self.inside.tasks c.args.slot ≡ Some c.in-Some.task = search rules in
     let new = c.try_remove.new.self in
     let e = c.in-Some.ensures in
     let done =
     removed_there c.self.inside c.args.slot c.args.id new c.keep_present.new.self c.in-Some.task
-    c.self.invariant.tasks_room c.self.invariant.sound p here e.slots e.capacity in
+    c.self.invariant.sound p here e.slots in
     record {
       waiting =
           subst (λ (ws : List Ticket). AreWaiting (entries new) ws) (sym c.keep_present.ensures)
@@ -56,36 +58,23 @@ invariant_of-self c =
           answers_sound (board_state_of c.self.inside) (request.Delete c.args.id)
           (Ok (reply.Delete (state_of c.in-Some.task)))
           (board_state_of (with_slab c.self.inside new c.keep_present.new.self))
-          c.self.invariant.sound done.answers;
+          c.self.invariant.sound done;
     }
 
 pub returns-clause-answers : goal.returns-clause-answers
 returns-clause-answers c =
-    let P : BoardValue → Type 0 = λ v. CallPrepared v.state delete_refusals c.args.slot c.args.id in
+    let P : BoardValue → Type 0 = λ v. CallPrepared v.state (unless_allowed call.Delete refusal.WrongStatus) c.args.slot c.args.id in
     let p = subst P (sym c.self.view_is) c.requires in
     let here : get c.self.inside.tasks c.args.slot ≡ Some c.in-Some.task = search rules in
     let new = c.try_remove.new.self in
     let e = c.in-Some.ensures in
     let done =
     removed_there c.self.inside c.args.slot c.args.id new c.keep_present.new.self c.in-Some.task
-    c.self.invariant.tasks_room c.self.invariant.sound p here e.slots e.capacity in
+    c.self.invariant.sound p here e.slots in
     let s' = board_state_of (with_slab c.self.inside new c.keep_present.new.self) in
     let Q :
     BoardValue → Type 0 =
     λ v. Answers v.state (request.Delete c.args.id) (Ok (reply.Delete (state_of c.in-Some.task))) s' in
     let R :
     TaskState → Type 0 = λ x. Answers c.args.self.now.state (request.Delete c.args.id) (Ok (reply.Delete x)) s' in
-    subst R (sym c.state.ensures) (subst Q c.self.view_is done.answers)
-
-pub returns-clause-room : goal.returns-clause-room
-returns-clause-room c =
-    let P : BoardValue → Type 0 = λ v. CallPrepared v.state delete_refusals c.args.slot c.args.id in
-    let p = subst P (sym c.self.view_is) c.requires in
-    let here : get c.self.inside.tasks c.args.slot ≡ Some c.in-Some.task = search rules in
-    let new = c.try_remove.new.self in
-    let e = c.in-Some.ensures in
-    let done =
-    removed_there c.self.inside c.args.slot c.args.id new c.keep_present.new.self c.in-Some.task
-    c.self.invariant.tasks_room c.self.invariant.sound p here e.slots e.capacity in
-    let Q : BoardValue → Type 0 = λ v. KeepsRoom v (board_of (with_slab c.self.inside new c.keep_present.new.self)) in
-    subst Q c.self.view_is done.room
+    subst R (sym c.state.ensures) (subst Q c.self.view_is done)

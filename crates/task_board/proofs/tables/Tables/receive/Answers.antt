@@ -1,16 +1,16 @@
 use Rattle.std.proofs.Common.{◌≡◌, ◌∙◌, Some, None, subst, sym, ap, ℕ, rules, option_and_then}
 use Rattle.slab.specs.Slab.{get, with_value, entries}
 use Rattle.task_board.specs.BoardState.{Task, task_of}
-use Rattle.task_board.specs.BoardValue.{BoardValue, KeepsRoom}
+use Rattle.task_board.specs.BoardValue.{BoardValue}
 use Rattle.task_board.specs.Loans.{Fits}
 use Rattle.task_board.specs.Step.{Returns}
 use Rattle.task_board.specs.Tickets.{ticket_in, ticket_if_running}
 use Rattle.task_board.specs.Inside.Shown.{board_state_of, board_of}
-use Rattle.task_board.proofs.TableLemmas.{with_write, written_waits, write_keeps, fits_nowhere, fits_here, back_there}
+use Rattle.task_board.proofs.TableLemmas.{with_write, written_waits, fits_nowhere, fits_here, back_there}
 use Rattle.task_board.proofs.tables.Tables.receive.Goals as goal
 
-pub returns-in_default-clause-home : goal.returns-in_default-clause-home
-returns-in_default-clause-home c =
+pub returns-in_default-clause-step : goal.returns-in_default-clause-step
+returns-in_default-clause-step c =
     let none : get c.self.inside.tasks c.args.loan.slot ≡ None = search rules in
     absurd
     (fits_nowhere c.self.inside c.args.loan none
@@ -56,8 +56,8 @@ invariant_of-self-2 c =
           (sym c.slot-slot.ensures) back.sound;
     }
 
-pub returns-clause-home : goal.returns-clause-home
-returns-clause-home c =
+pub returns-clause-step : goal.returns-clause-step
+returns-clause-step c =
     let here : get c.self.inside.tasks c.args.loan.slot ≡ Some c.in-Some.task.now = search rules in
     let fits =
     fits_here c.self.inside c.args.loan c.in-Some.task.now here
@@ -89,17 +89,3 @@ returns-clause-ticket c =
     let ticket = subst Q c.slot-slot.ensures c.ticket.ensures in
     subst P (sym c.slot-slot.ensures)
     (ticket ∙ sym (ap (option_and_then (ticket_if_running c.args.loan.slot)) back.there))
-
-pub returns-clause-room : goal.returns-clause-room
-returns-clause-room c =
-    let here : get c.self.inside.tasks c.args.loan.slot ≡ Some c.in-Some.task.now = search rules in
-    let fits =
-    fits_here c.self.inside c.args.loan c.in-Some.task.now here
-    (subst (λ (v : BoardValue). Fits c.args.loan v.state.tasks) (sym c.self.view_is) c.requires.fits) in
-    let back =
-    back_there c.self.inside c.args.loan c.in-Some.task.now c.receive.new.self c.slices_go_forward.ensures.at_least
-    c.slices_stop_first.ensures.not_before c.self.invariant.sound here fits c.receive.ensures in
-    let P : ℕ → BoardValue → Type 0 = λ k v. KeepsRoom v (board_of (with_write c.self.inside k c.receive.new.self)) in
-    subst (λ (v : BoardValue). P c.slot-slot.result v) c.self.view_is
-    (subst (λ (k : ℕ). P k (board_of c.self.inside)) (sym c.slot-slot.ensures)
-    (write_keeps c.self.inside c.args.loan.slot c.receive.new.self back.leaves))

@@ -1,13 +1,13 @@
 use Rattle.std.proofs.Common.{◌≡◌, ◌≢◌, ◌∙◌, Some, None, true≢false, Option, IfNone, sym, ap, subst, rules}
 use Rattle.slab.specs.Slab.{get}
 use Rattle.task_board.specs.BoardState.{Task}
-use Rattle.task_board.specs.BoardValue.{BoardValue, KeepsRoom}
+use Rattle.task_board.specs.BoardValue.{BoardValue}
 use Rattle.task_board.specs.Loans.{Lent}
 use Rattle.task_board.specs.Tasks.{can_lend}
 use Rattle.task_board.specs.Tickets.{CanLend, Lends}
 use Rattle.task_board.specs.Step.{taken}
-use Rattle.task_board.specs.Inside.Shown.{board_state_of, board_of}
-use Rattle.task_board.proofs.TableLemmas.{with_write, nothing_there, same_there, written, written_waits, write_keeps, lent_from, lends_keeps_sound, lends_is_taken}
+use Rattle.task_board.specs.Inside.Shown.{board_state_of}
+use Rattle.task_board.proofs.TableLemmas.{with_write, nothing_there, same_there, written_waits, lent_from, lends_keeps_sound, lends_is_taken}
 use Rattle.task_board.proofs.tables.Tables.take.Goals as goal
 
 pub returns-in_err-task-clause-none : goal.returns-in_err-task-clause-none
@@ -89,14 +89,3 @@ returns-clause-step c =
     subst P c.self.view_is
     (lends_is_taken (board_state_of b) c.args.ticket c.args.budget c.in_ok-loan.loan s'
     c.self.invariant.sound c.requires is)
-
-pub returns-clause-room : goal.returns-clause-room
-returns-clause-room c =
-    let b = c.self.inside in
-    let at : get b.tasks c.args.ticket.slot ≡ Some c.in_ok-task.task.now = search rules in
-    let done = c.in_ok-loan.ensures.some in
-    let is =
-    written b c.args.ticket.slot c.in_ok-task.task.now c.lend.new.self c.self.invariant.sound at
-    (ap (λ (u : Task). u.id) (sym done.2)) in
-    let P : BoardValue → Type 0 = λ v. KeepsRoom v (board_of (with_write b c.args.ticket.slot c.lend.new.self)) in
-    subst P c.self.view_is (write_keeps b c.args.ticket.slot c.lend.new.self is)
