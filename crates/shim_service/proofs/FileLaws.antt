@@ -17,6 +17,7 @@ use Rattle.step_machine.specs.Program.{Program, program}
 use Rattle.step_machine.specs.Configuration.{State, running, exited, trapped, stuck, Configuration, is_halted, is_empty}
 use Rattle.step_machine.specs.Turns.{from}
 use Rattle.step_machine.specs.Instantiation.{instantiation_refusal, initial, after, ended}
+use Rattle.validator.proofs.FaultLemmas.{fault_not_valid}
 use Rattle.shim_service.specs.declared.ran.Ran.{Ran}
 use Rattle.shim_service.specs.Source.{IsSource, IsNoSource}
 use Rattle.shim_service.specs.Source as source
@@ -99,19 +100,19 @@ pub checked_alike :
     → IsChecked bytes list s → Alike r s
 checked_alike one never bytes list r s (check.IsChecked.valid m h v) (check.IsChecked.valid n g w) =
     (ap (λ (x : Module). line (codes "ok") ++ list_if list x) (one bytes m n h g), refl)
-checked_alike one never bytes list r s (check.IsChecked.valid m h v) (check.IsChecked.invalid n g not_valid) =
-    absurd (not_valid (subst ValidModule (one bytes m n h g) v))
+checked_alike one never bytes list r s (check.IsChecked.valid m h v) (check.IsChecked.invalid n at g fault) =
+    absurd (fault_not_valid n at fault (subst ValidModule (one bytes m n h g) v))
 checked_alike one never bytes list r s (check.IsChecked.valid m h v) (check.IsChecked.no_module e g) =
     absurd (never bytes m e h g)
-checked_alike one never bytes list r s (check.IsChecked.invalid m h not_valid) (check.IsChecked.valid n g v) =
-    absurd (not_valid (subst ValidModule (one bytes n m g h) v))
-checked_alike one never bytes list r s (check.IsChecked.invalid m h not_valid) (check.IsChecked.invalid n g not_so) =
+checked_alike one never bytes list r s (check.IsChecked.invalid m at h fault) (check.IsChecked.valid n g v) =
+    absurd (fault_not_valid m at fault (subst ValidModule (one bytes n m g h) v))
+checked_alike one never bytes list r s (check.IsChecked.invalid m at h fault) (check.IsChecked.invalid n at' g fault') =
     (refl, refl)
-checked_alike one never bytes list r s (check.IsChecked.invalid m h not_valid) (check.IsChecked.no_module e g) =
+checked_alike one never bytes list r s (check.IsChecked.invalid m at h fault) (check.IsChecked.no_module e g) =
     (refl, refl)
 checked_alike one never bytes list r s (check.IsChecked.no_module e h) (check.IsChecked.valid n g v) =
     absurd (never bytes n e g h)
-checked_alike one never bytes list r s (check.IsChecked.no_module e h) (check.IsChecked.invalid n g not_valid) =
+checked_alike one never bytes list r s (check.IsChecked.no_module e h) (check.IsChecked.invalid n at g fault) =
     (refl, refl)
 checked_alike one never bytes list r s (check.IsChecked.no_module e h) (check.IsChecked.no_module d g) = (refl, refl)
 
@@ -196,8 +197,8 @@ no_refusal :
     → CannotRun bytes args e → ⊥
 no_refusal one never bytes args r e h (task.CannotRun.no_module x none) = never bytes h.module x h.source none
 no_refusal one never bytes args r e h (task.CannotRun.bad_arguments m g bad) = both h.arguments bad
-no_refusal one never bytes args r e h (task.CannotRun.invalid m g taken not_valid) =
-    not_valid (subst ValidModule (one bytes h.module m h.source g) h.valid)
+no_refusal one never bytes args r e h (task.CannotRun.invalid m at g taken fault) =
+    fault_not_valid m at fault (subst ValidModule (one bytes h.module m h.source g) h.valid)
 no_refusal one never bytes args r e h (task.CannotRun.not_instantiated m x g taken valid refused) =
     let opens =
     subst (λ (y : Module). instantiation_refusal y (process_with args) ≡ None)

@@ -1,8 +1,10 @@
 -- The list of instructions that `check` writes, and the alignments in it.
-use Rattle.std.proofs.Common.{◌≡◌, ◌⊎◌, inl, inr, ℕ, zero, suc, ◌+◌, ◌^◌, ◌<◌, ◌≤◌, List, [], ◌∷◌, ◌++◌, All, length, map, drop, get_or, reverse, sym, ap, ◌∙◌, append_assoc, arith}
-use Rattle.std.proofs.lemmas.List.Elements.{All-weaker}
+use Rattle.std.proofs.Common.{◌≡◌, ◌⊎◌, inl, inr, ℕ, zero, suc, ◌+◌, ◌^◌, ◌<◌, ◌≤◌, List, [], ◌∷◌, ◌++◌, All, Some, length, map, drop, get_or, reverse, refl, sym, ap, ◌∙◌, append_assoc, arith}
+use Rattle.std.proofs.lemmas.List.Elements.{All-nil, All-cons, All-head, All-tail}
 use Rattle.std.proofs.Math.Pow.{pow_mono}
+use Rattle.std.specs.Prelude.{slice_get}
 use Rattle.wasm_ast.specs.declared.values.ValType.{ValType}
+use Rattle.wasm_ast.specs.declared.values.FuncType.{FuncType}
 use Rattle.wasm_ast.specs.declared.operators.LoadOp.{LoadOp}
 use Rattle.wasm_ast.specs.declared.operators.LoadOp.TheVariants as load
 use Rattle.wasm_ast.specs.declared.operators.StoreOp.{StoreOp}
@@ -16,7 +18,7 @@ use Rattle.wasm_ast.specs.Access.{load_bytes, store_bytes}
 use Rattle.wasm_ast.specs.Syntax.{Op, simple, block, loop, if', Ops, stop, next, count, ops_count, ops_of}
 use Rattle.wasm_ast.specs.View.{op_of}
 use Rattle.text_assembler.specs.Lines.{HasAlignment, IsAligned}
-use Rattle.validator.specs.Typing.{Context, under, SimpleTyped, Typed, OpTyped, ValidFunc, ValidModule, body_context}
+use Rattle.validator.specs.Typing.{Context, under, SimpleTyped, Typed, OpTyped, ValidBody, ValidModule, body_context}
 use Rattle.shim_service.specs.Checked.{op_lines, ops_lines}
 use Rattle.shim_service.specs.Inside.Written.{OpAligned, OpsAligned}
 
@@ -102,11 +104,30 @@ mutual
   ops_aligned c (next o os) old new (between, first, rest) =
       (op_aligned c o old between first, ops_aligned c os between new rest)
 
+type_there : (types : List FuncType) (k : ℕ) → k < length types → (t : FuncType) × (slice_get types k ≡ Some t)
+type_there [] k h = absurd (omega arith)
+type_there (t ∷ ts) zero h = (t, refl)
+type_there (t ∷ ts) (suc k) h = type_there ts k (omega arith)
+
 -- the alignments of a valid module
 pub funcs_aligned : (m : Module) → ValidModule m → All (λ f. OpsAligned f.body) m.funcs
 funcs_aligned m valid =
-    All-weaker (ValidFunc m) (λ (f : Func). OpsAligned f.body)
-    (λ f v. ops_aligned (body_context m v.type f) f.body [] (reverse v.type.results) v.typed) m.funcs valid.funcs
+    aligned m.funcs valid.outside.funcs valid.bodies
+  where
+    body_aligned : (f : Func) → f.type_index < length m.types → ValidBody m f → OpsAligned f.body
+    body_aligned f there body =
+        let t = type_there m.types f.type_index there in
+        ops_aligned (body_context m t.0 f) f.body [] (reverse t.0.results) (body t.0 t.1)
+
+    aligned : (fs : List Func) → All (λ f. f.type_index < length m.types) fs → All (ValidBody m) fs
+        → All (λ f. OpsAligned f.body) fs
+    aligned [] there bodies = All-nil (λ (f : Func). OpsAligned f.body)
+    aligned (f ∷ fs) there bodies =
+        All-cons (λ (f : Func). OpsAligned f.body) f fs
+        (body_aligned f (All-head (λ (f : Func). f.type_index < length m.types) f fs there)
+        (All-head (ValidBody m) f fs bodies))
+        (aligned fs (All-tail (λ (f : Func). f.type_index < length m.types) f fs there)
+        (All-tail (ValidBody m) f fs bodies))
 
 pub line_aligned : (o : Op) → OpAligned o → IsAligned o
 line_aligned (simple s) h = h

@@ -1,7 +1,8 @@
 -- What a command answers where one of its parts was refused.
-use Rattle.std.proofs.Common.{◌≡◌, ◌≢◌, ◌⊎◌, inl, inr, ℕ, List, Bool, Result, Ok, Err, sym, subst}
+use Rattle.std.proofs.Common.{◌≡◌, ◌≢◌, ◌⊎◌, inl, inr, ℕ, List, Bool, Option, Result, Ok, Err, sym, subst}
 use Rattle.std.specs.Prelude.{IfOk, IfErr, OnOk, OnErr}
 use Rattle.wasm_ast.specs.declared.module.Module.{Module}
+use Rattle.wasm_ast.specs.declared.place.Place.{Place}
 use Rattle.wasm_ast.specs.declared.refusal.Refusal.{Refusal}
 use Rattle.wasm_ast.specs.declared.refusal.Refusal.TheVariants as refusal
 use Rattle.wasm_binary.specs.Canonical.{FitsLimits}
@@ -50,11 +51,11 @@ not_checked bytes e (inr h) = inr (why.CannotCheck.no_module e h)
 -- why a module is not validated
 pub not_validated :
     {V : Type 0} (P : Refusal → Type 0) (r : Result V Refusal) (e : Refusal) → r ≡ Err e
-    → OnErr r ((r ≡ Err refusal.Invalid) ⊎ (r ≡ Err refusal.NoMemory))
-    → (r ≡ Err refusal.Invalid → P refusal.Invalid) → Told P e
+    → OnErr r (((at : Option Place) × (r ≡ Err (refusal.Invalid at))) ⊎ (r ≡ Err refusal.NoMemory))
+    → ((at : Option Place) → r ≡ Err (refusal.Invalid at) → P (refusal.Invalid at)) → Told P e
 not_validated P (Ok v) e is why invalid = absurd cc
-not_validated P (Err x) e is (inl p) invalid =
-    let same : e ≡ refusal.Invalid = cc in inr (subst P (sym same) (invalid p))
+not_validated P (Err x) e is (inl (at, p)) invalid =
+    let same : e ≡ refusal.Invalid at = cc in inr (subst P (sym same) (invalid at p))
 not_validated P (Err x) e is (inr p) invalid = let same : e ≡ refusal.NoMemory = cc in inl same
 
 checked_refused :
@@ -63,8 +64,8 @@ checked_refused :
 checked_refused bytes list e r is told (inl p) = absurd (told p)
 checked_refused bytes list e r is told (inr (why.CannotCheck.no_module x h)) =
     subst (IsChecked bytes list) (sym is) (checked.IsChecked.no_module e h)
-checked_refused bytes list e r is told (inr (why.CannotCheck.invalid m source not_valid)) =
-    subst (IsChecked bytes list) (sym is) (checked.IsChecked.invalid m source not_valid)
+checked_refused bytes list e r is told (inr (why.CannotCheck.invalid m at source fault)) =
+    subst (IsChecked bytes list) (sym is) (checked.IsChecked.invalid m at source fault)
 
 pub asm_answer :
     (bytes : List ℕ) (e : Refusal) (r : Result Ran Refusal) → IfOk r (λ x. x ≡ refused e)

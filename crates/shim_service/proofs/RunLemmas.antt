@@ -66,8 +66,8 @@ no_process bytes args m e source h other =
 no_start :
     (bytes : List ℕ) (args : List (List ℕ)) (m : Module) (p : ProcessConfig) (e : Refusal) → IsSource bytes m
     → are_arguments_alone args ≡ true → p ≡ process_with args → CannotStart m p e → CannotRun bytes args e
-no_start bytes args m p e source taken same (why.CannotStart.not_valid not_valid) =
-    task.CannotRun.invalid m source taken not_valid
+no_start bytes args m p e source taken same (why.CannotStart.not_valid at fault) =
+    task.CannotRun.invalid m at source taken fault
 no_start bytes args m p e source taken same (why.CannotStart.not_instantiated x valid refused) =
     task.CannotRun.not_instantiated m e source taken valid
     (subst (λ (q : ProcessConfig). instantiation_refusal m q ≡ Some e) same refused)

@@ -1,12 +1,14 @@
 -- What `check` writes.
-use Rattle.std.specs.Prelude.{ℕ, ◌+◌, List, [], ◌∷◌, ◌++◌, length, Bool, codes, decimal, if◌then◌else◌}
+use Rattle.std.specs.Prelude.{ℕ, ◌+◌, List, [], ◌∷◌, ◌++◌, length, Bool, codes, decimal, if◌then◌else◌, Option}
 use Rattle.wasm_ast.specs.declared.module.Func.{Func}
 use Rattle.wasm_ast.specs.declared.module.Module.{Module}
+use Rattle.wasm_ast.specs.declared.place.Place.{Place}
 use Rattle.wasm_ast.specs.declared.refusal.Refusal.{Refusal}
 use Rattle.wasm_ast.specs.declared.refusal.Refusal.TheVariants as refusal
 use Rattle.wasm_ast.specs.Syntax.{Op, simple, block, loop, if', Ops, stop, next, count, ops_count}
 use Rattle.text_assembler.specs.Lines.{line_of}
 use Rattle.validator.specs.Typing.{ValidModule}
+use Rattle.validator.specs.Faults.{NamesFault}
 use Rattle.shim_service.specs.declared.ran.Ran.{Ran}
 use Rattle.shim_service.specs.Source.{IsSource, IsNoSource}
 use Rattle.shim_service.specs.Ran.{line, succeeded, refused}
@@ -54,8 +56,8 @@ pub data IsChecked (bytes : List ℕ) (list : Bool) : Ran → Type 0 where
   valid :
       (m : Module) → IsSource bytes m → ValidModule m
       → IsChecked bytes list (succeeded (line (codes "ok") ++ list_if list m))
-  -- it has one that is not valid
+  -- it has one that is not valid, and the place is that of a fault of it
   invalid :
-      (m : Module) → IsSource bytes m → (ValidModule m → ⊥)
-      → IsChecked bytes list (refused refusal.Invalid)
+      (m : Module) → (at : Option Place) → IsSource bytes m → NamesFault m at
+      → IsChecked bytes list (refused (refusal.Invalid at))
   no_module : (e : Refusal) → IsNoSource bytes e → IsChecked bytes list (refused e)

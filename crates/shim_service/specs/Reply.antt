@@ -7,7 +7,7 @@ use Rattle.serde_json.specs.View.{items_of}
 use Rattle.serde_json.specs.Written.{compact_text}
 use Rattle.wasm_ast.specs.Names.{refusal_name, refusal_number, trap_name}
 use Rattle.wasm_ast.specs.declared.refusal.Refusal.{Refusal}
-use Rattle.wasm_ast.specs.declared.refusal.Refusal.TheVariants.{BadText}
+use Rattle.wasm_ast.specs.declared.refusal.Refusal.TheVariants.{BadText, Invalid}
 use Rattle.task_lifecycle.specs.Names.{status_name, cause_name, signal_number, exit_status}
 use Rattle.task_board.specs.declared.event.EventReply.{EventReply}
 use Rattle.task_board.specs.declared.event.EventReply.TheVariants.{Called, Taken, Returned}
@@ -22,7 +22,7 @@ use Rattle.shim_service.specs.Shape.{object_of}
 abbrev pub count : ℕ → Data
 count n = number (unsigned n)
 
--- with its place where a text denotes no module
+-- with its place where a text denotes no module, or where the body of a function has a fault
 abbrev pub refusal_data : Refusal → Data
 refusal_data (BadText line column) = object_of
     ((codes "column", count column)
@@ -30,6 +30,13 @@ refusal_data (BadText line column) = object_of
     ∷ (codes "line", count line)
     ∷ (codes "number", count (refusal_number (BadText line column)))
     ∷ (codes "ok", boolean false)
+    ∷ [])
+refusal_data (Invalid (Some p)) = object_of
+    ((codes "error", string (refusal_name (Invalid (Some p))))
+    ∷ (codes "func", count p.func)
+    ∷ (codes "number", count (refusal_number (Invalid (Some p))))
+    ∷ (codes "ok", boolean false)
+    ∷ (codes "place", count p.instr)
     ∷ [])
 refusal_data refusal = object_of
     ((codes "error", string (refusal_name refusal))

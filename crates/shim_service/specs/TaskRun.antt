@@ -2,11 +2,13 @@
 use Rattle.std.specs.Prelude.{◌≡◌, ℕ, ◌%◌, List, [], ◌∷◌, ◌++◌, true, false, codes, Option, None, Some}
 use Rattle.std.specs.Io.KnownBytes.{Appends}
 use Rattle.wasm_ast.specs.declared.module.Module.{Module}
+use Rattle.wasm_ast.specs.declared.place.Place.{Place}
 use Rattle.wasm_ast.specs.declared.refusal.Refusal.{Refusal}
 use Rattle.wasm_ast.specs.declared.refusal.Refusal.TheVariants as refusal
 use Rattle.wasm_ast.specs.Names.{trap_name}
 use Rattle.oci_config.specs.Config.{are_arguments_alone, process_with}
 use Rattle.validator.specs.Typing.{ValidModule}
+use Rattle.validator.specs.Faults.{NamesFault}
 use Rattle.step_machine.specs.declared.ends.End.{End}
 use Rattle.step_machine.specs.declared.ends.End.TheVariants as ends
 use Rattle.step_machine.specs.Configuration.{Store}
@@ -24,9 +26,10 @@ pub data CannotRun (bytes : List ℕ) (args : List (List ℕ)) : Refusal → Typ
   bad_arguments :
       (m : Module) → IsSource bytes m → are_arguments_alone args ≡ false
       → CannotRun bytes args refusal.BadConfig
+  -- the place is that of a fault of the module
   invalid :
-      (m : Module) → IsSource bytes m → are_arguments_alone args ≡ true → (ValidModule m → ⊥)
-      → CannotRun bytes args refusal.Invalid
+      (m : Module) → (at : Option Place) → IsSource bytes m → are_arguments_alone args ≡ true
+      → NamesFault m at → CannotRun bytes args (refusal.Invalid at)
   not_instantiated :
       (m : Module) (e : Refusal) → IsSource bytes m
       → are_arguments_alone args ≡ true → ValidModule m

@@ -1,12 +1,12 @@
 //! What a command writes, and the status that it ends with.
 
-ghost use Rattle.std.specs.Prelude.{◌≡◌, ◌≢◌, ◌++◌, ◌∷◌, [], IfOk, IfErr, OnOk, decimal, string_bytes};
+ghost use Rattle.std.specs.Prelude.{◌≡◌, ◌≢◌, ◌++◌, ◌∷◌, [], Some, IfOk, IfErr, OnOk, decimal, string_bytes};
 ghost use Rattle.wasm_ast.specs.declared.refusal.Refusal.TheVariants as refusals;
-ghost use Rattle.shim_service.specs.Ran.{line, succeeded, refusal_text, fault_text, refused, refused_run};
+ghost use Rattle.shim_service.specs.Ran.{line, succeeded, refusal_text, place_text, fault_text, refused, refused_run};
 
 use itoa::Buffer;
 use std::alloc::{AllocError, Global};
-use wasm_ast::{Bytes, Refusal, Sequence};
+use wasm_ast::{Bytes, Place, Refusal, Sequence};
 
 /// The status of `asm` and `check` if they are refused.
 const REFUSED: u8 = 3;
@@ -61,6 +61,7 @@ impl Ran {
         }
         let mut text = String::new(alloc);
         push_refusal(&mut text, refusal)?;
+        push_place(&mut text, refusal)?;
         text.push_str("\n")?;
         Ok(without_out(alloc, text, NO_TASK))
     }
@@ -95,18 +96,39 @@ fn push_refusal(text: &mut String, refusal: Refusal) -> Result<(), AllocError>
     text.push_str(refusal.name())
 }
 
-// Pushes where the fault of a text is.
+// Pushes where the fault of a text or of a body is.
 fn push_fault(text: &mut String, refusal: Refusal) -> Result<(), AllocError>
     ensures { OnOk result (string_bytes text.new ≡ string_bytes text.old ++ fault_text refusal) }
 {
     match refusal {
-        Refusal::BadText { line, column } => push_place(text, line, column),
+        Refusal::BadText { line, column } => push_position(text, line, column),
+        _ => push_place(text, refusal),
+    }
+}
+
+// Pushes where the fault of a body is.
+fn push_place(text: &mut String, refusal: Refusal) -> Result<(), AllocError>
+    ensures { OnOk result (string_bytes text.new ≡ string_bytes text.old ++ place_text refusal) }
+{
+    match refusal {
+        Refusal::Invalid(Some(place)) => push_body_place(text, place),
         _ => Ok(()),
     }
 }
 
+// Pushes a function and the number of an instruction.
+fn push_body_place(text: &mut String, place: Place) -> Result<(), AllocError>
+    ensures { OnOk result (string_bytes text.new
+        ≡ string_bytes text.old ++ place_text (Refusal.Invalid (Some place))) }
+{
+    text.push_str(" func ")?;
+    push_decimal(text, u64::from(place.func))?;
+    text.push_str(" place ")?;
+    push_decimal(text, u64::from(place.instr))
+}
+
 // Pushes a line and a column.
-fn push_place(text: &mut String, line: u64, column: u64) -> Result<(), AllocError>
+fn push_position(text: &mut String, line: u64, column: u64) -> Result<(), AllocError>
     ensures { OnOk result (string_bytes text.new
         ≡ string_bytes text.old ++ fault_text (Refusal.BadText line column)) }
 {

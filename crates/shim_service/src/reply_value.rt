@@ -1,6 +1,6 @@
 //! Replies as JSON values.
 
-ghost use Rattle.std.specs.Prelude.{◌≡◌, IfOk, OnOk, codes, [], ◌∷◌, true};
+ghost use Rattle.std.specs.Prelude.{◌≡◌, IfOk, OnOk, codes, [], ◌∷◌, true, Some};
 ghost use Rattle.serde_json.specs.Data.{string, boolean, put};
 ghost use Rattle.serde_json.specs.View.{view, members_view};
 ghost use Rattle.task_lifecycle.specs.Names.{cause_name, exit_status};
@@ -11,7 +11,7 @@ use crate::members::Members;
 use serde_json::{Map, Value, json};
 use std::alloc::{AllocError, Global};
 use task_board::{EventReply, ExitRecord, Reply, Status, TaskState};
-use wasm_ast::{Refusal, Text};
+use wasm_ast::{Place, Refusal, Text};
 
 // The value of the refusal of a text that denotes no module.
 fn text_refusal_value(alloc: Global, line: u64, column: u64) -> Result<Value, AllocError>
@@ -20,12 +20,22 @@ fn text_refusal_value(alloc: Global, line: u64, column: u64) -> Result<Value, Al
     json!(in alloc; {"column": column, "error": "BadText", "line": line, "number": 18, "ok": false})
 }
 
+// The value of the refusal of a module with a fault in a body.
+fn fault_value(alloc: Global, place: Place) -> Result<Value, AllocError>
+    ensures { IfOk result (λ v. view v ≡ refusal_data (Refusal.Invalid (Some place))) }
+{
+    let func = u64::from(place.func);
+    let instr = u64::from(place.instr);
+    json!(in alloc; {"error": "Invalid", "func": func, "number": 8, "ok": false, "place": instr})
+}
+
 // The value of a refusal.
 fn refusal_value(alloc: Global, refusal: &Refusal) -> Result<Value, AllocError>
     ensures { IfOk result (λ v. view v ≡ refusal_data refusal.now) }
 {
     match refusal {
         Refusal::BadText { line, column } => text_refusal_value(alloc, *line, *column),
+        Refusal::Invalid(Some(place)) => fault_value(alloc, *place),
         _ => json!(in alloc; {"error": refusal.name(), "number": refusal.number(), "ok": false}),
     }
 }

@@ -79,10 +79,17 @@ const BODIES: &[Row] = &[
         status: 0,
     },
     Row {
+        command: "list",
+        file: "i32.const 1 block (type $p) drop end",
+        out: "ok\n1 0 i32.const 1\n1 1 block (type 0)\n1 2 drop\n",
+        err: "",
+        status: 0,
+    },
+    Row {
         command: "check",
         file: "call 9",
         out: "",
-        err: "refused 8 Invalid\n",
+        err: "refused 8 Invalid func 1 place 0\n",
         status: 3,
     },
     Row {
@@ -96,7 +103,7 @@ const BODIES: &[Row] = &[
         command: "run",
         file: "call 9",
         out: "",
-        err: "refused 8 Invalid\n",
+        err: "refused 8 Invalid func 1 place 0\n",
         status: 125,
     },
     Row {
@@ -136,6 +143,13 @@ const FILES: &[Row] = &[
         out: "ok\n",
         err: "",
         status: 0,
+    },
+    Row {
+        command: "check",
+        file: "(module (memory 1) (memory 1))",
+        out: "",
+        err: "refused 8 Invalid\n",
+        status: 3,
     },
     Row {
         command: "asm",

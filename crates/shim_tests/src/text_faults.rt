@@ -308,7 +308,12 @@ const BLOCK_FAULTS: &[&str] = &[
     "(module(type(func))(func(type 0)block(result\n)end))", // a block of a result that is none
     "(module(type(func))(func(type 0)if(result\nf64)end))", // a block of a float
     "(module(type(func))(func(type 0)block\n(param i32)end))", // a block with a parameter
-    "(module(type(func))(func(type 0)loop\n(type 0)end))", // a block with a type's index
+    "(module(type(func))(func(type 0)loop(type\n1)end))", // a block of a type that is not written
+    "(module(type(func))(func(type 0)if(type 0)(result\ni32)end))", // a block of another type's result
+    // a block whose parameter has an identifier
+    "(module(type(func(param i32)))(func(type 0)block(type 0)(param\n$x i32)end))",
+    "(module(type(func(param i32)))(func(type 0)block(type 0)(param i32\ni32)end))", // a parameter too many
+    "(module(type(func))(func(type 0)block(result i32)\n(type 0)end))", // a use after a result
     "(module(type(func))(func(type 0)block(result i32)\n$a end))", // a label after the block's type
 ];
 

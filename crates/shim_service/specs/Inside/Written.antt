@@ -2,12 +2,14 @@
 use Rattle.std.specs.Prelude.{◌≡◌, ℕ, ◌≤◌, List, length, take, true, Option, None, Some}
 use Rattle.std.specs.Io.KnownBytes.{Appends}
 use Rattle.wasm_ast.specs.declared.module.Module.{Module}
+use Rattle.wasm_ast.specs.declared.place.Place.{Place}
 use Rattle.wasm_ast.specs.declared.refusal.Refusal.{Refusal}
 use Rattle.wasm_ast.specs.declared.refusal.Refusal.TheVariants as refusal
 use Rattle.wasm_ast.specs.Syntax.{Op, simple, block, loop, if', Ops, stop, next}
 use Rattle.wasm_binary.specs.Canonical.{FitsLimits}
 use Rattle.text_assembler.specs.Lines.{HasAlignment}
 use Rattle.validator.specs.Typing.{ValidModule}
+use Rattle.validator.specs.Faults.{NamesFault}
 use Rattle.oci_config.specs.declared.process.ProcessConfig.{ProcessConfig}
 use Rattle.oci_config.specs.Config.{are_arguments_alone, process_with}
 use Rattle.step_machine.specs.declared.ends.End.{End}
@@ -27,7 +29,8 @@ pub data CannotAssemble (bytes : List ℕ) : Refusal → Type 0 where
 pub data CannotCheck (bytes : List ℕ) : Refusal → Type 0 where
   no_module : (e : Refusal) → IsNoSource bytes e → CannotCheck bytes e
   invalid :
-      (m : Module) → IsSource bytes m → (ValidModule m → ⊥) → CannotCheck bytes refusal.Invalid
+      (m : Module) → (at : Option Place) → IsSource bytes m → NamesFault m at
+      → CannotCheck bytes (refusal.Invalid at)
 
 -- the exponents of alignments are below 32, inside blocks too
 abbrev mutual
@@ -43,7 +46,7 @@ abbrev mutual
 
 -- why a module is no task under a process
 pub data CannotStart (m : Module) (p : ProcessConfig) : Refusal → Type 0 where
-  not_valid : (ValidModule m → ⊥) → CannotStart m p refusal.Invalid
+  not_valid : (at : Option Place) → NamesFault m at → CannotStart m p (refusal.Invalid at)
   not_instantiated :
       (e : Refusal) → ValidModule m → instantiation_refusal m p ≡ Some e → CannotStart m p e
 

@@ -17,4 +17,4 @@ returns-in_err-valid-clause-err c =
     let same : c.from_residual-in_err-valid.result ≡ Err e = search rules in
     handed_on (CannotCheck bytes) c.from_residual-in_err-valid.result e same
     (not_validated (CannotCheck bytes) c.validate.result e c.in_err-valid.was c.validate.ensures.err
-    (λ p. invalid c.in_ok-module.module c.in_ok-module.ensures.ok (c.validate.ensures.invalid p)))
+    (λ at p. invalid c.in_ok-module.module at c.in_ok-module.ensures.ok (c.validate.ensures.invalid at p)))

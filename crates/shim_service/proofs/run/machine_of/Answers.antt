@@ -15,7 +15,7 @@ returns-in_err-valid-clause-err c =
     handed_up why c.from_residual.result e same
     (told_unless why e
     (not_validated why c.validate.result e c.in_err-valid.was c.validate.ensures.err
-    (λ p. not_valid (c.validate.ensures.invalid p))))
+    (λ at p. not_valid at (c.validate.ensures.invalid at p))))
 
 pub returns-clause-err : goal.returns-clause-err
 returns-clause-err c =

@@ -21,7 +21,7 @@ returns-clause-slice c =
     slice_of c.args.board.now.state c.take.new.self.state c.receive-ticket.new.self.state c.args.id.now
     c.in-Some.ticket c.in-Some-take.loan c.run.new.self
     c.sound.ensures (sym c.in-Some.ensures) c.in-Some-take.ensures.some c.in-Some-take.ensures.step c.run.ensures
-    (λ _. c.receive-ticket.ensures.home)
+    (λ _. c.receive-ticket.ensures.step)
 
 pub returns-clause-fewer : goal.returns-clause-fewer
 returns-clause-fewer c _ =
@@ -29,4 +29,4 @@ returns-clause-fewer c _ =
     (slice_of c.args.board.now.state c.take.new.self.state c.receive-ticket.new.self.state c.args.id.now
     c.in-Some.ticket c.in-Some-take.loan c.run.new.self
     c.sound.ensures (sym c.in-Some.ensures) c.in-Some-take.ensures.some c.in-Some-take.ensures.step c.run.ensures
-    (λ _. c.receive-ticket.ensures.home))
+    (λ _. c.receive-ticket.ensures.step))
