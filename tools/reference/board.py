@@ -170,9 +170,9 @@ def process_of(text):
 
 
 class Refused(Exception):
-    def __init__(self, number):
+    def __init__(self, number, place=None):
         super().__init__(number)
-        self.number = number
+        self.number, self.place = number, place
 
 
 class Task:
@@ -220,6 +220,8 @@ class Board:
             reply = getattr(self, request.pop("op") + "_")(**request)
         except Refused as refused:
             reply = {"error": NAMES[refused.number], "number": refused.number, "ok": False}
+            if refused.place is not None:
+                reply["func"], reply["place"] = refused.place
         return json.dumps(reply, separators=(",", ":"), sort_keys=True, ensure_ascii=False).encode()
 
     def put_(self, hex):
@@ -299,8 +301,8 @@ class Board:
         if process.digest not in self.contents:
             raise Refused(5)
         data = self.contents[process.digest]
-        for number in wasm.refusals_of(data, process.cap):
-            raise Refused(number)
+        for number, place in wasm.refusals_of(data, process.cap):
+            raise Refused(number, place)
         self.tasks[id] = Task(process, data)
         return {"id": id, "ok": True, "status": "created"}
 

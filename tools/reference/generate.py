@@ -33,7 +33,7 @@ def sized(part):
 def func_types():
     found = [((I32,), ()), ((), ())]
     for _ in range(random.choice([0, 0, 1, 2])):
-        most = 2 if random.random() < 0.1 else 1
+        most = random.choice([1, 1, 2, 3])
         found.append(tuple(tuple(random.choice(VALUE_TYPES) for _ in range(random.randint(0, count))) for count in (3, most)))
     if random.random() < 0.2:
         random.shuffle(found)
@@ -73,8 +73,8 @@ class Body:
         self.shape, self.locals, self.results = shape, locals_, results
         self.left = random.choice([0, 3, 8, 20])
 
-    def sequence(self, results, labels):
-        stack, code = [], b""
+    def sequence(self, params, results, labels):
+        stack, code = [*params], b""
         while self.left > 0 and random.random() < 0.9:
             self.left -= 1
             added, is_free = self.instruction(stack, labels)
@@ -178,15 +178,23 @@ class Body:
 
     def block(self, stack, labels):
         opcode = random.choice([2, 3, 4])
-        results = random.choice([(), (), (I32,), (I64,)])
-        code = self.takes(stack, (I32,)) if opcode == 4 else b""
-        code += bytes([opcode]) + (bytes(results) or b"\x40")
-        inside = [() if opcode == 3 else results, *labels]
-        code += self.sequence(results, inside)
-        if opcode == 4 and (results or random.random() < 0.4):
-            code += b"\x05" + self.sequence(results, inside)
+        params, results, kind = self.block_type()
+        code = self.takes(stack, (*params, I32) if opcode == 4 else params) + bytes([opcode]) + kind
+        inside = [params if opcode == 3 else results, *labels]
+        code += self.sequence(params, results, inside)
+        if opcode == 4 and random.random() < (0.4 if params == results else 0.98):
+            code += b"\x05" + self.sequence(params, results, inside)
         stack += results
         return code + b"\x0b", False
+
+    def block_type(self):
+        """What a block takes and gives, and the bytes that say so."""
+        if random.random() < 0.6:
+            results = random.choice([(), (), (I32,), (I64,)])
+            return (), results, bytes(results) or b"\x40"
+        index = random.randrange(len(self.shape.types) + (random.random() < 0.02))
+        params, results = self.shape.types[index] if index < len(self.shape.types) else ((), ())
+        return params, results, leb(index, is_signed=True)
 
     def branch(self, stack, labels):
         label = random.randrange(len(labels) + (random.random() < 0.02))
@@ -216,7 +224,7 @@ def func(shape, type_index):
     counts = (0, 1, 2, 5, 1023, 1024) if random.random() < 0.1 else range(5)
     runs = [(random.choice(counts), random.choice(VALUE_TYPES)) for _ in range(random.randint(0, 2))]
     locals_ = [*params, *(kind for count, kind in runs for _ in range(count))]
-    code = Body(shape, locals_, results).sequence(results, [results])
+    code = Body(shape, locals_, results).sequence((), results, [results])
     return vector([leb(count) + bytes([kind]) for count, kind in runs]) + code + b"\x0b"
 
 

@@ -78,6 +78,14 @@ NUMBERS = [
 ]
 
 
+# By their opcodes: how many low bits are read as signed, and the width (Core 2.0, 4.3.2).
+SIGN_EXTENSIONS = [(0xC0, 8, 32), (0xC1, 16, 32), (0xC2, 8, 64), (0xC3, 16, 64), (0xC4, 32, 64)]
+
+
+def extended(low, bits, a):
+    return signed(low, a % 2**low) % 2**bits
+
+
 def within(bits, operator, *operands):
     return operator(bits, *operands) % 2**bits
 
@@ -85,6 +93,7 @@ def within(bits, operator, *operands):
 def operators():
     """By opcode, functions of the operands."""
     found = {0xA7: lambda a: a % 2**32, 0xAC: lambda a: signed(32, a) % 2**64, 0xAD: lambda a: a}
+    found |= {code: partial(extended, low, bits) for code, low, bits in SIGN_EXTENSIONS}
     for bits, test, number in ((32, 0x45, 0x67), (64, 0x50, 0x79)):
         found |= {test + k: partial(within, bits, operator) for k, operator in enumerate(TESTS)}
         found |= {number + k: partial(within, bits, operator) for k, operator in enumerate(NUMBERS)}

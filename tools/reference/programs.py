@@ -43,7 +43,18 @@ def with_global(opcode, index):
 
 
 def block(opcode, results, inside):
-    return bytes([opcode]) + (bytes(results) or b"\x40") + inside + b"\x0b"
+    return nested(opcode, bytes(results) or b"\x40", inside)
+
+
+def nested(opcode, kind, inside):
+    """A block whose type has these bytes."""
+    return bytes([opcode]) + kind + inside + b"\x0b"
+
+
+def reduced(results, kind):
+    """After these values: leaves the first of them, as one of this type."""
+    first = {(I32, I64): random.choice([b"\xac", b"\xad"]), (I64, I32): b"\xa7"}.get((results[0], kind), b"")
+    return b"\x1a" * (len(results) - 1) + first
 
 
 def jump_by_table(labels, most):
@@ -91,10 +102,20 @@ class Outline:
     def type_of(self, function):
         return self.types[self.functions[function]]
 
+    def index_of(self, params, results):
+        """The index of this type, which is added if it is not there."""
+        if (params, results) not in self.types:
+            self.types.append((params, results))
+        return self.types.index((params, results))
+
 
 def some_type():
     params = tuple(random.choice((I32, I64)) for _ in range(random.choice([0, 1, 1, 2, 3])))
-    return params, tuple(random.choice((I32, I64)) for _ in range(random.choice([0, 1, 1])))
+    return params, tuple(random.choice((I32, I64)) for _ in range(random.choice([0, 1, 1, 2, 3])))
+
+
+def some_kinds(least, most):
+    return tuple(random.choice((I32, I64)) for _ in range(random.randint(least, most)))
 
 
 class Writer:
@@ -112,8 +133,17 @@ class Writer:
 
     def counter(self):
         """A local of its own, which nothing else writes; its place is filled in once all are known."""
-        self.counters.append(I32)
+        return self.fresh(I32)
+
+    def fresh(self, kind):
+        self.counters.append(kind)
         return len(self.params) + len(self.own) + len(self.counters) - 1
+
+    def head(self, params, results):
+        """The bytes of a block's type: at times an index where a value type would do."""
+        if not params and len(results) < 2 and random.random() < 0.9:
+            return bytes(results) or b"\x40"
+        return leb(self.outline.index_of(params, results), is_signed=True)
 
     def body(self):
         labels = [self.results]
@@ -135,7 +165,7 @@ class Writer:
             return random.choice([self.leaf, self.leaf, self.size])(kind)
         choices = [self.leaf, self.operator, self.operator, self.operator, self.load, self.load, self.grown,
                    self.select, self.block, self.if_, self.loop, self.carried, self.tabled, self.call, self.tee,
-                   self.indirect]
+                   self.indirect, self.taking, self.going_round, self.several, self.called_for_several]
         chosen = random.choice(choices)
         return chosen(kind) if chosen == self.leaf else chosen(kind, labels, depth - 1)
 
@@ -244,6 +274,50 @@ class Writer:
         """Takes one from the counter, and leaves it."""
         return get(counter) + i32(1) + b"\x6b\x22" + leb(counter)
 
+    def taking(self, kind, labels, depth):
+        """A block or an `if` that takes operands along."""
+        params, opcode = some_kinds(1, 3), random.choice([0x02, 0x04])
+        inside = [(kind,), *labels]
+        code = self.values(params, labels, depth)
+        arms = [self.kept(params) + self.statements(inside, random.randint(0, 1)) + self.value(kind, inside, depth)
+                + self.leaving(inside, kind) for _ in range(2)]
+        if opcode == 0x02:
+            return code + nested(opcode, self.head(params, (kind,)), arms[0])
+        without_else = params == (kind,) and random.random() < 0.5
+        code += self.value(I32, labels, depth)
+        return code + nested(opcode, self.head(params, (kind,)), arms[0] if without_else else b"\x05".join(arms))
+
+    def kept(self, params):
+        """Puts the operands that a block took along into locals of their own."""
+        return b"".join(set_(self.fresh(param)) for param in reversed(params))
+
+    def going_round(self, kind, labels, depth):
+        """A loop that takes operands along, and again at each branch to it."""
+        params, counter = some_kinds(1, 3), self.counter()
+        inside, below = [params, *labels], some_kinds(0, 2)
+        code = self.kept(params) + self.statements(inside, random.randint(0, 1)) + self.values(below, inside, 0)
+        code += self.values(params, inside, 1) + self.counted(counter) + b"\x0d\0"
+        code += b"\x1a" * (len(params) + len(below)) + self.value(kind, inside, depth)
+        times = i32(random.randint(1, 3)) + set_(counter)
+        return times + self.values(params, labels, depth) + nested(0x03, self.head(params, (kind,)), code)
+
+    def several(self, kind, labels, depth):
+        """A block that gives several values, and a branch out of it that takes them along."""
+        results, below = some_kinds(2, 4), some_kinds(0, 2)
+        inside = [results, *labels]
+        code = self.values(below, inside, 0) + self.values((*results, I32), inside, depth) + b"\x0d\0"
+        code += b"\x1a" * (len(results) + len(below)) + self.values(results, inside, 1)
+        return nested(0x02, self.head((), results), code) + reduced(results, kind)
+
+    def called_for_several(self, kind, labels, depth):
+        """A call of a function with several results."""
+        function, takes_fuel = self.called(lambda results: len(results) > 1)
+        if function is None:
+            return self.several(kind, labels, depth)
+        results = self.outline.type_of(function)[1]
+        other = b"".join(map(some_const, results))
+        return self.direct(function, takes_fuel, other, labels, depth) + reduced(results, kind)
+
     def carried(self, kind, labels, depth):
         """A branch out of a block with operands below what it takes along."""
         inside = [(kind,), *labels]
@@ -265,9 +339,9 @@ class Writer:
             code = block(0x02, (kind,), code) + some_const(kind) + (b"\x6a" if kind == I32 else b"\x7c")
         return code
 
-    def called(self, results):
-        """A function with these results, and whether it takes fuel to call it; None where there is none."""
-        known = [index for index in range(len(self.outline.functions)) if self.outline.type_of(index)[1] == results]
+    def called(self, gives):
+        """A function whose results are so, and whether it takes fuel to call it; None where there is none."""
+        known = [index for index in range(len(self.outline.functions)) if gives(self.outline.type_of(index)[1])]
         later = [index for index in known if index > self.number]
         if later and random.random() < 0.8:
             return random.choice(later), False
@@ -275,7 +349,7 @@ class Writer:
         return (random.choice(others), True) if others else (None, False)
 
     def call(self, kind, labels, depth):
-        function, takes_fuel = self.called((kind,))
+        function, takes_fuel = self.called(lambda results: results == (kind,))
         if function is None:
             return self.operator(kind, labels, depth)
         return self.direct(function, takes_fuel, some_const(kind), labels, depth)
@@ -284,7 +358,7 @@ class Writer:
         params, results = self.outline.type_of(function)
         inside = [results, *labels] if takes_fuel else labels
         code = self.values(params, inside, depth) + b"\x10" + leb(function)
-        return fuelled(code, other, results) if takes_fuel else code
+        return fuelled(code, other, self.head((), results)) if takes_fuel else code
 
     def indirect(self, kind, labels, depth):
         known = [index for index, (_, results) in enumerate(self.outline.types) if results == (kind,)]
@@ -301,7 +375,8 @@ class Writer:
             index = i32(random.choice(alike))
         elif self.outline.is_tame and random.random() < 0.95:
             return other
-        return fuelled(self.values(params, inside, depth) + index + b"\x11" + leb(type_index) + b"\0", other, results)
+        return fuelled(self.values(params, inside, depth) + index + b"\x11" + leb(type_index) + b"\0", other,
+                       self.head((), results))
 
     def statement(self, labels, depth):
         """Code that leaves the operands as they were."""
@@ -365,7 +440,7 @@ class Writer:
             known = [index for index, (_, results) in enumerate(self.outline.types)
                      if not results and (index != EXIT or random.random() < 0.2)]
             return self.through_table(random.choice(known), b"", labels, depth)
-        function, takes_fuel = self.called(())
+        function, takes_fuel = self.called(lambda results: results == ())
         if function is None:
             return self.mix(labels, depth)
         return self.direct(function, takes_fuel, b"", labels, depth)
@@ -409,10 +484,10 @@ class Writer:
         return self.value(I32, labels, depth) + block(0x04, (), code)
 
 
-def fuelled(code, other, results):
+def fuelled(code, other, kind):
     """Code that runs while there is fuel, and code that takes its place afterwards."""
     burn = with_global(0x23, FUEL) + i32(1) + b"\x6b" + with_global(0x24, FUEL)
-    return with_global(0x23, FUEL) + block(0x04, results, burn + code + b"\x05" + other)
+    return with_global(0x23, FUEL) + nested(0x04, kind, burn + code + b"\x05" + other)
 
 
 def sum_of(outline):

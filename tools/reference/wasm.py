@@ -6,11 +6,14 @@ from reference import system_calls
 I32, I64 = 0x7F, 0x7E
 MOST_BYTES, MOST_FUNCTIONS, MOST_LOCALS, MOST_VALUES = 262_144, 4096, 1024, 65_536
 MOST_NESTING, MOST_ENTRIES, MOST_PAGES, PAGE_CAP, PAGE = 256, 4096, 256, 16, 65_536
+MOST_RESULTS = 1024
 
 # Instructions whose types never change: the opcode, and what they take and give.
 FIXED = {0x45: (I32,), 0x50: (I64,), 0xA7: (I64,), 0xAC: (I32,), 0xAD: (I32,)}
 FIXED = {code: (takes, (I32,)) for code, takes in FIXED.items()}
 FIXED |= {code: (takes, (I64,)) for code, (takes, _) in FIXED.items() if code in (0xAC, 0xAD)}
+FIXED |= {0xC0: ((I32,), (I32,)), 0xC1: ((I32,), (I32,))}
+FIXED |= {code: ((I64,), (I64,)) for code in range(0xC2, 0xC5)}
 FIXED |= {code: ((I32, I32), (I32,)) for code in range(0x46, 0x50)}
 FIXED |= {code: ((I64, I64), (I32,)) for code in range(0x51, 0x5B)}
 FIXED |= {code: ((I32,), (I32,)) for code in range(0x67, 0x6A)}
@@ -163,7 +166,11 @@ class Decoder:
     def type_section(self, part):
         def func_type():
             part.one_of(0x60)
-            return tuple(tuple(part.vector(lambda: self.value_type(part))) for _ in range(2))
+            params = tuple(part.vector(lambda: self.value_type(part)))
+            at = part.at
+            self.over |= part.u32() > MOST_RESULTS
+            part.at = at
+            return params, tuple(part.vector(lambda: self.value_type(part)))
 
         self.found.types = part.vector(func_type)
 
@@ -270,7 +277,7 @@ class Decoder:
         return found, opcode
 
     def block(self, part, opcode, depth):
-        kind = part.one_of(0x40, I32, I64)
+        kind = self.block_type(part)
         first, closed_by = self.sequence(part, depth)
         second = []
         if closed_by == 0x05:
@@ -279,7 +286,17 @@ class Decoder:
             second, closed_by = self.sequence(part, depth)
             if closed_by == 0x05:
                 raise NotSpelled
-        return opcode, () if kind == 0x40 else (kind,), first, second
+        return opcode, kind, first, second
+
+    def block_type(self, part):
+        """What a block gives, or the index of its type, a number of 33 bits that is not negative (Core 2.0, 5.4.1)."""
+        if part.data[part.at:part.at + 1] in (b"\x40", bytes([I32]), bytes([I64])):
+            kind = part.byte()
+            return () if kind == 0x40 else (kind,)
+        index = part.leb(True, 33)
+        if index >= 2**32:
+            raise NotSpelled
+        return index
 
     def immediates(self, part, opcode):
         if opcode in FIXED or opcode in BARE:
@@ -303,7 +320,9 @@ class Decoder:
 
 
 class NotValid(Exception):
-    """The module is not valid."""
+    """The module is not valid. `place`: the function and the number of the instruction at fault, of a fault in a body."""
+
+    place = None
 
 
 def demand(holds):
@@ -318,11 +337,26 @@ def func_type(module, index):
     return module.types[indices[index]]
 
 
+def types_of(module, kind):
+    """What a block takes and gives."""
+    if isinstance(kind, tuple):
+        return (), kind
+    demand(kind < len(module.types))
+    return module.types[kind]
+
+
+def size(instruction):
+    """How many instructions there are, those inside a block included."""
+    if instruction[0] not in (0x02, 0x03, 0x04):
+        return 1
+    return 1 + sum(size(inner) for arm in instruction[2:] for inner in arm)
+
+
 class Block:
     """The operands of a block, and what a branch to it takes; below an unreachable point there may be any."""
 
-    def __init__(self, label, results):
-        self.label, self.results, self.stack, self.is_unreachable = label, results, [], False
+    def __init__(self, label, params, results):
+        self.label, self.results, self.stack, self.is_unreachable = label, results, [*params], False
 
     def take(self, wanted):
         if not self.stack and self.is_unreachable:
@@ -348,19 +382,26 @@ class Block:
 
 
 class Body:
-    """The validation of one function's body (appendix A.3)."""
+    """The validation of one function's body (appendix A.3). `at`: the number of the instruction that is checked."""
 
     def __init__(self, module, func):
-        demand(func.type_index < len(module.types))
         params, results = module.types[func.type_index]
         self.module, self.locals, self.results = module, [*params, *func.locals], results
-        self.blocks = []
-        self.sequence(func.body, results, results)
+        self.blocks, self.at = [], 0
+        self.body = func.body
 
-    def sequence(self, instructions, label, results):
-        self.blocks.append(Block(label, results))
+    def check(self):
+        count = sum(map(size, self.body))
+        self.sequence(self.body, 0, count, self.results, (), self.results)
+
+    def sequence(self, instructions, first, owner, label, params, results):
+        """Instructions numbered from the first on; a fault at their end is that of the owner."""
+        self.blocks.append(Block(label, params, results))
         for instruction in instructions:
+            self.at = first
             self.instruction(self.blocks[-1], *instruction)
+            first += size(instruction)
+        self.at = owner
         self.blocks.pop().close()
 
     def label(self, index):
@@ -383,11 +424,15 @@ class Body:
         else:
             self.control(block, opcode, *rest)
 
-    def nested(self, block, opcode, results, first, second):
+    def nested(self, block, opcode, kind, first, second):
+        params, results = types_of(self.module, kind)
+        label, owner = params if opcode == 0x03 else results, self.at
         if opcode == 0x04:
             block.take(I32)
-            self.sequence(second, results, results)
-        self.sequence(first, () if opcode == 0x03 else results, results)
+        block.take_all(params)
+        self.sequence(first, owner + 1, owner, label, params, results)
+        if opcode == 0x04:
+            self.sequence(second, owner + 1 + sum(map(size, first)), owner, label, params, results)
         block.give_all(results)
 
     def access(self, block, opcode, align, _offset):
@@ -461,8 +506,8 @@ def check(module):
     functions = len(module.imports) + len(module.funcs)
     counts = functions, len(module.tables), len(module.memories), len(module.globals)
     names = [name for name, _, _ in module.exports]
-    demand(all(len(results) <= 1 for _, results in module.types))
     demand(all(index < len(module.types) for _, index in module.imports))
+    demand(all(func.type_index < len(module.types) for func in module.funcs))
     demand(len(module.tables) <= 1 and len(module.memories) <= 1)
     demand(all(most is None or least <= most for least, most in module.tables + module.memories))
     demand(all(max(least, most or 0) <= 65_536 for least, most in module.memories))
@@ -473,16 +518,22 @@ def check(module):
     for table, offset, indices in module.elements:
         demand(table < len(module.tables) and is_constant(offset, I32) and all(i < functions for i in indices))
     demand(all(memory < len(module.memories) and is_constant(offset, I32) for memory, offset, _ in module.segments))
-    for func in module.funcs:
-        Body(module, func)
+    for number, func in enumerate(module.funcs):
+        body = Body(module, func)
+        try:
+            body.check()
+        except NotValid as fault:
+            fault.place = len(module.imports) + number, body.at
+            raise
 
 
-def is_valid(module):
+def fault_of(module):
+    """None of a valid module; else the function and the number of the instruction at fault, or no place."""
     try:
         check(module)
-    except NotValid:
-        return False
-    return True
+    except NotValid as fault:
+        return fault
+    return None
 
 
 def is_inside(module):
@@ -500,20 +551,22 @@ def entry_of(module):
 
 
 def refusals_of(data, cap=PAGE_CAP):
-    """The numbers with which a create may be refused over these bytes and this cap on pages; none where it is accepted."""
+    """The numbers with which a create may be refused over these bytes and this cap on pages, and of 8 the place; none
+    where it is accepted."""
     try:
         decoder = Decoder(data)
         module = decoder.module()
     except NotSpelled as fault:
-        return {9} if fault.over else {7}
+        return {(9, None) if fault.over else (7, None)}
     if decoder.over:
-        return {9}
-    if not is_valid(module):
-        return {8}
+        return {(9, None)}
+    fault = fault_of(module)
+    if fault is not None:
+        return {(8, fault.place)}
     if entry_of(module) is None or system_calls.lacks_memory(module):
-        return {21}
+        return {(21, None)}
     if not all(system_calls.is_known(names, module.types[index]) for names, index in module.imports):
-        return {22}
+        return {(22, None)}
     if module.memories and module.memories[0][0] > cap:
-        return {9}
-    return set() if is_inside(module) else {23}
+        return {(9, None)}
+    return set() if is_inside(module) else {(23, None)}
