@@ -13,6 +13,7 @@ pub mod StackWords
 pub mod InstructionTurns
 pub mod LevelReductions
 pub mod LevelSettling
+pub mod ReachedPlaces
 pub mod FlatFrames
 pub mod FlatContexts
 pub mod Callables
@@ -49,5 +50,11 @@ pub mod RunTurns
 pub mod SliceLemmas
 pub mod SliceCuts
 pub mod WrittenPlaces
+pub mod CoveredPlaces
 pub mod ValueLimit
 pub mod Soundness
+pub mod ShownLemmas
+pub mod ShownLevels
+pub mod NextCellLemmas
+pub mod SavedFrames
+pub mod FramesTold

@@ -3,8 +3,11 @@ pub mod Levels
 pub mod FlatState
 pub mod CallersView
 pub mod FlatView
+pub mod Reached
 pub mod Stands
 pub mod Simulates
+pub mod NextCells
+pub mod Standing
 pub mod Going
 pub mod Ran
 pub mod SharedCode

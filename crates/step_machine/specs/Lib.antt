@@ -8,9 +8,12 @@ pub mod Places
 pub mod Turns
 pub mod Instantiation
 pub mod Slices
+pub mod Shown
+pub mod Frames
 pub mod MachineView
 pub mod Worked
 pub mod WorkedEffects
 pub mod WorkedStores
 pub mod WorkedCalls
+pub mod WorkedShown
 pub mod Inside

@@ -1,6 +1,6 @@
 //! Laws of execution. Each function has a contract and no body.
 
-ghost use Rattle.std.specs.Prelude.{◌≡◌, ◌≢◌, ℕ, sum, ◌+◌, ◌^◌, ◌<◌, ◌≤◌, List, [], ◌++◌, All, true, false, Some, None, slice_get};
+ghost use Rattle.std.specs.Prelude.{◌≡◌, ◌≢◌, ℕ, sum, ◌+◌, ◌^◌, ◌<◌, ◌≤◌, List, [], ◌∷◌, ◌++◌, All, true, false, Some, None, slice_get};
 ghost use Rattle.wasm_ast.specs.declared.values.Value.{Value};
 ghost use Rattle.wasm_ast.specs.declared.module.Module.{Module};
 ghost use Rattle.wasm_ast.specs.declared.place.Place.{Place};
@@ -12,12 +12,14 @@ ghost use Rattle.step_machine.specs.declared.ends.SliceEnd.TheVariants as slice;
 ghost use Rattle.step_machine.specs.Limits.{last_turn};
 ghost use Rattle.step_machine.specs.Program.{Program, functions};
 ghost use Rattle.step_machine.specs.Places.{Next, tree_next, body_of, written_at};
-ghost use Rattle.step_machine.specs.Configuration.{Store, Target, Tree, seq, Items, more, label, frame, running, stuck, Configuration, acts, is_halted, is_settled};
+ghost use Rattle.step_machine.specs.Configuration.{Store, State, Target, Tree, seq, Items, more, label, frame, running, stuck, Configuration, acts, is_halted, is_settled};
 ghost use Rattle.step_machine.specs.Effects.{Env};
 ghost use Rattle.step_machine.specs.Reduction.{inside, reduce};
 ghost use Rattle.step_machine.specs.Turns.{from, numbered, turn};
 ghost use Rattle.step_machine.specs.Instantiation.{instantiation_refusal, initial, after, ended};
 ghost use Rattle.step_machine.specs.Slices.{ends_slice, turns_made, slices_made, slice_end};
+ghost use Rattle.step_machine.specs.declared.shown.ShownFrame.{ShownFrame};
+ghost use Rattle.step_machine.specs.Shown.{shown};
 ghost use Rattle.step_machine.specs.MachineView.{written_to};
 ghost use Rattle.step_machine.specs.Worked.{in_label, in_frame};
 
@@ -131,4 +133,17 @@ pub fn slices_stop_first()
         → ended (after m p n).state ≡ None
         → turns_made m p n bs budget < budget
         → ends_slice bs (after m p (n + turns_made m p n bs budget)).state ≡ true }
+{}
+
+/// The innermost frame that is shown is that of the instruction that the next turn executes, and that
+/// instruction is the one shown as next.
+pub fn the_next_is_shown()
+    ensures { (t : Tree) (x : Next) → tree_next None t ≡ Some x
+        → (f : ShownFrame) × (outer : List ShownFrame) × (shown (running t) ≡ f ∷ outer)
+        × (f.func ≡ x.func) × (f.next ≡ Some x.place) }
+{}
+
+/// A configuration that has ended is shown without frames.
+pub fn ended_shows_nothing()
+    ensures { (s : State) → is_halted s ≡ true → shown s ≡ [] }
 {}
