@@ -1,0 +1,4 @@
+pub mod KnownPoints
+pub mod OpenLemmas
+pub mod ToldFrames
+pub mod TypedLemmas

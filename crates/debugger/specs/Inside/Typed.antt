@@ -1,0 +1,28 @@
+-- Numbers as values of their types, and the operands that are known of open blocks.
+use Rattle.std.specs.Prelude.{ℕ, List, [], ◌∷◌, ◌++◌, reverse, Option, Some, None}
+use Rattle.wasm_ast.specs.declared.values.ValType.{ValType}
+use Rattle.wasm_ast.specs.declared.values.ValType.TheVariants as type
+use Rattle.wasm_ast.specs.declared.values.Value.{Value}
+use Rattle.wasm_ast.specs.declared.values.Value.TheVariants.{I32, I64}
+use Rattle.validator.specs.PlaceTypes.{Stack}
+
+abbrev pub value_of : ValType → (number : ℕ) → Value
+value_of type.I32 n = I32 n
+value_of type.I64 n = I64 n
+
+-- as many as have both a type and a number
+abbrev pub values_of : List ValType → (numbers : List ℕ) → List Value
+values_of [] ns = []
+values_of (t ∷ ts) [] = []
+values_of (t ∷ ts) (n ∷ ns) = value_of t n ∷ values_of ts ns
+
+-- the types that are known
+abbrev pub known_of : List (Option ValType) → List ValType
+known_of [] = []
+known_of (None ∷ ts) = known_of ts
+known_of (Some t ∷ ts) = t ∷ known_of ts
+
+-- those of the operands of blocks, of which the first is the innermost; the oldest operand's first
+abbrev pub oldest_first : List Stack → List ValType
+oldest_first [] = []
+oldest_first (s ∷ ss) = oldest_first ss ++ known_of (reverse s.types)
