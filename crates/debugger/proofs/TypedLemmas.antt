@@ -4,7 +4,6 @@ use Rattle.std.specs.Prelude.{slice_get, All}
 use Rattle.std.proofs.lemmas.List.{take_more}
 use Rattle.std.proofs.lemmas.Option.{slice_get_within, get_or_from_slice_get}
 use Rattle.wasm_ast.specs.declared.values.ValType.{ValType}
-use Rattle.wasm_ast.specs.declared.values.ValType.TheVariants as type
 use Rattle.wasm_ast.specs.declared.values.Value.{Value}
 use Rattle.wasm_ast.specs.declared.values.Value.TheVariants.{I32, I64}
 use Rattle.wasm_ast.specs.Types.{type_of}

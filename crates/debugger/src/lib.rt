@@ -3,6 +3,7 @@
 #![tactic(auto)]
 
 mod frames;
+mod known_places;
 pub mod laws;
 mod memory;
 mod open_blocks;

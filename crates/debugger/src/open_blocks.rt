@@ -7,18 +7,18 @@ ghost use Rattle.step_machine.specs.Places.{op_opens, opens_at};
 ghost use Rattle.debugger.specs.Inside.OpenBlocks.{arm_opens};
 
 use std::alloc::{AllocError, Global};
-use wasm_ast::{Body, Instr, Sequence};
+use wasm_ast::{Body, Instr};
 
 /// The blocks that are open before the instruction at a place of a body, each by its place, the
 /// innermost first. The time is linear in the body up to that place. Recursion is as deep as its
 /// blocks are nested.
-pub fn open_blocks(alloc: Global, body: &Body, place: u32) -> Result<Sequence<u32>, AllocError>
-    ensures { IfOk result (λ b. b ≡ opens_at body.now 0 [] place) }
+pub fn open_blocks(alloc: Global, body: &Body, place: u32) -> Result<Vec<u32>, AllocError>
+    ensures { IfOk result (λ b. b.items ≡ opens_at body.now 0 [] place) }
 {
     let mut blocks = Vec::new(alloc);
     walk_body(&mut blocks, body, 0, place)?;
     blocks.reverse();
-    Ok(Sequence::new(blocks))
+    Ok(blocks)
 }
 
 // Walks a sequence that is numbered from `first` to a place: adds the blocks of the sequence that

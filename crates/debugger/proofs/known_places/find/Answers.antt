@@ -1,0 +1,14 @@
+use Rattle.std.proofs.Common.{◌≡◌, Some, length, refl, rules}
+use Rattle.std.specs.Prelude.{slice_get}
+use Rattle.std.proofs.lemmas.Option.{slice_get_read}
+use Rattle.debugger.proofs.known_places.find.Goals as goal
+
+pub returns-then-one-place : goal.returns-then-one-place
+returns-then-one-place c =
+    let known = c.args.known.now in
+    let k = c.index-known-index.result in
+    let func : k.func ≡ c.args.func = search rules in
+    let place : k.place ≡ c.args.place = search rules in
+    let at : slice_get known c.loop-index.index ≡ Some k =
+    slice_get_read known (length known) c.loop-index.index k refl c.loop-index-test.true c.index-known-index.is in
+    (k, at, func, place)
