@@ -48,6 +48,11 @@ nothing_before s (request.Kill id signal) other = refl
 nothing_before s (request.Delete id) other = refl
 nothing_before s (request.State id) other = refl
 nothing_before s (request.Output id stream) other = refl
+nothing_before s (request.Break func id place) other = refl
+nothing_before s (request.Unbreak func id place) other = refl
+nothing_before s (request.Step count id) other = refl
+nothing_before s (request.Inspect id) other = refl
+nothing_before s (request.Peek address id length) other = refl
 
 -- a request other than wait
 pub calls_other :

@@ -147,6 +147,11 @@ same_before law s (request.Kill id signal) s1 s2 a b = a ∙ sym b
 same_before law s (request.Delete id) s1 s2 a b = a ∙ sym b
 same_before law s (request.State id) s1 s2 a b = a ∙ sym b
 same_before law s (request.Output id stream) s1 s2 a b = a ∙ sym b
+same_before law s (request.Break func id place) s1 s2 a b = a ∙ sym b
+same_before law s (request.Unbreak func id place) s1 s2 a b = a ∙ sym b
+same_before law s (request.Step count id) s1 s2 a b = a ∙ sym b
+same_before law s (request.Inspect id) s1 s2 a b = a ∙ sym b
+same_before law s (request.Peek address id length) s1 s2 a b = a ∙ sym b
 same_before law s (request.Wait id) s1 s2 a b =
     same_slices law id a.count b.count s s1 s2 a.slices b.slices a.idle b.idle
 

@@ -6,7 +6,7 @@ use Rattle.serde_json.specs.Data.{Data, number, string, object, Members, unsigne
 use Rattle.serde_json.specs.Find.{get_member}
 use Rattle.task_board.specs.declared.event.Event.{Event}
 use Rattle.task_board.specs.declared.event.Event.TheVariants.{Call, Take, Return}
-use Rattle.task_board.specs.declared.request.Request.TheVariants.{Put, PutText, Remove, LeaseCreate, LeaseAdd, LeaseDelete, Gc, Create, Start, Pause, Resume, Kill, Delete, State, Wait, Output}
+use Rattle.task_board.specs.declared.request.Request.TheVariants.{Put, PutText, Remove, LeaseCreate, LeaseAdd, LeaseDelete, Gc, Create, Start, Pause, Resume, Kill, Delete, State, Wait, Output, Break, Unbreak, Step, Inspect, Peek}
 use Rattle.shim_service.specs.Request.{AsksEvent, IsEvent}
 
 abbrev put_read : Result (List ℕ) FromHexError → Option Event
@@ -52,9 +52,25 @@ of_op ms op =
     (cond (bytes_eq op (codes "output"))
     (text_of (get_member (codes "id") ms)
     (λ id. number_of (get_member (codes "stream") ms) (λ stream. Some (Call (Output id stream)))))
+    (cond (bytes_eq op (codes "break"))
+    (number_of (get_member (codes "func") ms)
+    (λ func. text_of (get_member (codes "id") ms)
+    (λ id. number_of (get_member (codes "place") ms) (λ place. Some (Call (Break func id place))))))
+    (cond (bytes_eq op (codes "unbreak"))
+    (number_of (get_member (codes "func") ms)
+    (λ func. text_of (get_member (codes "id") ms)
+    (λ id. number_of (get_member (codes "place") ms) (λ place. Some (Call (Unbreak func id place))))))
+    (cond (bytes_eq op (codes "peek"))
+    (number_of (get_member (codes "address") ms)
+    (λ address. text_of (get_member (codes "id") ms)
+    (λ id. number_of (get_member (codes "length") ms) (λ length. Some (Call (Peek address id length))))))
+    (cond (bytes_eq op (codes "step"))
+    (number_of (get_member (codes "count") ms)
+    (λ count. text_of (get_member (codes "id") ms) (λ id. Some (Call (Step count id)))))
+    (cond (bytes_eq op (codes "inspect")) (text_of (get_member (codes "id") ms) (λ id. Some (Call (Inspect id))))
     (cond (bytes_eq op (codes "return")) (text_of (get_member (codes "id") ms) (λ id. Some (Return id)))
     (text_of (get_member (codes "id") ms)
-    (λ id. number_of (get_member (codes "budget") ms) (λ budget. Some (Take id budget))))))))))))))))))))
+    (λ id. number_of (get_member (codes "budget") ms) (λ budget. Some (Take id budget)))))))))))))))))))))))))
 
 -- the event of a value that is one
 abbrev of_data : Data → Option Event
@@ -78,6 +94,11 @@ recovered d (Call (Delete id)) (ms, whole, keys) = rw (whole, keys) refl
 recovered d (Call (State id)) (ms, whole, keys) = rw (whole, keys) refl
 recovered d (Call (Wait id)) (ms, whole, keys) = rw (whole, keys) refl
 recovered d (Call (Output id stream)) (ms, whole, keys) = rw (whole, keys) refl
+recovered d (Call (Break func id place)) (ms, whole, keys) = rw (whole, keys) refl
+recovered d (Call (Unbreak func id place)) (ms, whole, keys) = rw (whole, keys) refl
+recovered d (Call (Step count id)) (ms, whole, keys) = rw (whole, keys) refl
+recovered d (Call (Inspect id)) (ms, whole, keys) = rw (whole, keys) refl
+recovered d (Call (Peek address id length)) (ms, whole, keys) = rw (whole, keys) refl
 recovered d (Take id budget) (ms, whole, (keys, least, most)) = rw (whole, keys) refl
 recovered d (Return id) (ms, whole, keys) = rw (whole, keys) refl
 

@@ -7,10 +7,10 @@ use Rattle.serde_json.proofs.Views.{get_member-put}
 use Rattle.task_board.specs.declared.event.Event.{Event}
 use Rattle.task_board.specs.declared.event.Event.TheVariants.{Call, Take, Return}
 use Rattle.task_board.specs.declared.request.Request.{Request}
-use Rattle.task_board.specs.declared.request.Request.TheVariants.{Put, PutText, Remove, LeaseCreate, LeaseAdd, LeaseDelete, Gc, Create, Start, Pause, Resume, Kill, Delete, State, Wait, Output}
+use Rattle.task_board.specs.declared.request.Request.TheVariants.{Put, PutText, Remove, LeaseCreate, LeaseAdd, LeaseDelete, Gc, Create, Start, Pause, Resume, Kill, Delete, State, Wait, Output, Break, Unbreak, Step, Inspect, Peek}
 use Rattle.shim_service.specs.declared.line_error.LineError.{LineError}
 use Rattle.shim_service.specs.Request.{only_id, HasKeys, event_op, HasEventKeys, AsksEvent}
-use Rattle.shim_service.specs.Inside.Parse.{Parses, without, IsAsked, IsEventAsked, HasOnlyId, IsSimple}
+use Rattle.shim_service.specs.Inside.Parse.{Parses, without, IsAsked, IsEventAsked, HasOnlyId, IsLate, IsSimple}
 
 -- no put with these keys, no request at all
 pub only_put :
@@ -30,8 +30,13 @@ only_put op ms is none (Resume id) a = let same = a.same in cc
 only_put op ms is none (Kill id signal) a = let same = a.same in cc
 only_put op ms is none (Delete id) a = let same = a.same in cc
 only_put op ms is none (State id) a = let same = a.same in cc
+only_put op ms is none (Inspect id) a = let same = a.same in cc
 only_put op ms is none (Wait id) a = let same = a.same in cc
 only_put op ms is none (Output id stream) a = let same = a.same in cc
+only_put op ms is none (Break func id place) a = let same = a.same in cc
+only_put op ms is none (Unbreak func id place) a = let same = a.same in cc
+only_put op ms is none (Step count id) a = let same = a.same in cc
+only_put op ms is none (Peek address id length) a = let same = a.same in cc
 
 -- no request with these keys beside `op`, and none that is simple
 pub none_left :
@@ -52,8 +57,13 @@ none_left op ms put create kill none (Pause id) a = none (Pause id) tt a
 none_left op ms put create kill none (Resume id) a = none (Resume id) tt a
 none_left op ms put create kill none (Delete id) a = none (Delete id) tt a
 none_left op ms put create kill none (State id) a = none (State id) tt a
+none_left op ms put create kill none (Inspect id) a = none (Inspect id) tt a
 none_left op ms put create kill none (Wait id) a = none (Wait id) tt a
 none_left op ms put create kill none (Output id stream) a = none (Output id stream) tt a
+none_left op ms put create kill none (Break func id place) a = none (Break func id place) tt a
+none_left op ms put create kill none (Unbreak func id place) a = none (Unbreak func id place) tt a
+none_left op ms put create kill none (Step count id) a = none (Step count id) tt a
+none_left op ms put create kill none (Peek address id length) a = none (Peek address id length) tt a
 
 -- a word is not another
 differ : (x y op : List ℕ) → bytes_eq x y ≡ false → op ≡ x → op ≡ y → ⊥
@@ -77,8 +87,14 @@ only_put_text op ms is none (Pause id) own a = differ (codes "put_text") (codes 
 only_put_text op ms is none (Resume id) own a = differ (codes "put_text") (codes "resume") op refl is a.same
 only_put_text op ms is none (Delete id) own a = differ (codes "put_text") (codes "delete") op refl is a.same
 only_put_text op ms is none (State id) own a = differ (codes "put_text") (codes "state") op refl is a.same
+only_put_text op ms is none (Inspect id) own a = differ (codes "put_text") (codes "inspect") op refl is a.same
 only_put_text op ms is none (Wait id) own a = differ (codes "put_text") (codes "wait") op refl is a.same
 only_put_text op ms is none (Output id stream) own a = differ (codes "put_text") (codes "output") op refl is a.same
+only_put_text op ms is none (Break func id place) own a = differ (codes "put_text") (codes "break") op refl is a.same
+only_put_text op ms is none (Unbreak func id place) own a =
+    differ (codes "put_text") (codes "unbreak") op refl is a.same
+only_put_text op ms is none (Step count id) own a = differ (codes "put_text") (codes "step") op refl is a.same
+only_put_text op ms is none (Peek address id length) own a = differ (codes "put_text") (codes "peek") op refl is a.same
 
 -- no removal with these keys, no simple request at all
 pub only_remove :
@@ -98,8 +114,13 @@ only_remove op ms is none (Pause id) own a = differ (codes "remove") (codes "pau
 only_remove op ms is none (Resume id) own a = differ (codes "remove") (codes "resume") op refl is a.same
 only_remove op ms is none (Delete id) own a = differ (codes "remove") (codes "delete") op refl is a.same
 only_remove op ms is none (State id) own a = differ (codes "remove") (codes "state") op refl is a.same
+only_remove op ms is none (Inspect id) own a = differ (codes "remove") (codes "inspect") op refl is a.same
 only_remove op ms is none (Wait id) own a = differ (codes "remove") (codes "wait") op refl is a.same
 only_remove op ms is none (Output id stream) own a = differ (codes "remove") (codes "output") op refl is a.same
+only_remove op ms is none (Break func id place) own a = differ (codes "remove") (codes "break") op refl is a.same
+only_remove op ms is none (Unbreak func id place) own a = differ (codes "remove") (codes "unbreak") op refl is a.same
+only_remove op ms is none (Step count id) own a = differ (codes "remove") (codes "step") op refl is a.same
+only_remove op ms is none (Peek address id length) own a = differ (codes "remove") (codes "peek") op refl is a.same
 
 pub only_lease_add :
     (op : List ℕ) (ms : Members) → op ≡ codes "lease_add" → ((digest id : List ℕ) → HasKeys ms (LeaseAdd digest id) → ⊥)
@@ -120,8 +141,15 @@ only_lease_add op ms is none (Pause id) own a = differ (codes "lease_add") (code
 only_lease_add op ms is none (Resume id) own a = differ (codes "lease_add") (codes "resume") op refl is a.same
 only_lease_add op ms is none (Delete id) own a = differ (codes "lease_add") (codes "delete") op refl is a.same
 only_lease_add op ms is none (State id) own a = differ (codes "lease_add") (codes "state") op refl is a.same
+only_lease_add op ms is none (Inspect id) own a = differ (codes "lease_add") (codes "inspect") op refl is a.same
 only_lease_add op ms is none (Wait id) own a = differ (codes "lease_add") (codes "wait") op refl is a.same
 only_lease_add op ms is none (Output id stream) own a = differ (codes "lease_add") (codes "output") op refl is a.same
+only_lease_add op ms is none (Break func id place) own a = differ (codes "lease_add") (codes "break") op refl is a.same
+only_lease_add op ms is none (Unbreak func id place) own a =
+    differ (codes "lease_add") (codes "unbreak") op refl is a.same
+only_lease_add op ms is none (Step count id) own a = differ (codes "lease_add") (codes "step") op refl is a.same
+only_lease_add op ms is none (Peek address id length) own a =
+    differ (codes "lease_add") (codes "peek") op refl is a.same
 
 pub only_output :
     (op : List ℕ) (ms : Members) → op ≡ codes "output"
@@ -142,7 +170,12 @@ only_output op ms is none (Pause id) own a = differ (codes "output") (codes "pau
 only_output op ms is none (Resume id) own a = differ (codes "output") (codes "resume") op refl is a.same
 only_output op ms is none (Delete id) own a = differ (codes "output") (codes "delete") op refl is a.same
 only_output op ms is none (State id) own a = differ (codes "output") (codes "state") op refl is a.same
+only_output op ms is none (Inspect id) own a = differ (codes "output") (codes "inspect") op refl is a.same
 only_output op ms is none (Wait id) own a = differ (codes "output") (codes "wait") op refl is a.same
+only_output op ms is none (Break func id place) own a = differ (codes "output") (codes "break") op refl is a.same
+only_output op ms is none (Unbreak func id place) own a = differ (codes "output") (codes "unbreak") op refl is a.same
+only_output op ms is none (Step count id) own a = differ (codes "output") (codes "step") op refl is a.same
+only_output op ms is none (Peek address id length) own a = differ (codes "output") (codes "peek") op refl is a.same
 
 pub only_gc :
     (op : List ℕ) (ms : Members) → op ≡ codes "gc" → (ms ≡ no_members → ⊥) → (r : Request) → IsSimple r
@@ -161,13 +194,18 @@ only_gc op ms is none (Pause id) own a = differ (codes "gc") (codes "pause") op 
 only_gc op ms is none (Resume id) own a = differ (codes "gc") (codes "resume") op refl is a.same
 only_gc op ms is none (Delete id) own a = differ (codes "gc") (codes "delete") op refl is a.same
 only_gc op ms is none (State id) own a = differ (codes "gc") (codes "state") op refl is a.same
+only_gc op ms is none (Inspect id) own a = differ (codes "gc") (codes "inspect") op refl is a.same
 only_gc op ms is none (Wait id) own a = differ (codes "gc") (codes "wait") op refl is a.same
 only_gc op ms is none (Output id stream) own a = differ (codes "gc") (codes "output") op refl is a.same
+only_gc op ms is none (Break func id place) own a = differ (codes "gc") (codes "break") op refl is a.same
+only_gc op ms is none (Unbreak func id place) own a = differ (codes "gc") (codes "unbreak") op refl is a.same
+only_gc op ms is none (Step count id) own a = differ (codes "gc") (codes "step") op refl is a.same
+only_gc op ms is none (Peek address id length) own a = differ (codes "gc") (codes "peek") op refl is a.same
 
--- no simple request with these keys, and none that has the key `id` alone
+-- no simple request with these keys, and none that is late
 pub none_simple :
     (op : List ℕ) (ms : Members) → op ≢ codes "put_text" → op ≢ codes "remove" → op ≢ codes "lease_add"
-    → op ≢ codes "output" → op ≢ codes "gc" → ((r : Request) → HasOnlyId r → IsAsked op ms r → ⊥)
+    → op ≢ codes "output" → op ≢ codes "gc" → ((r : Request) → IsLate r → IsAsked op ms r → ⊥)
     → (r : Request) → IsSimple r → IsAsked op ms r → ⊥
 none_simple op ms put_text remove add output gc none (Put bytes) own a = own
 none_simple op ms put_text remove add output gc none (PutText text) own a = put_text a.same
@@ -183,8 +221,148 @@ none_simple op ms put_text remove add output gc none (Pause id) own a = none (Pa
 none_simple op ms put_text remove add output gc none (Resume id) own a = none (Resume id) tt a
 none_simple op ms put_text remove add output gc none (Delete id) own a = none (Delete id) tt a
 none_simple op ms put_text remove add output gc none (State id) own a = none (State id) tt a
+none_simple op ms put_text remove add output gc none (Inspect id) own a = none (Inspect id) tt a
 none_simple op ms put_text remove add output gc none (Wait id) own a = none (Wait id) tt a
 none_simple op ms put_text remove add output gc none (Output id stream) own a = output a.same
+none_simple op ms put_text remove add output gc none (Break func id place) own a = none (Break func id place) tt a
+none_simple op ms put_text remove add output gc none (Unbreak func id place) own a = none (Unbreak func id place) tt a
+none_simple op ms put_text remove add output gc none (Step count id) own a = none (Step count id) tt a
+none_simple op ms put_text remove add output gc none (Peek address id length) own a = none (Peek address id length) tt a
+
+-- no break with these keys, no late request at all
+pub only_break :
+    (op : List ℕ) (ms : Members) → op ≡ codes "break"
+    → ((func : ℕ) (id : List ℕ) (place : ℕ) → HasKeys ms (Break func id place) → ⊥)
+    → (r : Request) → IsLate r → IsAsked op ms r → ⊥
+only_break op ms is none (Break func id place) own a = none func id place a.keys
+only_break op ms is none (Unbreak func id place) own a = differ (codes "break") (codes "unbreak") op refl is a.same
+only_break op ms is none (Step count id) own a = differ (codes "break") (codes "step") op refl is a.same
+only_break op ms is none (Peek address id length) own a = differ (codes "break") (codes "peek") op refl is a.same
+only_break op ms is none (LeaseCreate id) own a = differ (codes "break") (codes "lease_create") op refl is a.same
+only_break op ms is none (LeaseDelete id) own a = differ (codes "break") (codes "lease_delete") op refl is a.same
+only_break op ms is none (Start id) own a = differ (codes "break") (codes "start") op refl is a.same
+only_break op ms is none (Pause id) own a = differ (codes "break") (codes "pause") op refl is a.same
+only_break op ms is none (Resume id) own a = differ (codes "break") (codes "resume") op refl is a.same
+only_break op ms is none (Delete id) own a = differ (codes "break") (codes "delete") op refl is a.same
+only_break op ms is none (State id) own a = differ (codes "break") (codes "state") op refl is a.same
+only_break op ms is none (Inspect id) own a = differ (codes "break") (codes "inspect") op refl is a.same
+only_break op ms is none (Wait id) own a = differ (codes "break") (codes "wait") op refl is a.same
+only_break op ms is none (Put bytes) own a = own
+only_break op ms is none (PutText text) own a = own
+only_break op ms is none (Remove digest) own a = own
+only_break op ms is none (LeaseAdd digest id) own a = own
+only_break op ms is none Gc own a = own
+only_break op ms is none (Create config id) own a = own
+only_break op ms is none (Kill id signal) own a = own
+only_break op ms is none (Output id stream) own a = own
+
+-- no unbreak with these keys, no late request at all
+pub only_unbreak :
+    (op : List ℕ) (ms : Members) → op ≡ codes "unbreak"
+    → ((func : ℕ) (id : List ℕ) (place : ℕ) → HasKeys ms (Unbreak func id place) → ⊥)
+    → (r : Request) → IsLate r → IsAsked op ms r → ⊥
+only_unbreak op ms is none (Unbreak func id place) own a = none func id place a.keys
+only_unbreak op ms is none (Break func id place) own a = differ (codes "unbreak") (codes "break") op refl is a.same
+only_unbreak op ms is none (Step count id) own a = differ (codes "unbreak") (codes "step") op refl is a.same
+only_unbreak op ms is none (Peek address id length) own a = differ (codes "unbreak") (codes "peek") op refl is a.same
+only_unbreak op ms is none (LeaseCreate id) own a = differ (codes "unbreak") (codes "lease_create") op refl is a.same
+only_unbreak op ms is none (LeaseDelete id) own a = differ (codes "unbreak") (codes "lease_delete") op refl is a.same
+only_unbreak op ms is none (Start id) own a = differ (codes "unbreak") (codes "start") op refl is a.same
+only_unbreak op ms is none (Pause id) own a = differ (codes "unbreak") (codes "pause") op refl is a.same
+only_unbreak op ms is none (Resume id) own a = differ (codes "unbreak") (codes "resume") op refl is a.same
+only_unbreak op ms is none (Delete id) own a = differ (codes "unbreak") (codes "delete") op refl is a.same
+only_unbreak op ms is none (State id) own a = differ (codes "unbreak") (codes "state") op refl is a.same
+only_unbreak op ms is none (Inspect id) own a = differ (codes "unbreak") (codes "inspect") op refl is a.same
+only_unbreak op ms is none (Wait id) own a = differ (codes "unbreak") (codes "wait") op refl is a.same
+only_unbreak op ms is none (Put bytes) own a = own
+only_unbreak op ms is none (PutText text) own a = own
+only_unbreak op ms is none (Remove digest) own a = own
+only_unbreak op ms is none (LeaseAdd digest id) own a = own
+only_unbreak op ms is none Gc own a = own
+only_unbreak op ms is none (Create config id) own a = own
+only_unbreak op ms is none (Kill id signal) own a = own
+only_unbreak op ms is none (Output id stream) own a = own
+
+-- no step with these keys, no late request at all
+pub only_step :
+    (op : List ℕ) (ms : Members) → op ≡ codes "step"
+    → ((count : ℕ) (id : List ℕ) → HasKeys ms (Step count id) → ⊥)
+    → (r : Request) → IsLate r → IsAsked op ms r → ⊥
+only_step op ms is none (Step count id) own a = none count id a.keys
+only_step op ms is none (Break func id place) own a = differ (codes "step") (codes "break") op refl is a.same
+only_step op ms is none (Unbreak func id place) own a = differ (codes "step") (codes "unbreak") op refl is a.same
+only_step op ms is none (Peek address id length) own a = differ (codes "step") (codes "peek") op refl is a.same
+only_step op ms is none (LeaseCreate id) own a = differ (codes "step") (codes "lease_create") op refl is a.same
+only_step op ms is none (LeaseDelete id) own a = differ (codes "step") (codes "lease_delete") op refl is a.same
+only_step op ms is none (Start id) own a = differ (codes "step") (codes "start") op refl is a.same
+only_step op ms is none (Pause id) own a = differ (codes "step") (codes "pause") op refl is a.same
+only_step op ms is none (Resume id) own a = differ (codes "step") (codes "resume") op refl is a.same
+only_step op ms is none (Delete id) own a = differ (codes "step") (codes "delete") op refl is a.same
+only_step op ms is none (State id) own a = differ (codes "step") (codes "state") op refl is a.same
+only_step op ms is none (Inspect id) own a = differ (codes "step") (codes "inspect") op refl is a.same
+only_step op ms is none (Wait id) own a = differ (codes "step") (codes "wait") op refl is a.same
+only_step op ms is none (Put bytes) own a = own
+only_step op ms is none (PutText text) own a = own
+only_step op ms is none (Remove digest) own a = own
+only_step op ms is none (LeaseAdd digest id) own a = own
+only_step op ms is none Gc own a = own
+only_step op ms is none (Create config id) own a = own
+only_step op ms is none (Kill id signal) own a = own
+only_step op ms is none (Output id stream) own a = own
+
+-- no peek with these keys, no late request at all
+pub only_peek :
+    (op : List ℕ) (ms : Members) → op ≡ codes "peek"
+    → ((address : ℕ) (id : List ℕ) (length : ℕ) → HasKeys ms (Peek address id length) → ⊥)
+    → (r : Request) → IsLate r → IsAsked op ms r → ⊥
+only_peek op ms is none (Peek address id length) own a = none address id length a.keys
+only_peek op ms is none (Break func id place) own a = differ (codes "peek") (codes "break") op refl is a.same
+only_peek op ms is none (Unbreak func id place) own a = differ (codes "peek") (codes "unbreak") op refl is a.same
+only_peek op ms is none (Step count id) own a = differ (codes "peek") (codes "step") op refl is a.same
+only_peek op ms is none (LeaseCreate id) own a = differ (codes "peek") (codes "lease_create") op refl is a.same
+only_peek op ms is none (LeaseDelete id) own a = differ (codes "peek") (codes "lease_delete") op refl is a.same
+only_peek op ms is none (Start id) own a = differ (codes "peek") (codes "start") op refl is a.same
+only_peek op ms is none (Pause id) own a = differ (codes "peek") (codes "pause") op refl is a.same
+only_peek op ms is none (Resume id) own a = differ (codes "peek") (codes "resume") op refl is a.same
+only_peek op ms is none (Delete id) own a = differ (codes "peek") (codes "delete") op refl is a.same
+only_peek op ms is none (State id) own a = differ (codes "peek") (codes "state") op refl is a.same
+only_peek op ms is none (Inspect id) own a = differ (codes "peek") (codes "inspect") op refl is a.same
+only_peek op ms is none (Wait id) own a = differ (codes "peek") (codes "wait") op refl is a.same
+only_peek op ms is none (Put bytes) own a = own
+only_peek op ms is none (PutText text) own a = own
+only_peek op ms is none (Remove digest) own a = own
+only_peek op ms is none (LeaseAdd digest id) own a = own
+only_peek op ms is none Gc own a = own
+only_peek op ms is none (Create config id) own a = own
+only_peek op ms is none (Kill id signal) own a = own
+only_peek op ms is none (Output id stream) own a = own
+
+-- no late request with these keys, and none that has the key `id` alone
+pub none_late :
+    (op : List ℕ) (ms : Members) → op ≢ codes "break" → op ≢ codes "unbreak" → op ≢ codes "step"
+    → op ≢ codes "peek" → ((r : Request) → HasOnlyId r → IsAsked op ms r → ⊥)
+    → (r : Request) → IsLate r → IsAsked op ms r → ⊥
+none_late op ms breaks unbreaks steps peeks none (Break func id place) own a = breaks a.same
+none_late op ms breaks unbreaks steps peeks none (Unbreak func id place) own a = unbreaks a.same
+none_late op ms breaks unbreaks steps peeks none (Step count id) own a = steps a.same
+none_late op ms breaks unbreaks steps peeks none (Peek address id length) own a = peeks a.same
+none_late op ms breaks unbreaks steps peeks none (LeaseCreate id) own a = none (LeaseCreate id) tt a
+none_late op ms breaks unbreaks steps peeks none (LeaseDelete id) own a = none (LeaseDelete id) tt a
+none_late op ms breaks unbreaks steps peeks none (Start id) own a = none (Start id) tt a
+none_late op ms breaks unbreaks steps peeks none (Pause id) own a = none (Pause id) tt a
+none_late op ms breaks unbreaks steps peeks none (Resume id) own a = none (Resume id) tt a
+none_late op ms breaks unbreaks steps peeks none (Delete id) own a = none (Delete id) tt a
+none_late op ms breaks unbreaks steps peeks none (State id) own a = none (State id) tt a
+none_late op ms breaks unbreaks steps peeks none (Inspect id) own a = none (Inspect id) tt a
+none_late op ms breaks unbreaks steps peeks none (Wait id) own a = none (Wait id) tt a
+none_late op ms breaks unbreaks steps peeks none (Put bytes) own a = own
+none_late op ms breaks unbreaks steps peeks none (PutText text) own a = own
+none_late op ms breaks unbreaks steps peeks none (Remove digest) own a = own
+none_late op ms breaks unbreaks steps peeks none (LeaseAdd digest id) own a = own
+none_late op ms breaks unbreaks steps peeks none Gc own a = own
+none_late op ms breaks unbreaks steps peeks none (Create config id) own a = own
+none_late op ms breaks unbreaks steps peeks none (Kill id signal) own a = own
+none_late op ms breaks unbreaks steps peeks none (Output id stream) own a = own
 
 -- a request of the key `id` alone has these members
 pub only_its_id :
@@ -196,6 +374,7 @@ only_its_id op ms none (Pause id) own a = none id a.keys
 only_its_id op ms none (Resume id) own a = none id a.keys
 only_its_id op ms none (Delete id) own a = none id a.keys
 only_its_id op ms none (State id) own a = none id a.keys
+only_its_id op ms none (Inspect id) own a = none id a.keys
 only_its_id op ms none (Wait id) own a = none id a.keys
 only_its_id op ms none (Put bytes) own a = own
 only_its_id op ms none (PutText text) own a = own
@@ -205,28 +384,38 @@ only_its_id op ms none Gc own a = own
 only_its_id op ms none (Create config id) own a = own
 only_its_id op ms none (Kill id signal) own a = own
 only_its_id op ms none (Output id stream) own a = own
+only_its_id op ms none (Break func id place) own a = own
+only_its_id op ms none (Unbreak func id place) own a = own
+only_its_id op ms none (Step count id) own a = own
+only_its_id op ms none (Peek address id length) own a = own
 
 -- no `op` of such a request
 pub no_such_op :
     (op : List ℕ) (ms : Members) → op ≢ codes "lease_create" → op ≢ codes "lease_delete" → op ≢ codes "start"
     → op ≢ codes "pause" → op ≢ codes "resume" → op ≢ codes "delete"
-    → op ≢ codes "state" → op ≢ codes "wait" → (r : Request) → HasOnlyId r → IsAsked op ms r → ⊥
-no_such_op op ms g h a b c d e f (LeaseCreate id) own is = g is.same
-no_such_op op ms g h a b c d e f (LeaseDelete id) own is = h is.same
-no_such_op op ms g h a b c d e f (Start id) own is = a is.same
-no_such_op op ms g h a b c d e f (Pause id) own is = b is.same
-no_such_op op ms g h a b c d e f (Resume id) own is = c is.same
-no_such_op op ms g h a b c d e f (Delete id) own is = d is.same
-no_such_op op ms g h a b c d e f (State id) own is = e is.same
-no_such_op op ms g h a b c d e f (Wait id) own is = f is.same
-no_such_op op ms g h a b c d e f (Put bytes) own is = own
-no_such_op op ms g h a b c d e f (PutText text) own is = own
-no_such_op op ms g h a b c d e f (Remove digest) own is = own
-no_such_op op ms g h a b c d e f (LeaseAdd digest id) own is = own
-no_such_op op ms g h a b c d e f Gc own is = own
-no_such_op op ms g h a b c d e f (Create config id) own is = own
-no_such_op op ms g h a b c d e f (Kill id signal) own is = own
-no_such_op op ms g h a b c d e f (Output id stream) own is = own
+    → op ≢ codes "state" → op ≢ codes "inspect" → op ≢ codes "wait" → (r : Request) → HasOnlyId r
+    → IsAsked op ms r → ⊥
+no_such_op op ms g h a b c d e i f (LeaseCreate id) own is = g is.same
+no_such_op op ms g h a b c d e i f (LeaseDelete id) own is = h is.same
+no_such_op op ms g h a b c d e i f (Start id) own is = a is.same
+no_such_op op ms g h a b c d e i f (Pause id) own is = b is.same
+no_such_op op ms g h a b c d e i f (Resume id) own is = c is.same
+no_such_op op ms g h a b c d e i f (Delete id) own is = d is.same
+no_such_op op ms g h a b c d e i f (State id) own is = e is.same
+no_such_op op ms g h a b c d e i f (Inspect id) own is = i is.same
+no_such_op op ms g h a b c d e i f (Wait id) own is = f is.same
+no_such_op op ms g h a b c d e i f (Put bytes) own is = own
+no_such_op op ms g h a b c d e i f (PutText text) own is = own
+no_such_op op ms g h a b c d e i f (Remove digest) own is = own
+no_such_op op ms g h a b c d e i f (LeaseAdd digest id) own is = own
+no_such_op op ms g h a b c d e i f Gc own is = own
+no_such_op op ms g h a b c d e i f (Create config id) own is = own
+no_such_op op ms g h a b c d e i f (Kill id signal) own is = own
+no_such_op op ms g h a b c d e i f (Output id stream) own is = own
+no_such_op op ms g h a b c d e i f (Break func id place) own is = own
+no_such_op op ms g h a b c d e i f (Unbreak func id place) own is = own
+no_such_op op ms g h a b c d e i f (Step count id) own is = own
+no_such_op op ms g h a b c d e i f (Peek address id length) own is = own
 
 -- the keys of an event do not have `op` among them
 rest_of : (e : Event) (d : Data) (ms : Members) → HasEventKeys ms e → without (codes "op") (put (codes "op") d ms) ≡ ms
@@ -244,8 +433,13 @@ rest_of (Call (Resume id)) d ms h = rw h refl
 rest_of (Call (Kill id signal)) d ms h = rw h refl
 rest_of (Call (Delete id)) d ms h = rw h refl
 rest_of (Call (State id)) d ms h = rw h refl
+rest_of (Call (Inspect id)) d ms h = rw h refl
 rest_of (Call (Wait id)) d ms h = rw h refl
 rest_of (Call (Output id stream)) d ms h = rw h refl
+rest_of (Call (Break func id place)) d ms h = rw h refl
+rest_of (Call (Unbreak func id place)) d ms h = rw h refl
+rest_of (Call (Step count id)) d ms h = rw h refl
+rest_of (Call (Peek address id length)) d ms h = rw h refl
 rest_of (Take id budget) d ms h = rw (h.0) refl
 rest_of (Return id) d ms h = rw h refl
 

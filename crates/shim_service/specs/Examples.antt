@@ -1,7 +1,8 @@
 -- Lines that are read and written so.
-use Rattle.std.specs.Prelude.{◌≡◌, [], ◌∷◌, Some, Ok, Err, codes}
+use Rattle.std.specs.Prelude.{◌≡◌, ◌++◌, ◌-◌, ◌^◌, [], ◌∷◌, None, Some, Ok, Err, codes}
 use Rattle.task_board.specs.declared.event.Event.TheVariants.{Call, Take}
 use Rattle.wasm_ast.specs.declared.refusal.Refusal.TheVariants as refusal
+use Rattle.wasm_ast.specs.declared.values.Value.TheVariants.{I32, I64}
 use Rattle.task_board.specs.declared.request.Request.TheVariants as request
 use Rattle.task_board.specs.declared.request.Reply.TheVariants as reply
 use Rattle.task_lifecycle.specs.declared.status.ExitRecord.TheVariants.{Exit}
@@ -64,3 +65,49 @@ StoppedExample =
     (record { id = codes "a"; n = 2; status = Stopped; end = Some (Exit 7) }))))
     ≡ codes
     "{\"cause\":\"exit\",\"exit\":7,\"id\":\"a\",\"n\":2,\"ok\":true,\"status\":\"stopped\"}\n"
+
+-- the keys of a break, in any order
+abbrev pub BreakExample : Type 0
+BreakExample =
+    IsEvent (codes "{\"op\":\"break\",\"id\":\"a\",\"func\":2,\"place\":0}")
+    (Call (request.Break 2 (codes "a") 0))
+
+abbrev pub StepExample : Type 0
+StepExample =
+    IsEvent (codes "{\"op\":\"step\",\"id\":\"a\",\"count\":10}")
+    (Call (request.Step 10 (codes "a")))
+
+abbrev pub PeekExample : Type 0
+PeekExample =
+    IsEvent (codes "{\"op\":\"peek\",\"id\":\"a\",\"address\":16,\"length\":4}")
+    (Call (request.Peek 16 (codes "a") 4))
+
+abbrev pub ShownExample : Type 0
+ShownExample =
+    line_text (json_of (Ok (reply.Peek (0 ∷ 255 ∷ []) (codes "a"))))
+    ≡ codes "{\"hex\":\"00ff\",\"id\":\"a\",\"ok\":true}\n"
+
+abbrev pub InspectExample : Type 0
+InspectExample =
+    IsEvent (codes "{\"op\":\"inspect\",\"id\":\"a\"}") (Call (request.Inspect (codes "a")))
+
+-- a function at its end, and the one that called it in a block, with a sign bit and the number below it
+abbrev pub FramesExample : Type 0
+FramesExample =
+    line_text
+    (json_of
+    (Ok (reply.Inspect
+    (record { func = 2; next = None; labels = []; locals = []; operands = [] }
+    ∷ record {
+      func = 1;
+      next = Some 6;
+      labels = 3 ∷ [];
+      locals = I32 0 ∷ I64 (2 ^ 64 - 1) ∷ [];
+      operands = I32 (2 ^ 31) ∷ I32 (2 ^ 31 - 1) ∷ [];
+    }
+    ∷ [])
+    (codes "a") 6)))
+    ≡ codes "{\"frames\":[{\"func\":2,\"labels\":[],\"locals\":[],\"next\":\"end\",\"operands\":[]},"
+    ++ codes "{\"func\":1,\"labels\":[3],\"locals\":[\"i32:0\",\"i64:-1\"],\"next\":6,"
+    ++ codes "\"operands\":[\"i32:-2147483648\",\"i32:2147483647\"]}],"
+    ++ codes "\"id\":\"a\",\"n\":6,\"ok\":true}\n"

@@ -5,9 +5,13 @@ use Rattle.hex.specs.Hex.{encode_lower}
 use Rattle.serde_json.specs.Data.{Data, string, boolean, number, array, unsigned}
 use Rattle.serde_json.specs.View.{items_of}
 use Rattle.serde_json.specs.Written.{compact_text}
+use Rattle.wasm_ast.specs.declared.values.Value.{Value}
+use Rattle.wasm_ast.specs.declared.values.Value.TheVariants as values
 use Rattle.wasm_ast.specs.Names.{refusal_name, refusal_number, trap_name}
 use Rattle.wasm_ast.specs.declared.refusal.Refusal.{Refusal}
 use Rattle.wasm_ast.specs.declared.refusal.Refusal.TheVariants.{BadText, Invalid}
+use Rattle.text_assembler.specs.Lines.{signed}
+use Rattle.step_machine.specs.declared.shown.ShownFrame.{ShownFrame}
 use Rattle.task_lifecycle.specs.Names.{status_name, cause_name, signal_number, exit_status}
 use Rattle.task_board.specs.declared.event.EventReply.{EventReply}
 use Rattle.task_board.specs.declared.event.EventReply.TheVariants.{Called, Taken, Returned}
@@ -106,6 +110,47 @@ output_data bytes id size = object_of
     ∷ (codes "size", count size)
     ∷ [])
 
+abbrev pub peek_data : (bytes id : List ℕ) → Data
+peek_data bytes id =
+    object_of ((codes "hex", string (encode_lower bytes)) ∷ (codes "id", string id)
+    ∷ (codes "ok", boolean true) ∷ [])
+
+-- a value as a text: its type, and its number read as signed
+abbrev pub value_text : Value → List ℕ
+value_text (values.I32 n) = codes "i32:" ++ signed 32 n
+value_text (values.I64 n) = codes "i64:" ++ signed 64 n
+
+abbrev pub values_data : List Value → Data
+values_data vs = array (items_of (map (λ v. string (value_text v)) vs))
+
+abbrev pub places_data : List ℕ → Data
+places_data places = array (items_of (map count places))
+
+-- the place that is next in a frame, or the text that tells its end
+abbrev pub next_data : Option ℕ → Data
+next_data None = string (codes "end")
+next_data (Some place) = count place
+
+abbrev pub frame_data : ShownFrame → Data
+frame_data f = object_of
+    ((codes "func", count f.func)
+    ∷ (codes "labels", places_data f.labels)
+    ∷ (codes "locals", values_data f.locals)
+    ∷ (codes "next", next_data f.next)
+    ∷ (codes "operands", values_data f.operands)
+    ∷ [])
+
+abbrev pub frames_data : List ShownFrame → Data
+frames_data frames = array (items_of (map frame_data frames))
+
+abbrev pub inspect_data : List ShownFrame → (id : List ℕ) → (n : ℕ) → Data
+inspect_data frames id n = object_of
+    ((codes "frames", frames_data frames)
+    ∷ (codes "id", string id)
+    ∷ (codes "n", count n)
+    ∷ (codes "ok", boolean true)
+    ∷ [])
+
 abbrev pub reply_data : Reply → Data
 reply_data (reply.Put digest size) = put_data digest size
 reply_data (reply.Remove digest) = digest_data digest
@@ -122,6 +167,11 @@ reply_data (reply.Delete state) = state_data state
 reply_data (reply.State state) = state_data state
 reply_data (reply.Wait state) = state_data state
 reply_data (reply.Output bytes id size) = output_data bytes id size
+reply_data (reply.Break id) = id_data id
+reply_data (reply.Unbreak id) = id_data id
+reply_data (reply.Step state) = state_data state
+reply_data (reply.Inspect frames id n) = inspect_data frames id n
+reply_data (reply.Peek bytes id) = peek_data bytes id
 
 -- what a request is answered
 abbrev pub json_of : Result Reply Refusal → Data

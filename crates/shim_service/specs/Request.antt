@@ -3,7 +3,7 @@ use Rattle.std.specs.Prelude.{◌≡◌, ◌≤◌, ℕ, List, [], ◌∷◌, Ok
 use Rattle.hex.specs.Hex.{decode_of}
 use Rattle.serde_json.specs.Data.{Data, string, number, unsigned, object, Members, put}
 use Rattle.task_board.specs.declared.request.Request.{Request}
-use Rattle.task_board.specs.declared.request.Request.TheVariants.{Put, PutText, Remove, LeaseCreate, LeaseAdd, LeaseDelete, Gc, Create, Start, Pause, Resume, Kill, Delete, State, Wait, Output}
+use Rattle.task_board.specs.declared.request.Request.TheVariants.{Put, PutText, Remove, LeaseCreate, LeaseAdd, LeaseDelete, Gc, Create, Start, Pause, Resume, Kill, Delete, State, Wait, Output, Break, Unbreak, Step, Inspect, Peek}
 use Rattle.task_board.specs.Limits.{max_budget}
 use Rattle.task_board.specs.declared.event.Event.{Event}
 use Rattle.task_board.specs.declared.event.Event.TheVariants.{Call, Take, Return}
@@ -29,10 +29,22 @@ op_of (Delete id) = codes "delete"
 op_of (State id) = codes "state"
 op_of (Wait id) = codes "wait"
 op_of (Output id stream) = codes "output"
+op_of (Break func id place) = codes "break"
+op_of (Unbreak func id place) = codes "unbreak"
+op_of (Step count id) = codes "step"
+op_of (Inspect id) = codes "inspect"
+op_of (Peek address id length) = codes "peek"
 
 -- the key `id` and no other
 abbrev pub only_id : List ℕ → Members
 only_id id = members ((codes "id", string id) ∷ [])
+
+-- the keys of an instruction of a task, and no others
+abbrev pub place_keys : (func : ℕ) → (id : List ℕ) → (place : ℕ) → Members
+place_keys func id place =
+    members
+    ((codes "func", number (unsigned func)) ∷ (codes "id", string id)
+    ∷ (codes "place", number (unsigned place)) ∷ [])
 
 -- the other members, by their keys: `hex` is an even number of hexadecimal digits of either case
 abbrev pub HasKeys : Members → Request → Type 0
@@ -57,6 +69,16 @@ HasKeys ms (State id) = ms ≡ only_id id
 HasKeys ms (Wait id) = ms ≡ only_id id
 HasKeys ms (Output id stream) =
     ms ≡ members ((codes "id", string id) ∷ (codes "stream", number (unsigned stream)) ∷ [])
+HasKeys ms (Break func id place) = ms ≡ place_keys func id place
+HasKeys ms (Unbreak func id place) = ms ≡ place_keys func id place
+HasKeys ms (Step count id) =
+    ms ≡ members ((codes "count", number (unsigned count)) ∷ (codes "id", string id) ∷ [])
+HasKeys ms (Inspect id) = ms ≡ only_id id
+HasKeys ms (Peek address id length) =
+    ms
+    ≡ members
+    ((codes "address", number (unsigned address)) ∷ (codes "id", string id)
+    ∷ (codes "length", number (unsigned length)) ∷ [])
 
 -- ---- the event lines of a replay
 

@@ -8,7 +8,7 @@ ghost use Rattle.task_board.specs.declared.request.Request.{Request};
 ghost use Rattle.task_board.specs.BoardState.{BoardState};
 ghost use Rattle.task_board.specs.Choices.{IsDetermined};
 ghost use Rattle.task_board.specs.Step.{Answer};
-ghost use Rattle.shim_service.specs.Examples.{PutExample, TextExample, FaultExample, LeaseExample, TwiceExample, TakeExample, RemovedExample, StoppedExample, OutputExample, WrittenExample};
+ghost use Rattle.shim_service.specs.Examples.{PutExample, TextExample, FaultExample, LeaseExample, TwiceExample, TakeExample, RemovedExample, StoppedExample, OutputExample, WrittenExample, BreakExample, StepExample, PeekExample, ShownExample, InspectExample, FramesExample};
 ghost use Rattle.shim_service.specs.Replay.{IsReplied};
 ghost use Rattle.shim_service.specs.Reply.{json_of, line_text};
 ghost use Rattle.shim_service.specs.Request.{IsRequest, IsEvent};
@@ -73,4 +73,10 @@ pub fn examples()
     ensures removed { RemovedExample }
     ensures written { WrittenExample }
     ensures stopped { StoppedExample }
+    ensures break_line { BreakExample }
+    ensures step { StepExample }
+    ensures peek { PeekExample }
+    ensures shown { ShownExample }
+    ensures inspect { InspectExample }
+    ensures frames { FramesExample }
 {}

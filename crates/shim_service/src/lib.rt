@@ -6,6 +6,7 @@ mod asm;
 mod check;
 mod command;
 pub mod file_laws;
+mod frame_value;
 pub mod laws;
 mod line_error;
 mod line_reader;

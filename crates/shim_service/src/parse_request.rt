@@ -7,7 +7,7 @@ ghost use Rattle.task_board.specs.declared.request.Request.{Request};
 ghost use Rattle.task_board.specs.declared.request.Request.TheVariants as Asked;
 ghost use Rattle.shim_service.specs.Request.{HasKeys, only_id, AsksFor, IsRequest};
 ghost use Rattle.shim_service.specs.Shape.{max_line_bytes};
-ghost use Rattle.shim_service.specs.Inside.Parse.{Parses, IsAsked, HasOnlyId, IsSimple};
+ghost use Rattle.shim_service.specs.Inside.Parse.{Parses, IsAsked, HasOnlyId, IsLate, IsSimple};
 
 use crate::line_error::LineError;
 use crate::members::{
@@ -145,6 +145,7 @@ fn request_with_id(op: &str, id: Text) -> Option<Request>
         "resume" => Some(Request::Resume { id }),
         "delete" => Some(Request::Delete { id }),
         "state" => Some(Request::State { id }),
+        "inspect" => Some(Request::Inspect { id }),
         "wait" => Some(Request::Wait { id }),
         _ => None,
     }
@@ -158,6 +159,88 @@ fn read_id_request(op: &str, members: Members) -> Option<Request>
 {
     let id = read_only_id(members)?;
     request_with_id(op, id)
+}
+
+/// Reads the members beside `op` of a break or an unbreak: the function, the id and the place.
+fn read_break(members: Members) -> Option<(u64, Text, u64)>
+    ensures some { IfSome result (λ r.
+        HasKeys (members_view members.entries) (Asked.Break r.0 r.1 r.2)) }
+    ensures none { IfNone result ((func : ℕ) (id : List ℕ) (place : ℕ) →
+        HasKeys (members_view members.entries) (Asked.Break func id place) → ⊥) }
+{
+    let mut left = members;
+    let Some(func) = take_number(&mut left, "func") else {
+        return None;
+    };
+    let Some(place) = take_number(&mut left, "place") else {
+        return None;
+    };
+    let id = read_only_id(left)?;
+    Some((func, id, place))
+}
+
+/// Reads the members beside `op` of a step: the count and the id.
+fn read_step(members: Members) -> Option<(u64, Text)>
+    ensures some { IfSome result (λ r.
+        HasKeys (members_view members.entries) (Asked.Step r.0 r.1)) }
+    ensures none { IfNone result ((count : ℕ) (id : List ℕ) →
+        HasKeys (members_view members.entries) (Asked.Step count id) → ⊥) }
+{
+    let mut left = members;
+    let Some(count) = take_number(&mut left, "count") else {
+        return None;
+    };
+    let id = read_only_id(left)?;
+    Some((count, id))
+}
+
+/// Reads the members beside `op` of a question for memory: the address, the id and the length.
+fn read_peek(members: Members) -> Option<(u64, Text, u64)>
+    ensures some { IfSome result (λ r.
+        HasKeys (members_view members.entries) (Asked.Peek r.0 r.1 r.2)) }
+    ensures none { IfNone result ((address : ℕ) (id : List ℕ) (length : ℕ) →
+        HasKeys (members_view members.entries) (Asked.Peek address id length) → ⊥) }
+{
+    let mut left = members;
+    let Some(address) = take_number(&mut left, "address") else {
+        return None;
+    };
+    let Some(length) = take_number(&mut left, "length") else {
+        return None;
+    };
+    let id = read_only_id(left)?;
+    Some((address, id, length))
+}
+
+/// Reads a request for a breakpoint, a step or memory, or one that has the key `id` alone.
+fn read_late(op: &str, members: Members) -> Option<Request>
+    ensures some { IfSome result (λ r. IsAsked op.now (members_view members.entries) r) }
+    ensures none { IfNone result
+        ((r : Request) → IsLate r → IsAsked op.now (members_view members.entries) r → ⊥) }
+{
+    match op {
+        "break" => {
+            let (func, id, place) = read_break(members)?;
+            Some(Request::Break { func, id, place })
+        }
+        "unbreak" => {
+            let (func, id, place) = read_break(members)?;
+            Some(Request::Unbreak { func, id, place })
+        }
+        "step" => {
+            let (count, id) = read_step(members)?;
+            Some(Request::Step { count, id })
+        }
+        "peek" => {
+            let (address, id, length) = read_peek(members)?;
+            Some(Request::Peek {
+                address,
+                id,
+                length,
+            })
+        }
+        _ => read_id_request(op, members),
+    }
 }
 
 /// Reads a request other than put, create and kill.
@@ -188,7 +271,7 @@ fn read_simple(op: &str, members: Members) -> Option<Request>
         } else {
             None
         },
-        _ => read_id_request(op, members),
+        _ => read_late(op, members),
     }
 }
 

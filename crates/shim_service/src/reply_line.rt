@@ -22,7 +22,7 @@ fn line_of_value(alloc: Global, value: &Value) -> Result<String, AllocError>
 }
 
 /// The line of what a request is answered.
-#[tactic(auto, using(crate::proofs::FloatLemmas::texts_have_none))]
+#[tactic(auto, using(crate::proofs::FloatLemmas::texts_have_none, crate::proofs::FloatLemmas::frames_have_none))]
 pub(crate) fn answer_line(
     alloc: Global,
     answer: &Result<Reply, Refusal>,
@@ -34,7 +34,7 @@ pub(crate) fn answer_line(
 }
 
 /// The line of what an event is answered.
-#[tactic(auto, using(crate::proofs::FloatLemmas::texts_have_none))]
+#[tactic(auto, using(crate::proofs::FloatLemmas::texts_have_none, crate::proofs::FloatLemmas::frames_have_none))]
 pub(crate) fn event_line(alloc: Global, reply: &EventReply) -> Result<String, AllocError>
     ensures { IfOk result (λ s. string_bytes s ≡ line_text (event_data reply.now)) }
 {

@@ -4,9 +4,10 @@ ghost use Rattle.std.specs.Prelude.{◌≡◌, IfOk, OnOk, codes, [], ◌∷◌,
 ghost use Rattle.serde_json.specs.Data.{string, boolean, put};
 ghost use Rattle.serde_json.specs.View.{view, members_view};
 ghost use Rattle.task_lifecycle.specs.Names.{cause_name, exit_status};
-ghost use Rattle.shim_service.specs.Reply.{count as count_data, refusal_data, put_data, digest_data, id_data, member_data, texts_data, removed_data, status_data, state_data, output_data, reply_data, json_of, event_data};
+ghost use Rattle.shim_service.specs.Reply.{count as count_data, refusal_data, put_data, digest_data, id_data, member_data, texts_data, removed_data, status_data, state_data, output_data, peek_data, reply_data, json_of, event_data};
 ghost use Rattle.shim_service.specs.Inside.States.{base_members, with_detail};
 
+use crate::frame_value::inspect_value;
 use crate::members::Members;
 use serde_json::{Map, Value, json};
 use std::alloc::{AllocError, Global};
@@ -170,6 +171,14 @@ fn output_value(alloc: Global, bytes: &[u8], id: &str, size: u64) -> Result<Valu
     json!(in alloc; {"hex": digits.as_str(), "id": id, "ok": true, "size": size})
 }
 
+// The value of a reply that is bytes of a task's memory.
+fn peek_value(alloc: Global, bytes: &[u8], id: &str) -> Result<Value, AllocError>
+    ensures { IfOk result (λ v. view v ≡ peek_data bytes.now id.now) }
+{
+    let shown = hex::encode(alloc, bytes)?;
+    json!(in alloc; {"hex": shown.as_str(), "id": id, "ok": true})
+}
+
 // The value of a reply.
 fn reply_value(alloc: Global, reply: &Reply) -> Result<Value, AllocError>
     ensures { IfOk result (λ v. view v ≡ reply_data reply.now) }
@@ -180,6 +189,8 @@ fn reply_value(alloc: Global, reply: &Reply) -> Result<Value, AllocError>
         Reply::LeaseCreate { id } => id_value(alloc, id.as_str()),
         Reply::LeaseAdd { digest, id } => member_value(alloc, digest.as_str(), id.as_str()),
         Reply::LeaseDelete { id } => id_value(alloc, id.as_str()),
+        Reply::Break { id } => id_value(alloc, id.as_str()),
+        Reply::Unbreak { id } => id_value(alloc, id.as_str()),
         Reply::Gc { removed } => removed_value(alloc, removed.as_slice()),
         Reply::Create { id, status } => status_value(alloc, id.as_str(), *status),
         Reply::Start { id, status } => status_value(alloc, id.as_str(), *status),
@@ -189,6 +200,11 @@ fn reply_value(alloc: Global, reply: &Reply) -> Result<Value, AllocError>
         Reply::Delete(state) | Reply::State(state) | Reply::Wait(state) => {
             state_value(alloc, state)
         }
+        Reply::Step(state) => state_value(alloc, state),
+        Reply::Inspect { frames, id, n } => {
+            inspect_value(alloc, frames.as_slice(), id.as_str(), *n)
+        }
+        Reply::Peek { bytes, id } => peek_value(alloc, bytes.as_slice(), id.as_str()),
         Reply::Output { bytes, id, size } => {
             output_value(alloc, bytes.as_slice(), id.as_str(), *size)
         }

@@ -1,5 +1,5 @@
 -- What a request does to a board, whatever it is answered, and that the board stays sound.
-use Rattle.std.proofs.Common.{◌≡◌, ◌≢◌, ℕ, List, [], ◌∷◌, length, Bool, true, false, true≢false, cond, not, nat_eq, Option, Some, None, is_none, option_map, Ok, Err, inl, inr, ◌⊎◌, refl, sym, ap, ◌∙◌, subst, arith}
+use Rattle.std.proofs.Common.{◌≡◌, ◌≢◌, ℕ, List, [], ◌∷◌, length, Bool, true, false, true≢false, cond, not, nat_eq, Option, Some, None, is_none, is_some, option_map, Ok, Err, inl, inr, ◌⊎◌, refl, sym, ap, ◌∙◌, subst, arith}
 use Rattle.std.proofs.lemmas.Bool.Decides.{nat_tests}
 use Rattle.wasm_ast.specs.declared.refusal.Refusal.{Refusal}
 use Rattle.wasm_ast.specs.declared.refusal.Refusal.TheVariants as refusal
@@ -9,7 +9,7 @@ use Rattle.task_lifecycle.specs.declared.status.Status.{Status}
 use Rattle.task_lifecycle.specs.declared.status.Status.TheVariants.{Created, Running, Pausing, Paused, Stopped}
 use Rattle.task_lifecycle.specs.declared.status.Signal.{Signal}
 use Rattle.task_lifecycle.specs.declared.status.Signal.TheVariants as signal
-use Rattle.task_lifecycle.specs.Lifecycle.{allowed}
+use Rattle.task_lifecycle.specs.Lifecycle.{allowed, takes_turns}
 use Rattle.task_lifecycle.specs.Names.{signal_number, signal_of}
 use Rattle.task_board.specs.declared.change.Change.{Change}
 use Rattle.task_board.specs.declared.change.Change.TheVariants as change
@@ -23,14 +23,18 @@ use Rattle.content_leases.specs.Digests.{digest_of}
 use Rattle.content_leases.specs.StoreState.{StoreState, with_content, without_content, with_lease, with_member, without_lease, unheld, collected}
 use Rattle.content_leases.specs.Refusals.{Refusals, first_refusal, put_refusals, remove_refusals, lease_create_refusals, lease_add_refusals, lease_delete_refusals}
 use Rattle.task_board.specs.BoardState.{Task, BoardState, used_by, with_store, entry_of, task_of, with_task, without_task}
-use Rattle.task_board.specs.Tasks.{killed_while, killed_by, state_of}
-use Rattle.task_board.specs.Refusals.{create_refusals, unless_allowed, kill_refusals, state_refusals, output_refusals, task_refusals}
-use Rattle.task_board.specs.Step.{Answer, DecidedBy, OnStore, Puts, PutsText, refused, stored, Done, with_left, OnFound, OnTask, Creates, on_start, on_pause, on_resume, on_kill, on_delete, on_state, on_wait, on_output, Answers}
+use Rattle.task_board.specs.declared.mark.Mark.{Mark}
+use Rattle.task_board.specs.declared.mark.Mark.TheVariants as mark
+use Rattle.task_board.specs.Tasks.{killed_while, killed_by, place_of, stepped, state_of}
+use Rattle.task_board.specs.Refusals.{create_refusals, unless_allowed, kill_refusals, state_refusals, output_refusals, break_refusals, unbreak_refusals, step_refusals, inspect_refusals, peek_refusals, task_refusals}
+use Rattle.task_board.specs.Step.{Answer, DecidedBy, OnStore, Puts, PutsText, refused, stored, Done, with_left, OnFound, OnTask, Creates, on_start, on_pause, on_resume, on_kill, on_delete, on_state, on_wait, on_output, on_break, on_unbreak, on_step, on_inspect, on_peek, Answers}
 use Rattle.task_board.specs.Sound.{IsSound, IsBoard}
 use Rattle.task_board.specs.Inside.Changes.{change_call, change_request, change_reply, change_refusals, changed}
+use Rattle.task_board.specs.Inside.Marks.{mark_call, mark_refusals, marked}
 use Rattle.task_board.specs.Inside.Plans.{IsAllowed, RefusesTask, RefusesKill}
 use Rattle.task_board.proofs.EntryLemmas.{none_is_not, some_is}
-use Rattle.task_board.proofs.SoundLemmas.{started_sound, paused_sound, resumed_sound, killed_sound, remove_sound}
+use Rattle.task_board.proofs.MarkLemmas.{mark_allowed, marked_sound}
+use Rattle.task_board.proofs.SoundLemmas.{stepped_sound, started_sound, paused_sound, resumed_sound, killed_sound, remove_sound}
 use Rattle.task_board.proofs.StepLemmas.{found, task_named, unchanged, sound_of, changed_sound, decided, none_first, not_true, create_leaves}
 use Rattle.task_board.proofs.StoreLemmas.{StoreEffect, puts, removes, leases, adds, ends, collects, store_sound}
 
@@ -86,7 +90,7 @@ running_only Pausing h = cc
 running_only Paused h = cc
 running_only Stopped h = cc
 
-paused_only : (status : Status) → allowed call.Resume status ≡ true → status ≡ Paused
+pub paused_only : (status : Status) → allowed call.Resume status ≡ true → status ≡ Paused
 paused_only Created h = cc
 paused_only Running h = cc
 paused_only Pausing h = cc
@@ -151,7 +155,8 @@ pub refused_on :
     → first_refusal (task_refusals id own o) ≡ Some e → OnFound id own does o s (Err e) s
 refused_on s id own does None e h = subst (λ (x : Option Refusal). DecidedBy x ⊥ s (Err e) s) (sym h) (refl, refl)
 refused_on s id own does (Some t) e h =
-    subst (λ (x : Option Refusal). DecidedBy x ((Err e ≡ Ok (does t).0) × (s ≡ with_left s t (does t).1)) s (Err e) s) (sym h) (refl, refl)
+    subst (λ (x : Option Refusal). DecidedBy x ((Err e ≡ Ok (does t).0) × (s ≡ with_left s t (does t).1)) s (Err e) s)
+    (sym h) (refl, refl)
 
 -- the effect, if no refusal's condition holds
 pub accepted_on :
@@ -182,7 +187,8 @@ change_answers (change.Kill signal.Terminate) s id t s' at none is =
     accepted_on s id (kill_refusals 15) (on_kill 15) t s' at none is
 
 pub delete_answers : (s : BoardState) (id : List ℕ) (t : Task) (s' : BoardState) → task_of id s.tasks ≡ Some t
-    → first_refusal (task_refusals id (unless_allowed call.Delete refusal.WrongStatus) (Some t)) ≡ None → s' ≡ without_task s t.id
+    → first_refusal (task_refusals id (unless_allowed call.Delete refusal.WrongStatus) (Some t)) ≡ None
+    → s' ≡ without_task s t.id
     → Answers s (request.Delete id) (Ok (reply.Delete (state_of t))) s'
 delete_answers s id t s' at none is =
     accepted_on s id (unless_allowed call.Delete refusal.WrongStatus) on_delete t s' at none is
@@ -334,123 +340,236 @@ refused_kill s id number e h = (
   refused_on s id (kill_refusals number) (on_kill number) (task_of id s.tasks) e h,
 )
 
+-- ---- breakpoints and steps
+
+-- what a request to the task with an id that sets or removes a breakpoint, or is a step, makes of the task
+pub data Alters (q : Request) (id : List ℕ) (t t' : Task) : Type 0 where
+  marks : (m : Mark) → first_refusal (mark_refusals m t) ≡ None → t' ≡ marked m t → Alters q id t t'
+  takes_steps :
+      (count : ℕ) → q ≡ request.Step count id → allowed call.Step t.status ≡ true → t' ≡ stepped t count
+      → Alters q id t t'
+
+-- all but its breakpoints, its turns and where it stands are as they were
+pub record IsSameTask (t t' : Task) : Type 0 where
+  pub same_id : t'.id ≡ t.id
+  pub number : t'.incarnation ≡ t.incarnation
+  pub same_process : t'.process ≡ t.process
+  pub same_bytes : t'.bytes ≡ t.bytes
+
+pub altered_same : (q : Request) (id : List ℕ) (t t' : Task) → Alters q id t t' → IsSameTask t t'
+altered_same q id t t' (marks m none is) = record {
+  same_id = ap (λ (x : Task). x.id) is;
+  number = ap (λ (x : Task). x.incarnation) is;
+  same_process = ap (λ (x : Task). x.process) is;
+  same_bytes = ap (λ (x : Task). x.bytes) is;
+}
+altered_same q id t t' (takes_steps count asked can is) = record {
+  same_id = ap (λ (x : Task). x.id) is;
+  number = ap (λ (x : Task). x.incarnation) is;
+  same_process = ap (λ (x : Task). x.process) is;
+  same_bytes = ap (λ (x : Task). x.bytes) is;
+}
+
+-- it is not out then
+marks_idle : (m : Mark) (status : Status) → allowed (mark_call m) status ≡ true → takes_turns status ≡ false
+marks_idle (mark.Set p) Created h = refl
+marks_idle (mark.Set p) Running h = cc
+marks_idle (mark.Set p) Pausing h = cc
+marks_idle (mark.Set p) Paused h = refl
+marks_idle (mark.Set p) Stopped h = cc
+marks_idle (mark.Remove p) Created h = refl
+marks_idle (mark.Remove p) Running h = cc
+marks_idle (mark.Remove p) Pausing h = cc
+marks_idle (mark.Remove p) Paused h = refl
+marks_idle (mark.Remove p) Stopped h = cc
+
+not_out : (o : Option ℕ) (b : Bool) → (is_some o ≡ true → b ≡ true) → b ≡ false → o ≡ None
+not_out None b h off = refl
+not_out (Some n) b h off = absurd (true≢false (sym (h refl) ∙ off))
+
+pub marked_idle :
+    (creates : ℕ) (m : Mark) (t : Task) → IsSound creates t → allowed (mark_call m) t.status ≡ true → t.out ≡ None
+marked_idle creates m t h can = not_out t.out (takes_turns t.status) h.out (marks_idle m t.status can)
+
+pub altered_idle :
+    (creates : ℕ) (q : Request) (id : List ℕ) (t t' : Task) → IsSound creates t → Alters q id t t' → t'.out ≡ None
+altered_idle creates q id t t' h (marks m none is) =
+    ap (λ (x : Task). x.out) is ∙ marked_idle creates m t h (mark_allowed m t none)
+altered_idle creates q id t t' h (takes_steps count asked can is) = ap (λ (x : Task). x.out) is
+
+pub altered_sound :
+    (creates : ℕ) (q : Request) (id : List ℕ) (t t' : Task) → IsSound creates t → Alters q id t t' → IsSound creates t'
+altered_sound creates q id t t' h (marks m none is) =
+    subst (IsSound creates) (sym is) (marked_sound creates m t h none)
+altered_sound creates q id t t' h (takes_steps count asked can is) =
+    subst (IsSound creates) (sym is) (stepped_sound creates t count h)
+
+-- a request's own refusals let it through
+pub own_accepted :
+    (id : List ℕ) (t : Task) (own : Task → Refusals) → first_refusal (task_refusals id own (Some t)) ≡ None
+    → first_refusal (own t) ≡ None
+own_accepted id t own h = (none_first (not (is_id id)) refusal.BadId (first_refusal (own t)) h).1
+
+pub step_allowed :
+    (id : List ℕ) (t : Task) (count : ℕ) → first_refusal (task_refusals id (step_refusals count) (Some t)) ≡ None
+    → allowed call.Step t.status ≡ true
+step_allowed id t count h =
+    not_true (allowed call.Step t.status)
+    (none_first (not (allowed call.Step t.status)) refusal.WrongStatus _
+    (own_accepted id t (step_refusals count) h)).0
+
 -- ---- what requests do
 
-pub data Effect (s s' : BoardState) : Type 0 where
-  nothing : s' ≡ s → Effect s s'
-  stores : (new : StoreState) → StoreEffect (used_by s.tasks) s.store new → s' ≡ with_store s new → Effect s s'
+pub data Effect (s : BoardState) (q : Request) (s' : BoardState) : Type 0 where
+  nothing : s' ≡ s → Effect s q s'
+  stores : (new : StoreState) → StoreEffect (used_by s.tasks) s.store new → s' ≡ with_store s new → Effect s q s'
   enters :
       (config id : List ℕ) → (r : Answer) → first_refusal (create_refusals s config id) ≡ None
-      → Creates s config id r s' → Effect s s'
+      → Creates s config id r s' → Effect s q s'
   changes :
       (c : Change) → (id : List ℕ) → (t : Task) → task_of id s.tasks ≡ Some t → allowed (change_call c) t.status ≡ true
-      → s' ≡ with_task s (changed c t) → Effect s s'
+      → s' ≡ with_task s (changed c t) → Effect s q s'
   deletes :
       (id : List ℕ) → (t : Task) → task_of id s.tasks ≡ Some t → allowed call.Delete t.status ≡ true
-      → s' ≡ without_task s t.id → Effect s s'
+      → s' ≡ without_task s t.id → Effect s q s'
+  alters :
+      (id : List ℕ) → (t t' : Task) → task_of id s.tasks ≡ Some t → Alters q id t t' → s' ≡ with_task s t'
+      → Effect s q s'
 
 effect_by :
-    (s s' : BoardState) (o : Option Refusal) (E : Type 0) → (o ≡ None → E → Effect s s')
-    → (s' ≡ s) ⊎ ((o ≡ None) × E) → Effect s s'
-effect_by s s' o E f (inl same) = nothing same
-effect_by s s' o E f (inr e) = f e.0 e.1
+    (s : BoardState) (q : Request) (s' : BoardState) (o : Option Refusal) (E : Type 0) → (o ≡ None → E → Effect s q s')
+    → (s' ≡ s) ⊎ ((o ≡ None) × E) → Effect s q s'
+effect_by s q s' o E f (inl same) = nothing same
+effect_by s q s' o E f (inr e) = f e.0 e.1
 
 on_store_effect :
-    (s : BoardState) (refusals : Refusals) (rep : Reply) (new : StoreState) (r : Answer) (s' : BoardState)
+    (s : BoardState) (q : Request) (refusals : Refusals) (rep : Reply) (new : StoreState) (r : Answer) (s' : BoardState)
     → OnStore s refusals rep new r s'
-    → (first_refusal refusals ≡ None → StoreEffect (used_by s.tasks) s.store new) → Effect s s'
-on_store_effect s refusals rep new r s' on f =
-    effect_by s s' (first_refusal refusals) ((r ≡ Ok rep) × (s' ≡ with_store s new)) (λ none e. stores new (f none) e.1)
+    → (first_refusal refusals ≡ None → StoreEffect (used_by s.tasks) s.store new) → Effect s q s'
+on_store_effect s q refusals rep new r s' on f =
+    effect_by s q s' (first_refusal refusals) ((r ≡ Ok rep) × (s' ≡ with_store s new))
+    (λ none e. stores new (f none) e.1)
     (decided (first_refusal refusals) ((r ≡ Ok rep) × (s' ≡ with_store s new)) s r s' on)
 
 on_task_effect :
-    (s : BoardState) (id : List ℕ) (own : Task → Refusals) (does : Task → Done)
+    (s : BoardState) (q : Request) (id : List ℕ) (own : Task → Refusals) (does : Task → Done)
     (o : Option Task) (r : Answer) (s' : BoardState)
     → OnFound id own does o s r s'
     → ((t : Task) → o ≡ Some t → first_refusal (task_refusals id own (Some t)) ≡ None
-    → s' ≡ with_left s t (does t).1 → Effect s s')
-    → Effect s s'
-on_task_effect s id own does None r s' on f =
-    effect_by s s' (first_refusal (task_refusals id own None)) ⊥ (λ none e. absurd e)
+    → s' ≡ with_left s t (does t).1 → Effect s q s')
+    → Effect s q s'
+on_task_effect s q id own does None r s' on f =
+    effect_by s q s' (first_refusal (task_refusals id own None)) ⊥ (λ none e. absurd e)
     (decided (first_refusal (task_refusals id own None)) ⊥ s r s' on)
-on_task_effect s id own does (Some t) r s' on f =
-    effect_by s s' (first_refusal (task_refusals id own (Some t))) ((r ≡ Ok (does t).0) × (s' ≡ with_left s t (does t).1))
+on_task_effect s q id own does (Some t) r s' on f =
+    effect_by s q s' (first_refusal (task_refusals id own (Some t)))
+    ((r ≡ Ok (does t).0) × (s' ≡ with_left s t (does t).1))
     (λ none e. f t refl none e.1)
-    (decided (first_refusal (task_refusals id own (Some t))) ((r ≡ Ok (does t).0) × (s' ≡ with_left s t (does t).1)) s r s' on)
+    (decided (first_refusal (task_refusals id own (Some t)))
+    ((r ≡ Ok (does t).0) × (s' ≡ with_left s t (does t).1)) s r s' on)
 
 -- a kill by a number is one by its signal
-kill_effect : (s s' : BoardState) (id : List ℕ) (t : Task) (o : Option Signal) → task_of id s.tasks ≡ Some t
+kill_effect :
+    (s : BoardState) (q : Request) (s' : BoardState) (id : List ℕ) (t : Task) (o : Option Signal)
+    → task_of id s.tasks ≡ Some t
     → first_refusal
     ((not (is_id id), refusal.BadId) ∷ (is_none o, refusal.OutOfRange)
     ∷ (not (allowed call.Kill t.status), refusal.WrongStatus) ∷ []) ≡ None
-    → s' ≡ with_task s (killed_by o t) → Effect s s'
-kill_effect s s' id t None at none is =
+    → s' ≡ with_task s (killed_by o t) → Effect s q s'
+kill_effect s q s' id t None at none is =
     let a = none_first (not (is_id id)) refusal.BadId _ none in
     absurd
     (true≢false
     (none_first true refusal.OutOfRange
     (first_refusal ((not (allowed call.Kill t.status), refusal.WrongStatus) ∷ [])) a.1).0)
-kill_effect s s' id t (Some x) at none is = changes (change.Kill x) id t at (one_accepted id t call.Kill none) is
+kill_effect s q s' id t (Some x) at none is = changes (change.Kill x) id t at (one_accepted id t call.Kill none) is
 
-put_effect : (s : BoardState) (bytes : List ℕ) (r : Answer) (s' : BoardState) → Puts s bytes r s' → Effect s s'
-put_effect s bytes r s' a =
-    on_store_effect s (put_refusals s.store bytes) (reply.Put (digest_of bytes) (length bytes))
+put_effect :
+    (s : BoardState) (q : Request) (bytes : List ℕ) (r : Answer) (s' : BoardState) → Puts s bytes r s' → Effect s q s'
+put_effect s q bytes r s' a =
+    on_store_effect s q (put_refusals s.store bytes) (reply.Put (digest_of bytes) (length bytes))
     (with_content s.store bytes) r s' a (λ none. puts bytes none refl)
 
 -- a put of a text does nothing, or is one of bytes
-text_effect : (s : BoardState) (text : List ℕ) (r : Answer) (s' : BoardState) → PutsText s text r s' → Effect s s'
-text_effect s text r s' (refused e why is same) = nothing same
-text_effect s text r s' (stored bytes is put) = put_effect s bytes r s' put
+text_effect :
+    (s : BoardState) (q : Request) (text : List ℕ) (r : Answer) (s' : BoardState) → PutsText s text r s' → Effect s q s'
+text_effect s q text r s' (refused e why is same) = nothing same
+text_effect s q text r s' (stored bytes is put) = put_effect s q bytes r s' put
 
-pub effect_of : (s : BoardState) (q : Request) (r : Answer) (s' : BoardState) → Answers s q r s' → Effect s s'
-effect_of s (request.Put bytes) r s' a = put_effect s bytes r s' a
-effect_of s (request.PutText text) r s' a = text_effect s text r s' a
+pub effect_of : (s : BoardState) (q : Request) (r : Answer) (s' : BoardState) → Answers s q r s' → Effect s q s'
+effect_of s (request.Put bytes) r s' a = put_effect s (request.Put bytes) bytes r s' a
+effect_of s (request.PutText text) r s' a = text_effect s (request.PutText text) text r s' a
 effect_of s (request.Remove digest) r s' a =
-    on_store_effect s (remove_refusals (used_by s.tasks) s.store digest) (reply.Remove digest)
+    on_store_effect s (request.Remove digest) (remove_refusals (used_by s.tasks) s.store digest) (reply.Remove digest)
     (without_content s.store digest) r s' a (λ none. removes digest none refl)
 effect_of s (request.LeaseCreate id) r s' a =
-    on_store_effect s (lease_create_refusals s.store id) (reply.LeaseCreate id) (with_lease s.store id) r s' a
+    on_store_effect s (request.LeaseCreate id) (lease_create_refusals s.store id) (reply.LeaseCreate id)
+    (with_lease s.store id) r s' a
     (λ none. leases id none refl)
 effect_of s (request.LeaseAdd digest id) r s' a =
-    on_store_effect s (lease_add_refusals s.store digest id) (reply.LeaseAdd digest id) (with_member s.store digest id)
+    on_store_effect s (request.LeaseAdd digest id) (lease_add_refusals s.store digest id) (reply.LeaseAdd digest id)
+    (with_member s.store digest id)
     r s' a (λ none. adds digest id none refl)
 effect_of s (request.LeaseDelete id) r s' a =
-    on_store_effect s (lease_delete_refusals s.store id) (reply.LeaseDelete id) (without_lease s.store id) r s' a
+    on_store_effect s (request.LeaseDelete id) (lease_delete_refusals s.store id) (reply.LeaseDelete id)
+    (without_lease s.store id) r s' a
     (λ none. ends id none refl)
 effect_of s request.Gc r s' a =
-    on_store_effect s [] (reply.Gc (unheld (used_by s.tasks) s.store)) (collected (used_by s.tasks) s.store) r s' a
+    on_store_effect s request.Gc [] (reply.Gc (unheld (used_by s.tasks) s.store))
+    (collected (used_by s.tasks) s.store) r s' a
     (λ none. collects refl)
 effect_of s (request.Create config id) r s' a =
-    effect_by s s' (first_refusal (create_refusals s config id)) (Creates s config id r s')
+    effect_by s (request.Create config id) s' (first_refusal (create_refusals s config id)) (Creates s config id r s')
     (λ none e. enters config id r none e)
     (decided (first_refusal (create_refusals s config id)) (Creates s config id r s') s r s' a)
 effect_of s (request.Start id) r s' a =
-    on_task_effect s id (unless_allowed call.Start refusal.WrongStatus) on_start
+    on_task_effect s (request.Start id) id (unless_allowed call.Start refusal.WrongStatus) on_start
     (task_of id s.tasks) r s' a
     (λ t at none is. changes change.Start id t at (change_allowed change.Start id t none) is)
 effect_of s (request.Pause id) r s' a =
-    on_task_effect s id (unless_allowed call.Pause refusal.WrongStatus) on_pause
+    on_task_effect s (request.Pause id) id (unless_allowed call.Pause refusal.WrongStatus) on_pause
     (task_of id s.tasks) r s' a
     (λ t at none is. changes change.Pause id t at (change_allowed change.Pause id t none) is)
 effect_of s (request.Resume id) r s' a =
-    on_task_effect s id (unless_allowed call.Resume refusal.WrongStatus) on_resume
+    on_task_effect s (request.Resume id) id (unless_allowed call.Resume refusal.WrongStatus) on_resume
     (task_of id s.tasks) r s' a
     (λ t at none is. changes change.Resume id t at (change_allowed change.Resume id t none) is)
 effect_of s (request.Kill id number) r s' a =
-    on_task_effect s id (kill_refusals number) (on_kill number) (task_of id s.tasks) r s' a
-    (λ t at none is. kill_effect s s' id t (signal_of number) at none is)
+    on_task_effect s (request.Kill id number) id (kill_refusals number) (on_kill number) (task_of id s.tasks) r s' a
+    (λ t at none is. kill_effect s (request.Kill id number) s' id t (signal_of number) at none is)
 effect_of s (request.Delete id) r s' a =
-    on_task_effect s id (unless_allowed call.Delete refusal.WrongStatus) on_delete
+    on_task_effect s (request.Delete id) id (unless_allowed call.Delete refusal.WrongStatus) on_delete
     (task_of id s.tasks) r s' a
     (λ t at none is. deletes id t at (one_accepted id t call.Delete none) is)
 effect_of s (request.State id) r s' a =
-    on_task_effect s id state_refusals on_state (task_of id s.tasks) r s' a
+    on_task_effect s (request.State id) id state_refusals on_state (task_of id s.tasks) r s' a
     (λ t at none is. nothing (is ∙ unchanged s id t at))
 effect_of s (request.Wait id) r s' a =
-    on_task_effect s id (unless_allowed call.Wait refusal.Busy) on_wait (task_of id s.tasks) r s' a
+    on_task_effect s (request.Wait id) id (unless_allowed call.Wait refusal.Busy) on_wait (task_of id s.tasks) r s' a
     (λ t at none is. nothing (is ∙ unchanged s id t at))
 effect_of s (request.Output id number) r s' a =
-    on_task_effect s id (output_refusals number) (on_output number) (task_of id s.tasks) r s' a
+    on_task_effect s (request.Output id number) id (output_refusals number) (on_output number)
+    (task_of id s.tasks) r s' a
+    (λ t at none is. nothing (is ∙ unchanged s id t at))
+effect_of s (request.Break func id place) r s' a =
+    on_task_effect s (request.Break func id place) id (break_refusals func place) (on_break func place)
+    (task_of id s.tasks) r s' a
+    (λ t at none is. alters id t (marked (mark.Set (place_of func place)) t) at
+    (marks (mark.Set (place_of func place)) (own_accepted id t (break_refusals func place) none) refl) is)
+effect_of s (request.Unbreak func id place) r s' a =
+    on_task_effect s (request.Unbreak func id place) id (unbreak_refusals func place) (on_unbreak func place)
+    (task_of id s.tasks) r s' a
+    (λ t at none is. alters id t (marked (mark.Remove (place_of func place)) t) at
+    (marks (mark.Remove (place_of func place)) (own_accepted id t (unbreak_refusals func place) none) refl) is)
+effect_of s (request.Step count id) r s' a =
+    on_task_effect s (request.Step count id) id (step_refusals count) (on_step count) (task_of id s.tasks) r s' a
+    (λ t at none is. alters id t (stepped t count) at (takes_steps count refl (step_allowed id t count none) refl) is)
+effect_of s (request.Inspect id) r s' a =
+    on_task_effect s (request.Inspect id) id inspect_refusals on_inspect (task_of id s.tasks) r s' a
+    (λ t at none is. nothing (is ∙ unchanged s id t at))
+effect_of s (request.Peek address id length) r s' a =
+    on_task_effect s (request.Peek address id length) id (peek_refusals address length) (on_peek address length)
+    (task_of id s.tasks) r s' a
     (λ t at none is. nothing (is ∙ unchanged s id t at))
 
 -- ---- soundness
@@ -469,13 +588,22 @@ delete_keeps_sound s id t b at =
     let f = found id s.tasks t at in
     remove_sound s t.id f.0 t b (ap (λ (x : List ℕ). entry_of x s.tasks) (task_named id s.tasks t at) ∙ f.1)
 
-effect_sound : (s s' : BoardState) → IsBoard s → Effect s s' → IsBoard s'
-effect_sound s s' b (nothing same) = subst IsBoard (sym same) b
-effect_sound s s' b (stores new change is) = subst IsBoard (sym is) (store_sound s (used_by s.tasks) new b change)
-effect_sound s s' b (enters config id r none made) = create_leaves s config id r s' b none made
-effect_sound s s' b (changes c id t at can is) = subst IsBoard (sym is) (change_keeps_sound s c id t b at can)
-effect_sound s s' b (deletes id t at can is) = subst IsBoard (sym is) (delete_keeps_sound s id t b at)
+pub alter_keeps_sound :
+    (s : BoardState) (q : Request) (id : List ℕ) (t t' : Task) → IsBoard s → task_of id s.tasks ≡ Some t
+    → Alters q id t t' → IsBoard (with_task s t')
+alter_keeps_sound s q id t t' b at a =
+    let same = altered_same q id t t' a in
+    changed_sound s id t t' b at same.same_id same.number
+    (altered_sound s.creates q id t t' (sound_of s id t b at) a)
+
+effect_sound : (s : BoardState) (q : Request) (s' : BoardState) → IsBoard s → Effect s q s' → IsBoard s'
+effect_sound s q s' b (nothing same) = subst IsBoard (sym same) b
+effect_sound s q s' b (stores new change is) = subst IsBoard (sym is) (store_sound s (used_by s.tasks) new b change)
+effect_sound s q s' b (enters config id r none made) = create_leaves s config id r s' b none made
+effect_sound s q s' b (changes c id t at can is) = subst IsBoard (sym is) (change_keeps_sound s c id t b at can)
+effect_sound s q s' b (deletes id t at can is) = subst IsBoard (sym is) (delete_keeps_sound s id t b at)
+effect_sound s q s' b (alters id t t' at a is) = subst IsBoard (sym is) (alter_keeps_sound s q id t t' b at a)
 
 pub answers_sound :
     (s : BoardState) (q : Request) (r : Answer) (s' : BoardState) → IsBoard s → Answers s q r s' → IsBoard s'
-answers_sound s q r s' b a = effect_sound s s' b (effect_of s q r s' a)
+answers_sound s q r s' b a = effect_sound s q s' b (effect_of s q r s' a)

@@ -8,6 +8,7 @@ use Rattle.content_leases.specs.StoreState.{StoreState, content_in, is_among, is
 use Rattle.task_board.specs.declared.change.Change.{Change}
 use Rattle.task_board.specs.declared.change.Change.TheVariants as change
 use Rattle.task_board.specs.Inside.Changes.{changed}
+use Rattle.task_board.specs.declared.request.Request.{Request}
 use Rattle.task_board.specs.BoardState.{Task, Entries, BoardState, empty, created_task, used_by, task_in, entry_of, task_of, put_task, change_task, remove_task}
 use Rattle.task_board.specs.Tasks.{killed_while, lent}
 use Rattle.task_board.specs.Step.{Answer, Creates, Returns, Step}
@@ -16,7 +17,7 @@ use Rattle.task_board.specs.Sound.{IsBoard}
 use Rattle.task_board.proofs.EntryLemmas.{none_is_not, some_is, by_slot, same_id, cond_true, cond_false, changed_from_old, IsChangedFrom, put_in, put_there, removed_there, removed_beside}
 use Rattle.task_board.proofs.StepLemmas.{found, task_named}
 use Rattle.task_board.proofs.StoreLemmas.{or_left, or_right, LeasedAreThere, held_stays, leased_are_there}
-use Rattle.task_board.proofs.EffectLemmas.{change_id, Effect, nothing, stores, enters, changes, deletes, effect_of}
+use Rattle.task_board.proofs.EffectLemmas.{change_id, Effect, nothing, stores, enters, changes, deletes, alters, effect_of, altered_same}
 use Rattle.task_board.proofs.LawLemmas.{empty_sound, happens, happens_sound, taken_of}
 use Rattle.task_board.proofs.RunLemmas.{run_keeps}
 
@@ -35,21 +36,22 @@ create_store :
 create_store s config id (Err e) s' effect = ap (λ (x : BoardState). x.store) effect.4.1
 create_store s config id (Ok r) s' effect = ap (λ (x : BoardState). x.store) effect.4.3.2
 
-effect_held : (s s' : BoardState) → Effect s s' → HeldStay s s'
-effect_held s s' (nothing same) = same_store s s' (ap (λ (x : BoardState). x.store) same)
-effect_held s s' (stores new change is) =
+effect_held : (s : BoardState) (q : Request) (s' : BoardState) → Effect s q s' → HeldStay s s'
+effect_held s q s' (nothing same) = same_store s s' (ap (λ (x : BoardState). x.store) same)
+effect_held s q s' (stores new change is) =
     λ digest bytes held h. ap (λ (x : BoardState). content_in x.store.contents digest) is
     ∙ held_stays (used_by s.tasks) s.store new change digest bytes held h
-effect_held s s' (enters config id r none made) = same_store s s' (create_store s config id r s' made)
-effect_held s s' (changes c id t at can is) = same_store s s' (ap (λ (x : BoardState). x.store) is)
-effect_held s s' (deletes id t at can is) = same_store s s' (ap (λ (x : BoardState). x.store) is)
+effect_held s q s' (enters config id r none made) = same_store s s' (create_store s config id r s' made)
+effect_held s q s' (changes c id t at can is) = same_store s s' (ap (λ (x : BoardState). x.store) is)
+effect_held s q s' (deletes id t at can is) = same_store s s' (ap (λ (x : BoardState). x.store) is)
+effect_held s q s' (alters id t t' at a is) = same_store s s' (ap (λ (x : BoardState). x.store) is)
 
 return_held : (s : BoardState) (o : Option Task) (s' : BoardState) → Returns s o s' → HeldStay s s'
 return_held s None s' back = absurd back
 return_held s (Some t) s' back = same_store s s' (ap (λ (x : BoardState). x.store) back.2)
 
 step_held : (s : BoardState) (e : Event) (r : EventReply) (s' : BoardState) → Step s e r s' → HeldStay s s'
-step_held s (event.Call q) (answer.Called a) s' step = effect_held s s' (effect_of s q a s' step)
+step_held s (event.Call q) (answer.Called a) s' step = effect_held s q s' (effect_of s q a s' step)
 step_held s (event.Take id budget) (answer.Taken true) s' step =
     same_store s s' (ap (λ (x : BoardState). x.store) (taken_of s id budget s' step).leaves)
 step_held s (event.Take id budget) (answer.Taken false) s' step =
@@ -176,18 +178,24 @@ delete_tasks s id old b at all k t there =
     ∙ subst (λ (j : ℕ). task_in j (remove_task old.id s.tasks) ≡ Some t) here there)))
     (λ n other. all k t (sym (removed_beside old.id (f.0, old) k s.tasks own other) ∙ there))
 
-effect_tasks : (s s' : BoardState) → IsBoard s → Effect s s' → TasksHave s.store s.tasks → TasksHave s'.store s'.tasks
-effect_tasks s s' b (nothing same) all = subst (λ (x : BoardState). TasksHave x.store x.tasks) (sym same) all
-effect_tasks s s' b (stores new change is) all =
+effect_tasks :
+    (s : BoardState) (q : Request) (s' : BoardState) → IsBoard s → Effect s q s' → TasksHave s.store s.tasks
+    → TasksHave s'.store s'.tasks
+effect_tasks s q s' b (nothing same) all = subst (λ (x : BoardState). TasksHave x.store x.tasks) (sym same) all
+effect_tasks s q s' b (stores new change is) all =
     subst (λ (x : BoardState). TasksHave x.store x.tasks) (sym is)
     (store_tasks s new (held_stays (used_by s.tasks) s.store new change) all)
-effect_tasks s s' b (enters config id r none made) all = create_tasks s config id r s' made all
-effect_tasks s s' b (changes c id t at can is) all =
+effect_tasks s q s' b (enters config id r none made) all = create_tasks s config id r s' made all
+effect_tasks s q s' b (changes c id t at can is) all =
     let same = change_process c t in
     subst (λ (x : BoardState). TasksHave x.store x.tasks) (sym is)
     (task_changed s id t (changed c t) at (change_id c t) same.0 same.1 all)
-effect_tasks s s' b (deletes id t at can is) all =
+effect_tasks s q s' b (deletes id t at can is) all =
     subst (λ (x : BoardState). TasksHave x.store x.tasks) (sym is) (delete_tasks s id t b at all)
+effect_tasks s q s' b (alters id t t' at a is) all =
+    let same = altered_same q id t t' a in
+    subst (λ (x : BoardState). TasksHave x.store x.tasks) (sym is)
+    (task_changed s id t t' at same.same_id same.same_process same.same_bytes all)
 
 return_tasks :
     (s : BoardState) (id : List ℕ) (o : Option Task) (s' : BoardState) → task_of id s.tasks ≡ o → Returns s o s'
@@ -202,7 +210,7 @@ return_tasks s id (Some t) s' at back all =
 step_tasks :
     (s : BoardState) (e : Event) (r : EventReply) (s' : BoardState) → IsBoard s → Step s e r s'
     → TasksHave s.store s.tasks → TasksHave s'.store s'.tasks
-step_tasks s (event.Call q) (answer.Called a) s' b step all = effect_tasks s s' b (effect_of s q a s' step) all
+step_tasks s (event.Call q) (answer.Called a) s' b step all = effect_tasks s q s' b (effect_of s q a s' step) all
 step_tasks s (event.Take id budget) (answer.Taken true) s' b step all =
     let is = taken_of s id budget s' step in
     subst (λ (x : BoardState). TasksHave x.store x.tasks) (sym is.leaves)
@@ -223,14 +231,16 @@ step_tasks s (event.Return id) (answer.Taken x) s' b step all = absurd step
 leased_same : (s s' : BoardState) → s'.store ≡ s.store → LeasedAreThere s.store → LeasedAreThere s'.store
 leased_same s s' same all = subst LeasedAreThere (sym same) all
 
-effect_leased : (s s' : BoardState) → Effect s s' → LeasedAreThere s.store → LeasedAreThere s'.store
-effect_leased s s' (nothing same) all = leased_same s s' (ap (λ (x : BoardState). x.store) same) all
-effect_leased s s' (stores new change is) all =
+effect_leased :
+    (s : BoardState) (q : Request) (s' : BoardState) → Effect s q s' → LeasedAreThere s.store → LeasedAreThere s'.store
+effect_leased s q s' (nothing same) all = leased_same s s' (ap (λ (x : BoardState). x.store) same) all
+effect_leased s q s' (stores new change is) all =
     subst (λ (x : BoardState). LeasedAreThere x.store) (sym is)
     (leased_are_there (used_by s.tasks) s.store new change all)
-effect_leased s s' (enters config id r none made) all = leased_same s s' (create_store s config id r s' made) all
-effect_leased s s' (changes c id t at can is) all = leased_same s s' (ap (λ (x : BoardState). x.store) is) all
-effect_leased s s' (deletes id t at can is) all = leased_same s s' (ap (λ (x : BoardState). x.store) is) all
+effect_leased s q s' (enters config id r none made) all = leased_same s s' (create_store s config id r s' made) all
+effect_leased s q s' (changes c id t at can is) all = leased_same s s' (ap (λ (x : BoardState). x.store) is) all
+effect_leased s q s' (deletes id t at can is) all = leased_same s s' (ap (λ (x : BoardState). x.store) is) all
+effect_leased s q s' (alters id t t' at a is) all = leased_same s s' (ap (λ (x : BoardState). x.store) is) all
 
 return_leased :
     (s : BoardState) (o : Option Task) (s' : BoardState) → Returns s o s' → LeasedAreThere s.store
@@ -241,7 +251,7 @@ return_leased s (Some t) s' back all = leased_same s s' (ap (λ (x : BoardState)
 step_leased :
     (s : BoardState) (e : Event) (r : EventReply) (s' : BoardState) → Step s e r s' → LeasedAreThere s.store
     → LeasedAreThere s'.store
-step_leased s (event.Call q) (answer.Called a) s' step all = effect_leased s s' (effect_of s q a s' step) all
+step_leased s (event.Call q) (answer.Called a) s' step all = effect_leased s q s' (effect_of s q a s' step) all
 step_leased s (event.Take id budget) (answer.Taken true) s' step all =
     leased_same s s' (ap (λ (x : BoardState). x.store) (taken_of s id budget s' step).leaves) all
 step_leased s (event.Take id budget) (answer.Taken false) s' step all =

@@ -9,6 +9,8 @@ use Rattle.wasm_binary.specs.Grammar.{Spells}
 use Rattle.oci_config.specs.declared.process.ProcessConfig.{ProcessConfig}
 use Rattle.validator.specs.Typing.{ValidModule}
 use Rattle.validator.specs.Faults.{NamesFault}
+use Rattle.step_machine.specs.declared.ends.End.{End}
+use Rattle.step_machine.specs.declared.ends.End.TheVariants as own
 use Rattle.step_machine.specs.Instantiation.{instantiation_refusal, ended}
 use Rattle.task_board.specs.declared.event.Event.{Event}
 use Rattle.task_board.specs.declared.event.Event.TheVariants as event
@@ -29,19 +31,23 @@ use Rattle.task_lifecycle.specs.declared.status.Signal.{Signal}
 use Rattle.task_lifecycle.specs.declared.status.ExitRecord.TheVariants as exit
 use Rattle.task_lifecycle.specs.Lifecycle.{allowed, takes_turns, is_going}
 use Rattle.task_board.specs.BoardState.{Task, Entries, BoardState, empty, created_task, used_by, with_store, task_in, entry_of, task_of, put_task, change_task, remove_task, with_task, without_task, with_new_task}
-use Rattle.task_board.specs.Tasks.{execution_at, killed_while, can_lend, lent, advanced, slice_turns}
-use Rattle.task_board.specs.Refusals.{create_refusals, unless_allowed, kill_refusals, state_refusals, output_refusals, task_refusals, Openable, CannotOpen, no_module, too_much, invalid, refused, IsSpelled}
-use Rattle.task_board.specs.Step.{Answer, DecidedBy, OnStore, Done, with_left, OnFound, Opens, Creates, on_start, on_pause, on_resume, on_kill, on_delete, on_state, on_wait, on_output, Answers, is_budget, lends, taken, is_out, Returns, Step}
+use Rattle.task_board.specs.Tasks.{execution_at, landing, killed_while, can_lend, lent, advanced, slice_turns}
+use Rattle.task_board.specs.Refusals.{create_refusals, unless_allowed, kill_refusals, state_refusals, output_refusals, break_refusals, unbreak_refusals, step_refusals, inspect_refusals, peek_refusals, task_refusals, Openable, CannotOpen, no_module, too_much, invalid, refused, IsSpelled}
+use Rattle.task_board.specs.Step.{Answer, DecidedBy, OnStore, Done, with_left, OnFound, Opens, Creates, on_start, on_pause, on_resume, on_kill, on_delete, on_state, on_wait, on_output, on_break, on_unbreak, on_step, on_inspect, on_peek, Answers, is_budget, lends, taken, is_out, Returns, Step}
 use Rattle.task_board.specs.Run.{met_no_memory, Happens, Run}
 use Rattle.task_board.specs.Sound.{AreRising, slots_of, IsSound, IsBoard}
 use Rattle.task_board.specs.declared.change.Change.{Change}
 use Rattle.task_board.specs.declared.change.Change.TheVariants as change
+use Rattle.task_board.specs.declared.mark.Mark.{Mark}
+use Rattle.task_board.specs.declared.mark.Mark.TheVariants as mark
 use Rattle.task_board.specs.Inside.Changes.{change_call, changed}
-use Rattle.task_board.specs.Moves.{Moves, stays, starts, pauses, resumes, is_killed, is_taken, returns, Becomes, goes, remains}
+use Rattle.task_board.specs.Inside.Marks.{mark_call, marked}
+use Rattle.task_board.specs.Moves.{Moves, stays, starts, pauses, resumes, is_killed, is_taken, returns, has_break, loses_break, steps, IsStepOf, Becomes, goes, remains}
 use Rattle.task_board.specs.Choices.{IsDetermined, AgreeOnRefusal, AgreeOnCreate}
 use Rattle.task_board.proofs.EntryLemmas.{none_is_not, some_is, by_slot, by_id, cond_true, cond_false, cond_is_true, cond_is_false, same_slot, other_slot, slot_away, named, in_slot, each_in, put_in, removed_there, removed_beside}
-use Rattle.task_board.proofs.StepLemmas.{found, sound_of, changed_sound, lent_sound}
-use Rattle.task_board.proofs.EffectLemmas.{change_id, Effect, nothing, stores, enters, changes, deletes, effect_of, answers_sound}
+use Rattle.task_board.proofs.MarkLemmas.{mark_allowed}
+use Rattle.task_board.proofs.StepLemmas.{found, task_named, sound_of, changed_sound, lent_sound}
+use Rattle.task_board.proofs.EffectLemmas.{change_id, Effect, nothing, stores, enters, changes, deletes, alters, effect_of, Alters, marks, takes_steps, altered_same, answers_sound}
 use Rattle.task_board.proofs.SoundLemmas.{advanced_sound}
 use Rattle.task_board.proofs.RunLemmas.{run_keeps}
 
@@ -170,19 +176,6 @@ run_sound es rs s run = run_keeps IsBoard happens_sound empty es rs s empty_soun
 
 -- ---- how tasks move
 
-abbrev pub AllMove : Entries → Entries → Type 0
-AllMove ts us = (k : ℕ) → (t : Task) → task_in k ts ≡ Some t → Becomes t (task_in k us)
-
--- what is in a slot is there afterwards
-moves_to : (us : Entries) (k : ℕ) (t t' : Task) → task_in k us ≡ Some t' → Moves t t' → Becomes t (task_in k us)
-moves_to us k t t' at m = subst (Becomes t) (sym at) (remains t' m)
-
-all_stay : (ts : Entries) → AllMove ts ts
-all_stay ts k t there = moves_to ts k t t there (stays refl)
-
-stay_same : (s s' : BoardState) → s' ≡ s → AllMove s.tasks s'.tasks
-stay_same s s' is = subst (λ (x : BoardState). AllMove s.tasks x.tasks) (sym is) (all_stay s.tasks)
-
 -- the task with an id is changed in its slot alone
 change_beside :
     (new old : Task) (k j : ℕ) (es : Entries) → entry_of new.id es ≡ Some (k, old) → j ≢ k
@@ -227,107 +220,175 @@ change_there new old k (e ∷ es) r h =
     ∙ (cond_is_false (nat_eq e.0 k) (Some e.1) (task_in k (change_task new es))
     (other_slot e.0 k (λ x. omega (arith, below, x))) ∙ change_there new old k es r.1 rest))
 
-pub one_moves :
-    (s : BoardState) (id : List ℕ) (old new : Task) → AreRising (slots_of s.tasks) → task_of id s.tasks ≡ Some old
-    → new.id ≡ old.id → Moves old new → AllMove s.tasks (with_task s new).tasks
-one_moves s id old new r is same moves k t there =
-    let f = found id s.tasks old is in
-    let own :
-    entry_of new.id s.tasks ≡ Some (f.0, old) =
-    ap (λ (x : List ℕ). entry_of x s.tasks) (same ∙ named id s.tasks (f.0, old) f.1) ∙ f.1 in
-    by_slot k f.0
-    (λ y here.
-    let is_old :
-    old ≡ t =
-    some_is old t
-    (sym (in_slot id (f.0, old) s.tasks r f.1) ∙ subst (λ (j : ℕ). task_in j s.tasks ≡ Some t) here there) in
-    moves_to (change_task new s.tasks) k t new
-    (ap (λ (j : ℕ). task_in j (change_task new s.tasks)) here ∙ change_there new old f.0 s.tasks r own)
-    (subst (λ (x : Task). Moves x new) is_old moves))
-    (λ n other. moves_to (change_task new s.tasks) k t t
-    (change_beside new old f.0 k s.tasks own other ∙ there) (stays refl))
-
--- a task that is deleted leaves its slot, and the others stay
-one_goes :
-    (s : BoardState) (id : List ℕ) (old : Task) → AreRising (slots_of s.tasks) → task_of id s.tasks ≡ Some old
-    → allowed call.Delete old.status ≡ true → AllMove s.tasks (without_task s old.id).tasks
-one_goes s id old r is can k t there =
-    let f = found id s.tasks old is in
-    let own :
-    entry_of old.id s.tasks ≡ Some (f.0, old) =
-    ap (λ (x : List ℕ). entry_of x s.tasks) (named id s.tasks (f.0, old) f.1) ∙ f.1 in
-    by_slot k f.0
-    (λ y here.
-    let is_old :
-    old ≡ t =
-    some_is old t
-    (sym (in_slot id (f.0, old) s.tasks r f.1) ∙ subst (λ (j : ℕ). task_in j s.tasks ≡ Some t) here there) in
-    let gone :
-    task_in k (remove_task old.id s.tasks) ≡ None =
-    ap (λ (j : ℕ). task_in j (remove_task old.id s.tasks)) here ∙ removed_there old.id (f.0, old) s.tasks r own in
-    subst (Becomes t) (sym gone) (goes (subst (λ (x : Task). allowed call.Delete x.status ≡ true) is_old can)))
-    (λ n other. moves_to (remove_task old.id s.tasks) k t t
-    (removed_beside old.id (f.0, old) k s.tasks own other ∙ there) (stays refl))
-
-create_moves :
-    (s : BoardState) (config id : List ℕ) (r : Answer) (s' : BoardState) → Creates s config id r s'
-    → AllMove s.tasks s'.tasks
-create_moves s config id (Err e) s' effect = stay_same s s' effect.4.1
-create_moves s config id (Ok r) s' effect =
-    let enters = effect.4.3 in
-    let t = created_task id s.creates effect.1 effect.4.0 effect.0 in
-    subst (λ (x : BoardState). AllMove s.tasks x.tasks) (sym enters.2)
-    (λ k u there. moves_to (put_task enters.0 t s.tasks) k u u
-    (put_in enters.0 k t s.tasks
-    (λ same. none_is_not u (sym enters.1 ∙ subst (λ (j : ℕ). task_in j s.tasks ≡ Some u) same there)) ∙ there)
-    (stays refl))
-
 change_moves : (c : Change) (t : Task) → allowed (change_call c) t.status ≡ true → Moves t (changed c t)
 change_moves change.Start t can = starts can refl
 change_moves change.Pause t can = pauses can refl
 change_moves change.Resume t can = resumes can refl
 change_moves (change.Kill signal) t can = is_killed signal can refl
 
-effect_moves : (s s' : BoardState) → AreRising (slots_of s.tasks) → Effect s s' → AllMove s.tasks s'.tasks
-effect_moves s s' rising (nothing same) = stay_same s s' same
-effect_moves s s' rising (stores new change is) =
-    subst (λ (x : BoardState). AllMove s.tasks x.tasks) (sym is) (all_stay s.tasks)
-effect_moves s s' rising (enters config id r none made) = create_moves s config id r s' made
-effect_moves s s' rising (changes c id t at can is) =
-    subst (λ (x : BoardState). AllMove s.tasks x.tasks) (sym is)
-    (one_moves s id t (changed c t) rising at (change_id c t) (change_moves c t can))
-effect_moves s s' rising (deletes id t at can is) =
-    subst (λ (x : BoardState). AllMove s.tasks x.tasks) (sym is) (one_goes s id t rising at can)
+killed_turns : (signal : Signal) (t : Task) (o : Option ℕ) → (killed_while o signal t).turns ≡ t.turns
+killed_turns signal t None = refl
+killed_turns signal t (Some n) = refl
 
-answers_move :
-    (s : BoardState) (q : Request) (r : Answer) (s' : BoardState) → AreRising (slots_of s.tasks) → Answers s q r s'
-    → AllMove s.tasks s'.tasks
-answers_move s q r s' rising a = effect_moves s s' rising (effect_of s q r s' a)
+change_turns : (c : Change) (t : Task) → (changed c t).turns ≡ t.turns
+change_turns change.Start t = refl
+change_turns change.Pause t = refl
+change_turns change.Resume t = refl
+change_turns (change.Kill signal) t = killed_turns signal t t.out
 
-take_moves :
-    (s : BoardState) (id : List ℕ) (budget : ℕ) (s' : BoardState) → AreRising (slots_of s.tasks)
-    → IsTakenOf s id budget s' → AllMove s.tasks s'.tasks
-take_moves s id budget s' r is =
-    subst (λ (x : BoardState). AllMove s.tasks x.tasks) (sym is.leaves)
-    (one_moves s id is.task (lent is.task budget) r is.named refl (is_taken budget is.ready refl))
+mark_moves : (m : Mark) (t : Task) → allowed (mark_call m) t.status ≡ true → Moves t (marked m t)
+mark_moves (mark.Set p) t can = has_break p can refl
+mark_moves (mark.Remove p) t can = loses_break p can refl
 
-return_moves :
-    (s : BoardState) (id : List ℕ) (o : Option Task) (s' : BoardState) → AreRising (slots_of s.tasks)
-    → task_of id s.tasks ≡ o → Returns s o s' → AllMove s.tasks s'.tasks
-return_moves s id None s' r is back = absurd back
-return_moves s id (Some t) s' r is back =
-    subst (λ (x : BoardState). AllMove s.tasks x.tasks) (sym back.2)
-    (one_moves s id t back.0 r is (ap (λ (x : Task). x.id) back.1.advances) (returns back.1))
+alter_moves : (q : Request) (id : List ℕ) (t t' : Task) → Alters q id t t' → Moves t t'
+alter_moves q id t t' (marks m none is) = subst (Moves t) (sym is) (mark_moves m t (mark_allowed m t none))
+alter_moves q id t t' (takes_steps count asked can is) = steps count can is
+
+-- what becomes of a task; if it takes no turns, and the event is no step of it, its turns stay
+abbrev BecomesBy : Event → Task → Option Task → Type 0
+BecomesBy e t o =
+    Becomes t o
+    × ((t' : Task) → o ≡ Some t' → takes_turns t.status ≡ false → (IsStepOf e t → ⊥) → t'.turns ≡ t.turns)
+
+abbrev Quiet : Event → Task → Task → Type 0
+Quiet e t t' = takes_turns t.status ≡ false → (IsStepOf e t → ⊥) → t'.turns ≡ t.turns
+
+-- a breakpoint leaves the turns, and what adds turns is a step of the task
+alter_quiet :
+    (q : Request) (id : List ℕ) (t t' : Task) → t.id ≡ id → Alters q id t t' → Quiet (event.Call q) t t'
+alter_quiet q id t t' own (marks m none is) off other = ap (λ (x : Task). x.turns) is
+alter_quiet q id t t' own (takes_steps count asked can is) off other =
+    absurd (other (subst (λ (x : Request). IsStepOf (event.Call x) t) (sym asked) (sym own)))
+
+module _ (e : Event) where
+  abbrev AllMove : Entries → Entries → Type 0
+  AllMove ts us = (k : ℕ) → (t : Task) → task_in k ts ≡ Some t → BecomesBy e t (task_in k us)
+
+  -- what is in a slot is there afterwards
+  moves_to :
+      (us : Entries) (k : ℕ) (t t' : Task) → task_in k us ≡ Some t' → Moves t t' → Quiet e t t'
+      → BecomesBy e t (task_in k us)
+  moves_to us k t t' at m quiet =
+      subst (BecomesBy e t) (sym at) (
+        remains t' m,
+        λ u is off other. ap (λ (x : Task). x.turns) (sym (some_is t' u is)) ∙ quiet off other,
+      )
+
+  all_stay : (ts : Entries) → AllMove ts ts
+  all_stay ts k t there = moves_to ts k t t there (stays refl) (λ off other. refl)
+
+  stay_same : (s s' : BoardState) → s' ≡ s → AllMove s.tasks s'.tasks
+  stay_same s s' is = subst (λ (x : BoardState). AllMove s.tasks x.tasks) (sym is) (all_stay s.tasks)
+
+  one_moves :
+      (s : BoardState) (id : List ℕ) (old new : Task) → AreRising (slots_of s.tasks) → task_of id s.tasks ≡ Some old
+      → new.id ≡ old.id → Moves old new → Quiet e old new → AllMove s.tasks (with_task s new).tasks
+  one_moves s id old new r is same moves quiet k t there =
+      let f = found id s.tasks old is in
+      let own :
+      entry_of new.id s.tasks ≡ Some (f.0, old) =
+      ap (λ (x : List ℕ). entry_of x s.tasks) (same ∙ named id s.tasks (f.0, old) f.1) ∙ f.1 in
+      by_slot k f.0
+      (λ y here.
+      let is_old :
+      old ≡ t =
+      some_is old t
+      (sym (in_slot id (f.0, old) s.tasks r f.1) ∙ subst (λ (j : ℕ). task_in j s.tasks ≡ Some t) here there) in
+      moves_to (change_task new s.tasks) k t new
+      (ap (λ (j : ℕ). task_in j (change_task new s.tasks)) here ∙ change_there new old f.0 s.tasks r own)
+      (subst (λ (x : Task). Moves x new) is_old moves) (subst (λ (x : Task). Quiet e x new) is_old quiet))
+      (λ n other. moves_to (change_task new s.tasks) k t t
+      (change_beside new old f.0 k s.tasks own other ∙ there) (stays refl) (λ off step. refl))
+
+  -- a task that is deleted leaves its slot, and the others stay
+  one_goes :
+      (s : BoardState) (id : List ℕ) (old : Task) → AreRising (slots_of s.tasks) → task_of id s.tasks ≡ Some old
+      → allowed call.Delete old.status ≡ true → AllMove s.tasks (without_task s old.id).tasks
+  one_goes s id old r is can k t there =
+      let f = found id s.tasks old is in
+      let own :
+      entry_of old.id s.tasks ≡ Some (f.0, old) =
+      ap (λ (x : List ℕ). entry_of x s.tasks) (named id s.tasks (f.0, old) f.1) ∙ f.1 in
+      by_slot k f.0
+      (λ y here.
+      let is_old :
+      old ≡ t =
+      some_is old t
+      (sym (in_slot id (f.0, old) s.tasks r f.1) ∙ subst (λ (j : ℕ). task_in j s.tasks ≡ Some t) here there) in
+      let gone :
+      task_in k (remove_task old.id s.tasks) ≡ None =
+      ap (λ (j : ℕ). task_in j (remove_task old.id s.tasks)) here ∙ removed_there old.id (f.0, old) s.tasks r own in
+      subst (BecomesBy e t) (sym gone) (
+        goes (subst (λ (x : Task). allowed call.Delete x.status ≡ true) is_old can),
+        λ u at off other. absurd (none_is_not u at),
+      ))
+      (λ n other. moves_to (remove_task old.id s.tasks) k t t
+      (removed_beside old.id (f.0, old) k s.tasks own other ∙ there) (stays refl) (λ off step. refl))
+
+  create_moves :
+      (s : BoardState) (config id : List ℕ) (r : Answer) (s' : BoardState) → Creates s config id r s'
+      → AllMove s.tasks s'.tasks
+  create_moves s config id (Err x) s' effect = stay_same s s' effect.4.1
+  create_moves s config id (Ok r) s' effect =
+      let enters = effect.4.3 in
+      let t = created_task id s.creates effect.1 effect.4.0 effect.0 in
+      subst (λ (x : BoardState). AllMove s.tasks x.tasks) (sym enters.2)
+      (λ k u there. moves_to (put_task enters.0 t s.tasks) k u u
+      (put_in enters.0 k t s.tasks
+      (λ same. none_is_not u (sym enters.1 ∙ subst (λ (j : ℕ). task_in j s.tasks ≡ Some u) same there)) ∙ there)
+      (stays refl) (λ off other. refl))
+
+  effect_moves :
+      (s : BoardState) (q : Request) (s' : BoardState) → e ≡ event.Call q → AreRising (slots_of s.tasks)
+      → Effect s q s' → AllMove s.tasks s'.tasks
+  effect_moves s q s' of rising (nothing same) = stay_same s s' same
+  effect_moves s q s' of rising (stores new change is) =
+      subst (λ (x : BoardState). AllMove s.tasks x.tasks) (sym is) (all_stay s.tasks)
+  effect_moves s q s' of rising (enters config id r none made) = create_moves s config id r s' made
+  effect_moves s q s' of rising (changes c id t at can is) =
+      subst (λ (x : BoardState). AllMove s.tasks x.tasks) (sym is)
+      (one_moves s id t (changed c t) rising at (change_id c t) (change_moves c t can)
+      (λ off other. change_turns c t))
+  effect_moves s q s' of rising (deletes id t at can is) =
+      subst (λ (x : BoardState). AllMove s.tasks x.tasks) (sym is) (one_goes s id t rising at can)
+  effect_moves s q s' of rising (alters id t t' at a is) =
+      subst (λ (x : BoardState). AllMove s.tasks x.tasks) (sym is)
+      (one_moves s id t t' rising at (altered_same q id t t' a).same_id (alter_moves q id t t' a)
+      (subst (λ (x : Event). Quiet x t t') (sym of) (alter_quiet q id t t' (task_named id s.tasks t at) a)))
+
+  answers_move :
+      (s : BoardState) (q : Request) (r : Answer) (s' : BoardState) → e ≡ event.Call q → AreRising (slots_of s.tasks)
+      → Answers s q r s' → AllMove s.tasks s'.tasks
+  answers_move s q r s' of rising a = effect_moves s q s' of rising (effect_of s q r s' a)
+
+  take_moves :
+      (s : BoardState) (id : List ℕ) (budget : ℕ) (s' : BoardState) → AreRising (slots_of s.tasks)
+      → IsTakenOf s id budget s' → AllMove s.tasks s'.tasks
+  take_moves s id budget s' r is =
+      subst (λ (x : BoardState). AllMove s.tasks x.tasks) (sym is.leaves)
+      (one_moves s id is.task (lent is.task budget) r is.named refl (is_taken budget is.ready refl)
+      (λ off other. refl))
+
+  return_moves :
+      (s : BoardState) (id : List ℕ) (o : Option Task) (s' : BoardState) → AreRising (slots_of s.tasks)
+      → task_of id s.tasks ≡ o → Returns s o s' → AllMove s.tasks s'.tasks
+  return_moves s id None s' r is back = absurd back
+  return_moves s id (Some t) s' r is back =
+      subst (λ (x : BoardState). AllMove s.tasks x.tasks) (sym back.2)
+      (one_moves s id t back.0 r is (ap (λ (x : Task). x.id) back.1.advances) (returns back.1)
+      (λ off other. absurd (true≢false (sym back.1.legal.status ∙ off))))
 
 step_moves :
     (s : BoardState) (e : Event) (r : EventReply) (s' : BoardState) → AreRising (slots_of s.tasks) → Step s e r s'
-    → AllMove s.tasks s'.tasks
-step_moves s (event.Call q) (answer.Called a) s' b step = answers_move s q a s' b step
+    → AllMove e s.tasks s'.tasks
+step_moves s (event.Call q) (answer.Called a) s' b step =
+    answers_move (event.Call q) s q a s' refl b step
 step_moves s (event.Take id budget) (answer.Taken true) s' b step =
-    take_moves s id budget s' b (taken_of s id budget s' step)
-step_moves s (event.Take id budget) (answer.Taken false) s' b step = stay_same s s' step.1
-step_moves s (event.Return id) (answer.Returned true) s' b step = return_moves s id (task_of id s.tasks) s' b refl step
-step_moves s (event.Return id) (answer.Returned false) s' b step = stay_same s s' step.1
+    take_moves (event.Take id budget) s id budget s' b (taken_of s id budget s' step)
+step_moves s (event.Take id budget) (answer.Taken false) s' b step = stay_same (event.Take id budget) s s' step.1
+step_moves s (event.Return id) (answer.Returned true) s' b step =
+    return_moves (event.Return id) s id (task_of id s.tasks) s' b refl step
+step_moves s (event.Return id) (answer.Returned false) s' b step = stay_same (event.Return id) s s' step.1
 step_moves s (event.Call q) (answer.Taken x) s' b step = absurd step
 step_moves s (event.Call q) (answer.Returned x) s' b step = absurd step
 step_moves s (event.Take id budget) (answer.Called a) s' b step = absurd step
@@ -337,42 +398,26 @@ step_moves s (event.Return id) (answer.Taken x) s' b step = absurd step
 
 moves_by :
     (s : BoardState) (e : Event) (r : EventReply) (s' : BoardState) → AreRising (slots_of s.tasks)
-    → (s' ≡ s) ⊎ Step s e r s' → AllMove s.tasks s'.tasks
-moves_by s e r s' b (inl same) = stay_same s s' same
+    → (s' ≡ s) ⊎ Step s e r s' → AllMove e s.tasks s'.tasks
+moves_by s e r s' b (inl same) = stay_same e s s' same
 moves_by s e r s' b (inr step) = step_moves s e r s' b step
+
+happens_by_event :
+    (s : BoardState) (e : Event) (r : EventReply) (s' : BoardState) → AreRising (slots_of s.tasks) → Happens s e r s'
+    → AllMove e s.tasks s'.tasks
+happens_by_event s e r s' b h = moves_by s e r s' b (happens s e r s' h)
 
 pub happens_moves :
     (s : BoardState) (e : Event) (r : EventReply) (s' : BoardState) → AreRising (slots_of s.tasks) → Happens s e r s'
-    → AllMove s.tasks s'.tasks
-happens_moves s e r s' b h = moves_by s e r s' b (happens s e r s' h)
-
-no_turn : (b : Bool) → b ≡ true → b ≡ false → ⊥
-no_turn b is off = true≢false (sym is ∙ off)
-
-killed_turns : (signal : Signal) (t : Task) (o : Option ℕ) → (killed_while o signal t).turns ≡ t.turns
-killed_turns signal t None = refl
-killed_turns signal t (Some n) = refl
-
-same_turns : (t t' : Task) → takes_turns t.status ≡ false → Moves t t' → t'.turns ≡ t.turns
-same_turns t t' quiet (stays is) = ap (λ (x : Task). x.turns) is
-same_turns t t' quiet (starts can is) = ap (λ (x : Task). x.turns) is
-same_turns t t' quiet (pauses can is) = ap (λ (x : Task). x.turns) is
-same_turns t t' quiet (resumes can is) = ap (λ (x : Task). x.turns) is
-same_turns t t' quiet (is_killed signal can is) = ap (λ (x : Task). x.turns) is ∙ killed_turns signal t t.out
-same_turns t t' quiet (is_taken budget can is) = ap (λ (x : Task). x.turns) is
-same_turns t t' quiet (returns back) = absurd (no_turn (takes_turns t.status) back.legal.status quiet)
-
-stay_by :
-    (t t' : Task) (o : Option Task) → takes_turns t.status ≡ false → Becomes t o → o ≡ Some t' → t'.turns ≡ t.turns
-stay_by t t' _ quiet (goes can) at = absurd (none_is_not t' at)
-stay_by t t' _ quiet (remains u m) at = ap (λ (x : Task). x.turns) (sym (some_is u t' at)) ∙ same_turns t u quiet m
+    → (k : ℕ) → (t : Task) → task_in k s.tasks ≡ Some t → Becomes t (task_in k s'.tasks)
+happens_moves s e r s' b h k t there = (happens_by_event s e r s' b h k t there).0
 
 pub quiet_stays :
     (s : BoardState) (e : Event) (r : EventReply) (s' : BoardState) → IsBoard s → Happens s e r s' → (k : ℕ) (t : Task)
-    → task_in k s.tasks ≡ Some t → takes_turns t.status ≡ false
+    → task_in k s.tasks ≡ Some t → takes_turns t.status ≡ false → (IsStepOf e t → ⊥)
     → (t' : Task) → task_in k s'.tasks ≡ Some t' → t'.turns ≡ t.turns
-quiet_stays s e r s' b h k t there quiet t' at =
-    stay_by t t' (task_in k s'.tasks) quiet (happens_moves s e r s' b.slots h k t there) at
+quiet_stays s e r s' b h k t there quiet other t' at =
+    (happens_by_event s e r s' b.slots h k t there).1 t' at quiet other
 
 -- ---- how tasks end
 
@@ -394,6 +439,13 @@ created_only Pausing can going = cc
 created_only Paused can going = cc
 created_only Stopped can going = cc
 
+-- no signal ends a task where a step leads
+no_signal : (o : Option End) (signal : Signal) → (landing o None true).1 ≡ Some (exit.Kill signal) → ⊥
+no_signal None signal h = cc
+no_signal (Some own.Returned) signal h = cc
+no_signal (Some (own.Exited n)) signal h = cc
+no_signal (Some (own.Trapped t)) signal h = cc
+
 -- a task that goes on, and what ends it is a signal
 signal_ends :
     (creates : ℕ) (t t' : Task) (signal : Signal) → IsSound creates t → is_going t.status ≡ true → Moves t t'
@@ -405,6 +457,12 @@ signal_ends creates t t' signal h going (resumes can is) end = subst GoesOn (sym
 signal_ends creates t t' signal h going (is_killed x can is) end =
     subst GoesOn (sym is) (killed_goes_on x t t.out (h.goes going))
 signal_ends creates t t' signal h going (is_taken budget can is) end = subst GoesOn (sym is) (h.goes going)
+signal_ends creates t t' signal h going (has_break p can is) end = subst GoesOn (sym is) (h.goes going)
+signal_ends creates t t' signal h going (loses_break p can is) end = subst GoesOn (sym is) (h.goes going)
+signal_ends creates t t' signal h going (steps count can is) end =
+    absurd
+    (no_signal (ended (execution_at t (t.turns + slice_turns t count))) signal
+    (ap (λ (x : Task). x.end) (sym is) ∙ end))
 signal_ends creates t t' signal h going (returns back) end =
     let k = slice_turns t back.budget in
     let some = back.legal.some in
@@ -501,6 +559,16 @@ answers_same s (request.Wait id) r s1 r' s2 d a b =
     on_task_same s id (unless_allowed call.Wait refusal.Busy) on_wait (task_of id s.tasks) r s1 r' s2 a b
 answers_same s (request.Output id number) r s1 r' s2 d a b =
     on_task_same s id (output_refusals number) (on_output number) (task_of id s.tasks) r s1 r' s2 a b
+answers_same s (request.Break func id place) r s1 r' s2 d a b =
+    on_task_same s id (break_refusals func place) (on_break func place) (task_of id s.tasks) r s1 r' s2 a b
+answers_same s (request.Unbreak func id place) r s1 r' s2 d a b =
+    on_task_same s id (unbreak_refusals func place) (on_unbreak func place) (task_of id s.tasks) r s1 r' s2 a b
+answers_same s (request.Step count id) r s1 r' s2 d a b =
+    on_task_same s id (step_refusals count) (on_step count) (task_of id s.tasks) r s1 r' s2 a b
+answers_same s (request.Inspect id) r s1 r' s2 d a b =
+    on_task_same s id inspect_refusals on_inspect (task_of id s.tasks) r s1 r' s2 a b
+answers_same s (request.Peek address id length) r s1 r' s2 d a b =
+    on_task_same s id (peek_refusals address length) (on_peek address length) (task_of id s.tasks) r s1 r' s2 a b
 
 -- a task returns in one way
 return_same : (s : BoardState) (o : Option Task) (s1 s2 : BoardState) → Returns s o s1 → Returns s o s2 → s1 ≡ s2
@@ -609,7 +677,8 @@ opens_agree :
     (s : BoardState) (id bytes : List ℕ) (p : ProcessConfig) (r : Answer) (s1 : BoardState) (r' : Answer)
     (s2 : BoardState) → One → Faulty
     → Opens s id bytes p r s1 → Opens s id bytes p r' s2 → AgreeOnCreate s r s1 r' s2
-opens_agree s id bytes p (Err e) s1 (Err e') s2 one faulty a b = (a.1, b.1, refused_agree bytes p e e' one faulty a.0 b.0)
+opens_agree s id bytes p (Err e) s1 (Err e') s2 one faulty a b =
+    (a.1, b.1, refused_agree bytes p e e' one faulty a.0 b.0)
 opens_agree s id bytes p (Err e) s1 (Ok y) s2 one faulty a b = opened_refused bytes p b.0 e one faulty b.1 a.0
 opens_agree s id bytes p (Ok x) s1 (Err e') s2 one faulty a b = opened_refused bytes p a.0 e' one faulty a.1 b.0
 opens_agree s id bytes p (Ok x) s1 (Ok y) s2 one faulty a b =
@@ -632,7 +701,8 @@ creates_agree s config id r s1 r' s2 one faulty a b =
     b.1 ≡ a.1 =
     some_is b.1 a.1 (sym b.3 ∙ (ap (λ (p : ProcessConfig). content_in s.store.contents p.module) process ∙ a.3)) in
     let moved = subst (λ (x : List ℕ). Opens s id x b.0 r' s2) stored b.4 in
-    opens_agree s id a.1 a.0 r s1 r' s2 one faulty a.4 (subst (λ (p : ProcessConfig). Opens s id a.1 p r' s2) process moved)
+    opens_agree s id a.1 a.0 r s1 r' s2 one faulty a.4
+    (subst (λ (p : ProcessConfig). Opens s id a.1 p r' s2) process moved)
 
 create_agrees_by :
     (s : BoardState) (config id : List ℕ) (o : Option Refusal) (r : Answer) (s1 : BoardState) (r' : Answer)

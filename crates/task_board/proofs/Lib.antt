@@ -3,6 +3,7 @@ pub mod SlabLemmas
 pub mod SoundLemmas
 pub mod TaskInvariant
 pub mod StepLemmas
+pub mod MarkLemmas
 pub mod StoreLemmas
 pub mod OpenedLemmas
 pub mod EffectLemmas
@@ -17,4 +18,6 @@ pub mod RunLemmas
 pub mod LifecycleLemmas
 pub mod LawLemmas
 pub mod AdvanceLemmas
+pub mod StepTurns
+pub mod PlaceLemmas
 pub mod HeldLemmas

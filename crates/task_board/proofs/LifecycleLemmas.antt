@@ -10,7 +10,7 @@ use Rattle.task_lifecycle.specs.declared.status.ExitRecord.{ExitRecord}
 use Rattle.task_lifecycle.specs.declared.status.ExitRecord.TheVariants as exit
 use Rattle.task_lifecycle.specs.Lifecycle.{after, is_pausing}
 use Rattle.task_board.specs.BoardState.{Task}
-use Rattle.task_board.specs.Tasks.{execution_at, is_break_at, Standing, exit_of, landing, started, situation_at, first_signal, killed_while, killed, slice_turns, HasReturned}
+use Rattle.task_board.specs.Tasks.{execution_at, is_break_at, Standing, exit_of, landing, started, situation_at, first_signal, killed_while, killed, slice_turns, HasReturned, stepped}
 use Rattle.task_board.proofs.EntryLemmas.{none_is_not, some_is}
 
 -- ---- the table of the lifecycle
@@ -31,6 +31,15 @@ kill_table signal t (Some n) = refl
 pub killed_by_table :
     (signal : Signal) (t : Task) → (killed signal t).status ≡ after call.Kill (situation_at t t.turns) t.status
 killed_by_table signal t = kill_table signal t t.out
+
+step_table : (o : Option End) → (landing o None true).0 ≡ cond (is_some o) Stopped Paused
+step_table (Some e) = refl
+step_table None = refl
+
+pub stepped_by_table :
+    (t : Task) (count : ℕ)
+    → (stepped t count).status ≡ after call.Step (situation_at t (t.turns + slice_turns t count)) t.status
+stepped_by_table t count = step_table (ended (execution_at t (t.turns + slice_turns t count)))
 
 -- ---- where a task lands whose slice returns
 

@@ -15,8 +15,8 @@ use Rattle.task_board.specs.Loans.{Lent, FitsTask}
 use Rattle.task_board.specs.Tickets.{ticket_to, ticket_of, CanLend, Lends}
 use Rattle.task_board.specs.Inside.Covers.{IsFitting, FitsAt, NoneFits, SomeFits, Covered}
 use Rattle.task_board.proofs.EntryLemmas.{none_is_not, some_is, by_slot, entry_at, named, in_slot, change_in, changed_in, put_in, put_there, IsChangedIn, IsChangedFrom, changed_from_old, removed_there, removed_beside, cond_is_false}
-use Rattle.task_board.proofs.StepLemmas.{found, task_named}
-use Rattle.task_board.proofs.EffectLemmas.{change_id, Effect, nothing, stores, enters, changes, deletes, effect_of}
+use Rattle.task_board.proofs.StepLemmas.{found, task_named, sound_of}
+use Rattle.task_board.proofs.EffectLemmas.{change_id, Effect, nothing, stores, enters, changes, deletes, alters, effect_of, altered_same, altered_idle}
 
 -- ---- what stays
 
@@ -131,6 +131,26 @@ change_covered ls s c id t at covered j u budget there out =
     change_covered_by ls c t s.tasks (change_task (changed c t) s.tasks) j u budget there out covered
     (changed_from_old t (changed c t) f.0 j s.tasks own)
 
+-- what is idle afterwards needs no loan
+idle_covered_by :
+    (ls : List Lent) (old new : Task) (es us : Entries) (j : ℕ) (u : Task) (budget : ℕ) → new.out ≡ None
+    → task_in j us ≡ Some u → u.out ≡ Some budget → Covered ls es → IsChangedFrom old new j es us → SomeFits us j ls
+idle_covered_by ls old new es us j u budget idle there out covered (inl same) =
+    some_kept es us j ls same (covered j u budget (sym same ∙ there) out)
+idle_covered_by ls old new es us j u budget idle there out covered (inr one) =
+    absurd (idle_not_out (task_in j us) new u budget one.1 idle there out)
+
+idle_covered :
+    (ls : List Lent) (s : BoardState) (id : List ℕ) (old new : Task) → task_of id s.tasks ≡ Some old
+    → new.id ≡ old.id → new.out ≡ None → Covered ls s.tasks → Covered ls (change_task new s.tasks)
+idle_covered ls s id old new at same idle covered j u budget there out =
+    let f = found id s.tasks old at in
+    let own :
+    entry_of new.id s.tasks ≡ Some (f.0, old) =
+    ap (λ (x : List ℕ). entry_of x s.tasks) (same ∙ task_named id s.tasks old at) ∙ f.1 in
+    idle_covered_by ls old new s.tasks (change_task new s.tasks) j u budget idle there out covered
+    (changed_from_old old new f.0 j s.tasks own)
+
 delete_covered :
     (ls : List Lent) (s : BoardState) (id : List ℕ) (t : Task) → IsBoard s → task_of id s.tasks ≡ Some t
     → Covered ls s.tasks → Covered ls (remove_task t.id s.tasks)
@@ -150,20 +170,25 @@ delete_covered ls s id t b at covered j u budget there out =
     some_kept s.tasks us j ls stays (covered j u budget (sym stays ∙ there) out))
 
 effect_covered :
-    (ls : List Lent) (s s' : BoardState) → IsBoard s → Effect s s' → Covered ls s.tasks → Covered ls s'.tasks
-effect_covered ls s s' b (nothing same) covered = same_covered ls s s' same covered
-effect_covered ls s s' b (stores new change is) covered =
+    (ls : List Lent) (s : BoardState) (q : Request) (s' : BoardState) → IsBoard s → Effect s q s' → Covered ls s.tasks
+    → Covered ls s'.tasks
+effect_covered ls s q s' b (nothing same) covered = same_covered ls s s' same covered
+effect_covered ls s q s' b (stores new change is) covered =
     subst (λ (x : BoardState). Covered ls x.tasks) (sym is) covered
-effect_covered ls s s' b (enters config id r none made) covered = create_covered ls s config id r s' made covered
-effect_covered ls s s' b (changes c id t at can is) covered =
+effect_covered ls s q s' b (enters config id r none made) covered = create_covered ls s config id r s' made covered
+effect_covered ls s q s' b (changes c id t at can is) covered =
     subst (λ (x : BoardState). Covered ls x.tasks) (sym is) (change_covered ls s c id t at covered)
-effect_covered ls s s' b (deletes id t at can is) covered =
+effect_covered ls s q s' b (deletes id t at can is) covered =
     subst (λ (x : BoardState). Covered ls x.tasks) (sym is) (delete_covered ls s id t b at covered)
+effect_covered ls s q s' b (alters id t t' at a is) covered =
+    subst (λ (x : BoardState). Covered ls x.tasks) (sym is)
+    (idle_covered ls s id t t' at (altered_same q id t t' a).same_id
+    (altered_idle s.creates q id t t' (sound_of s id t b at) a) covered)
 
 pub answers_covered :
     (ls : List Lent) (s : BoardState) (q : Request) (r : Answer) (s' : BoardState) → IsBoard s → Answers s q r s'
     → Covered ls s.tasks → Covered ls s'.tasks
-answers_covered ls s q r s' b a covered = effect_covered ls s s' b (effect_of s q r s' a) covered
+answers_covered ls s q r s' b a covered = effect_covered ls s q s' b (effect_of s q r s' a) covered
 
 -- ---- a loan more
 

@@ -6,6 +6,7 @@ use Rattle.step_machine.specs.declared.ends.End.{End}
 use Rattle.step_machine.specs.declared.ends.End.TheVariants as own
 use Rattle.step_machine.specs.Configuration.{State as ExecutionState}
 use Rattle.step_machine.specs.Instantiation.{ended}
+use Rattle.step_machine.specs.Limits.{max_breakpoints}
 use Rattle.task_lifecycle.specs.declared.lifecycle.TaskCall.TheVariants as call
 use Rattle.task_lifecycle.specs.declared.status.Status.{Status}
 use Rattle.task_lifecycle.specs.declared.status.Status.TheVariants.{Created, Running, Pausing, Paused, Stopped}
@@ -18,7 +19,7 @@ use Rattle.content_leases.specs.Digests.{digest_of}
 use Rattle.content_leases.specs.StoreState.{Content, content_in}
 use Rattle.task_lifecycle.specs.Lifecycle.{allowed, takes_turns, is_pausing, is_stopped, is_going}
 use Rattle.task_board.specs.BoardState.{Task, Entries, BoardState, created_task, task_in, entry_of, task_of, put_task, with_task, without_task, with_new_task}
-use Rattle.task_board.specs.Tasks.{execution_at, is_break_at, Standing, idle_task, exit_of, IsTrueOf, landing, idle_after, started, paused, resumed, killed_while, killed, advanced}
+use Rattle.task_board.specs.Tasks.{execution_at, is_break_at, Standing, idle_task, exit_of, IsTrueOf, landing, idle_after, started, paused, resumed, killed_while, killed, advanced, slice_turns, stepped}
 use Rattle.task_board.specs.Refusals.{Openable}
 use Rattle.task_board.specs.Sound.{Each, AreDistinct, AreRising, IsSound, IsContent, slots_of, ids_of, incarnations_of, IsBoard}
 use Rattle.task_board.proofs.EntryLemmas.{none_is_not, some_is, cond_true, cond_false, by_slot, by_id, change_length, change_slots, change_ids, change_incarnations, change_each, put_length, put_each, remove_entries, remove_distinct, remove_rising, remove_length}
@@ -212,6 +213,8 @@ later_sound creates t h = record {
   stopped = h.stopped;
   goes = h.goes;
   end = h.end;
+  few_breaks = h.few_breaks;
+  breaks = h.breaks;
 }
 
 -- a sound task that is the newest enters a free slot of a board that takes it
@@ -258,6 +261,8 @@ created_sound id creates bytes m p named opens digest = record {
   stopped = refl;
   goes = λ h. cc;
   end = λ r h. cc;
+  few_breaks = omega arith;
+  breaks = tt;
 }
 
 -- ---- contents
@@ -291,8 +296,9 @@ pub record IsStanding (x : Standing) (turns : ℕ) (e : ExecutionState) : Type 0
 pub idle_sound :
     (creates : ℕ) (t : Task) (x : Standing) → is_id t.id ≡ true → t.incarnation < creates
     → Openable t.bytes t.process t.module → t.process.module ≡ digest_of t.bytes
+    → length t.breaks ≤ max_breakpoints → AreDistinct t.breaks
     → IsStanding x t.turns (execution_at t t.turns) → IsSound creates (idle_task t x)
-idle_sound creates t x named earlier opens digest standing = record {
+idle_sound creates t x named earlier opens digest few distinct standing = record {
   named = named;
   earlier = earlier;
   opens = opens;
@@ -305,6 +311,8 @@ idle_sound creates t x named earlier opens digest standing = record {
   stopped = standing.stopped;
   goes = standing.goes;
   end = standing.end;
+  few_breaks = few;
+  breaks = distinct;
 }
 
 -- a standing that is not going, since the task has ended so
@@ -349,7 +357,7 @@ pub after_sound :
 after_sound creates t n signal pauses h =
     let e = execution_at t n in
     idle_sound creates (record t { turns = n }) (landing (ended e) signal pauses) h.named h.earlier h.opens h.digest
-    (landing_stands (ended e) signal pauses n e refl)
+    h.few_breaks h.breaks (landing_stands (ended e) signal pauses n e refl)
 
 pub started_sound : (creates : ℕ) (t : Task) → IsSound creates t → IsSound creates (started t)
 started_sound creates t h = after_sound creates t t.turns None (is_break_at t t.turns) h
@@ -357,6 +365,9 @@ started_sound creates t h = after_sound creates t t.turns None (is_break_at t t.
 pub advanced_sound : (creates : ℕ) (t : Task) (k : ℕ) → IsSound creates t → IsSound creates (advanced t k)
 advanced_sound creates t k h =
     after_sound creates t (t.turns + k) t.signal (is_pausing t.status || is_break_at t (t.turns + k)) h
+
+pub stepped_sound : (creates : ℕ) (t : Task) (count : ℕ) → IsSound creates t → IsSound creates (stepped t count)
+stepped_sound creates t count h = after_sound creates t (t.turns + slice_turns t count) None true h
 
 -- what a pause makes of the status
 pub record IsPausing (out : Option ℕ) (status : Status) : Type 0 where
@@ -385,6 +396,8 @@ paused_sound creates t h is =
       stopped = f.goes_on ∙ (sym (ap is_stopped is) ∙ h.stopped);
       goes = λ x. h.goes (ap is_going is);
       end = h.end;
+      few_breaks = h.few_breaks;
+      breaks = h.breaks;
     }
 
 pub resumed_sound : (creates : ℕ) (t : Task) → IsSound creates t → t.status ≡ Paused → IsSound creates (resumed t)
@@ -401,6 +414,8 @@ resumed_sound creates t h is = record {
   stopped = sym (ap is_stopped is) ∙ h.stopped;
   goes = λ x. h.goes (ap is_going is);
   end = h.end;
+  few_breaks = h.few_breaks;
+  breaks = h.breaks;
 }
 
 -- what a kill may stop has made no turn, or goes on
@@ -417,7 +432,7 @@ killed_sound_by :
     → allowed call.Kill t.status ≡ true → IsSound creates (killed_while out signal t)
 killed_sound_by creates signal t None is h can =
     idle_sound creates t (Stopped, Some (exit.Kill signal)) h.named h.earlier h.opens h.digest
-    (stopped_standing (exit.Kill signal) t.turns (execution_at t t.turns)
+    h.few_breaks h.breaks (stopped_standing (exit.Kill signal) t.turns (execution_at t t.turns)
     (not_ended t.status t.turns (ended (execution_at t t.turns)) can h.fresh h.goes))
 killed_sound_by creates signal t (Some n) is h can = record {
   named = h.named;
@@ -432,6 +447,8 @@ killed_sound_by creates signal t (Some n) is h can = record {
   stopped = h.stopped;
   goes = h.goes;
   end = h.end;
+  few_breaks = h.few_breaks;
+  breaks = h.breaks;
 }
 
 pub killed_sound :

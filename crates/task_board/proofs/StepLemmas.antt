@@ -160,6 +160,8 @@ lent_sound_by creates t budget h is low = record {
   stopped = h.stopped;
   goes = h.goes;
   end = h.end;
+  few_breaks = h.few_breaks;
+  breaks = h.breaks;
 }
 
 pub lent_sound :
@@ -285,7 +287,7 @@ returned_sound s k t n b there =
 
 -- ---- refusals of a create
 
-first_append : (cs ds : Refusals) (e : Refusal) → first_refusal cs ≡ Some e → first_refusal (cs ++ ds) ≡ Some e
+pub first_append : (cs ds : Refusals) (e : Refusal) → first_refusal cs ≡ Some e → first_refusal (cs ++ ds) ≡ Some e
 first_append [] ds e h = absurd (none_is_not e h)
 first_append (x ∷ cs) ds e h =
     by_head x.0 x.1 (first_refusal cs) (first_refusal (cs ++ ds)) e (λ k. first_append cs ds e k) h

@@ -99,6 +99,11 @@ made_for (request.Delete id) c is = own is
 made_for (request.State id) c is = own is
 made_for (request.Wait id) c is = own is
 made_for (request.Output id stream) c is = own is
+made_for (request.Break func id place) c is = own is
+made_for (request.Unbreak func id place) c is = own is
+made_for (request.Step count id) c is = own is
+made_for (request.Inspect id) c is = own is
+made_for (request.Peek address id length) c is = own is
 
 answers_made_for :
     (s : BoardState) (r : Request) (c : StoreChange) (a : Answer) (s' : BoardState) → MadeFor r c

@@ -1,5 +1,5 @@
 -- The tables of a board after a write in a slot and after an insert.
-use Rattle.std.proofs.Common.{slice_set, ◌≡◌, ℕ, ◌+◌, ◌≤◌, List, Bool, true, IsTrue, ◌↔◌, Option, Some, None, option_map, Ok, sym, ap, ◌∙◌, subst, arith}
+use Rattle.std.proofs.Common.{slice_set, ◌≡◌, ℕ, ◌+◌, ◌≤◌, List, Bool, true, IsTrue, ◌↔◌, Option, Some, None, option_map, Ok, refl, sym, ap, ◌∙◌, subst, arith}
 use Rattle.slab.specs.Slab.{Slab, entries, entries_from, get, with_value, Updates, HasRoomFor}
 use Rattle.task_board.specs.declared.tables.Tables.TheInside as tables
 use Rattle.task_board.specs.declared.ticket.Ticket.{Ticket}
@@ -8,26 +8,33 @@ use Rattle.task_board.specs.declared.request.Request.TheVariants as request
 use Rattle.task_board.specs.declared.request.Reply.TheVariants as reply
 use Rattle.wasm_ast.specs.declared.refusal.Refusal.TheVariants as refusal
 use Rattle.task_lifecycle.specs.declared.lifecycle.TaskCall.TheVariants as call
-use Rattle.task_lifecycle.specs.declared.status.Status.TheVariants.{Created}
+use Rattle.task_lifecycle.specs.declared.status.Status.TheVariants.{Created, Paused}
 use Rattle.task_board.specs.Limits.{max_budget}
 use Rattle.task_board.specs.BoardState.{Task, Entries, BoardState, task_in, entry_of, task_of, remove_task, with_task, without_task, with_new_task}
-use Rattle.task_board.specs.Tasks.{can_lend, lent, advanced, slice_turns, state_of}
-use Rattle.content_leases.specs.Refusals.{Refusals}
-use Rattle.task_board.specs.Refusals.{unless_allowed}
-use Rattle.task_board.specs.Step.{Answers, taken, Returns}
+use Rattle.task_board.specs.Tasks.{can_lend, lent, advanced, slice_turns, stepped, state_of}
+use Rattle.content_leases.specs.Refusals.{Refusals, first_refusal}
+use Rattle.task_board.specs.Refusals.{unless_allowed, step_refusals, task_refusals}
+use Rattle.task_board.specs.Step.{Answer, Answers, taken, Returns}
 use Rattle.task_board.specs.Sound.{IsBoard}
 use Rattle.task_board.specs.Loans.{Lent, loan_of, FitsTask, Fits}
 use Rattle.task_board.specs.Tickets.{ticket_in, Lends}
 use Rattle.task_board.specs.Waiting.{running_ticket, AreWaiting}
 use Rattle.task_board.specs.declared.change.Change.{Change}
-use Rattle.task_board.specs.Inside.Plans.{CreatePrepared, CallPrepared}
+use Rattle.std.specs.Arc.{arc_value}
+use Rattle.wasm_ast.specs.declared.place.Place.{Place}
+use Rattle.task_board.specs.declared.mark.Mark.{Mark}
+use Rattle.task_board.specs.declared.mark.NewBreaks.{NewBreaks}
+use Rattle.task_board.specs.Inside.Marks.{mark_request, mark_reply, mark_refusals, marked_places, marked}
+use Rattle.task_board.specs.Inside.Plans.{CreatePrepared, CallPrepared, MarkPrepared}
 use Rattle.task_board.specs.Inside.Changes.{change_request, change_reply, change_refusals, changed as changed_by}
 use Rattle.task_board.specs.Inside.Shown.{board_state_of}
 use Rattle.task_board.proofs.EntryLemmas.{none_is_not, some_is, entry_at, named, in_slot, changed_in}
 use Rattle.task_board.proofs.SlabLemmas.{in_slab, changed, removed, inserted, count}
-use Rattle.task_board.proofs.EffectLemmas.{change_id, change_incarnation, change_answers, delete_answers, answers_sound}
+use Rattle.task_board.proofs.MarkLemmas.{mark_allowed}
+use Rattle.task_board.proofs.PlaceLemmas.{mark_answers, step_answers}
+use Rattle.task_board.proofs.EffectLemmas.{change_id, change_incarnation, change_answers, delete_answers, answers_sound, Alters, marks, takes_steps, altered_same, marked_idle, own_accepted, step_allowed, alter_keeps_sound, paused_only}
 use Rattle.task_board.proofs.WaitingLemmas.{same_ticket, stay_changed, stay_more}
-use Rattle.task_board.proofs.StepLemmas.{few_tasks, create_answers, lends_sound, takes, GoForward, StopFirst, returns, returned_sound}
+use Rattle.task_board.proofs.StepLemmas.{task_named, sound_of, few_tasks, create_answers, lends_sound, takes, GoForward, StopFirst, returns, returned_sound}
 
 -- the tables with another slab of tasks
 abbrev pub with_slab : tables.Inside → Slab Task → List Ticket → tables.Inside
@@ -161,13 +168,17 @@ changed_there b c slot id old new sound waits p here is =
 -- what a removal from a slot answers
 pub removed_there :
     (b : tables.Inside) (slot : ℕ) (id : List ℕ) (new : Slab Task) (waiting : List Ticket) (old : Task)
-    → IsBoard (board_state_of b) → CallPrepared (board_state_of b) (unless_allowed call.Delete refusal.WrongStatus) slot id → get b.tasks slot ≡ Some old
+    → IsBoard (board_state_of b)
+    → CallPrepared (board_state_of b) (unless_allowed call.Delete refusal.WrongStatus) slot id
+    → get b.tasks slot ≡ Some old
     → new.slots ≡ slice_set b.tasks.slots slot None
     → Answers (board_state_of b) (request.Delete id) (Ok (reply.Delete (state_of old)))
     (board_state_of (with_slab b new waiting))
 removed_there b slot id new waiting old sound p here slots =
     let s = board_state_of b in
-    let same : old ≡ p.task = some_is old p.task (sym here ∙ call_there b (unless_allowed call.Delete refusal.WrongStatus) slot id sound p) in
+    let same :
+    old ≡ p.task =
+    some_is old p.task (sym here ∙ call_there b (unless_allowed call.Delete refusal.WrongStatus) slot id sound p) in
     let left :
     entries new ≡ remove_task old.id (entries b.tasks) =
     ap (λ (xs : List (Option Task)). entries_from 0 xs) slots ∙ removed b.tasks slot old here sound.ids in
@@ -179,7 +190,8 @@ removed_there b slot id new waiting old sound p here slots =
     delete_answers s id p.task (board_state_of (with_slab b new waiting)) at p.accepted
     (leaves ∙ ap (λ (u : Task). without_task s u.id) same) in
     subst
-    (λ (u : Task). Answers s (request.Delete id) (Ok (reply.Delete (state_of u))) (board_state_of (with_slab b new waiting)))
+    (λ (u : Task). Answers s (request.Delete id) (Ok (reply.Delete (state_of u)))
+    (board_state_of (with_slab b new waiting)))
     (sym same) done
 
 -- ---- create
@@ -272,3 +284,106 @@ pub fits_here :
     (b : tables.Inside) (l : Lent) (t : Task) → get b.tasks l.slot ≡ Some t
     → Fits l (board_state_of b).tasks → FitsTask l t
 fits_here b l t here f = subst (FitsTask l) (sym (same_there b l.slot t f.0 here f.1)) f.2
+
+-- ---- breakpoints and steps
+
+-- what a request that sets or removes a breakpoint, or is a step, does in a slot
+pub record IsAlteredThere (b : tables.Inside) (q : Request) (r : Answer) (slot : ℕ) (new : Task) : Type 0 where
+  pub sound : IsBoard (board_state_of (with_write b slot new))
+  pub waiting : AreWaiting (board_state_of (with_write b slot new)).tasks b.waiting
+  pub answers : Answers (board_state_of b) q r (board_state_of (with_write b slot new))
+
+altered_there :
+    (b : tables.Inside) (q : Request) (r : Answer) (slot : ℕ) (id : List ℕ) (old new : Task)
+    → IsBoard (board_state_of b) → AreWaiting (board_state_of b).tasks b.waiting
+    → task_of id (board_state_of b).tasks ≡ Some old → get b.tasks slot ≡ Some old → Alters q id old new
+    → ((s' : BoardState) → s' ≡ with_task (board_state_of b) new → Answers (board_state_of b) q r s')
+    → IsAlteredThere b q r slot new
+altered_there b q r slot id old new sound waits at here a answers =
+    let s = board_state_of b in
+    let same = altered_same q id old new a in
+    let leaves = written b slot old new sound here (sym same.same_id) in
+    record {
+      sound = subst IsBoard (sym leaves) (alter_keeps_sound s q id old new sound at a);
+      waiting = written_waits b slot old new sound waits here (sym same.same_id) same.number;
+      answers = answers (board_state_of (with_write b slot new)) leaves;
+    }
+
+-- the task that a request was prepared for is the one in the slot
+call_task :
+    (b : tables.Inside) (own : Task → Refusals) (slot : ℕ) (id : List ℕ) (old : Task) → IsBoard (board_state_of b)
+    → (p : CallPrepared (board_state_of b) own slot id) → get b.tasks slot ≡ Some old → p.task ≡ old
+call_task b own slot id old sound p here = some_is p.task old (sym (call_there b own slot id sound p) ∙ here)
+
+pub call_at :
+    (b : tables.Inside) (own : Task → Refusals) (slot : ℕ) (id : List ℕ) (old : Task) → IsBoard (board_state_of b)
+    → (p : CallPrepared (board_state_of b) own slot id) → get b.tasks slot ≡ Some old
+    → task_of id (board_state_of b).tasks ≡ Some old
+call_at b own slot id old sound p here =
+    ap (option_map (λ (e : ℕ × Task). e.1)) p.found ∙ ap Some (call_task b own slot id old sound p here)
+
+pub call_accepted :
+    (b : tables.Inside) (own : Task → Refusals) (slot : ℕ) (id : List ℕ) (old : Task) → IsBoard (board_state_of b)
+    → (p : CallPrepared (board_state_of b) own slot id) → get b.tasks slot ≡ Some old
+    → first_refusal (task_refusals id own (Some old)) ≡ None
+call_accepted b own slot id old sound p here =
+    subst (λ (t : Task). first_refusal (task_refusals id own (Some t)) ≡ None)
+    (call_task b own slot id old sound p here) p.accepted
+
+pub mark_may :
+    (b : tables.Inside) (m : Mark) (slot : ℕ) (id : List ℕ) (n : NewBreaks) (old : Task) → IsBoard (board_state_of b)
+    → (p : MarkPrepared (board_state_of b) m slot id n) → get b.tasks slot ≡ Some old → old.out ≡ None
+mark_may b m slot id n old sound p here =
+    let s = board_state_of b in
+    let at = call_at b (mark_refusals m) slot id old sound p.call here in
+    let accepted = call_accepted b (mark_refusals m) slot id old sound p.call here in
+    marked_idle s.creates m old (sound_of s id old sound at)
+    (mark_allowed m old (own_accepted id old (mark_refusals m) accepted))
+
+pub marked_there :
+    (b : tables.Inside) (m : Mark) (slot : ℕ) (id : List ℕ) (n : NewBreaks) (old new : Task)
+    → IsBoard (board_state_of b) → AreWaiting (board_state_of b).tasks b.waiting
+    → (p : MarkPrepared (board_state_of b) m slot id n) → get b.tasks slot ≡ Some old
+    → new ≡ record old { breaks = arc_value n.own }
+    → IsAlteredThere b (mark_request m id) (Ok (mark_reply m id)) slot new
+marked_there b m slot id n old new sound waits p here is =
+    let s = board_state_of b in
+    let at = call_at b (mark_refusals m) slot id old sound p.call here in
+    let accepted = call_accepted b (mark_refusals m) slot id old sound p.call here in
+    let same = call_task b (mark_refusals m) slot id old sound p.call here in
+    let becomes :
+    new ≡ marked m old =
+    is
+    ∙ (ap (λ (bs : List Place). record old { breaks = bs }) p.own
+    ∙ ap (λ (t : Task). record old { breaks = marked_places m t.breaks }) same) in
+    let alters : Alters (mark_request m id) id old new =
+    marks m (own_accepted id old (mark_refusals m) accepted) becomes in
+    altered_there b (mark_request m id) (Ok (mark_reply m id)) slot id old new sound waits at here alters
+    (λ s' leaves.
+    subst (λ (x : List ℕ). Answers s (mark_request m id) (Ok (mark_reply m x)) s') (task_named id s.tasks old at)
+    (mark_answers s id m old s' at accepted (leaves ∙ ap (with_task s) becomes)))
+
+pub stepped_there :
+    (b : tables.Inside) (count slot : ℕ) (id : List ℕ) (old new : Task)
+    → IsBoard (board_state_of b) → AreWaiting (board_state_of b).tasks b.waiting
+    → (p : CallPrepared (board_state_of b) (step_refusals count) slot id) → get b.tasks slot ≡ Some old
+    → new ≡ stepped old count
+    → IsAlteredThere b (request.Step count id) (Ok (reply.Step (state_of new))) slot new
+stepped_there b count slot id old new sound waits p here is =
+    let s = board_state_of b in
+    let at = call_at b (step_refusals count) slot id old sound p here in
+    let accepted = call_accepted b (step_refusals count) slot id old sound p here in
+    let alters : Alters (request.Step count id) id old new =
+    takes_steps count refl (step_allowed id old count accepted) is in
+    altered_there b (request.Step count id) (Ok (reply.Step (state_of new))) slot id old new sound waits at here alters
+    (λ s' leaves.
+    subst (λ (t : Task). Answers s (request.Step count id) (Ok (reply.Step (state_of t))) s') (sym is)
+    (step_answers s id count old s' at accepted (leaves ∙ ap (with_task s) is)))
+
+pub may_step :
+    (b : tables.Inside) (count slot : ℕ) (id : List ℕ) (old : Task) → IsBoard (board_state_of b)
+    → (p : CallPrepared (board_state_of b) (step_refusals count) slot id) → get b.tasks slot ≡ Some old
+    → old.status ≡ Paused
+may_step b count slot id old sound p here =
+    paused_only old.status
+    (step_allowed id old count (call_accepted b (step_refusals count) slot id old sound p here))

@@ -4,6 +4,7 @@ use Rattle.std.specs.Arc.{arc_value}
 use Rattle.wasm_ast.specs.declared.module.Module.{Module}
 use Rattle.wasm_binary.specs.Grammar.{Spells}
 use Rattle.oci_config.specs.declared.process.ProcessConfig.{ProcessConfig}
+use Rattle.step_machine.specs.MachineView.{MachineView}
 use Rattle.task_board.specs.declared.checkout.Checkout.{Checkout}
 use Rattle.task_board.specs.BoardState.{Task}
 use Rattle.task_board.specs.Loans.{Lent, loan_of, FitsTask}
@@ -113,3 +114,15 @@ fits_shared l t r numbers one is = (
     ap (λ (x : Lent). x.breaks) f.0,
   ),
 )
+
+-- ---- a step
+
+-- a machine that has made turns
+pub ran :
+    (old new : MachineView) (m : Module) (p : ProcessConfig) (n made turns : ℕ) → IsMachine old m p n
+    → new ≡ record old { turns = made } → turns ≡ new.turns → IsMachine new m p turns
+ran old new m p n made turns is by same =
+    let counts : made ≡ turns = sym (same ∙ ap (λ (x : MachineView). x.turns) by) in
+    by
+    ∙ (ap (λ (x : MachineView). record x { turns = made }) is
+    ∙ ap (λ (k : ℕ). record { «module» = m; process = p; turns = k }) counts)

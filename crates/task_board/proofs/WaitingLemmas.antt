@@ -338,6 +338,11 @@ pub question_waits : (r : Request) (ts : Entries) (ws : List Ticket) → IsQuest
 question_waits (request.State id) ts ws is = refl
 question_waits (request.Wait id) ts ws is = refl
 question_waits (request.Output id stream) ts ws is = refl
+question_waits (request.Inspect id) ts ws is = refl
+question_waits (request.Peek address id length) ts ws is = refl
+question_waits (request.Break func id place) ts ws is = refl
+question_waits (request.Unbreak func id place) ts ws is = refl
+question_waits (request.Step count id) ts ws is = refl
 question_waits (request.Put bytes) ts ws is = refl
 question_waits (request.PutText text) ts ws is = refl
 question_waits (request.Remove digest) ts ws is = refl

@@ -3,6 +3,7 @@ pub mod Machines
 pub mod Shown
 pub mod Kept
 pub mod Changes
+pub mod Marks
 pub mod StoreChanges
 pub mod OpenedModules
 pub mod Plans

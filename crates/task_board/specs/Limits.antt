@@ -11,3 +11,7 @@ max_creates = 2 ^ 60
 -- turns of a slice
 abbrev pub max_budget : ℕ
 max_budget = 1000000
+
+-- turns of a step
+abbrev pub max_step : ℕ
+max_step = 1000

@@ -1,6 +1,6 @@
 -- The refusals of each request to a task, in the order in which they are tried. Those of the requests to the
 -- store are content_leases'.
-use Rattle.std.specs.Prelude.{◌≡◌, ℕ, ◌≤◌, List, [], ◌∷◌, length, nat_le, Bool, true, not, ◌||◌, Option, Some, None, is_some, is_none, option_and_then}
+use Rattle.std.specs.Prelude.{◌≡◌, ℕ, ◌≤◌, List, [], ◌∷◌, length, nat_le, Bool, true, not, ◌||◌, ◌&&◌, Option, Some, None, is_some, is_none, option_and_then}
 use Rattle.wasm_ast.specs.declared.module.Module.{Module}
 use Rattle.wasm_ast.specs.declared.place.Place.{Place}
 use Rattle.wasm_ast.specs.declared.refusal.Refusal.{Refusal}
@@ -12,9 +12,12 @@ use Rattle.oci_config.specs.declared.process.ProcessConfig.{ProcessConfig}
 use Rattle.validator.specs.Typing.{ValidModule}
 use Rattle.validator.specs.Faults.{NamesFault}
 use Rattle.step_machine.specs.Instantiation.{instantiation_refusal}
+use Rattle.step_machine.specs.Limits.{max_breakpoints}
+use Rattle.step_machine.specs.Places.{has_place}
+use Rattle.step_machine.specs.Slices.{is_among}
 use Rattle.task_lifecycle.specs.declared.lifecycle.TaskCall.{TaskCall}
 use Rattle.task_lifecycle.specs.declared.lifecycle.TaskCall.TheVariants as call
-use Rattle.task_board.specs.Limits.{max_tasks, max_creates}
+use Rattle.task_board.specs.Limits.{max_tasks, max_creates, max_step}
 use Rattle.wasm_ast.specs.Identifiers.{is_id}
 use Rattle.oci_config.specs.Config.{process_read}
 use Rattle.oci_config.specs.Streams.{stream_of}
@@ -23,6 +26,7 @@ use Rattle.task_lifecycle.specs.Names.{signal_of}
 use Rattle.content_leases.specs.StoreState.{content_in}
 use Rattle.content_leases.specs.Refusals.{Refusals}
 use Rattle.task_board.specs.BoardState.{Task, BoardState, task_of}
+use Rattle.task_board.specs.Tasks.{memory_at}
 
 -- ---- create
 
@@ -91,6 +95,40 @@ state_refusals t = []
 abbrev pub output_refusals : (stream : ℕ) → Task → Refusals
 output_refusals stream t =
     (is_none (stream_of stream), refusal.OutOfRange) ∷ (is_some t.out, refusal.Busy) ∷ []
+
+abbrev pub break_refusals : (func place : ℕ) → Task → Refusals
+break_refusals func place t =
+    (not (allowed call.Break t.status), refusal.WrongStatus)
+    ∷ (not (has_place t.module func place), refusal.OutOfRange)
+    ∷ (is_among t.breaks func place, refusal.Exists)
+    ∷ (nat_le max_breakpoints (length t.breaks), refusal.TooMany)
+    ∷ []
+
+abbrev pub unbreak_refusals : (func place : ℕ) → Task → Refusals
+unbreak_refusals func place t =
+    (not (allowed call.Unbreak t.status), refusal.WrongStatus)
+    ∷ (not (has_place t.module func place), refusal.OutOfRange)
+    ∷ (not (is_among t.breaks func place), refusal.NotFound)
+    ∷ []
+
+-- a step is of 1 to 1,000 turns
+abbrev pub is_step : (count : ℕ) → Bool
+is_step count = nat_le 1 count && nat_le count max_step
+
+abbrev pub step_refusals : (count : ℕ) → Task → Refusals
+step_refusals count t =
+    (not (allowed call.Step t.status), refusal.WrongStatus)
+    ∷ (not (is_step count), refusal.OutOfRange)
+    ∷ []
+
+abbrev pub inspect_refusals : Task → Refusals
+inspect_refusals t = (is_some t.out, refusal.Busy) ∷ []
+
+abbrev pub peek_refusals : (address length : ℕ) → Task → Refusals
+peek_refusals address length t =
+    (is_some t.out, refusal.Busy)
+    ∷ (is_none (memory_at t address length), refusal.OutOfRange)
+    ∷ []
 
 -- the id is malformed, then no task has it, then the request's own
 abbrev pub task_refusals : (id : List ℕ) → (own : Task → Refusals) → Option Task → Refusals

@@ -19,6 +19,10 @@ takes_memory (request.LeaseAdd digest id) = true
 takes_memory request.Gc = true
 takes_memory (request.Create config id) = true
 takes_memory (request.Output id stream) = true
+takes_memory (request.Break func id place) = true
+takes_memory (request.Unbreak func id place) = true
+takes_memory (request.Inspect id) = true
+takes_memory (request.Peek address id length) = true
 takes_memory other = false
 
 abbrev pub is_no_memory : Answer → Bool

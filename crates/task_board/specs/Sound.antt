@@ -1,6 +1,7 @@
 -- What holds of every board that events lead to.
 use Rattle.std.specs.Prelude.{◌≡◌, ◌≢◌, ℕ, ◌<◌, ◌≤◌, List, [], ◌∷◌, map, length, true, Some, None, is_some}
 use Rattle.step_machine.specs.Instantiation.{ended}
+use Rattle.step_machine.specs.Limits.{max_breakpoints}
 use Rattle.wasm_ast.specs.Limits.{max_module_bytes}
 use Rattle.task_lifecycle.specs.declared.status.Status.TheVariants.{Created, Pausing}
 use Rattle.task_lifecycle.specs.declared.status.ExitRecord.{ExitRecord}
@@ -47,6 +48,9 @@ pub record IsSound (creates : ℕ) (t : Task) : Type 0 where
   pub goes : is_going t.status ≡ true → ended (execution_at t t.turns) ≡ None
   -- how it ended is true of its execution
   pub end : (e : ExitRecord) → t.end ≡ Some e → EndsSo t e
+  -- it has few breakpoints, and none twice
+  pub few_breaks : length t.breaks ≤ max_breakpoints
+  pub breaks : AreDistinct t.breaks
 
 -- a content is stored under its own digest
 pub record IsContent (c : Content) : Type 0 where

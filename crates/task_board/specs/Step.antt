@@ -23,9 +23,9 @@ use Rattle.content_leases.specs.Refusals.{Refusals, first_refusal, put_refusals,
 use Rattle.oci_config.specs.Config.{process_read}
 use Rattle.oci_config.specs.Streams.{stream_of}
 use Rattle.task_board.specs.BoardState.{Task, created_task, BoardState, used_by, with_store, task_in, task_of, with_task, without_task, with_new_task}
-use Rattle.task_board.specs.Tasks.{state_of, output_of, started, paused, resumed, killed_by, can_lend, lent, HasReturned}
+use Rattle.task_board.specs.Tasks.{state_of, output_of, frames_of, memory_at, shown, started, paused, resumed, killed_by, place_of, with_break, without_break, can_lend, lent, HasReturned, stepped}
 use Rattle.task_board.specs.Texts.{IsAssembled, CannotAssemble}
-use Rattle.task_board.specs.Refusals.{create_refusals, CannotOpen, Openable, unless_allowed, kill_refusals, state_refusals, output_refusals, task_refusals}
+use Rattle.task_board.specs.Refusals.{create_refusals, CannotOpen, Openable, unless_allowed, kill_refusals, state_refusals, output_refusals, break_refusals, unbreak_refusals, step_refusals, inspect_refusals, peek_refusals, task_refusals}
 
 -- ---- requests
 
@@ -128,6 +128,21 @@ on_wait t = (reply.Wait (state_of t), Some t)
 abbrev pub on_output : (stream : ℕ) → Task → Done
 on_output stream t = (output_reply t.id (output_of (stream_of stream) t), Some t)
 
+abbrev pub on_break : (func place : ℕ) → Task → Done
+on_break func place t = (reply.Break t.id, Some (with_break t (place_of func place)))
+
+abbrev pub on_unbreak : (func place : ℕ) → Task → Done
+on_unbreak func place t = (reply.Unbreak t.id, Some (without_break t (place_of func place)))
+
+abbrev pub on_step : (count : ℕ) → Task → Done
+on_step count t = (reply.Step (state_of (stepped t count)), Some (stepped t count))
+
+abbrev pub on_inspect : Task → Done
+on_inspect t = (reply.Inspect (frames_of t) t.id t.turns, Some t)
+
+abbrev pub on_peek : (address length : ℕ) → Task → Done
+on_peek address length t = (reply.Peek (shown (memory_at t address length)) t.id, Some t)
+
 -- What a request may be answered on a board, and the board that it leaves. A refusal leaves the board. What
 -- a task names is held until the task is deleted.
 abbrev pub Answers : BoardState → Request → Answer → BoardState → Type 0
@@ -162,6 +177,14 @@ Answers s (request.State id) r s' = OnTask id state_refusals on_state s r s'
 Answers s (request.Wait id) r s' = OnTask id (unless_allowed call.Wait refusal.Busy) on_wait s r s'
 Answers s (request.Output id stream) r s' =
     OnTask id (output_refusals stream) (on_output stream) s r s'
+Answers s (request.Break func id place) r s' =
+    OnTask id (break_refusals func place) (on_break func place) s r s'
+Answers s (request.Unbreak func id place) r s' =
+    OnTask id (unbreak_refusals func place) (on_unbreak func place) s r s'
+Answers s (request.Step count id) r s' = OnTask id (step_refusals count) (on_step count) s r s'
+Answers s (request.Inspect id) r s' = OnTask id inspect_refusals on_inspect s r s'
+Answers s (request.Peek address id length) r s' =
+    OnTask id (peek_refusals address length) (on_peek address length) s r s'
 
 -- ---- slices
 

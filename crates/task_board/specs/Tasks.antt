@@ -1,12 +1,16 @@
 -- What happens to a task: it is started, its slice goes out, and it advances by turns.
-use Rattle.std.specs.Prelude.{◌≡◌, ℕ, ◌+◌, ◌<◌, ◌≤◌, ◌&&◌, ◌||◌, List, [], Bool, true, false, Option, Some, None, is_some, is_none}
+use Rattle.std.specs.Prelude.{◌≡◌, ℕ, ◌+◌, ◌<◌, ◌≤◌, ◌&&◌, ◌||◌, not, List, [], ◌∷◌, ◌++◌, filter, Bool, true, false, Option, Some, None, is_some, is_none}
+use Rattle.wasm_ast.specs.declared.place.Place.{Place}
+use Rattle.debugger.specs.Peek.{peeked}
 use Rattle.step_machine.specs.declared.ends.End.{End}
 use Rattle.step_machine.specs.declared.ends.End.TheVariants as ends
 use Rattle.step_machine.specs.Configuration.{Configuration, State as ExecutionState}
 use Rattle.step_machine.specs.Instantiation.{after, ended}
 use Rattle.step_machine.specs.MachineView.{written_to}
 use Rattle.oci_config.specs.declared.stream.Stream.{Stream}
-use Rattle.step_machine.specs.Slices.{at_break, ends_slice, turns_made}
+use Rattle.step_machine.specs.declared.shown.ShownFrame.{ShownFrame}
+use Rattle.step_machine.specs.Shown.{shown as frames_shown}
+use Rattle.step_machine.specs.Slices.{is_place, at_break, ends_slice, turns_made}
 use Rattle.task_lifecycle.specs.declared.lifecycle.Situation.{Situation}
 use Rattle.task_lifecycle.specs.declared.lifecycle.TaskCall.TheVariants as call
 use Rattle.task_board.specs.declared.request.TaskState.{TaskState}
@@ -38,6 +42,19 @@ is_break_at t n = at_break t.breaks (execution_at t n)
 abbrev pub output_of : Option Stream → Task → List ℕ
 output_of None t = []
 output_of (Some stream) t = written_to stream (configuration_of t t.turns).store
+
+-- the frames of its execution, the innermost first
+abbrev pub frames_of : Task → List ShownFrame
+frames_of t = frames_shown (execution_at t t.turns)
+
+-- the bytes of its memory at an address, if they may be shown
+abbrev pub memory_at : Task → (address length : ℕ) → Option (List ℕ)
+memory_at t address length = peeked (configuration_of t t.turns).store.memory address length
+
+-- what is shown of them
+abbrev pub shown : Option (List ℕ) → List ℕ
+shown None = []
+shown (Some bytes) = bytes
 
 -- ---- where a task lands
 
@@ -120,6 +137,23 @@ abbrev pub killed_by : Option Signal → Task → Task
 killed_by None t = t
 killed_by (Some signal) t = killed signal t
 
+-- ---- breakpoints
+
+-- the place with these numbers
+abbrev pub place_of : (func place : ℕ) → Place
+place_of func place = record { func = func; instr = place }
+
+-- the task with a breakpoint more, after all others
+abbrev pub with_break : Task → Place → Task
+with_break t p = record t { breaks = t.breaks ++ p ∷ [] }
+
+abbrev pub is_other : Place → Place → Bool
+is_other p b = not (is_place b p.func p.instr)
+
+-- the task without a breakpoint
+abbrev pub without_break : Task → Place → Task
+without_break t p = record t { breaks = filter (is_other p) t.breaks }
+
 -- ---- turns
 
 -- the task after k more turns, idle again: a pending signal ends it, and a breakpoint pauses it, as does a
@@ -155,3 +189,10 @@ pub record HasReturned (t t' : Task) : Type 0 where
   pub out : t.out ≡ Some budget
   pub legal : MayAdvance t (slice_turns t budget)
   pub advances : t' ≡ advanced t (slice_turns t budget)
+
+-- ---- steps
+
+-- the task after a step of at most this many turns, which its own end or a breakpoint ends early: stopped if
+-- it has ended, else paused
+abbrev pub stepped : Task → (count : ℕ) → Task
+stepped t count = idle_after t (t.turns + slice_turns t count) None true

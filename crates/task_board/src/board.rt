@@ -256,6 +256,46 @@ impl Board {
         }
     }
 
+    // What a request is prepared as. Each arm gives what its function gives: an exit of its own in each would
+    // make the proof many times as long.
+    fn plan(&mut self, request: Request) -> Result<Plan, AllocError>
+        ensures same { (self.new.state ≡ self.old.state) × (self.new.waiting ≡ self.old.waiting) }
+        ensures ok { IfOk result (λ p. Plans self.new.state self.new.room request p) }
+        ensures quiet { takes_memory request ≡ false → IsOk result }
+    {
+        match request {
+            Request::Put { bytes } => self.prepare_put(bytes),
+            Request::PutText { text } => self.prepare_put_text(text),
+            Request::Remove { digest } => Ok(self.tables.plan_remove(digest)),
+            Request::LeaseCreate { id } => self.prepare_lease_create(id),
+            Request::LeaseAdd { digest, id } => self.prepare_lease_add(digest, id),
+            Request::LeaseDelete { id } => Ok(self.tables.plan_lease_delete(id)),
+            Request::Gc => self.prepare_gc(),
+            Request::Create { config, id } => self.prepare_create(config, id),
+            Request::Start { id } => Ok(self.tables.plan_change(id, Change::Start)),
+            Request::Pause { id } => Ok(self.tables.plan_change(id, Change::Pause)),
+            Request::Resume { id } => Ok(self.tables.plan_change(id, Change::Resume)),
+            Request::Kill { id, signal } => Ok(self.tables.plan_kill(id, signal)),
+            Request::Delete { id } => Ok(self.tables.plan_delete(id)),
+            Request::State { id } => Ok(self.tables.plan_state(id)),
+            Request::Wait { id } => Ok(self.tables.plan_wait(id)),
+            Request::Output { id, stream } => self.tables.plan_output(self.alloc, id, stream),
+            Request::Break { func, id, place } => {
+                self.tables.plan_break(self.alloc, id, func, place)
+            }
+            Request::Unbreak { func, id, place } => {
+                self.tables.plan_unbreak(self.alloc, id, func, place)
+            }
+            Request::Step { count, id } => Ok(self.tables.plan_step(id, count)),
+            Request::Inspect { id } => self.tables.plan_inspect(self.alloc, id),
+            Request::Peek {
+                address,
+                id,
+                length,
+            } => self.tables.plan_peek(self.alloc, id, address, length),
+        }
+    }
+
     /// Allocates all that the request and its reply need, and changes nothing that a call can see.
     /// `NoMemory` if that fails; every other refusal is a part of what is prepared.
     pub fn prepare(&mut self, request: Request) -> Result<Prepared, Refusal>
@@ -264,24 +304,7 @@ impl Board {
         ensures err { OnErr result (result ≡ Err Refusal.NoMemory) }
         ensures quiet { takes_memory request ≡ false → IsOk result }
     {
-        let plan = match request {
-            Request::Put { bytes } => self.prepare_put(bytes)?,
-            Request::PutText { text } => self.prepare_put_text(text)?,
-            Request::Remove { digest } => self.tables.plan_remove(digest),
-            Request::LeaseCreate { id } => self.prepare_lease_create(id)?,
-            Request::LeaseAdd { digest, id } => self.prepare_lease_add(digest, id)?,
-            Request::LeaseDelete { id } => self.tables.plan_lease_delete(id),
-            Request::Gc => self.prepare_gc()?,
-            Request::Create { config, id } => self.prepare_create(config, id)?,
-            Request::Start { id } => self.tables.plan_change(id, Change::Start),
-            Request::Pause { id } => self.tables.plan_change(id, Change::Pause),
-            Request::Resume { id } => self.tables.plan_change(id, Change::Resume),
-            Request::Kill { id, signal } => self.tables.plan_kill(id, signal),
-            Request::Delete { id } => self.tables.plan_delete(id),
-            Request::State { id } => self.tables.plan_state(id),
-            Request::Wait { id } => self.tables.plan_wait(id),
-            Request::Output { id, stream } => self.tables.plan_output(self.alloc, id, stream)?,
-        };
+        let plan = self.plan(request)?;
         Ok(Prepared { plan })
     }
 
@@ -300,8 +323,8 @@ impl Board {
     }
 
     /// Answers a request, by preparing and applying it. `NoMemory` if an allocation failed, and then
-    /// nothing has changed; of the requests only put, put_text, lease_create, lease_add, gc, create
-    /// and output allocate, and no other is ever answered so.
+    /// nothing has changed; of the requests only put, put_text, lease_create, lease_add, gc, create,
+    /// output, break, unbreak, inspect and peek allocate, and no other is ever answered so.
     pub fn call(&mut self, request: Request) -> Result<Reply, Refusal>
         ensures answers { result ≢ Err Refusal.NoMemory
             → Answers self.old.state request result self.new.state }

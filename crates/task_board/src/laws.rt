@@ -1,11 +1,13 @@
 //! Laws of the abstract board. Each function is nothing but its contract.
 
-ghost use Rattle.std.specs.Prelude.{◌≡◌, ℕ, ◌^◌, List, Option, Some, None, is_some, true, false, Err};
+ghost use Rattle.std.specs.Prelude.{◌≡◌, ℕ, ◌+◌, ◌^◌, ◌<◌, ◌≤◌, List, length, Option, Some, None, is_some, true, false, Err};
 ghost use Rattle.wasm_ast.specs.declared.module.Module.{Module};
 ghost use Rattle.wasm_ast.specs.declared.place.Place.{Place};
 ghost use Rattle.oci_config.specs.declared.process.ProcessConfig.{ProcessConfig};
 ghost use Rattle.step_machine.specs.declared.ends.End.{End as EndValue};
 ghost use Rattle.step_machine.specs.Instantiation.{ended};
+ghost use Rattle.step_machine.specs.Limits.{max_breakpoints};
+ghost use Rattle.step_machine.specs.Slices.{ends_slice};
 ghost use Rattle.validator.specs.Typing.{ValidModule};
 ghost use Rattle.wasm_ast.specs.declared.refusal.Refusal.{Refusal as Reason};
 ghost use Rattle.task_board.specs.declared.event.Event.{Event};
@@ -18,18 +20,18 @@ ghost use Rattle.task_board.specs.Choices.{IsDetermined, AgreeOnCreate, AgreeOnT
 ghost use Rattle.task_lifecycle.specs.declared.status.Signal.{Signal as SignalValue};
 ghost use Rattle.task_lifecycle.specs.declared.status.ExitRecord.{ExitRecord as RecordValue};
 ghost use Rattle.task_lifecycle.specs.Lifecycle.{after, takes_turns, is_going};
-ghost use Rattle.task_board.specs.Limits.{max_tasks, max_creates, max_budget};
-ghost use Rattle.task_board.specs.Moves.{MakeTurns, Becomes};
+ghost use Rattle.task_board.specs.Limits.{max_tasks, max_creates, max_budget, max_step};
+ghost use Rattle.task_board.specs.Moves.{MakeTurns, Becomes, IsStepOf};
 ghost use Rattle.task_board.specs.Refusals.{IsSpelled, CannotOpen};
 ghost use Rattle.task_board.specs.Run.{takes_memory, met_no_memory, Happens, Run};
-ghost use Rattle.task_board.specs.Sound.{AreRising, slots_of, IsSound, IsBoard};
+ghost use Rattle.task_board.specs.Sound.{AreDistinct, AreRising, slots_of, IsSound, IsBoard};
 ghost use Rattle.task_board.specs.Step.{Answer, Answers};
 ghost use Rattle.text_assembler.specs.Modules.{Denotes, IsTooDeep, IsBadText};
 ghost use Rattle.wasm_binary.specs.Canonical.{canon, FitsLimits};
 ghost use Rattle.task_board.specs.Texts.{DenotesNone};
-ghost use Rattle.task_board.specs.Tasks.{execution_at, exit_of, EndsSo, is_break_at, situation_at, started, paused, resumed, killed, can_lend, slice_turns, MayAdvance, HasReturned};
+ghost use Rattle.task_board.specs.Tasks.{execution_at, exit_of, EndsSo, is_break_at, situation_at, started, paused, resumed, killed, can_lend, slice_turns, MayAdvance, HasReturned, stepped};
 
-use step_machine::laws::{slices_go_forward, slices_stop_first};
+use step_machine::laws::{slices_commute, slices_go_forward, slices_stop_first};
 use task_lifecycle::{ExitRecord, Status, TaskCall};
 use text_assembler::laws::{denotes_one, too_deep_denotes_none_within};
 use validator::laws::invalid_modules_are_not_valid;
@@ -45,8 +47,9 @@ pub fn boards_are_sound()
 {}
 
 /// Only a delete removes a task, and only a stopped one. What another event makes of a task is that it stays
-/// as it is, that it is started, paused, resumed or killed, each only if its status allows it, that
-/// its slice is taken, which only that of a running idle one is, or that its slice returns.
+/// as it is, that it is started, paused, resumed or killed, makes a step, or gets or loses a breakpoint,
+/// each only if its status allows it, that its slice is taken, which only that of a running idle one is,
+/// or that its slice returns.
 pub fn tasks_move()
     ensures { (s : BoardState) (e : Event) (r : EventReply) (s' : BoardState)
         → AreRising (slots_of s.tasks)
@@ -54,7 +57,7 @@ pub fn tasks_move()
         → Becomes t (task_in k s'.tasks) }
 {}
 
-/// Start, pause, resume and kill change the status of a task as the lifecycle's table says.
+/// Start, pause, resume, kill and step change the status of a task as the lifecycle's table says.
 pub fn calls_follow_the_table()
     ensures start { (t : Task)
         → (started t).status ≡ after TaskCall.Start (situation_at t t.turns) t.status }
@@ -64,6 +67,40 @@ pub fn calls_follow_the_table()
         → (resumed t).status ≡ after TaskCall.Resume (situation_at t t.turns) t.status }
     ensures kill { (t : Task) (signal : SignalValue)
         → (killed signal t).status ≡ after TaskCall.Kill (situation_at t t.turns) t.status }
+    ensures step { (t : Task) (count : ℕ) → (stepped t count).status
+        ≡ after TaskCall.Step (situation_at t (t.turns + slice_turns t count)) t.status }
+{}
+
+/// A step of a task that has not ended makes as many turns as it counts, or fewer only if the task has
+/// ended or is at a breakpoint then. None of the turns before the last one leads to either.
+pub fn steps_stop_first()
+    ensures no_more { (t : Task) (count : ℕ) → (stepped t count).turns ≤ t.turns + count }
+    ensures fewer { (t : Task) (count : ℕ) → ended (execution_at t t.turns) ≡ None
+        → (stepped t count).turns < t.turns + count
+        → ends_slice t.breaks (execution_at t (stepped t count).turns) ≡ true }
+    ensures not_before { (t : Task) (count n : ℕ) → t.turns < n → n < (stepped t count).turns
+        → ends_slice t.breaks (execution_at t n) ≡ false }
+{
+    slices_go_forward();
+    slices_stop_first();
+}
+
+/// A step of j turns and then one of k are one of j + k, if the first neither ended the task nor came to a
+/// breakpoint.
+pub fn steps_add_up()
+    ensures { (t : Task) (j k : ℕ) → ended (execution_at t (stepped t j).turns) ≡ None
+        → is_break_at t (stepped t j).turns ≡ false
+        → stepped (stepped t j) k ≡ stepped t (j + k) }
+{
+    slices_commute();
+}
+
+/// On every board that events lead to, a task has at most 32 breakpoints, and none twice.
+pub fn breakpoints_are_few()
+    ensures few { (es : List Event) (rs : List EventReply) (s : BoardState) → Run empty es rs s
+        → (k : ℕ) (t : Task) → task_in k s.tasks ≡ Some t → length t.breaks ≤ max_breakpoints }
+    ensures distinct { (es : List Event) (rs : List EventReply) (s : BoardState) → Run empty es rs s
+        → (k : ℕ) (t : Task) → task_in k s.tasks ≡ Some t → AreDistinct t.breaks }
 {}
 
 /// A task whose slice returns is stopped by its own end if that has come, whatever signal is pending; else
@@ -110,11 +147,13 @@ pub fn the_first_signal_is_kept()
         → t.signal ≡ Some first → killed second t ≡ t }
 {}
 
-/// On every board that events lead to, a task that is created, paused or stopped takes no turn.
+/// On every board that events lead to, a task that is created, paused or stopped takes no turn, unless the
+/// event is a step of it.
 pub fn idle_tasks_take_no_turn()
     ensures { (es : List Event) (rs : List EventReply) (s : BoardState) → Run empty es rs s
         → (e : Event) (r : EventReply) (s' : BoardState) → Happens s e r s'
         → (k : ℕ) (t : Task) → task_in k s.tasks ≡ Some t → takes_turns t.status ≡ false
+        → (IsStepOf e t → ⊥)
         → (t' : Task) → task_in k s'.tasks ≡ Some t' → t'.turns ≡ t.turns }
 {}
 
@@ -218,8 +257,8 @@ pub fn texts_are_determined()
     too_deep_denotes_none_within();
 }
 
-/// Only put, put_text, lease_create, lease_add, gc, create and output allocate: no other request,
-/// no take and no return may be left out for lack of memory.
+/// Only put, put_text, lease_create, lease_add, gc, create, output, break, unbreak, inspect and peek
+/// allocate: no other request, no take and no return may be left out for lack of memory.
 pub fn few_requests_allocate()
     ensures remove { (digest : List ℕ) → takes_memory (request.Remove digest) ≡ false }
     ensures lease_delete { (id : List ℕ) → takes_memory (request.LeaseDelete id) ≡ false }
@@ -230,6 +269,7 @@ pub fn few_requests_allocate()
     ensures delete { (id : List ℕ) → takes_memory (request.Delete id) ≡ false }
     ensures state { (id : List ℕ) → takes_memory (request.State id) ≡ false }
     ensures wait { (id : List ℕ) → takes_memory (request.Wait id) ≡ false }
+    ensures step { (count : ℕ) (id : List ℕ) → takes_memory (request.Step count id) ≡ false }
     ensures take { (id : List ℕ) (n : ℕ) (r : EventReply)
         → met_no_memory (event.Take id n) r ≡ false }
     ensures give_back { (id : List ℕ) (r : EventReply) → met_no_memory (event.Return id) r ≡ false }
@@ -245,9 +285,11 @@ pub fn valid_modules_are_not_invalid()
     invalid_modules_are_not_valid();
 }
 
-/// The limits of a board: tasks, creates, and turns of a slice.
+/// The limits of a board: tasks, creates, turns of a slice, breakpoints of a task, and turns of a step.
 pub fn limits_are_these()
     ensures tasks { max_tasks ≡ 64 }
     ensures creates { max_creates ≡ 2 ^ 60 }
     ensures turns { max_budget ≡ 1000000 }
+    ensures breaks { max_breakpoints ≡ 32 }
+    ensures steps { max_step ≡ 1000 }
 {}

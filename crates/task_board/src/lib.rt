@@ -4,9 +4,11 @@
 mod board;
 mod change;
 mod checkout;
+mod debugging;
 mod event;
 pub mod laws;
 mod loan;
+mod mark;
 mod open;
 mod opened;
 mod prepared;

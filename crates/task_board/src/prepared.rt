@@ -5,6 +5,7 @@ ghost use Rattle.task_board.specs.Prepared.{refusal_of};
 ghost use Rattle.task_board.specs.Inside.Plans.{refusal_in};
 
 use crate::change::Change;
+use crate::mark::{Mark, NewBreaks};
 use crate::request::Reply;
 use crate::store_change::StoreChange;
 use crate::task::Task;
@@ -49,6 +50,19 @@ pub enum Plan {
     /// The task in a slot is removed, and its id answered.
     Delete {
         slot: usize,
+        id: Text,
+    },
+    /// The task in a slot gets these breakpoints, and its id is answered.
+    Breaks {
+        mark: Mark,
+        slot: usize,
+        id: Text,
+        breaks: NewBreaks,
+    },
+    /// The task in a slot makes a step, and its id is answered.
+    Step {
+        slot: usize,
+        count: u64,
         id: Text,
     },
 }

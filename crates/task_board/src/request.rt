@@ -1,5 +1,6 @@
 //! What is asked of the board, and what it answers.
 
+use step_machine::ShownFrame;
 use task_lifecycle::{ExitRecord, Status};
 use wasm_ast::{Bytes, Sequence, Text};
 
@@ -38,6 +39,16 @@ pub enum Request {
     Wait { id: Text },
     /// Asks for what a task has written to the output stream with this number.
     Output { id: Text, stream: u64 },
+    /// Sets a breakpoint of a task: at an instruction of a function, by its place in the body.
+    Break { func: u64, id: Text, place: u64 },
+    /// Removes a breakpoint of a task.
+    Unbreak { func: u64, id: Text, place: u64 },
+    /// Lets a paused task make at most this many turns; its own end or a breakpoint ends them early.
+    Step { count: u64, id: Text },
+    /// Asks for the frames of a task.
+    Inspect { id: Text },
+    /// Asks for bytes of a task's memory at an address.
+    Peek { address: u64, id: Text, length: u64 },
 }
 
 /// What a call can see of a task: its id, how many turns it has made, its status, and how it ended,
@@ -55,22 +66,74 @@ pub struct TaskState {
 pub enum Reply {
     /// The digest of the bytes that are stored, and how many bytes they are: of a put of a text, the bytes of
     /// its module.
-    Put { digest: Text, size: u64 },
-    Remove { digest: Text },
-    LeaseCreate { id: Text },
-    LeaseAdd { digest: Text, id: Text },
-    LeaseDelete { id: Text },
+    Put {
+        digest: Text,
+        size: u64,
+    },
+    Remove {
+        digest: Text,
+    },
+    LeaseCreate {
+        id: Text,
+    },
+    LeaseAdd {
+        digest: Text,
+        id: Text,
+    },
+    LeaseDelete {
+        id: Text,
+    },
     /// The digests of the contents that were removed, in order of arrival.
-    Gc { removed: Sequence<Text> },
-    Create { id: Text, status: Status },
-    Start { id: Text, status: Status },
-    Pause { id: Text, status: Status },
-    Resume { id: Text, status: Status },
-    Kill { id: Text, status: Status },
+    Gc {
+        removed: Sequence<Text>,
+    },
+    Create {
+        id: Text,
+        status: Status,
+    },
+    Start {
+        id: Text,
+        status: Status,
+    },
+    Pause {
+        id: Text,
+        status: Status,
+    },
+    Resume {
+        id: Text,
+        status: Status,
+    },
+    Kill {
+        id: Text,
+        status: Status,
+    },
     /// The state of the task before it was removed.
     Delete(TaskState),
     State(TaskState),
     Wait(TaskState),
     /// What the task has written to the stream, and how many bytes they are.
-    Output { bytes: Bytes, id: Text, size: u64 },
+    Output {
+        bytes: Bytes,
+        id: Text,
+        size: u64,
+    },
+    Break {
+        id: Text,
+    },
+    Unbreak {
+        id: Text,
+    },
+    /// The state of the task after the step.
+    Step(TaskState),
+    /// The frames of the task, the innermost first, and how many turns it has made.
+    Inspect {
+        frames: Sequence<ShownFrame>,
+        id: Text,
+        n: u64,
+    },
+    /// The bytes of the task's memory that were asked for.
+    Peek {
+        bytes: Bytes,
+        id: Text,
+    },
 }

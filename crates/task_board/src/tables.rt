@@ -1,6 +1,6 @@
 //! The tables of a board: the store and the tasks.
 
-ghost use Rattle.std.specs.Prelude.{◌≡◌, ◌≢◌, ◌≤◌, ◌<◌, ◌+◌, ◌↔◌, IsTrue, ◌++◌, ◌∷◌, [], Some, None, Ok, Err, IfOk, IsOk, OnOk, OnErr, IfErr, IfSome, IfNone, true, false, option_map, is_some};
+ghost use Rattle.std.specs.Prelude.{ℕ, ◌≡◌, ◌≢◌, ◌≤◌, ◌<◌, ◌+◌, ◌↔◌, IsTrue, ◌++◌, ◌∷◌, [], Some, None, Ok, Err, IfOk, IsOk, OnOk, OnErr, IfErr, IfSome, IfNone, true, false, option_map, is_some};
 ghost use Rattle.std.specs.Arc.{arc_value};
 ghost use Rattle.task_board.specs.declared.request.Request.{Request as RequestValue};
 ghost use Rattle.task_board.specs.declared.request.Request.TheVariants as request;
@@ -16,18 +16,20 @@ ghost use Rattle.task_board.specs.Loans.{Fits};
 ghost use Rattle.task_board.specs.Prepared.{Prepares, refusal_of, refusal_answered};
 ghost use Rattle.wasm_ast.specs.declared.refusal.Refusal.{Refusal as Reason};
 ghost use Rattle.oci_config.specs.declared.process.ProcessConfig.{ProcessConfig as ProcessValue};
-ghost use Rattle.task_board.specs.Refusals.{is_full, unless_allowed, CannotOpen};
+ghost use Rattle.task_board.specs.Refusals.{is_full, unless_allowed, step_refusals, CannotOpen};
 ghost use Rattle.task_board.specs.Inside.OpenedModules.{IsOpen};
 ghost use Rattle.task_board.specs.Sound.{IsBoard};
 ghost use Rattle.task_board.specs.Step.{Answers, Step};
 ghost use Rattle.task_board.specs.Tickets.{ticket_of, CanLend, Lends, ticket_in};
 ghost use Rattle.task_board.specs.Waiting.{enter_if, enter_again, running_ticket, waiting_after_call, waiting_after, AreWaiting};
-ghost use Rattle.task_board.specs.Inside.Plans.{id_refusals, IsAllowed, RefusesTask, RefusesKill, RefusesOutput, TellsOutput, CreatePrepared, CallPrepared, Plans};
+ghost use Rattle.task_board.specs.Inside.Plans.{id_refusals, IsAllowed, RefusesTask, RefusesKill, RefusesOutput, TellsOutput, CreatePrepared, CallPrepared, MarkPrepared, Plans};
 ghost use Rattle.task_board.specs.Inside.Changes.{change_request, change_refusals};
+ghost use Rattle.task_board.specs.Inside.Marks.{mark_request};
 ghost use Rattle.task_board.specs.Inside.StoreChanges.{IsMadeFor, StorePrepared};
 
 use crate::change::Change;
 use crate::loan::Loan;
+use crate::mark::{Mark, NewBreaks};
 use crate::open::module_of;
 use crate::opened::Opened;
 use crate::prepared::{Plan, Prepared};
@@ -254,9 +256,9 @@ impl Tables {
         }
     }
 
-    // The task with an id and its slot, for a call that its status allows. `BadId` if the id is
-    // malformed, `NotFound` if no task has it, `refused` if the call is not allowed.
-    fn entry_for(
+    /// The task with an id and its slot, for a call that its status allows. `BadId` if the id is
+    /// malformed, `NotFound` if no task has it, `refused` if the call is not allowed.
+    pub fn entry_for(
         &self,
         id: &str,
         call: TaskCall,
@@ -469,6 +471,34 @@ impl Tables {
         Reply::Delete(task.state(id))
     }
 
+    // Gives the task in a slot other breakpoints.
+    fn mark(&mut self, mark: Mark, slot: usize, id: Text, breaks: NewBreaks) -> Reply
+        requires { MarkPrepared self.old.state mark slot id breaks }
+        ensures answers { Answers self.old.state
+            (mark_request mark id) (Ok result) self.new.state }
+        ensures waiting { self.new.waiting ≡ self.old.waiting }
+    {
+        let Some(task) = self.tasks.get_mut(slot) else {
+            unreachable!();
+        };
+        task.set_breaks(breaks);
+        mark.reply(id)
+    }
+
+    // Lets the task in a slot make a step.
+    fn step(&mut self, slot: usize, count: u64, id: Text) -> Reply
+        requires { CallPrepared self.old.state (step_refusals count) slot id }
+        ensures answers { Answers self.old.state
+            (request.Step count id) (Ok result) self.new.state }
+        ensures waiting { self.new.waiting ≡ self.old.waiting }
+    {
+        let Some(task) = self.tasks.get_mut(slot) else {
+            unreachable!();
+        };
+        task.step(count);
+        Reply::Step(task.state(id))
+    }
+
     /// Makes the change that was prepared on these tables, and answers.
     pub fn apply(&mut self, prepared: Prepared) -> Result<Reply, Refusal>
         requires { (r : RequestValue) × Prepares self.old r prepared }
@@ -486,6 +516,13 @@ impl Tables {
             Plan::Create { task, id } => Ok(self.add_task(task, id)),
             Plan::Change { change, slot, id } => Ok(self.change_and_enter(slot, id, change)),
             Plan::Delete { slot, id } => Ok(self.delete(slot, id)),
+            Plan::Breaks {
+                mark,
+                slot,
+                id,
+                breaks,
+            } => Ok(self.mark(mark, slot, id, breaks)),
+            Plan::Step { slot, count, id } => Ok(self.step(slot, count, id)),
         }
     }
 

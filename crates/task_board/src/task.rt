@@ -4,13 +4,14 @@ ghost use Rattle.std.specs.Prelude.{◌≡◌, ◌≤◌, ◌+◌, option_map, �
 ghost use Rattle.std.specs.Arc.{arc_value};
 ghost use Rattle.slab.specs.Slab.{entries};
 ghost use Rattle.step_machine.specs.Instantiation.{ended};
+ghost use Rattle.step_machine.specs.Places.{has_place};
 ghost use Rattle.step_machine.specs.Slices.{at_break};
 ghost use Rattle.task_lifecycle.specs.Lifecycle.{allowed};
 ghost use Rattle.content_leases.specs.StoreState.{is_among};
 ghost use Rattle.task_board.specs.BoardState.{created_task, entry_of, used_by};
 ghost use Rattle.task_board.specs.Loans.{Lent, loan_of, FitsTask};
 ghost use Rattle.task_board.specs.Refusals.{Openable};
-ghost use Rattle.task_board.specs.Tasks.{started, paused, resumed, first_signal, killed, advanced, slice_turns, can_lend, lent, state_of, output_of};
+ghost use Rattle.task_board.specs.Tasks.{started, paused, resumed, first_signal, killed, place_of, advanced, slice_turns, can_lend, lent, stepped, state_of, output_of};
 ghost use Rattle.task_board.specs.Tickets.{ticket_if_running};
 ghost use Rattle.task_board.specs.Waiting.{is_present};
 ghost use Rattle.task_board.specs.Inside.Machines.{IsMachine};
@@ -19,6 +20,7 @@ ghost use Rattle.task_board.specs.Inside.Changes.{change_call, changed};
 use crate::change::Change;
 use crate::checkout::{Checkout, Shared};
 use crate::loan::Loan;
+use crate::mark::NewBreaks;
 use crate::request::TaskState;
 use crate::ticket::Ticket;
 use oci_config::Stream;
@@ -28,7 +30,7 @@ use std::marker::Model;
 use std::sync::Arc;
 use step_machine::{Breaks, Machine};
 use task_lifecycle::{ExitRecord, Signal, Status};
-use wasm_ast::{Sequence, Text};
+use wasm_ast::{Place, Sequence, Text};
 use wasm_binary::laws::spells_one;
 
 /// A task. Contracts see what a call can see of it.
@@ -155,6 +157,32 @@ impl Task {
         Some(checkout.machine.output(stream))
     }
 
+    /// Its machine. None if its slice is out.
+    pub fn machine(&self) -> Option<&Machine>
+        ensures some { IfSome result (λ m. (self.now.out ≡ None)
+            × IsMachine m.now self.now.module self.now.process self.now.turns) }
+        ensures none { IfNone result (is_some self.now.out ≡ true) }
+    {
+        let checkout = self.checkout.as_ref()?;
+        Some(&checkout.machine)
+    }
+
+    /// The place with these numbers, if an instruction is there.
+    pub fn find_place(&self, func: u64, place: u64) -> Option<Place>
+        ensures some { IfSome result (λ p. (p ≡ place_of func place)
+            × (has_place self.now.module func place ≡ true)) }
+        ensures none { IfNone result (has_place self.now.module func place ≡ false) }
+    {
+        self.shared.flat.find_place(func, place)
+    }
+
+    /// Its breakpoints.
+    pub fn breaks(&self) -> &Breaks
+        ensures { result.now ≡ self.now.breaks }
+    {
+        &self.breaks
+    }
+
     /// Starts it.
     pub fn start(&mut self)
         requires { self.old.status ≡ Status.Created }
@@ -200,6 +228,39 @@ impl Task {
             self.end = Some(ExitRecord::Kill(signal));
             self.signal = None;
         }
+    }
+
+    /// Gives it other breakpoints.
+    pub fn set_breaks(&mut self, breaks: NewBreaks)
+        requires idle { self.old.out ≡ None }
+        requires same { arc_value breaks.lent ≡ arc_value breaks.own }
+        ensures { self.new ≡ record self.old { breaks = arc_value breaks.own } }
+    {
+        let Some(checkout) = &mut self.checkout else {
+            unreachable!();
+        };
+        let NewBreaks { own, lent } = breaks;
+        checkout.breaks = lent;
+        self.breaks = own;
+    }
+
+    /// Makes at most this many turns: fewer if it ends or comes to a breakpoint. No memory is taken.
+    pub fn step(&mut self, count: u64)
+        requires { self.old.status ≡ Status.Paused }
+        ensures { self.new ≡ stepped self.old count }
+    {
+        let Some(mut checkout) = self.checkout.take() else {
+            unreachable!();
+        };
+        let _end = checkout.machine.run(count, &checkout.breaks);
+        let (status, end) = checkout.landing(None, true);
+        let turns = checkout.machine.turns();
+        self.turns = turns;
+        self.checkout = Some(checkout);
+        self.out = None;
+        self.status = status;
+        self.end = end;
+        self.signal = None;
     }
 
     /// Changes it as its status allows.

@@ -28,6 +28,10 @@ HasOnlyId request.Gc = ⊥
 HasOnlyId (request.Create config id) = ⊥
 HasOnlyId (request.Kill id signal) = ⊥
 HasOnlyId (request.Output id stream) = ⊥
+HasOnlyId (request.Break func id place) = ⊥
+HasOnlyId (request.Unbreak func id place) = ⊥
+HasOnlyId (request.Step count id) = ⊥
+HasOnlyId (request.Peek address id length) = ⊥
 HasOnlyId other = Unit {0}
 
 -- a request that is no put, create or kill
@@ -36,6 +40,18 @@ IsSimple (request.Put bytes) = ⊥
 IsSimple (request.Create config id) = ⊥
 IsSimple (request.Kill id signal) = ⊥
 IsSimple other = Unit {0}
+
+-- a request that has the key `id` alone, or concerns breakpoints, steps or memory
+abbrev pub IsLate : Request → Type 0
+IsLate (request.Put bytes) = ⊥
+IsLate (request.PutText text) = ⊥
+IsLate (request.Remove digest) = ⊥
+IsLate (request.LeaseAdd digest id) = ⊥
+IsLate request.Gc = ⊥
+IsLate (request.Create config id) = ⊥
+IsLate (request.Kill id signal) = ⊥
+IsLate (request.Output id stream) = ⊥
+IsLate other = Unit {0}
 
 -- what a line is answered that could not be read
 abbrev pub refusal_of : LineError → Refusal

@@ -1,9 +1,16 @@
 -- What a request is prepared as.
-use Rattle.std.specs.Prelude.{◌≡◌, ◌≢◌, ℕ, List, [], ◌∷◌, not, true, Option, None, Some, is_some, Ok, Err}
+use Rattle.std.specs.Prelude.{◌≡◌, ◌≢◌, ℕ, ◌≤◌, length, List, [], ◌∷◌, not, true, Option, None, Some, is_some, Ok, Err}
+use Rattle.std.specs.Arc.{arc_value}
 use Rattle.wasm_ast.specs.declared.module.Module.{Module}
+use Rattle.wasm_ast.specs.declared.place.Place.{Place}
 use Rattle.wasm_ast.specs.declared.refusal.Refusal.{Refusal}
 use Rattle.wasm_ast.specs.declared.refusal.Refusal.TheVariants as refusal
 use Rattle.oci_config.specs.declared.process.ProcessConfig.{ProcessConfig}
+use Rattle.step_machine.specs.Limits.{max_breakpoints}
+use Rattle.step_machine.specs.MachineView.{MachineView}
+use Rattle.step_machine.specs.Places.{has_place}
+use Rattle.task_board.specs.declared.mark.Mark.{Mark}
+use Rattle.task_board.specs.declared.mark.NewBreaks.{NewBreaks}
 use Rattle.task_board.specs.declared.prepared.Plan.{Plan}
 use Rattle.task_board.specs.declared.prepared.Plan.TheVariants as plan
 use Rattle.task_board.specs.declared.request.Request.{Request}
@@ -18,10 +25,12 @@ use Rattle.oci_config.specs.Config.{process_read}
 use Rattle.oci_config.specs.Streams.{stream_of}
 use Rattle.task_board.specs.BoardState.{Task, created_task, BoardState, entry_of, task_of}
 use Rattle.task_board.specs.BoardValue.{Room}
-use Rattle.task_board.specs.Refusals.{is_full, create_refusals, unless_allowed, kill_refusals, output_refusals, task_refusals, Openable, CannotOpen}
+use Rattle.task_board.specs.Refusals.{is_full, create_refusals, unless_allowed, kill_refusals, output_refusals, break_refusals, unbreak_refusals, step_refusals, peek_refusals, task_refusals, Openable, CannotOpen}
 use Rattle.task_board.specs.Step.{Answers}
-use Rattle.task_board.specs.Tasks.{output_of}
+use Rattle.task_board.specs.Tasks.{output_of, place_of}
 use Rattle.task_board.specs.Inside.Changes.{change_request, change_refusals}
+use Rattle.task_board.specs.Inside.Machines.{IsMachine}
+use Rattle.task_board.specs.Inside.Marks.{mark_request, mark_refusals, marked_places}
 use Rattle.task_board.specs.Inside.StoreChanges.{IsMadeFor, StorePrepared}
 
 -- those of a create that concern its id alone
@@ -62,6 +71,39 @@ pub record TellsOutput (s : BoardState) (id : List ℕ) (number : ℕ) (bytes : 
   pub accepted : first_refusal (task_refusals id (output_refusals number) (Some task)) ≡ None
   pub is : bytes ≡ output_of (stream_of number) task
 
+-- why a request with these refusals of its own to the task with this id is refused
+abbrev pub RefusesOwn :
+    BoardState → (id : List ℕ) → (own : Task → Refusals) → (e : Refusal) → Type 0
+RefusesOwn s id own e = first_refusal (task_refusals id own (task_of id s.tasks)) ≡ Some e
+
+-- those of a call for an instruction of the task
+abbrev pub place_refusals : TaskCall → (func place : ℕ) → Task → Refusals
+place_refusals c func place t =
+    (not (allowed c t.status), refusal.WrongStatus)
+    ∷ (not (has_place t.module func place), refusal.OutOfRange)
+    ∷ []
+
+-- this task has the id, its status allows the call, and the place is that of an instruction of it
+pub record HasPlace (s : BoardState) (id : List ℕ) (c : TaskCall) (func place : ℕ) (e : ℕ × Task)
+    (p : Place) : Type 0 where
+  pub can : IsAllowed s id c e
+  pub is : p ≡ place_of func place
+  pub written : has_place e.1.module func place ≡ true
+
+-- this task has the id, and the breakpoint may be set in it or removed
+pub record MayMark (s : BoardState) (id : List ℕ) (m : Mark) (e : ℕ × Task) : Type 0 where
+  pub found : entry_of id s.tasks ≡ Some e
+  pub accepted : first_refusal (task_refusals id (mark_refusals m) (Some e.1)) ≡ None
+  pub few : length (marked_places m e.1.breaks) ≤ max_breakpoints
+
+-- the task with this id is idle, and this is its machine
+pub record HasMachine (s : BoardState) (id : List ℕ) (m : MachineView) : Type 0 where
+  pub task : Task
+  pub named : is_id id ≡ true
+  pub found : task_of id s.tasks ≡ Some task
+  pub idle : task.out ≡ None
+  pub is : IsMachine m task.module task.process task.turns
+
 -- a task that may enter in answer to a request
 pub record CreatePrepared (s : BoardState) (r : Request) (task : Task) (id : List ℕ) : Type 0 where
   pub config : List ℕ
@@ -79,6 +121,13 @@ pub record CallPrepared (s : BoardState) (own : Task → Refusals) (slot : ℕ) 
   pub found : entry_of id s.tasks ≡ Some (slot, task)
   pub accepted : first_refusal (task_refusals id own (Some task)) ≡ None
 
+-- these are the breakpoints of the task of an id in that slot after a request that is accepted
+pub record MarkPrepared (s : BoardState) (m : Mark) (slot : ℕ) (id : List ℕ) (b : NewBreaks) :
+    Type 0 where
+  pub call : CallPrepared s (mark_refusals m) slot id
+  pub own : arc_value b.own ≡ marked_places m call.task.breaks
+  pub lent : arc_value b.lent ≡ marked_places m call.task.breaks
+
 -- a task is prepared so from stored bytes under a process
 abbrev pub PlansTask : BoardState → (id bytes : List ℕ) → ProcessConfig → Plan → Type 0
 PlansTask s id bytes p (plan.Refused e) = (e ≢ refusal.NoMemory) × CannotOpen bytes p e
@@ -92,6 +141,8 @@ abbrev pub IsQuestion : Request → Type 0
 IsQuestion (request.State id) = Unit {0}
 IsQuestion (request.Wait id) = Unit {0}
 IsQuestion (request.Output id stream) = Unit {0}
+IsQuestion (request.Inspect id) = Unit {0}
+IsQuestion (request.Peek address id length) = Unit {0}
 IsQuestion other = ⊥
 
 -- the request is prepared so on a board with that state and room
@@ -105,6 +156,10 @@ Plans s room r (plan.Change c slot id) =
 Plans s room r (plan.Delete slot id) =
     (r ≡ request.Delete id)
     × CallPrepared s (unless_allowed call.Delete refusal.WrongStatus) slot id
+Plans s room r (plan.Breaks m slot id breaks) =
+    (r ≡ mark_request m id) × MarkPrepared s m slot id breaks
+Plans s room r (plan.Step slot count id) =
+    (r ≡ request.Step count id) × CallPrepared s (step_refusals count) slot id
 
 abbrev pub refusal_in : Plan → Option Refusal
 refusal_in (plan.Refused e) = Some e

@@ -100,3 +100,63 @@ returns-clause-text c = record {
 pub returns-clause-fault : goal.returns-clause-fault
 unfolding serde_json_on_literals digits
 returns-clause-fault c = refl
+
+pub returns-clause-break_line : goal.returns-clause-break_line
+unfolding serde_json_on_literals is_utf8 chars
+returns-clause-break_line c = record {
+  value = _;
+  reads =
+      record {
+        short = omega arith;
+        utf8 = IsUtf8-from_is_utf8 (codes "{\"op\":\"break\",\"id\":\"a\",\"func\":2,\"place\":0}") refl;
+        value = refl;
+      };
+  asks = (_, refl, refl);
+}
+
+pub returns-clause-step : goal.returns-clause-step
+unfolding serde_json_on_literals is_utf8 chars
+returns-clause-step c = record {
+  value = _;
+  reads =
+      record {
+        short = omega arith;
+        utf8 = IsUtf8-from_is_utf8 (codes "{\"op\":\"step\",\"id\":\"a\",\"count\":10}") refl;
+        value = refl;
+      };
+  asks = (_, refl, refl);
+}
+
+pub returns-clause-peek : goal.returns-clause-peek
+unfolding serde_json_on_literals is_utf8 chars
+returns-clause-peek c = record {
+  value = _;
+  reads =
+      record {
+        short = omega arith;
+        utf8 = IsUtf8-from_is_utf8 (codes "{\"op\":\"peek\",\"id\":\"a\",\"address\":16,\"length\":4}") refl;
+        value = refl;
+      };
+  asks = (_, refl, refl);
+}
+
+pub returns-clause-shown : goal.returns-clause-shown
+unfolding serde_json_on_literals hex_on_literals digits
+returns-clause-shown c = refl
+
+pub returns-clause-inspect : goal.returns-clause-inspect
+unfolding serde_json_on_literals is_utf8 chars
+returns-clause-inspect c = record {
+  value = _;
+  reads =
+      record {
+        short = omega arith;
+        utf8 = IsUtf8-from_is_utf8 (codes "{\"op\":\"inspect\",\"id\":\"a\"}") refl;
+        value = refl;
+      };
+  asks = (_, refl, refl);
+}
+
+pub returns-clause-frames : goal.returns-clause-frames
+unfolding serde_json_on_literals digits
+returns-clause-frames c = refl

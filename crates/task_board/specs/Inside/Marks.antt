@@ -1,0 +1,40 @@
+-- The requests that set and remove breakpoints, in one.
+use Rattle.std.specs.Prelude.{ℕ, List, [], ◌∷◌, ◌++◌, filter}
+use Rattle.wasm_ast.specs.declared.place.Place.{Place}
+use Rattle.task_lifecycle.specs.declared.lifecycle.TaskCall.{TaskCall}
+use Rattle.task_lifecycle.specs.declared.lifecycle.TaskCall.TheVariants as call
+use Rattle.task_board.specs.declared.mark.Mark.{Mark}
+use Rattle.task_board.specs.declared.mark.Mark.TheVariants as mark
+use Rattle.task_board.specs.declared.request.Request.{Request}
+use Rattle.task_board.specs.declared.request.Request.TheVariants as request
+use Rattle.task_board.specs.declared.request.Reply.{Reply}
+use Rattle.task_board.specs.declared.request.Reply.TheVariants as reply
+use Rattle.content_leases.specs.Refusals.{Refusals}
+use Rattle.task_board.specs.BoardState.{Task}
+use Rattle.task_board.specs.Tasks.{is_other}
+use Rattle.task_board.specs.Refusals.{break_refusals, unbreak_refusals}
+
+abbrev pub mark_call : Mark → TaskCall
+mark_call (mark.Set p) = call.Break
+mark_call (mark.Remove p) = call.Unbreak
+
+abbrev pub mark_request : Mark → (id : List ℕ) → Request
+mark_request (mark.Set p) id = request.Break p.func id p.instr
+mark_request (mark.Remove p) id = request.Unbreak p.func id p.instr
+
+abbrev pub mark_reply : Mark → (id : List ℕ) → Reply
+mark_reply (mark.Set p) id = reply.Break id
+mark_reply (mark.Remove p) id = reply.Unbreak id
+
+abbrev pub mark_refusals : Mark → Task → Refusals
+mark_refusals (mark.Set p) t = break_refusals p.func p.instr t
+mark_refusals (mark.Remove p) t = unbreak_refusals p.func p.instr t
+
+-- breakpoints after it
+abbrev pub marked_places : Mark → List Place → List Place
+marked_places (mark.Set p) bs = bs ++ p ∷ []
+marked_places (mark.Remove p) bs = filter (is_other p) bs
+
+-- the task after it
+abbrev pub marked : Mark → Task → Task
+marked m t = record t { breaks = marked_places m t.breaks }
