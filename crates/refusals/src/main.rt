@@ -78,6 +78,35 @@ const REMOVE_NO_ENTRY: &str =
 
 const LEASE_CREATE_L: &str = r#"{"op":"lease_create","id":"l"}"#;
 
+const BREAK_B: &str = r#"{"op":"break","func":1,"id":"b","place":0}"#;
+
+const BREAK_CALL_B: &str = r#"{"op":"break","func":1,"id":"b","place":1}"#;
+
+const UNBREAK_CALL_B: &str = r#"{"op":"unbreak","func":1,"id":"b","place":1}"#;
+
+const STEP_B: &str = r#"{"op":"step","count":1,"id":"b"}"#;
+
+const PEEK_NOTHING_B: &str = r#"{"op":"peek","address":0,"id":"b","length":0}"#;
+
+const PEEK_B: &str = r#"{"op":"peek","address":0,"id":"b","length":1}"#;
+
+const INSPECT_A: &str = r#"{"op":"inspect","id":"a"}"#;
+
+const INSPECT_B: &str = r#"{"op":"inspect","id":"b"}"#;
+
+const INSPECT_C: &str = r#"{"op":"inspect","id":"c"}"#;
+
+const INSPECT_NO_ID: &str = r#"{"op":"inspect","id":""}"#;
+
+const CREATE_C: &str =
+    r#"{"op":"create","id":"c","config":"{\"ociVersion\":\"1.0.2\",\"process\":{\"args\":[\"c\"],\"cwd\":\"/\"},\"annotations\":{\"dev.shim.module\":\"sha256:54f724103a7599cf47eacfd7123d5e346b602c75133788dca6ae1def2165c76b\"}}"}"#;
+
+const START_C: &str = r#"{"op":"start","id":"c"}"#;
+
+const PAUSE_C: &str = r#"{"op":"pause","id":"c"}"#;
+
+const STEP_C: &str = r#"{"op":"step","count":6,"id":"c"}"#;
+
 const LEASE_ADD_NO_ENTRY: &str =
     r#"{"op":"lease_add","id":"l","digest":"sha256:93a44bbb96c751218e4c00d479e4c14358122a389acca16205b1e4d0dc5f9476"}"#;
 
@@ -108,8 +137,11 @@ const FIRST: [&str; 8] = [
     RESUME_A,
 ];
 
+/// What is asked while a slice is out.
+const OUT: [&str; 1] = [INSPECT_A];
+
 /// What is asked after a slice.
-const AFTER: [&str; 3] = [STATE_A, WAIT_A, OUTPUT_A];
+const AFTER: [&str; 4] = [STATE_A, WAIT_A, OUTPUT_A, INSPECT_A];
 
 /// What is asked last: one create after creates that are refused for other reasons.
 const LAST: [&str; 9] = [
@@ -126,6 +158,19 @@ const LAST: [&str; 9] = [
 
 /// What is asked of the task that was created last.
 const END: [&str; 5] = [START_B, KILL_B, DELETE_B, DELETE_B, CREATE_B];
+
+/// What is asked to debug that task.
+const DEBUG: [&str; 9] = [
+    BREAK_B,
+    BREAK_B,
+    BREAK_CALL_B,
+    UNBREAK_CALL_B,
+    START_B,
+    STEP_B,
+    INSPECT_B,
+    PEEK_NOTHING_B,
+    PEEK_B,
+];
 
 /// What is asked while a lease and a task hold contents, and when they do no more.
 const HOLD: [&str; 17] = [
@@ -150,6 +195,17 @@ const HOLD: [&str; 17] = [
 
 /// What is asked with texts: one that is stored, the same again, and two that are refused.
 const TEXTS: [&str; 4] = [PUT_TEXT, PUT_TEXT, PUT_TEXT_FAULT, PUT_TEXT_TOO_LARGE];
+
+/// What is asked of the module of that text, as a task that is looked at inside its call.
+const FRAMES: [&str; 7] = [
+    INSPECT_NO_ID,
+    INSPECT_C,
+    CREATE_C,
+    START_C,
+    PAUSE_C,
+    STEP_C,
+    INSPECT_C,
+];
 
 /// The board, and how often memory was refused so far.
 #[derive(Drop)]
@@ -182,6 +238,7 @@ fn is_quiet(request: &Request) -> bool {
             | Request::Delete { .. }
             | Request::State { .. }
             | Request::Wait { .. }
+            | Request::Step { .. }
     )
 }
 
@@ -253,14 +310,15 @@ impl Session<'_> {
         };
     }
 
-    // Runs a slice of one turn, and prints whether the task goes on.
-    fn slice(&mut self, id: &str) {
+    // Runs a slice of one turn, makes requests while it is out, and prints whether the task goes on.
+    fn slice(&mut self, id: &str, lines: &[&str]) {
         let Some(ticket) = self.board.ticket(id) else {
             return;
         };
         let Some(mut loan) = self.board.take(ticket, 1) else {
             return;
         };
+        self.ask(lines);
         loan.run();
         let again = self.board.give_back(loan);
         let _printed = if again == Some(ticket) {
@@ -278,18 +336,20 @@ fn main(rt: HostRuntime) -> ExitCode {
     session.ask(&FIRST);
     session.tell("a");
     session.tell_waiting();
-    session.slice("a");
+    session.slice("a", &OUT);
     session.ask(&AFTER);
-    session.slice("a");
+    session.slice("a", &OUT);
     session.ask(&AFTER);
     session.ask(&LAST);
     session.tell("b");
     session.ask(&END);
     session.tell("b");
     session.tell_waiting();
+    session.ask(&DEBUG);
     session.ask(&HOLD);
     session.ask(&TEXTS);
     session.tell_waiting();
+    session.ask(&FRAMES);
     let refused = session.refused;
     let _told = eprintln!(rt; "refused for memory: {refused}");
     ExitCode::SUCCESS
