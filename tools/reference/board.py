@@ -8,7 +8,7 @@ from reference import wasm
 from reference.execute import Machine
 
 MOST_LINE, MOST_CONTENTS, MOST_TASKS, MOST_DEPTH = 1_048_576, 256, 64, 127
-MOST_LEASES, MOST_MEMBERS = 64, 64
+MOST_LEASES, MOST_MEMBERS, MOST_BREAKS, MOST_STEPS, MOST_PEEK = 64, 64, 32, 1000, 256
 NAMES = {1: "BadRequest", 2: "BadId", 3: "Exists", 4: "NotFound", 5: "NoContent", 6: "InUse", 7: "BadModule", 8: "Invalid",
          9: "Limit", 10: "BadConfig", 11: "WrongStatus", 12: "Busy", 13: "OutOfRange", 14: "TooMany", 21: "NoEntry",
          22: "BadImport", 23: "SegmentOutOfBounds"}
@@ -99,15 +99,17 @@ def request_of(line, in_replay):
     keys = {"put": ["hex"], "remove": ["digest"], "lease_create": ["id"], "lease_add": ["digest", "id"],
             "lease_delete": ["id"], "gc": [], "create": ["config", "id"], "start": ["id"], "pause": ["id"],
             "resume": ["id"], "kill": ["id", "signal"], "delete": ["id"], "state": ["id"], "wait": ["id"],
-            "output": ["id", "stream"]}
+            "output": ["id", "stream"], "break": ["func", "id", "place"], "unbreak": ["func", "id", "place"],
+            "step": ["count", "id"], "inspect": ["id"], "peek": ["address", "id", "length"]}
+    numbers = ("signal", "stream", "func", "place", "count", "address", "length")
     if in_replay:
         keys |= {"return": ["id"], "take": ["budget", "id"]}
     wanted = keys.get(value["op"])
     if wanted is None or set(value) != {"op", *wanted}:
         return None
-    if not all(isinstance(value[key], str) for key in wanted if key not in ("budget", "signal", "stream")):
+    if not all(isinstance(value[key], str) for key in wanted if key not in ("budget", *numbers)):
         return None
-    if not all(type(value[key]) is int and value[key] >= 0 for key in wanted if key in ("signal", "stream")):
+    if not all(type(value[key]) is int and value[key] >= 0 for key in wanted if key in numbers):
         return None
     if "hex" in wanted and not HEX.match(value["hex"]):
         return None
@@ -178,21 +180,21 @@ class Refused(Exception):
 class Task:
     def __init__(self, process, data):
         self.process, self.data, self.turns, self.status, self.out, self.end = process, data, 0, "created", None, None
-        self.signal = self.machine = None
+        self.signal, self.breaks = None, []
+        self.machine = Machine(wasm.Decoder(data).module(), process.cap, process.args, process.env)
 
     def start(self):
-        self.status, self.machine = "running", Machine(
-            wasm.Decoder(self.data).module(), self.process.cap, self.process.args, self.process.env)
+        self.status = "running"
         self.run(0)
 
-    def run(self, budget):
-        self.machine.run(budget)
+    def run(self, budget, pauses=False):
+        self.machine.run(budget, self.breaks)
         self.turns, end = self.machine.turns, self.machine.end
         if end is not None:
             self.status, self.end = "stopped", end
         elif self.signal is not None:
             self.stop_by(self.signal)
-        elif self.status == "pausing":
+        elif pauses or self.status == "pausing" or self.machine.is_at(self.breaks):
             self.status = "paused"
 
     def stop_by(self, signal):
@@ -201,7 +203,7 @@ class Task:
 
     def output(self, stream):
         """What it has written."""
-        return b"" if self.machine is None else bytes(self.machine.streams[stream])
+        return bytes(self.machine.streams[stream])
 
     def state(self, name):
         return {"id": name, "n": self.turns, "ok": True, "status": self.status, **(self.end or {})}
@@ -372,6 +374,53 @@ class Board:
             raise Refused(12)
         written = task.output(stream)
         return {"hex": written.hex(), "id": id, "ok": True, "size": len(written)}
+
+    def breakable(self, func, id, place):
+        task = self.task(id)
+        if task.status not in ("created", "paused"):
+            raise Refused(11)
+        if not task.machine.has_place(func, place):
+            raise Refused(13)
+        return task
+
+    def break_(self, func, id, place):
+        task = self.breakable(func, id, place)
+        if (func, place) in task.breaks:
+            raise Refused(3)
+        if len(task.breaks) >= MOST_BREAKS:
+            raise Refused(14)
+        task.breaks.append((func, place))
+        return {"id": id, "ok": True}
+
+    def unbreak_(self, func, id, place):
+        task = self.breakable(func, id, place)
+        if (func, place) not in task.breaks:
+            raise Refused(4)
+        task.breaks.remove((func, place))
+        return {"id": id, "ok": True}
+
+    def step_(self, count, id):
+        task = self.task(id)
+        if task.status != "paused":
+            raise Refused(11)
+        if not 1 <= count <= MOST_STEPS:
+            raise Refused(13)
+        task.run(count, True)
+        return task.state(id)
+
+    def inspect_(self, id):
+        task = self.task(id)
+        if task.out is not None:
+            raise Refused(12)
+        return {"frames": task.machine.shown(), "id": id, "n": task.turns, "ok": True}
+
+    def peek_(self, address, id, length):
+        task = self.task(id)
+        if task.out is not None:
+            raise Refused(12)
+        if length > MOST_PEEK or address + length > len(task.machine.memory):
+            raise Refused(13)
+        return {"hex": task.machine.memory[address:address + length].hex(), "id": id, "ok": True}
 
     def take_(self, budget, id):
         task = self.tasks.get(id)

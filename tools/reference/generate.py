@@ -383,11 +383,17 @@ BUDGETS = [1, 1, 2, 1_000_000, 0, 1_000_001, 1.0, -1, 2**64 - 1, 2**64, True, No
 
 
 def request(data, digest):
-    name = random.choice(IDS if random.random() < 0.5 else "abc")
+    name = random.choice(IDS if random.random() < 0.3 else "aab")
     texts = [data.hex(), data.hex(), data.hex().upper(), "", "616263", "ABcd", "0", "0g", "00" * random.randint(0, 9)]
     named = random.choice([digest, digest, *OTHERS, digest.upper(), digest[:-1], "sha256:" + "0" * 64, ""])
     lease = random.choice(IDS) if random.random() < 0.2 else random.choice("lm")
+    place = {"func": random.choice([1, 1, 0, 2, 2**64, -1, "1", 1.0]), "place": random.choice([0, 0, 1, 2, 2**32, -1, "0"])}
     kinds = {
+        "break": {"id": name, **place},
+        "unbreak": {"id": name, **place},
+        "step": {"id": name, "count": random.choice([1, 1, 2, 1000, 0, 1001, 2**64, -1, "1", 1.0, None])},
+        "peek": {"id": name, "address": random.choice([0, 0, 1, 2**63, -1, "0"]),
+                 "length": random.choice([0, 0, 1, 257, None])},
         "put": {"hex": random.choice(texts)},
         "remove": {"digest": named},
         "lease_create": {"id": lease},
@@ -401,7 +407,7 @@ def request(data, digest):
     }
     op = random.choice(["put", "put", *["create"] * 4, "start", "start", "state", "wait", "take", "take", "return", "pause",
                         "resume", "kill", "delete", "remove", "lease_create", "lease_add", "lease_add", "lease_delete",
-                        "gc", "output", "output"])
+                        "gc", "output", "output", "break", "break", "unbreak", "step", "step", "inspect", "inspect", "peek"])
     return {"op": op, **kinds.get(op, {"id": name})}
 
 

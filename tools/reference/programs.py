@@ -92,12 +92,16 @@ class Outline:
         at = random.randrange(self.entries)
         return at, [random.randrange(len(self.functions)) for _ in range(random.randint(0, self.entries - at))]
 
+    def table(self):
+        """The function of each entry of the table that has one."""
+        found = {}
+        for at, functions in self.elements:
+            found |= enumerate(functions, at)
+        return found
+
     def entries_of(self, params, results):
         """The entries of the table that have functions of this type."""
-        table = {}
-        for at, functions in self.elements:
-            table |= enumerate(functions, at)
-        return [index for index, function in table.items() if self.type_of(function) == (params, results)]
+        return [index for index, function in self.table().items() if self.type_of(function) == (params, results)]
 
     def type_of(self, function):
         return self.types[self.functions[function]]

@@ -382,12 +382,13 @@ class Block:
 
 
 class Body:
-    """The validation of one function's body (appendix A.3). `at`: the number of the instruction that is checked."""
+    """The validation of one function's body (appendix A.3). `at`: the number of the instruction that is checked.
+    `operands`: the types of the operands of all open blocks before the instruction whose number is looked for."""
 
-    def __init__(self, module, func):
+    def __init__(self, module, func, looked_for=None):
         params, results = module.types[func.type_index]
         self.module, self.locals, self.results = module, [*params, *func.locals], results
-        self.blocks, self.at = [], 0
+        self.blocks, self.at, self.looked_for, self.operands = [], 0, looked_for, None
         self.body = func.body
 
     def check(self):
@@ -399,6 +400,8 @@ class Body:
         self.blocks.append(Block(label, params, results))
         for instruction in instructions:
             self.at = first
+            if first == self.looked_for:
+                self.operands = [kind for block in self.blocks for kind in block.stack]
             self.instruction(self.blocks[-1], *instruction)
             first += size(instruction)
         self.at = owner
