@@ -4,6 +4,8 @@ ghost use Rattle.std.specs.Prelude.{◌≡◌, [], ◌∷◌, map, IfOk, codes, 
 ghost use Rattle.wasm_ast.specs.View.{op_of};
 ghost use Rattle.wasm_ast.specs.Syntax.{ops_of};
 ghost use Rattle.text_assembler.specs.Inside.Answers.{Gives, with_front};
+ghost use Rattle.text_assembler.specs.Inside.Steps.{made};
+ghost use Rattle.text_assembler.specs.Phrases.{after_id, id_of};
 ghost use Rattle.text_assembler.specs.Instructions.{read_block_type, skip_label, skip_end, read_enclosed, read_else, read_if, opens_block, read_nested, read_simple, read_op, one_op, is_end, read_body, inner_of};
 
 use crate::fault::ReadError;
@@ -11,13 +13,12 @@ use crate::ids::{Ids, is_id, is_named};
 use crate::keyword::keyword_of;
 use crate::labels::Labels;
 use crate::phrases::{
-    after_id, begins_group, begins_word, fault, id_of, read_val_type, skip_close, skip_group,
-    skip_word, take_word,
+    after_id, begins_group, begins_word, fault, id_of, is_word, read_grouped, skip_word, take_word,
 };
 use crate::plain::read_immediates;
 use crate::scopes::Scopes;
 use crate::token::{Lexeme, Token};
-use crate::uses::{copy_name, read_nameless_use};
+use crate::uses::read_nameless_use;
 use std::alloc::Global;
 use wasm_ast::{BlockType, Body, Bytes, Instr};
 
@@ -37,10 +38,22 @@ fn read_block_type<'a>(
     if !begins_group("result", tokens) {
         return Ok((BlockType::Empty, tokens));
     }
-    let rest = skip_group("result", tokens)?;
-    let (val_type, rest) = read_val_type(rest)?;
-    let rest = skip_close(rest)?;
+    let (val_type, rest) = read_grouped("result", tokens)?;
     Ok((BlockType::One(val_type), rest))
+}
+
+// The label and the type of a block, and what follows them.
+fn read_opening<'a>(
+    alloc: Global,
+    scopes: &Scopes,
+    tokens: &'a [Token],
+) -> Result<(Option<Bytes>, BlockType, &'a [Token]), ReadError>
+    ensures label { IfOk result (λ x. x.0 ≡ id_of tokens.now) }
+    ensures value { Gives (λ x. (x.1, x.2.now)) result
+        (read_block_type scopes.now (after_id tokens.now)) }
+{
+    let (block_type, rest) = read_block_type(alloc, scopes, after_id(tokens))?;
+    Ok((id_of(alloc, tokens)?, block_type, rest))
 }
 
 // What follows an identifier, which has to be this one, or all of the tokens if none is next.
@@ -76,7 +89,7 @@ fn skip_end<'a>(label: &Option<Bytes>, tokens: &'a [Token]) -> Result<&'a [Token
 fn opens_block(word: &[u8]) -> bool
     ensures { result ≡ opens_block word.now }
 {
-    word == b"block".as_slice() || word == b"loop".as_slice() || word == b"if".as_slice()
+    is_word(word, "block") || is_word(word, "loop") || is_word(word, "if")
 }
 
 // Whether instructions end here.
@@ -90,7 +103,7 @@ fn is_end(tokens: &[Token]) -> bool
     match first.lexeme() {
         Lexeme::Close => true,
         Lexeme::Word(word) => {
-            word.as_slice() == b"end".as_slice() || word.as_slice() == b"else".as_slice()
+            is_word(word.as_slice(), "end") || is_word(word.as_slice(), "else")
         }
         _ => false,
     }
@@ -128,16 +141,16 @@ fn read_labelled<'a>(
     more: usize,
     label: &Option<Bytes>,
     tokens: &'a [Token],
-) -> Result<(Vec<Instr>, &'a [Token]), ReadError>
-    ensures value { Gives (λ x. (map op_of x.0.items, x.1.now)) result
-        (read_body scopes.now locals.now more (label.now ∷ labels.old) tokens.now) }
+) -> Result<(Body, &'a [Token]), ReadError>
+    ensures value { Gives (λ x. (x.0, x.1.now)) result
+        (made ops_of (read_body scopes.now locals.now more (label.now ∷ labels.old) tokens.now)) }
     ensures kept { IfOk result (λ _. labels.new ≡ labels.old) }
 {
-    labels.enter(copy_name(alloc, label)?)?;
+    labels.enter(alloc, label)?;
     let mut body = Vec::new(alloc);
     let rest = push_body(alloc, scopes, locals, labels, more, &mut body, tokens)?;
     labels.leave();
-    Ok((body, rest))
+    Ok((Body::new(alloc, body)?, rest))
 }
 
 // The else arm of an `if` with this label, and what follows it.
@@ -151,14 +164,14 @@ fn read_else<'a>(
     more: usize,
     label: &Option<Bytes>,
     tokens: &'a [Token],
-) -> Result<(Vec<Instr>, &'a [Token]), ReadError>
-    ensures value { Gives (λ x. (map op_of x.0.items, x.1.now)) result
-        (read_else (read_body scopes.now locals.now more) label.now (label.now ∷ labels.old)
-        tokens.now) }
+) -> Result<(Body, &'a [Token]), ReadError>
+    ensures value { Gives (λ x. (x.0, x.1.now)) result
+        (made ops_of (read_else (read_body scopes.now locals.now more) label.now
+        (label.now ∷ labels.old) tokens.now)) }
     ensures kept { IfOk result (λ _. labels.new ≡ labels.old) }
 {
     if !begins_word("else", tokens) {
-        return Ok((Vec::new(alloc), tokens));
+        return Ok((Body::new(alloc, Vec::new(alloc))?, tokens));
     }
     let rest = skip_word("else", tokens)?;
     let rest = skip_label(label, rest)?;
@@ -180,13 +193,10 @@ fn read_if<'a>(
         (read_if scopes.now (read_body scopes.now locals.now more) labels.old tokens.now) }
     ensures kept { IfOk result (λ _. labels.new ≡ labels.old) }
 {
-    let label = id_of(alloc, tokens)?;
-    let (block_type, rest) = read_block_type(alloc, scopes, after_id(tokens))?;
+    let (label, block_type, rest) = read_opening(alloc, scopes, tokens)?;
     let (then_arm, rest) = read_labelled(alloc, scopes, locals, labels, more, &label, rest)?;
     let (else_arm, rest) = read_else(alloc, scopes, locals, labels, more, &label, rest)?;
     let rest = skip_end(&label, rest)?;
-    let then_arm = Body::new(alloc, then_arm)?;
-    let else_arm = Body::new(alloc, else_arm)?;
     let instr = Instr::If(block_type, then_arm, else_arm);
     Ok((instr, rest))
 }
@@ -206,11 +216,9 @@ fn read_enclosed<'a>(
         (read_enclosed scopes.now (read_body scopes.now locals.now more) labels.old tokens.now) }
     ensures kept { IfOk result (λ _. labels.new ≡ labels.old) }
 {
-    let label = id_of(alloc, tokens)?;
-    let (block_type, rest) = read_block_type(alloc, scopes, after_id(tokens))?;
+    let (label, block_type, rest) = read_opening(alloc, scopes, tokens)?;
     let (body, rest) = read_labelled(alloc, scopes, locals, labels, more, &label, rest)?;
     let rest = skip_end(&label, rest)?;
-    let body = Body::new(alloc, body)?;
     Ok(((block_type, body), rest))
 }
 
@@ -232,11 +240,11 @@ fn read_nested<'a>(
         tokens.now) }
     ensures kept { IfOk result (λ _. labels.new ≡ labels.old) }
 {
-    if word == b"if".as_slice() {
+    if is_word(word, "if") {
         return read_if(alloc, scopes, locals, labels, more, tokens);
     }
     let ((block_type, body), rest) = read_enclosed(alloc, scopes, locals, labels, more, tokens)?;
-    let instr = if word == b"block".as_slice() {
+    let instr = if is_word(word, "block") {
         Instr::Block(block_type, body)
     } else {
         Instr::Loop(block_type, body)

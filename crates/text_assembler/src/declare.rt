@@ -2,6 +2,7 @@
 
 ghost use Rattle.std.specs.Prelude.{◌≡◌, [], ◌∷◌, ◌++◌, Ok};
 ghost use Rattle.text_assembler.specs.Inside.Answers.{Gives};
+ghost use Rattle.text_assembler.specs.Inside.Steps.{declare_import, declare_type};
 ghost use Rattle.text_assembler.specs.Names.{with_id};
 ghost use Rattle.text_assembler.specs.Phrases.{id_of};
 ghost use Rattle.text_assembler.specs.Modules.{declare_as, declare_field, declare_fields, no_scopes, read_imported, read_type};
@@ -9,7 +10,7 @@ ghost use Rattle.text_assembler.specs.Modules.{declare_as, declare_field, declar
 use crate::fault::ReadError;
 use crate::field::{read_imported, read_type};
 use crate::ids::Ids;
-use crate::phrases::{id_of, skip_group, take_word};
+use crate::phrases::{id_of, is_word, skip_group, take_word};
 use crate::scopes::{Scopes, Signatures};
 use crate::token::{Lexeme, Token};
 use std::alloc::Global;
@@ -22,6 +23,21 @@ fn declare_id(alloc: Global, ids: &mut Ids, tokens: &[Token]) -> Result<(), Read
     ids.declare(alloc, id, tokens.len())
 }
 
+fn declare_type(alloc: Global, scopes: &mut Scopes, tokens: &[Token]) -> Result<(), ReadError>
+    ensures { Gives (λ _. scopes.new) result (declare_type scopes.old tokens.now) }
+{
+    declare_id(alloc, &mut scopes.types, tokens)?;
+    let (signature, _) = read_type(alloc, tokens)?;
+    scopes.signatures.push(signature)
+}
+
+fn declare_import(alloc: Global, ids: &mut Ids, tokens: &[Token]) -> Result<(), ReadError>
+    ensures { Gives (λ _. ids.new) result (declare_import ids.old tokens.now) }
+{
+    let (_, rest) = read_imported(tokens)?;
+    declare_id(alloc, ids, rest)
+}
+
 // Declares what the field with this keyword does.
 #[tactic(auto, unfolding(crate::specs::Modules::declare_as))]
 fn declare_as(
@@ -32,20 +48,17 @@ fn declare_as(
 ) -> Result<(), ReadError>
     ensures { Gives (λ _. scopes.new) result (declare_as scopes.old word.now tokens.now) }
 {
-    if word == b"type".as_slice() {
-        declare_id(alloc, &mut scopes.types, tokens)?;
-        let (signature, _) = read_type(alloc, tokens)?;
-        scopes.signatures.push(signature)
-    } else if word == b"import".as_slice() {
-        let (_, rest) = read_imported(tokens)?;
-        declare_id(alloc, &mut scopes.funcs, rest)
-    } else if word == b"func".as_slice() {
+    if is_word(word, "type") {
+        declare_type(alloc, scopes, tokens)
+    } else if is_word(word, "import") {
+        declare_import(alloc, &mut scopes.funcs, tokens)
+    } else if is_word(word, "func") {
         declare_id(alloc, &mut scopes.funcs, tokens)
-    } else if word == b"table".as_slice() {
+    } else if is_word(word, "table") {
         declare_id(alloc, &mut scopes.tables, tokens)
-    } else if word == b"memory".as_slice() {
+    } else if is_word(word, "memory") {
         declare_id(alloc, &mut scopes.memories, tokens)
-    } else if word == b"global".as_slice() {
+    } else if is_word(word, "global") {
         declare_id(alloc, &mut scopes.globals, tokens)
     } else {
         Ok(())

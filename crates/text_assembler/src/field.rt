@@ -1,11 +1,14 @@
 //! Fields of modules (6.6).
 
-ghost use Rattle.std.specs.Prelude.{◌≡◌, [], ◌∷◌, map, Ok, codes};
+ghost use Rattle.std.specs.Prelude.{◌≡◌, [], ◌∷◌, map, IfOk, Ok, codes};
 ghost use Rattle.wasm_ast.specs.View.{op_of};
 ghost use Rattle.wasm_ast.specs.Syntax.{ops_of};
 ghost use Rattle.text_assembler.specs.Inside.Answers.{Gives, with_front};
+ghost use Rattle.text_assembler.specs.Inside.Steps.{made, read_locals};
+ghost use Rattle.text_assembler.specs.declared.field.Field.TheVariants as fields;
 ghost use Rattle.text_assembler.specs.Reading.{read_parts};
-ghost use Rattle.text_assembler.specs.Phrases.{is_close, take_text, types_of};
+ghost use Rattle.text_assembler.specs.Phrases.{is_close, read_index, take_text, types_of};
+ghost use Rattle.text_assembler.specs.Instructions.{read_body};
 ghost use Rattle.text_assembler.specs.Modules.{read_type, read_imported, read_import, read_func, read_table, read_memory, read_global_type, read_expression, read_global, kind_of, space_of, read_exported, read_export, read_offset, read_element, read_segment, read_defined, read_contents, read_field};
 
 use crate::blocks::push_body;
@@ -13,14 +16,14 @@ use crate::fault::ReadError;
 use crate::ids::Ids;
 use crate::labels::Labels;
 use crate::phrases::{
-    after_id, begins_group, fault, is_close, push_bindings, push_indices, push_results, read_index,
-    read_limits, read_name, read_val_type, skip_close, skip_group, skip_open, skip_word, take_text,
-    take_word,
+    after_id, begins_group, fault, is_close, is_word, open_word, push_bindings, push_indices,
+    read_grouped, read_index, read_limits, read_name, read_val_type, skip_close, skip_group,
+    skip_word, take_text,
 };
 use crate::scopes::Scopes;
 use crate::token::Token;
-use crate::uses::{declare_bindings, read_use, types_of, without_places};
-use std::alloc::Global;
+use crate::uses::{declare_bindings, read_signature, read_use, val_types_of};
+use std::alloc::{AllocError, Global};
 use wasm_ast;
 use wasm_ast::{
     Body, Element, Export, ExportKind, Func, FuncType, Import, Limits, Mutability, Segment,
@@ -48,15 +51,9 @@ pub fn read_type(alloc: Global, tokens: &[Token]) -> Result<(FuncType, &[Token])
     ensures { Gives (λ x. (x.0, x.1.now)) result (read_type tokens.now) }
 {
     let rest = skip_group("func", after_id(tokens))?;
-    let mut params = Vec::new(alloc);
-    let rest = push_bindings(alloc, "param", &mut params, rest)?;
-    let mut results = Vec::new(alloc);
-    let rest = push_results(&mut results, rest)?;
+    let (written, rest) = read_signature(alloc, rest)?;
     let rest = skip_close(rest)?;
-    let types = types_of(alloc, params.as_slice())?;
-    let params = without_places(alloc, types.as_slice())?;
-    let results = without_places(alloc, results.as_slice())?;
-    Ok((FuncType { params, results }, rest))
+    Ok((written.func_type(alloc)?, rest))
 }
 
 /// The two names of an import, and what follows its `( func`.
@@ -71,28 +68,73 @@ pub fn read_imported(tokens: &[Token]) -> Result<((&str, &str), &[Token]), ReadE
     Ok(((module, name), rest))
 }
 
+fn import_of(alloc: Global, owner: &str, item: &str, type_index: u32) -> Result<Import, AllocError>
+    ensures owner { IfOk result (λ i. i.«module» ≡ owner.now) }
+    ensures item { IfOk result (λ i. i.name ≡ item.now) }
+    ensures type_index { IfOk result (λ i. i.type_index ≡ type_index) }
+{
+    let module = Text::from_str(alloc, owner)?;
+    let name = Text::from_str(alloc, item)?;
+    Ok(Import {
+        module,
+        name,
+        type_index,
+    })
+}
+
 #[tactic(auto, unfolding(crate::specs::Modules::read_import))]
 fn read_import<'a>(
     alloc: Global,
     scopes: &Scopes,
     tokens: &'a [Token],
-) -> Result<(Import, &'a [Token]), ReadError>
-    ensures { Gives (λ x. (x.0, x.1.now)) result (read_import scopes.now tokens.now) }
+) -> Result<(Field, &'a [Token]), ReadError>
+    ensures { Gives (λ x. (x.0, x.1.now)) result
+        (made fields.Import (read_import scopes.now tokens.now)) }
 {
     let ((module, name), rest) = read_imported(tokens)?;
     let (type_use, rest) = read_use(alloc, scopes, after_id(rest))?;
     let rest = skip_close(rest)?;
-    let module = Text::from_str(alloc, module)?;
-    let name = Text::from_str(alloc, name)?;
-    let type_index = type_use.type_index;
-    Ok((
-        Import {
-            module,
-            name,
-            type_index,
-        },
-        rest,
-    ))
+    let import = import_of(alloc, module, name, type_use.type_index)?;
+    Ok((Field::Import(import), rest))
+}
+
+// The types of the locals of a function, and what follows them. Their identifiers are declared.
+fn read_locals<'a>(
+    alloc: Global,
+    ids: &mut Ids,
+    tokens: &'a [Token],
+) -> Result<(Sequence<ValType>, &'a [Token]), ReadError>
+    ensures { Gives (λ x. ((x.0, ids.new), x.1.now)) result (read_locals ids.old tokens.now) }
+{
+    let mut locals = Vec::new(alloc);
+    let rest = push_bindings(alloc, "local", &mut locals, tokens)?;
+    declare_bindings(alloc, ids, locals.as_slice())?;
+    Ok((val_types_of(alloc, locals.as_slice())?, rest))
+}
+
+// The instructions of a body that is in no block, and what follows them.
+fn read_ops<'a>(
+    alloc: Global,
+    nesting: usize,
+    scopes: &Scopes,
+    locals: &Ids,
+    tokens: &'a [Token],
+) -> Result<(Body, &'a [Token]), ReadError>
+    ensures { Gives (λ x. (x.0, x.1.now)) result
+        (made ops_of (read_body scopes.now locals.now nesting [] tokens.now)) }
+{
+    let mut labels = Labels::new(alloc);
+    let mut body = Vec::new(alloc);
+    let rest = push_body(
+        alloc,
+        scopes,
+        locals,
+        &mut labels,
+        nesting,
+        &mut body,
+        tokens,
+    )?;
+    Ok((Body::new(alloc, body)?, rest))
 }
 
 #[tactic(auto, unfolding(crate::specs::Modules::read_func))]
@@ -101,45 +143,39 @@ fn read_func<'a>(
     nesting: usize,
     scopes: &Scopes,
     tokens: &'a [Token],
-) -> Result<(Func, &'a [Token]), ReadError>
+) -> Result<(Field, &'a [Token]), ReadError>
     ensures { Gives (λ x. (x.0, x.1.now)) result
-        (read_func nesting scopes.now tokens.now) }
+        (made fields.Func (read_func nesting scopes.now tokens.now)) }
 {
     let (type_use, rest) = read_use(alloc, scopes, after_id(tokens))?;
-    let mut locals = Vec::new(alloc);
-    let rest = push_bindings(alloc, "local", &mut locals, rest)?;
     let mut ids = type_use.params;
-    declare_bindings(alloc, &mut ids, locals.as_slice())?;
-    let mut labels = Labels::new(alloc);
-    let mut body = Vec::new(alloc);
-    let rest = push_body(alloc, scopes, &ids, &mut labels, nesting, &mut body, rest)?;
-    let types = types_of(alloc, locals.as_slice())?;
-    let locals = without_places(alloc, types.as_slice())?;
-    let body = Body::new(alloc, body)?;
-    Ok((
-        Func {
-            type_index: type_use.type_index,
-            locals,
-            body,
-        },
-        rest,
-    ))
+    let (locals, rest) = read_locals(alloc, &mut ids, rest)?;
+    let (body, rest) = read_ops(alloc, nesting, scopes, &ids, rest)?;
+    let func = Func {
+        type_index: type_use.type_index,
+        locals,
+        body,
+    };
+    Ok((Field::Func(func), rest))
 }
 
 #[tactic(auto, unfolding(crate::specs::Modules::read_table))]
-fn read_table(tokens: &[Token]) -> Result<(Limits, &[Token]), ReadError>
-    ensures { Gives (λ x. (x.0, x.1.now)) result (read_table tokens.now) }
+fn read_table(tokens: &[Token]) -> Result<(Field, &[Token]), ReadError>
+    ensures { Gives (λ x. (x.0, x.1.now)) result
+        (made fields.Table (read_table tokens.now)) }
 {
     let (limits, rest) = read_limits(after_id(tokens))?;
     let rest = skip_word("funcref", rest)?;
-    Ok((limits, rest))
+    Ok((Field::Table(limits), rest))
 }
 
 #[tactic(auto, unfolding(crate::specs::Modules::read_memory))]
-fn read_memory(tokens: &[Token]) -> Result<(Limits, &[Token]), ReadError>
-    ensures { Gives (λ x. (x.0, x.1.now)) result (read_memory tokens.now) }
+fn read_memory(tokens: &[Token]) -> Result<(Field, &[Token]), ReadError>
+    ensures { Gives (λ x. (x.0, x.1.now)) result
+        (made fields.Memory (read_memory tokens.now)) }
 {
-    read_limits(after_id(tokens))
+    let (limits, rest) = read_limits(after_id(tokens))?;
+    Ok((Field::Memory(limits), rest))
 }
 
 #[tactic(auto, unfolding(crate::specs::Modules::read_global_type))]
@@ -150,9 +186,7 @@ fn read_global_type(tokens: &[Token]) -> Result<((ValType, Mutability), &[Token]
         let (val_type, rest) = read_val_type(tokens)?;
         return Ok(((val_type, Mutability::Const), rest));
     }
-    let rest = skip_group("mut", tokens)?;
-    let (val_type, rest) = read_val_type(rest)?;
-    let rest = skip_close(rest)?;
+    let (val_type, rest) = read_grouped("mut", tokens)?;
     Ok(((val_type, Mutability::Var), rest))
 }
 
@@ -168,19 +202,7 @@ fn read_expression<'a>(
         (read_expression nesting scopes.now tokens.now) }
 {
     let locals = Ids::new(alloc);
-    let mut labels = Labels::new(alloc);
-    let mut body = Vec::new(alloc);
-    let rest = push_body(
-        alloc,
-        scopes,
-        &locals,
-        &mut labels,
-        nesting,
-        &mut body,
-        tokens,
-    )?;
-    let body = Body::new(alloc, body)?;
-    Ok((body, rest))
+    read_ops(alloc, nesting, scopes, &locals, tokens)
 }
 
 #[tactic(auto, unfolding(crate::specs::Modules::read_global))]
@@ -189,33 +211,31 @@ fn read_global<'a>(
     nesting: usize,
     scopes: &Scopes,
     tokens: &'a [Token],
-) -> Result<(wasm_ast::Global, &'a [Token]), ReadError>
+) -> Result<(Field, &'a [Token]), ReadError>
     ensures { Gives (λ x. (x.0, x.1.now)) result
-        (read_global nesting scopes.now tokens.now) }
+        (made fields.Global (read_global nesting scopes.now tokens.now)) }
 {
     let ((val_type, mutability), rest) = read_global_type(after_id(tokens))?;
     let (init, rest) = read_expression(alloc, nesting, scopes, rest)?;
-    Ok((
-        wasm_ast::Global {
-            val_type,
-            mutability,
-            init,
-        },
-        rest,
-    ))
+    let global = wasm_ast::Global {
+        val_type,
+        mutability,
+        init,
+    };
+    Ok((Field::Global(global), rest))
 }
 
 #[tactic(auto, unfolding(crate::specs::Modules::kind_of))]
 fn kind_of(word: &[u8], left: usize) -> Result<ExportKind, ReadError>
     ensures { Gives (λ x. x) result (kind_of word.now) }
 {
-    if word == b"func".as_slice() {
+    if is_word(word, "func") {
         Ok(ExportKind::Func)
-    } else if word == b"table".as_slice() {
+    } else if is_word(word, "table") {
         Ok(ExportKind::Table)
-    } else if word == b"memory".as_slice() {
+    } else if is_word(word, "memory") {
         Ok(ExportKind::Memory)
-    } else if word == b"global".as_slice() {
+    } else if is_word(word, "global") {
         Ok(ExportKind::Global)
     } else {
         Err(ReadError::Malformed { left })
@@ -241,9 +261,8 @@ fn read_exported<'a>(
     ensures { Gives (λ x. ((x.0.0, x.0.1), x.1.now)) result
         (read_exported scopes.now tokens.now) }
 {
-    let rest = skip_open(tokens)?;
-    let (word, after) = take_word(rest)?;
-    let kind = kind_of(word, rest.len())?;
+    let (word, after) = open_word(tokens)?;
+    let kind = kind_of(word, after.len() + 1)?;
     let (index, rest) = read_index(space_of(scopes, kind), after)?;
     let rest = skip_close(rest)?;
     Ok(((kind, index), rest))
@@ -254,13 +273,14 @@ fn read_export<'a>(
     alloc: Global,
     scopes: &Scopes,
     tokens: &'a [Token],
-) -> Result<(Export, &'a [Token]), ReadError>
-    ensures { Gives (λ x. (x.0, x.1.now)) result (read_export scopes.now tokens.now) }
+) -> Result<(Field, &'a [Token]), ReadError>
+    ensures { Gives (λ x. (x.0, x.1.now)) result
+        (made fields.Export (read_export scopes.now tokens.now)) }
 {
     let (name, rest) = read_name(tokens)?;
     let ((kind, index), rest) = read_exported(scopes, rest)?;
     let name = Text::from_str(alloc, name)?;
-    Ok((Export { name, kind, index }, rest))
+    Ok((Field::Export(Export { name, kind, index }), rest))
 }
 
 #[tactic(auto, unfolding(crate::specs::Modules::read_offset))]
@@ -285,22 +305,20 @@ fn read_element<'a>(
     nesting: usize,
     scopes: &Scopes,
     tokens: &'a [Token],
-) -> Result<(Element, &'a [Token]), ReadError>
+) -> Result<(Field, &'a [Token]), ReadError>
     ensures { Gives (λ x. (x.0, x.1.now)) result
-        (read_element nesting scopes.now tokens.now) }
+        (made fields.Element (read_element nesting scopes.now tokens.now)) }
 {
     let (offset, rest) = read_offset(alloc, nesting, scopes, tokens)?;
     let mut funcs = Vec::new(alloc);
     let rest = push_indices(&scopes.funcs, &mut funcs, rest)?;
     let funcs = Sequence::new(funcs);
-    Ok((
-        Element {
-            table: 0,
-            offset,
-            funcs,
-        },
-        rest,
-    ))
+    let element = Element {
+        table: 0,
+        offset,
+        funcs,
+    };
+    Ok((Field::Element(element), rest))
 }
 
 fn push_text<'a>(out: &mut Vec<u8>, tokens: &'a [Token]) -> Result<&'a [Token], ReadError>
@@ -337,22 +355,35 @@ fn read_segment<'a>(
     nesting: usize,
     scopes: &Scopes,
     tokens: &'a [Token],
-) -> Result<(Segment, &'a [Token]), ReadError>
+) -> Result<(Field, &'a [Token]), ReadError>
     ensures { Gives (λ x. (x.0, x.1.now)) result
-        (read_segment nesting scopes.now tokens.now) }
+        (made fields.Segment (read_segment nesting scopes.now tokens.now)) }
 {
     let (offset, rest) = read_offset(alloc, nesting, scopes, tokens)?;
     let mut bytes = Vec::new(alloc);
     let rest = push_texts(&mut bytes, rest)?;
     let bytes = Sequence::new(bytes);
-    Ok((
-        Segment {
-            memory: 0,
-            offset,
-            bytes,
-        },
-        rest,
-    ))
+    let segment = Segment {
+        memory: 0,
+        offset,
+        bytes,
+    };
+    Ok((Field::Segment(segment), rest))
+}
+
+fn read_type_field(alloc: Global, tokens: &[Token]) -> Result<(Field, &[Token]), ReadError>
+    ensures { Gives (λ x. (x.0, x.1.now)) result (made fields.Type (read_type tokens.now)) }
+{
+    let (signature, rest) = read_type(alloc, tokens)?;
+    Ok((Field::Type(signature), rest))
+}
+
+fn read_start<'a>(scopes: &Scopes, tokens: &'a [Token]) -> Result<(Field, &'a [Token]), ReadError>
+    ensures { Gives (λ x. (x.0, x.1.now)) result
+        (made fields.Start (read_index scopes.now.funcs tokens.now)) }
+{
+    let (func, rest) = read_index(&scopes.funcs, tokens)?;
+    Ok((Field::Start(func), rest))
 }
 
 // A function, table, memory or global after its keyword, and what follows it.
@@ -367,18 +398,14 @@ fn read_defined<'a>(
     ensures { Gives (λ x. (x.0, x.1.now)) result
         (read_defined nesting scopes.now word.now tokens.now) }
 {
-    if word == b"func".as_slice() {
-        let (func, rest) = read_func(alloc, nesting, scopes, tokens)?;
-        Ok((Field::Func(func), rest))
-    } else if word == b"table".as_slice() {
-        let (table, rest) = read_table(tokens)?;
-        Ok((Field::Table(table), rest))
-    } else if word == b"memory".as_slice() {
-        let (memory, rest) = read_memory(tokens)?;
-        Ok((Field::Memory(memory), rest))
-    } else if word == b"global".as_slice() {
-        let (global, rest) = read_global(alloc, nesting, scopes, tokens)?;
-        Ok((Field::Global(global), rest))
+    if is_word(word, "func") {
+        read_func(alloc, nesting, scopes, tokens)
+    } else if is_word(word, "table") {
+        read_table(tokens)
+    } else if is_word(word, "memory") {
+        read_memory(tokens)
+    } else if is_word(word, "global") {
+        read_global(alloc, nesting, scopes, tokens)
     } else {
         Err(ReadError::Malformed {
             left: tokens.len() + 1,
@@ -397,24 +424,18 @@ fn read_contents<'a>(
     ensures { Gives (λ x. (x.0, x.1.now)) result
         (read_contents nesting scopes.now word.now tokens.now) }
 {
-    if word == b"type".as_slice() {
-        let (signature, rest) = read_type(alloc, tokens)?;
-        Ok((Field::Type(signature), rest))
-    } else if word == b"import".as_slice() {
-        let (import, rest) = read_import(alloc, scopes, tokens)?;
-        Ok((Field::Import(import), rest))
-    } else if word == b"export".as_slice() {
-        let (export, rest) = read_export(alloc, scopes, tokens)?;
-        Ok((Field::Export(export), rest))
-    } else if word == b"start".as_slice() {
-        let (func, rest) = read_index(&scopes.funcs, tokens)?;
-        Ok((Field::Start(func), rest))
-    } else if word == b"elem".as_slice() {
-        let (element, rest) = read_element(alloc, nesting, scopes, tokens)?;
-        Ok((Field::Element(element), rest))
-    } else if word == b"data".as_slice() {
-        let (segment, rest) = read_segment(alloc, nesting, scopes, tokens)?;
-        Ok((Field::Segment(segment), rest))
+    if is_word(word, "type") {
+        read_type_field(alloc, tokens)
+    } else if is_word(word, "import") {
+        read_import(alloc, scopes, tokens)
+    } else if is_word(word, "export") {
+        read_export(alloc, scopes, tokens)
+    } else if is_word(word, "start") {
+        read_start(scopes, tokens)
+    } else if is_word(word, "elem") {
+        read_element(alloc, nesting, scopes, tokens)
+    } else if is_word(word, "data") {
+        read_segment(alloc, nesting, scopes, tokens)
     } else {
         read_defined(alloc, nesting, scopes, word, tokens)
     }
@@ -431,8 +452,7 @@ pub fn read_field<'a>(
     ensures { Gives (λ x. (x.0, x.1.now)) result
         (read_field nesting scopes.now tokens.now) }
 {
-    let rest = skip_open(tokens)?;
-    let (word, rest) = take_word(rest)?;
+    let (word, rest) = open_word(tokens)?;
     let (field, rest) = read_contents(alloc, nesting, scopes, word, rest)?;
     let rest = skip_close(rest)?;
     Ok((field, rest))

@@ -7,6 +7,7 @@ ghost use Rattle.text_assembler.specs.Names.{position};
 use crate::fault::ReadError;
 use crate::ids::{Space, is_id, is_named, small_index};
 use crate::numbers::small_number;
+use crate::uses::copy_name;
 use std::alloc::Global;
 use std::marker::Model;
 use wasm_ast::Bytes;
@@ -55,10 +56,10 @@ impl Labels {
 
     /// The label of a block that is entered.
     #[tactic(auto, using(crate::proofs::Spaces::innermost))]
-    pub fn enter(&mut self, id: Option<Bytes>) -> Result<(), ReadError>
-        ensures { Gives (λ _. self.new) result (Ok (id ∷ self.old)) }
+    pub fn enter(&mut self, alloc: Global, id: &Option<Bytes>) -> Result<(), ReadError>
+        ensures { Gives (λ _. self.new) result (Ok (id.now ∷ self.old)) }
     {
-        self.ids.push(id)?;
+        self.ids.push(copy_name(alloc, id)?)?;
         Ok(())
     }
 

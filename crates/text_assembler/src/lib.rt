@@ -85,23 +85,6 @@ pub fn instr_text(alloc: Global, instr: &Instr) -> Result<String, Refusal>
     ensures causes { IfErr result (λ e. e ≡ Refusals.NoMemory) }
 {
     let mut text = String::new(alloc);
-    match instr {
-        Instr::Simple(simple) => {
-            text.push_str(line::keyword_for(simple).word())?;
-            line::push_operands(&mut text, simple)?;
-        }
-        Instr::Block(block_type, _) => {
-            text.push_str("block")?;
-            line::push_block_type(&mut text, *block_type)?;
-        }
-        Instr::Loop(block_type, _) => {
-            text.push_str("loop")?;
-            line::push_block_type(&mut text, *block_type)?;
-        }
-        Instr::If(block_type, _, _) => {
-            text.push_str("if")?;
-            line::push_block_type(&mut text, *block_type)?;
-        }
-    }
+    line::push_line(&mut text, instr)?;
     Ok(text)
 }

@@ -4,13 +4,15 @@ ghost use Rattle.std.specs.Prelude.{◌≡◌, ◌<◌, ◌++◌, ◌^◌, OnOk,
 ghost use Rattle.std.specs.List.{flat_map};
 ghost use Rattle.wasm_ast.specs.declared.instr.Simple.TheVariants as instr;
 ghost use Rattle.text_assembler.specs.Words.{type_word};
-ghost use Rattle.text_assembler.specs.Lines.{keyword_for, numbered, signed, offset_part, align_part, use_of, operands, block_type_part, HasAlignment};
+ghost use Rattle.text_assembler.specs.Lines.{keyword_for, numbered, signed, offset_part, align_part, use_of, operands, block_type_part, line_of, HasAlignment, IsAligned};
+ghost use Rattle.wasm_ast.specs.Syntax as syntax;
+ghost use Rattle.wasm_ast.specs.View.{op_of};
 
 use crate::keyword::Keyword;
 use crate::plain::{load_bytes, store_bytes};
 use itoa::Buffer;
 use std::alloc::AllocError;
-use wasm_ast::{BlockType, MemArg, Simple, ValType, Value};
+use wasm_ast::{BlockType, Instr, MemArg, Simple, ValType, Value};
 
 fn push_decimal(out: &mut String, number: u64) -> Result<(), AllocError>
     ensures { OnOk result (string_bytes out.new ≡ string_bytes out.old ++ decimal number) }
@@ -111,8 +113,8 @@ fn push_mem_arg(out: &mut String, natural: u32, at: MemArg) -> Result<(), AllocE
     push_align(out, natural, at)
 }
 
-/// The keyword of an instruction without a body.
-pub fn keyword_for(simple: &Simple) -> Keyword
+// The keyword of an instruction without a body.
+fn keyword_for(simple: &Simple) -> Keyword
     ensures { result ≡ keyword_for simple.now }
 {
     match simple {
@@ -150,8 +152,8 @@ fn push_labels(out: &mut String, labels: &[u32], other: u32) -> Result<(), Alloc
     push_number(out, other)
 }
 
-/// Pushes what follows the keyword of an instruction without a body.
-pub fn push_operands(out: &mut String, simple: &Simple) -> Result<(), AllocError>
+// Pushes what follows the keyword of an instruction without a body.
+fn push_operands(out: &mut String, simple: &Simple) -> Result<(), AllocError>
     requires { HasAlignment simple.now }
     ensures { OnOk result (string_bytes out.new ≡ string_bytes out.old ++ operands simple.now) }
 {
@@ -171,8 +173,8 @@ pub fn push_operands(out: &mut String, simple: &Simple) -> Result<(), AllocError
     }
 }
 
-/// Pushes the type of a block.
-pub fn push_block_type(out: &mut String, block_type: BlockType) -> Result<(), AllocError>
+// Pushes the type of a block.
+fn push_block_type(out: &mut String, block_type: BlockType) -> Result<(), AllocError>
     ensures { OnOk result (string_bytes out.new
         ≡ string_bytes out.old ++ block_type_part block_type) }
 {
@@ -181,5 +183,36 @@ pub fn push_block_type(out: &mut String, block_type: BlockType) -> Result<(), Al
         BlockType::One(ValType::I32) => out.push_str(" (result i32)"),
         BlockType::One(ValType::I64) => out.push_str(" (result i64)"),
         BlockType::Index(index) => push_type_index(out, index),
+    }
+}
+
+fn push_simple(out: &mut String, simple: &Simple) -> Result<(), AllocError>
+    requires { HasAlignment simple.now }
+    ensures { OnOk result (string_bytes out.new
+        ≡ string_bytes out.old ++ line_of (syntax.simple simple.now)) }
+{
+    out.push_str(keyword_for(simple).word())?;
+    push_operands(out, simple)
+}
+
+fn push_opening(out: &mut String, keyword: &str, block_type: BlockType) -> Result<(), AllocError>
+    ensures { OnOk result (string_bytes out.new
+        ≡ string_bytes out.old ++ keyword.now ++ block_type_part block_type) }
+{
+    out.push_str(keyword)?;
+    push_block_type(out, block_type)
+}
+
+/// Pushes the line of an instruction.
+pub fn push_line(out: &mut String, instr: &Instr) -> Result<(), AllocError>
+    requires { IsAligned (op_of instr.now) }
+    ensures { OnOk result (string_bytes out.new
+        ≡ string_bytes out.old ++ line_of (op_of instr.now)) }
+{
+    match instr {
+        Instr::Simple(simple) => push_simple(out, simple),
+        Instr::Block(block_type, _) => push_opening(out, "block", *block_type),
+        Instr::Loop(block_type, _) => push_opening(out, "loop", *block_type),
+        Instr::If(block_type, _, _) => push_opening(out, "if", *block_type),
     }
 }

@@ -2,6 +2,7 @@
 
 ghost use Rattle.std.specs.Prelude.{◌≡◌, [], ◌∷◌, ◌++◌, ◌≤◌, Ok, length};
 ghost use Rattle.text_assembler.specs.Inside.Answers.{Gives};
+ghost use Rattle.text_assembler.specs.declared.field.Field.TheVariants as fields;
 ghost use Rattle.text_assembler.specs.Inside.Parts.{parts_of};
 ghost use Rattle.text_assembler.specs.Modules.{add_field, no_fields, is_undefined, one_field, read_fields, read_module};
 
@@ -27,6 +28,14 @@ pub struct Parts {
     start: Option<u32>,
     elements: Vec<Element>,
     segments: Vec<Segment>,
+}
+
+// Adds an item at the end of those of its kind.
+fn push<T: Drop>(items: &mut Vec<T>, item: T) -> Result<(), ReadError>
+    ensures { Gives (λ _. items.new.items) result (Ok (items.old.items ++ item ∷ [])) }
+{
+    items.push(item)?;
+    Ok(())
 }
 
 impl Parts {
@@ -58,34 +67,48 @@ impl Parts {
             && self.globals.is_empty()
     }
 
+    // Imports come first.
+    #[tactic(auto, unfolding(crate::specs::Modules::add_field))]
+    fn add_import(&mut self, import: Import, left: usize) -> Result<(), ReadError>
+        ensures { Gives (λ _. parts_of self.new) result
+            (add_field (parts_of self.old) (fields.Import import)) }
+    {
+        if !self.is_undefined() {
+            return Err(ReadError::Malformed { left });
+        }
+        push(&mut self.imports, import)
+    }
+
+    // There is at most one start function.
+    #[tactic(auto, unfolding(crate::specs::Modules::add_field))]
+    fn set_start(&mut self, func: u32, left: usize) -> Result<(), ReadError>
+        ensures { Gives (λ _. parts_of self.new) result
+            (add_field (parts_of self.old) (fields.Start func)) }
+    {
+        if self.start.is_some() {
+            return Err(ReadError::Malformed { left });
+        }
+        self.start = Some(func);
+        Ok(())
+    }
+
     /// Adds a field at the end of those of its kind.
     #[tactic(auto, unfolding(crate::specs::Modules::add_field))]
     pub fn add(&mut self, field: Field, left: usize) -> Result<(), ReadError>
         ensures { Gives (λ _. parts_of self.new) result (add_field (parts_of self.old) field) }
     {
         match field {
-            Field::Type(signature) => self.types.push(signature)?,
-            Field::Import(import) => {
-                if !self.is_undefined() {
-                    return Err(ReadError::Malformed { left });
-                }
-                self.imports.push(import)?;
-            }
-            Field::Func(func) => self.funcs.push(func)?,
-            Field::Table(table) => self.tables.push(table)?,
-            Field::Memory(memory) => self.memories.push(memory)?,
-            Field::Global(global) => self.globals.push(global)?,
-            Field::Export(export) => self.exports.push(export)?,
-            Field::Start(func) => {
-                if self.start.is_some() {
-                    return Err(ReadError::Malformed { left });
-                }
-                self.start = Some(func);
-            }
-            Field::Element(element) => self.elements.push(element)?,
-            Field::Segment(segment) => self.segments.push(segment)?,
+            Field::Type(signature) => push(&mut self.types, signature),
+            Field::Import(import) => self.add_import(import, left),
+            Field::Func(func) => push(&mut self.funcs, func),
+            Field::Table(table) => push(&mut self.tables, table),
+            Field::Memory(memory) => push(&mut self.memories, memory),
+            Field::Global(global) => push(&mut self.globals, global),
+            Field::Export(export) => push(&mut self.exports, export),
+            Field::Start(func) => self.set_start(func, left),
+            Field::Element(element) => push(&mut self.elements, element),
+            Field::Segment(segment) => push(&mut self.segments, segment),
         }
-        Ok(())
     }
 
     /// The module of these parts. No memory is taken.
@@ -151,8 +174,29 @@ fn add_fields<'a>(
     }
 }
 
-/// The module that these tokens denote, given its declarations.
+// Reads a module into the parts.
 #[tactic(auto, unfolding(crate::specs::Modules::read_module))]
+fn add_module(
+    alloc: Global,
+    nesting: usize,
+    scopes: &Scopes,
+    parts: &mut Parts,
+    tokens: &[Token],
+) -> Result<(), ReadError>
+    requires { parts_of parts.old ≡ no_fields }
+    ensures { Gives (λ _. parts_of parts.new) result (read_module nesting scopes.now tokens.now) }
+{
+    let rest = skip_group("module", tokens)?;
+    let most = tokens.len();
+    let rest = add_fields(alloc, nesting, scopes, parts, most, after_id(rest))?;
+    let rest = skip_close(rest)?;
+    if !rest.is_empty() {
+        return Err(fault(rest));
+    }
+    Ok(())
+}
+
+/// The module that these tokens denote, given its declarations.
 pub fn read_module(
     alloc: Global,
     nesting: usize,
@@ -161,19 +205,7 @@ pub fn read_module(
 ) -> Result<Module, ReadError>
     ensures { Gives (λ m. m) result (read_module nesting scopes.now tokens.now) }
 {
-    let rest = skip_group("module", tokens)?;
     let mut parts = Parts::new(alloc);
-    let rest = add_fields(
-        alloc,
-        nesting,
-        scopes,
-        &mut parts,
-        tokens.len(),
-        after_id(rest),
-    )?;
-    let rest = skip_close(rest)?;
-    if !rest.is_empty() {
-        return Err(fault(rest));
-    }
+    add_module(alloc, nesting, scopes, &mut parts, tokens)?;
     Ok(parts.into_module())
 }

@@ -1,8 +1,9 @@
 //! The phrases that all fields share (6.4, 6.5.1, 6.6.3).
 
-ghost use Rattle.std.specs.Prelude.{◌≡◌, [], ◌∷◌, not, is_none, codes, length, Ok};
+ghost use Rattle.std.specs.Prelude.{◌≡◌, [], ◌∷◌, not, is_none, codes, length, Ok, bytes_eq};
 ghost use Rattle.text_assembler.specs.declared.fault.ReadError.TheVariants as errors;
 ghost use Rattle.text_assembler.specs.Inside.Answers.{Gives, Finds, with_front};
+ghost use Rattle.text_assembler.specs.Inside.Steps.{open_word, read_grouped};
 ghost use Rattle.wasm_binary.specs.Canonical.{same_type};
 ghost use Rattle.text_assembler.specs.Reading.{read_parts};
 ghost use Rattle.text_assembler.specs.Phrases.{is_close, skip_close, skip_open, take_word, take_text, begins_word, skip_word, begins_group, is_past_groups, skip_group, read_name, begins_id, id_of, after_id, read_number, begins_index, is_past_indices, read_index, one_index, read_indices, val_type_of, read_val_type, one_type, read_result, read_results, one_nameless, read_bound, read_group, read_bindings, names_of, types_of, same_types, read_limits};
@@ -118,6 +119,13 @@ pub fn begins_word(word: &str, tokens: &[Token]) -> bool
     }
 }
 
+/// Whether a word is this keyword.
+pub fn is_word(word: &[u8], keyword: &str) -> bool
+    ensures { result ≡ bytes_eq word.now keyword.now }
+{
+    word == keyword.as_bytes()
+}
+
 /// What follows this keyword.
 #[tactic(auto, unfolding(crate::specs::Phrases::skip_word, crate::specs::Phrases::begins_word))]
 pub fn skip_word<'a>(word: &str, tokens: &'a [Token]) -> Result<&'a [Token], ReadError>
@@ -131,6 +139,14 @@ pub fn skip_word<'a>(word: &str, tokens: &'a [Token]) -> Result<&'a [Token], Rea
     } else {
         Err(fault(tokens))
     }
+}
+
+/// `(` and a word, which is given, and what follows them.
+pub fn open_word(tokens: &[Token]) -> Result<(&[u8], &[Token]), ReadError>
+    ensures { Gives (λ x. (x.0.now, x.1.now)) result (open_word tokens.now) }
+{
+    let rest = skip_open(tokens)?;
+    take_word(rest)
 }
 
 /// Whether `(` and this keyword are next.
@@ -310,13 +326,26 @@ pub fn read_val_type(tokens: &[Token]) -> Result<(ValType, &[Token]), ReadError>
     ensures { Gives (λ x. (x.0, x.1.now)) result (read_val_type tokens.now) }
 {
     let (word, rest) = take_word(tokens)?;
-    if word == b"i32".as_slice() {
+    if is_word(word, "i32") {
         Ok((ValType::I32, rest))
-    } else if word == b"i64".as_slice() {
+    } else if is_word(word, "i64") {
         Ok((ValType::I64, rest))
     } else {
         Err(fault(tokens))
     }
+}
+
+/// The type of a value in parentheses, after this keyword, and what follows it.
+pub fn read_grouped<'a>(
+    keyword: &str,
+    tokens: &'a [Token],
+) -> Result<(ValType, &'a [Token]), ReadError>
+    ensures { Gives (λ x. (x.0, x.1.now)) result (read_grouped keyword.now tokens.now) }
+{
+    let rest = skip_group(keyword, tokens)?;
+    let (val_type, rest) = read_val_type(rest)?;
+    let rest = skip_close(rest)?;
+    Ok((val_type, rest))
 }
 
 // The type of a value with its place, and what follows it.

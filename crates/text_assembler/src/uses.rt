@@ -2,6 +2,7 @@
 
 ghost use Rattle.std.specs.Prelude.{◌≡◌, [], ◌∷◌, ◌++◌, is_none, Ok, IfOk};
 ghost use Rattle.text_assembler.specs.Inside.Answers.{Gives};
+ghost use Rattle.text_assembler.specs.Inside.Steps.{func_type, read_signature, used_params};
 ghost use Rattle.text_assembler.specs.Phrases.{names_of, types_of};
 ghost use Rattle.text_assembler.specs.Instructions.{declare_all, is_unwritten, fits_signature, params_of_use, read_type_index, read_use, read_nameless_use};
 
@@ -29,6 +30,25 @@ pub struct TypeUse {
 struct Ends {
     params: usize,
     results: usize,
+}
+
+/// Parameters and results as they are written.
+#[derive(Drop)]
+pub struct Written {
+    params: Vec<Binding>,
+    results: Vec<WrittenType>,
+    ends: Ends,
+}
+
+impl Written {
+    /// The type of a function that has them.
+    pub fn func_type(&self, alloc: Global) -> Result<FuncType, AllocError>
+        ensures { IfOk result (λ t. t ≡ func_type self.now.params.items self.now.results.items) }
+    {
+        let params = val_types_of(alloc, self.params.as_slice())?;
+        let results = without_places(alloc, self.results.as_slice())?;
+        Ok(FuncType { params, results })
+    }
 }
 
 /// The same name, in memory of its own.
@@ -66,8 +86,8 @@ fn first_name(params: &[Binding]) -> usize {
     0
 }
 
-/// The types of these parameters or locals, in order.
-pub fn types_of(alloc: Global, bindings: &[Binding]) -> Result<Vec<WrittenType>, AllocError>
+// The types of these parameters or locals, in order.
+fn types_of(alloc: Global, bindings: &[Binding]) -> Result<Vec<WrittenType>, AllocError>
     ensures { IfOk result (λ types. types.items ≡ types_of bindings.now) }
 {
     bindings
@@ -76,8 +96,8 @@ pub fn types_of(alloc: Global, bindings: &[Binding]) -> Result<Vec<WrittenType>,
         .collect(alloc)
 }
 
-/// These types, without their places.
-pub fn without_places(alloc: Global, types: &[WrittenType]) -> Result<Sequence<ValType>, AllocError>
+// These types, without their places.
+fn without_places(alloc: Global, types: &[WrittenType]) -> Result<Sequence<ValType>, AllocError>
     ensures { IfOk result (λ all. all ≡ types.now) }
 {
     let types = types
@@ -85,6 +105,14 @@ pub fn without_places(alloc: Global, types: &[WrittenType]) -> Result<Sequence<V
         .map(|written| written.val_type())
         .collect(alloc)?;
     Ok(Sequence::new(types))
+}
+
+/// The types of these parameters or locals, in order and without their places.
+pub fn val_types_of(alloc: Global, bindings: &[Binding]) -> Result<Sequence<ValType>, AllocError>
+    ensures { IfOk result (λ types. types ≡ types_of bindings.now) }
+{
+    let types = types_of(alloc, bindings)?;
+    without_places(alloc, types.as_slice())
 }
 
 // How many tokens are left where these parameters and results are first not those of the type.
@@ -109,24 +137,59 @@ fn misfit(
 
 // The parameters of a use as locals.
 #[tactic(auto, unfolding(crate::specs::Instructions::params_of_use))]
-fn params_of_use(
-    alloc: Global,
-    signature: &FuncType,
-    params: &[Binding],
-    results: &[WrittenType],
-    ends: Ends,
-) -> Result<Ids, ReadError>
-    ensures { Gives (λ x. x) result (params_of_use signature.now params.now results.now) }
+fn params_of_use(alloc: Global, signature: &FuncType, written: &Written) -> Result<Ids, ReadError>
+    ensures { Gives (λ x. x) result
+        (params_of_use signature.now written.now.params.items written.now.results.items) }
 {
+    let params = written.params.as_slice();
+    let results = written.results.as_slice();
     if params.is_empty() && results.is_empty() {
         return Ok(Ids::nameless(alloc, signature.params.len()));
     }
-    if let Some(left) = misfit(alloc, signature, params, results, ends)? {
+    if let Some(left) = misfit(alloc, signature, params, results, written.ends)? {
         return Err(ReadError::Malformed { left });
     }
     let mut ids = Ids::new(alloc);
     declare_bindings(alloc, &mut ids, params)?;
     Ok(ids)
+}
+
+// The parameters, as locals, of a use of the type with this index, which is where so many tokens are left.
+fn used_params(
+    alloc: Global,
+    scopes: &Scopes,
+    index: u32,
+    left: usize,
+    written: &Written,
+) -> Result<Ids, ReadError>
+    ensures { Gives (λ x. x) result
+        (used_params scopes.now index written.now.params.items written.now.results.items) }
+{
+    match scopes.signatures.as_slice().get(index as usize) {
+        Some(signature) => params_of_use(alloc, signature, written),
+        None => Err(ReadError::Malformed { left }),
+    }
+}
+
+/// The parameters and results that are next, and what follows them.
+pub fn read_signature(alloc: Global, tokens: &[Token]) -> Result<(Written, &[Token]), ReadError>
+    ensures { Gives (λ x. ((x.0.params.items, x.0.results.items), x.1.now)) result
+        (read_signature tokens.now) }
+{
+    let mut params = Vec::new(alloc);
+    let after_params = push_bindings(alloc, "param", &mut params, tokens)?;
+    let mut results = Vec::new(alloc);
+    let rest = push_results(&mut results, after_params)?;
+    let ends = Ends {
+        params: after_params.len(),
+        results: rest.len(),
+    };
+    let written = Written {
+        params,
+        results,
+        ends,
+    };
+    Ok((written, rest))
 }
 
 // `( type index )`, and what follows it.
@@ -154,28 +217,11 @@ pub fn read_use<'a>(
         (read_use scopes.now tokens.now) }
 {
     let (type_index, rest) = read_type_index(scopes, tokens)?;
-    let mut params = Vec::new(alloc);
-    let after_params = push_bindings(alloc, "param", &mut params, rest)?;
-    let mut results = Vec::new(alloc);
-    let rest = push_results(&mut results, after_params)?;
-    let Some(signature) = scopes.signatures.as_slice().get(type_index as usize) else {
-        // The index is the third token.
-        return Err(ReadError::Malformed {
-            left: tokens.len().saturating_sub(2),
-        });
-    };
-    let ends = Ends {
-        params: after_params.len(),
-        results: rest.len(),
-    };
-    let first_name = first_name(params.as_slice());
-    let params = params_of_use(
-        alloc,
-        signature,
-        params.as_slice(),
-        results.as_slice(),
-        ends,
-    )?;
+    let (written, rest) = read_signature(alloc, rest)?;
+    // The index is the third token.
+    let left = tokens.len().saturating_sub(2);
+    let params = used_params(alloc, scopes, type_index, left, &written)?;
+    let first_name = first_name(written.params.as_slice());
     Ok((
         TypeUse {
             type_index,
