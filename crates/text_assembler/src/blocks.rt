@@ -38,8 +38,7 @@ fn read_block_type<'a>(
     if !begins_group("result", tokens) {
         return Ok((BlockType::Empty, tokens));
     }
-    let (val_type, rest) = read_grouped("result", tokens)?;
-    Ok((BlockType::One(val_type), rest))
+    made!(read_grouped("result", tokens), val_type => BlockType::One(val_type))
 }
 
 // The label and the type of a block, and what follows them.
@@ -127,8 +126,8 @@ fn read_simple<'a>(
             left: tokens.len() + 1,
         });
     };
-    let (simple, rest) = read_immediates(alloc, scopes, locals, labels, keyword, tokens)?;
-    Ok((Instr::Simple(simple), rest))
+    let read = read_immediates(alloc, scopes, locals, labels, keyword, tokens);
+    made!(read, simple => Instr::Simple(simple))
 }
 
 // A body inside a block with this label, and what follows it.

@@ -174,8 +174,7 @@ fn read_memory(tokens: &[Token]) -> Result<(Field, &[Token]), ReadError>
     ensures { Gives (λ x. (x.0, x.1.now)) result
         (made fields.Memory (read_memory tokens.now)) }
 {
-    let (limits, rest) = read_limits(after_id(tokens))?;
-    Ok((Field::Memory(limits), rest))
+    made!(read_limits(after_id(tokens)), limits => Field::Memory(limits))
 }
 
 #[tactic(auto, unfolding(crate::specs::Modules::read_global_type))]
@@ -186,8 +185,7 @@ fn read_global_type(tokens: &[Token]) -> Result<((ValType, Mutability), &[Token]
         let (val_type, rest) = read_val_type(tokens)?;
         return Ok(((val_type, Mutability::Const), rest));
     }
-    let (val_type, rest) = read_grouped("mut", tokens)?;
-    Ok(((val_type, Mutability::Var), rest))
+    made!(read_grouped("mut", tokens), val_type => (val_type, Mutability::Var))
 }
 
 // The instructions of a constant, and what follows them.
@@ -374,16 +372,14 @@ fn read_segment<'a>(
 fn read_type_field(alloc: Global, tokens: &[Token]) -> Result<(Field, &[Token]), ReadError>
     ensures { Gives (λ x. (x.0, x.1.now)) result (made fields.Type (read_type tokens.now)) }
 {
-    let (signature, rest) = read_type(alloc, tokens)?;
-    Ok((Field::Type(signature), rest))
+    made!(read_type(alloc, tokens), signature => Field::Type(signature))
 }
 
 fn read_start<'a>(scopes: &Scopes, tokens: &'a [Token]) -> Result<(Field, &'a [Token]), ReadError>
     ensures { Gives (λ x. (x.0, x.1.now)) result
         (made fields.Start (read_index scopes.now.funcs tokens.now)) }
 {
-    let (func, rest) = read_index(&scopes.funcs, tokens)?;
-    Ok((Field::Start(func), rest))
+    made!(read_index(&scopes.funcs, tokens), func => Field::Start(func))
 }
 
 // A function, table, memory or global after its keyword, and what follows it.

@@ -15,6 +15,17 @@ use fault::ReadError;
 use std::alloc::Global;
 use wasm_ast::{Instr, Refusal};
 
+// What was read, made into something else. A check of this takes a quarter less time than one of `?`, which
+// would also convert the error.
+macro_rules! made {
+    ($read:expr, $found:ident => $made:expr) => {
+        match $read {
+            Ok(($found, rest)) => Ok(($made, rest)),
+            Err(error) => Err(error),
+        }
+    };
+}
+
 mod blocks;
 mod characters;
 mod declare;

@@ -352,8 +352,7 @@ pub fn read_grouped<'a>(
 fn read_written_type(tokens: &[Token]) -> Result<(WrittenType, &[Token]), ReadError>
     ensures { Gives (λ x. (x.0, x.1.now)) result (read_val_type tokens.now) }
 {
-    let (val_type, rest) = read_val_type(tokens)?;
-    Ok((WrittenType::new(val_type, tokens.len()), rest))
+    made!(read_val_type(tokens), val_type => WrittenType::new(val_type, tokens.len()))
 }
 
 #[tactic(auto, unfolding(crate::specs::Phrases::one_type))]

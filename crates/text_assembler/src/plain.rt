@@ -26,8 +26,7 @@ fn read_call_indirect<'a>(
 ) -> Result<(Simple, &'a [Token]), ReadError>
     ensures { Gives (λ x. (x.0, x.1.now)) result (read_call_indirect scopes.now tokens.now) }
 {
-    let (index, rest) = read_nameless_use(alloc, scopes, tokens)?;
-    Ok((Simple::CallIndirect(index), rest))
+    made!(read_nameless_use(alloc, scopes, tokens), index => Simple::CallIndirect(index))
 }
 
 #[tactic(auto, unfolding(crate::specs::Instructions::read_br_table, crate::specs::Instructions::last_of), using(crate::proofs::Immediates::last_is))]
@@ -163,41 +162,23 @@ pub fn read_immediates<'a>(
     match keyword {
         Keyword::Unreachable => Ok((Simple::Unreachable, tokens)),
         Keyword::Nop => Ok((Simple::Nop, tokens)),
-        Keyword::Br => {
-            let (label, rest) = read_index(labels, tokens)?;
-            Ok((Simple::Br(label), rest))
-        }
-        Keyword::BrIf => {
-            let (label, rest) = read_index(labels, tokens)?;
-            Ok((Simple::BrIf(label), rest))
-        }
+        Keyword::Br => made!(read_index(labels, tokens), label => Simple::Br(label)),
+        Keyword::BrIf => made!(read_index(labels, tokens), label => Simple::BrIf(label)),
         Keyword::BrTable => read_br_table(alloc, labels, tokens),
         Keyword::Return => Ok((Simple::Return, tokens)),
-        Keyword::Call => {
-            let (func, rest) = read_index(&scopes.funcs, tokens)?;
-            Ok((Simple::Call(func), rest))
-        }
+        Keyword::Call => made!(read_index(&scopes.funcs, tokens), func => Simple::Call(func)),
         Keyword::CallIndirect => read_call_indirect(alloc, scopes, tokens),
         Keyword::Drop => Ok((Simple::Drop, tokens)),
         Keyword::Select => Ok((Simple::Select, tokens)),
         Keyword::MemorySize => Ok((Simple::MemorySize, tokens)),
         Keyword::MemoryGrow => Ok((Simple::MemoryGrow, tokens)),
-        Keyword::Local(op) => {
-            let (local, rest) = read_index(locals, tokens)?;
-            Ok((Simple::Local(op, local), rest))
-        }
-        Keyword::Global(op) => {
-            let (global, rest) = read_index(&scopes.globals, tokens)?;
-            Ok((Simple::Global(op, global), rest))
-        }
-        Keyword::Load(op) => {
-            let (at, rest) = read_mem_arg(load_bytes(op), tokens)?;
-            Ok((Simple::Load(op, at), rest))
-        }
-        Keyword::Store(op) => {
-            let (at, rest) = read_mem_arg(store_bytes(op), tokens)?;
-            Ok((Simple::Store(op, at), rest))
-        }
+        Keyword::Local(op) => made!(read_index(locals, tokens), local => Simple::Local(op, local)),
+        Keyword::Global(op) =>
+            made!(read_index(&scopes.globals, tokens), global => Simple::Global(op, global)),
+        Keyword::Load(op) =>
+            made!(read_mem_arg(load_bytes(op), tokens), at => Simple::Load(op, at)),
+        Keyword::Store(op) =>
+            made!(read_mem_arg(store_bytes(op), tokens), at => Simple::Store(op, at)),
         Keyword::Const(val_type) => read_const(val_type, tokens),
         Keyword::Unary(val_type, op) => Ok((Simple::Unary(val_type, op), tokens)),
         Keyword::Binary(val_type, op) => Ok((Simple::Binary(val_type, op), tokens)),
