@@ -2,10 +2,9 @@
 
 use crate::checks::check_text;
 use crate::fixtures::{
-    BUSY_LINE, CREATED_LINE, EXISTS_LINE, EXIT_SEVEN_CONFIG, EXIT_SEVEN_HEX, EXIT_SEVEN_TEXT,
-    EXITED_LINE, LIMIT_LINE, LOOP_CONFIG, LOOP_TEXT, NO_OUTPUT_LINE, NOT_RETURNED_LINE,
-    NOT_TAKEN_LINE, ONE_TURN_LINE, OUT_OF_RANGE_LINE, PUT_LINE, RETURNED_LINE, STARTED_LINE,
-    TAKEN_LINE,
+    BUSY_LINE, CREATED_LINE, EXIT_SEVEN_CONFIG, EXIT_SEVEN_HEX, EXITED_LINE, LOOP_CONFIG,
+    LOOP_TEXT, NO_OUTPUT_LINE, NOT_RETURNED_LINE, NOT_TAKEN_LINE, ONE_TURN_LINE, OUT_OF_RANGE_LINE,
+    PUT_LINE, RETURNED_LINE, STARTED_LINE, TAKEN_LINE,
 };
 use shim_service::{event_line_of, line_of};
 use std::alloc::{AllocError, Global};
@@ -97,47 +96,9 @@ fn requests_are_prepared_and_applied(rt: HostRuntime) -> Result<(), Fail> {
     start_is_called(&rt, alloc, &mut board)
 }
 
-/// A text, and the line that a put of it is answered.
-struct TextRow {
-    text: &'static str,
-    line: &'static str,
-}
-
-/// A text that is stored, the same again, and two of which nothing is.
-const TEXTS: &[TextRow] = &[
-    TextRow {
-        text: EXIT_SEVEN_TEXT,
-        line: PUT_LINE,
-    },
-    TextRow {
-        text: EXIT_SEVEN_TEXT,
-        line: EXISTS_LINE,
-    },
-    TextRow {
-        text: "(module (type (func)) (func (type 0) i32.cons 1))",
-        line: "{\"column\":38,\"error\":\"BadText\",\"line\":1,\"number\":18,\"ok\":false}\n",
-    },
-    TextRow {
-        text: "(module (memory 257))",
-        line: LIMIT_LINE,
-    },
-];
-
 fn put_text(alloc: Global, text: &str) -> Result<Request, AllocError> {
     let text = Text::from_str(alloc, text)?;
     Ok(Request::PutText { text })
-}
-
-// A text is stored as the bytes of its module; a fault in it has its place.
-#[test]
-fn texts_are_put(rt: HostRuntime) -> Result<(), Fail> {
-    let alloc = rt.alloc();
-    let mut board = new_board(alloc)?;
-    for row in TEXTS {
-        let answer = board.call(put_text(alloc, row.text)?);
-        check_answer(&rt, alloc, &answer, row.line)?;
-    }
-    Ok(())
 }
 
 fn ended(alloc: Global, board: &mut Board) -> Result<(), Fail> {

@@ -4,10 +4,6 @@
 pub const EXIT_SEVEN_HEX: &str =
     "0061736d0100000001080260017f0060000002240116776173695f736e617073686f745f70726576696577310970726f635f65786974000003020101070a01065f737461727400010a08010600410710000b";
 
-/// A text that denotes it.
-pub const EXIT_SEVEN_TEXT: &str =
-    r#"(module (type $p (func (param i32))) (type $v (func)) (import "wasi_snapshot_preview1" "proc_exit" (func $exit (type $p))) (func $s (type $v) i32.const 7 call $exit) (export "_start" (func $s)))"#;
-
 /// The config of a task that runs it.
 pub const EXIT_SEVEN_CONFIG: &str =
     r#"{"ociVersion":"1.0.2","process":{"args":["a"],"cwd":"/"},"annotations":{"dev.shim.module":"sha256:2194f0d23626e6104d4a7a891350fbd0e82a54a29dd596a672d41474e9b6ee0a"}}"#;
@@ -63,10 +59,6 @@ pub const NOT_RETURNED_LINE: &str = "{\"ok\":true,\"returned\":false}\n";
 pub const BAD_REQUEST_LINE: &str = "{\"error\":\"BadRequest\",\"number\":1,\"ok\":false}\n";
 
 pub const BAD_ID_LINE: &str = "{\"error\":\"BadId\",\"number\":2,\"ok\":false}\n";
-
-pub const EXISTS_LINE: &str = "{\"error\":\"Exists\",\"number\":3,\"ok\":false}\n";
-
-pub const LIMIT_LINE: &str = "{\"error\":\"Limit\",\"number\":9,\"ok\":false}\n";
 
 pub const NOT_FOUND_LINE: &str = "{\"error\":\"NotFound\",\"number\":4,\"ok\":false}\n";
 

@@ -25,4 +25,4 @@ mod stores;
 #[cfg(test)]
 mod streams;
 #[cfg(test)]
-mod text_faults;
+mod texts;
