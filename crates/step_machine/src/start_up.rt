@@ -2,7 +2,7 @@
 
 ghost use Rattle.std.specs.Prelude.{◌≡◌, ◌∷◌, ◌++◌, [], ℕ, Some, map, option_to_list};
 ghost use Rattle.wasm_ast.specs.declared.module.Module.{Module as ModuleValue};
-ghost use Rattle.flat_code.specs.Layout.{cell_of};
+ghost use Rattle.flat_code.specs.Layout.{cells_of};
 ghost use Rattle.flat_code.specs.FlatCode.{flat_of};
 ghost use Rattle.oci_config.specs.declared.process.ProcessConfig.{ProcessConfig};
 ghost use Rattle.oci_config.specs.Processes.{config_of};
@@ -19,7 +19,7 @@ use crate::do_calls::begin;
 use crate::ends::End;
 use crate::kept::Kept;
 use crate::settle::settle;
-use flat_code::Cell;
+use flat_code::Cells;
 
 /// The function that is invoked first, and the one that is invoked after it.
 fn invocations(start: Option<u32>, entry: u32) -> (u32, Option<u32>)
@@ -34,7 +34,7 @@ fn invocations(start: Option<u32>, entry: u32) -> (u32, Option<u32>)
 /// Invokes the start function, if there is one, and else the entry, which is then pending after it; up to
 /// the first instruction. Some if the execution ends before.
 pub fn start_up(
-    code: &[Cell],
+    code: Cells<'_>,
     callees: &[Callee],
     at: &mut Current,
     kept: &mut Kept,
@@ -44,7 +44,7 @@ pub fn start_up(
     requires limit { at.old.stack.limit ≡ max_values }
     ensures stopped { (m : ModuleValue) → (p : ProcessConfig) → HasTexts p
         → config_of kept.old.process ≡ p → Runnable m
-        → map cell_of code.now ≡ map (λ l. l.cell) (flat_of m).lines
+        → cells_of code.entry ≡ map (λ l. l.cell) (flat_of m).lines
         → map callee_of callees.now ≡ all_callees m → start ≡ m.start → entry_of m ≡ Some entry
         → Stored m (flat_from at.old kept.old) (first_store m p)
         → Stopped m p result (flat_from at.new kept.new) 0 }
