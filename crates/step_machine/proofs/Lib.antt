@@ -47,6 +47,7 @@ pub mod SystemWords
 pub mod HostParts
 pub mod StartLemmas
 pub mod RunTurns
+pub mod RunSteps
 pub mod SliceLemmas
 pub mod SliceCuts
 pub mod WrittenPlaces
