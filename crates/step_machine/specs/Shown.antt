@@ -42,3 +42,17 @@ outer_shown tree = []
 abbrev pub shown : State → List ShownFrame
 shown (running tree) = outer_shown tree
 shown state = []
+
+-- the operands that the next instruction finds, the newest first: those above the innermost label and frame
+abbrev mutual
+  pub innermost : Tree → List Value
+  innermost (seq operands items) = items_innermost operands items
+
+  pub items_innermost : (operands : List Value) → Items → List Value
+  items_innermost operands done = operands
+  items_innermost operands (more item rest) = item_innermost operands item
+
+  pub item_innermost : (operands : List Value) → Item → List Value
+  item_innermost operands (label arity place target body) = innermost body
+  item_innermost operands (frame arity func locals body) = innermost body
+  item_innermost operands item = operands

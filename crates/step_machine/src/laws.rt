@@ -1,25 +1,27 @@
 //! Laws of execution. Each function has a contract and no body.
 
-ghost use Rattle.std.specs.Prelude.{◌≡◌, ◌≢◌, ℕ, sum, ◌+◌, ◌^◌, ◌<◌, ◌≤◌, List, [], ◌∷◌, ◌++◌, All, true, false, Some, None, slice_get};
+ghost use Rattle.std.specs.Prelude.{◌≡◌, ◌≢◌, ℕ, sum, ◌+◌, ◌^◌, ◌<◌, ◌≤◌, List, [], ◌∷◌, ◌++◌, All, true, false, Some, None, slice_get, length, reverse};
 ghost use Rattle.wasm_ast.specs.declared.values.Value.{Value};
+ghost use Rattle.wasm_ast.specs.declared.values.FuncType.{FuncType};
 ghost use Rattle.wasm_ast.specs.declared.module.Module.{Module};
+ghost use Rattle.wasm_ast.specs.Syntax.{Op, Ops, next};
 ghost use Rattle.wasm_ast.specs.declared.place.Place.{Place};
 ghost use Rattle.wasm_ast.specs.Ranged.{Ranged};
 ghost use Rattle.validator.specs.Typing.{ValidModule};
 ghost use Rattle.oci_config.specs.declared.process.ProcessConfig.{ProcessConfig};
 ghost use Rattle.oci_config.specs.declared.stream.Stream.{Stream};
 ghost use Rattle.step_machine.specs.declared.ends.SliceEnd.TheVariants as slice;
-ghost use Rattle.step_machine.specs.Limits.{last_turn};
-ghost use Rattle.step_machine.specs.Program.{Program, functions};
+ghost use Rattle.step_machine.specs.Limits.{last_turn, max_values};
+ghost use Rattle.step_machine.specs.Program.{Program, functions, own};
 ghost use Rattle.step_machine.specs.Places.{Next, tree_next, body_of, written_at};
 ghost use Rattle.step_machine.specs.Configuration.{Store, State, Target, Tree, seq, Items, more, label, frame, running, stuck, Configuration, acts, is_halted, is_settled};
 ghost use Rattle.step_machine.specs.Effects.{Env};
 ghost use Rattle.step_machine.specs.Reduction.{inside, reduce};
 ghost use Rattle.step_machine.specs.Turns.{from, numbered, turn};
-ghost use Rattle.step_machine.specs.Instantiation.{instantiation_refusal, initial, after, ended};
+ghost use Rattle.step_machine.specs.Instantiation.{entry, instantiation_refusal, initial, after, ended};
 ghost use Rattle.step_machine.specs.Slices.{ends_slice, turns_made, slices_made, slice_end};
 ghost use Rattle.step_machine.specs.declared.shown.ShownFrame.{ShownFrame};
-ghost use Rattle.step_machine.specs.Shown.{shown};
+ghost use Rattle.step_machine.specs.Shown.{shown, innermost};
 ghost use Rattle.step_machine.specs.MachineView.{written_to};
 ghost use Rattle.step_machine.specs.Worked.{in_label, in_frame};
 
@@ -141,6 +143,25 @@ pub fn the_next_is_shown()
     ensures { (t : Tree) (x : Next) → tree_next None t ≡ Some x
         → (f : ShownFrame) × (outer : List ShownFrame) × (shown (running t) ≡ f ∷ outer)
         × (f.func ≡ x.func) × (f.next ≡ Some x.place) }
+{}
+
+/// The operands that the next instruction finds are the last ones shown of the innermost frame.
+pub fn its_operands_are_shown()
+    ensures { (t : Tree) (x : Next) → tree_next None t ≡ Some x
+        → (f : ShownFrame) × (outer : List ShownFrame) × (below : List Value)
+        × (shown (running t) ≡ f ∷ outer) × (f.operands ≡ below ++ reverse (innermost t)) }
+{}
+
+/// Before the first turn of a module without a start function its entry's frame alone is shown: its
+/// first instruction is next, no block is open, and there are no operands.
+pub fn entries_begin_so()
+    ensures { (m : Module) (p : ProcessConfig) (func : ℕ)
+        (t : FuncType) (zeros : List Value) (o : Op) (os : Ops)
+        → m.start ≡ None → entry m ≡ Some func
+        → slice_get (functions m) func ≡ Some (own t zeros (next o os))
+        → length zeros ≤ max_values
+        → shown (after m p 0).state
+        ≡ record { func = func; next = Some 0; labels = []; locals = zeros; operands = [] } ∷ [] }
 {}
 
 /// A configuration that has ended is shown without frames.
