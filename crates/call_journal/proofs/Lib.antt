@@ -1,0 +1,2 @@
+pub mod ComingLemmas
+pub mod HistoryLemmas

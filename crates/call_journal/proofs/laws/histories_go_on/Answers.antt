@@ -1,0 +1,8 @@
+use Rattle.call_journal.proofs.HistoryLemmas.{cut, one_more}
+use Rattle.call_journal.proofs.laws.histories_go_on.Goals as goal
+
+pub returns-clause-more : goal.returns-clause-more
+returns-clause-more c s last mid next h e a r finds answers = one_more h e a s last mid next r finds answers
+
+pub returns-clause-cut : goal.returns-clause-cut
+returns-clause-cut c s s' front back r = cut front back s s' r
