@@ -2,12 +2,17 @@
 
 ghost use Rattle.std.specs.Prelude.{◌≡◌, ◌++◌, ℕ, List, [], ◌∷◌, Option, Some, true};
 ghost use Rattle.task_board.specs.declared.request.Request.{Request};
+ghost use Rattle.task_board.specs.declared.event.Event.{Event};
+ghost use Rattle.task_board.specs.declared.event.EventReply.{EventReply};
 ghost use Rattle.task_board.specs.BoardState.{Task, BoardState, empty, task_of};
-ghost use Rattle.task_board.specs.Step.{Answer, Answers, is_budget};
+ghost use Rattle.task_board.specs.Run.{Run};
+ghost use Rattle.task_board.specs.Step.{Answer, Answers, Step, is_budget};
 ghost use Rattle.task_board.specs.Tasks.{can_lend, lent, HasReturned};
 ghost use Rattle.call_journal.specs.declared.entry.Entry.{Entry as EntryValue};
 ghost use Rattle.call_journal.specs.declared.entry.Found.{Found as FoundValue};
-ghost use Rattle.call_journal.specs.Replay.{ComesTo, Finds, Replays, IsLegal};
+ghost use Rattle.call_journal.specs.Finding.{named};
+ghost use Rattle.call_journal.specs.Records.{entry_on, IsOfSlice, Records};
+ghost use Rattle.call_journal.specs.Replay.{ComesTo, Finds, Replays, IsLegal, IsSince, IsReplay};
 
 /// The empty history is legal, and so is each beginning of a legal history.
 pub fn histories_have_legal_beginnings()
@@ -38,4 +43,35 @@ pub fn slices_come_together()
         → ComesTo t (lent t budget) }
     ensures give_back { (t t' : Task) → HasReturned t t' → ComesTo t t' }
     ensures again { (t t' t'' : Task) → ComesTo t t' → ComesTo t' t'' → ComesTo t t'' }
+{}
+
+/// Slices of a task commute with the calls that do not name it: on two boards between which there are only
+/// slices of tasks that a call does not name, it may be answered alike, and then there are only those slices
+/// between the boards that it leaves.
+pub fn calls_commute_with_slices()
+    ensures { (s now : BoardState) (r : Request) (a : Answer) (now' : BoardState) → IsSince s now
+        → ((id : List ℕ) → named r ≡ Some id → task_of id s.tasks ≡ task_of id now.tasks)
+        → Answers now r a now'
+        → (s' : BoardState) × Answers s r a s' × IsSince s' now' }
+{}
+
+/// The board of a history stays its board: a take or a return adds nothing to the history, and a call adds
+/// one entry, with what it finds.
+pub fn replays_go_on()
+    ensures empty { IsReplay [] empty }
+    ensures slice { (h : List EntryValue) (s : BoardState) (e : Event) (a : EventReply) (s' : BoardState)
+        → IsReplay h s → IsOfSlice e → Step s e a s' → IsReplay h s' }
+    ensures call { (h : List EntryValue) (s : BoardState) (seat : ℕ) (r : Request) (a : Answer)
+        (s' : BoardState) → IsReplay h s → Answers s r a s'
+        → IsReplay (h ++ entry_on s seat r ∷ []) s' }
+{}
+
+/// The calls of any run of events, with what they found, replay to the board that the events lead to.
+pub fn runs_replay()
+    ensures replay { (es : List Event) (rs : List EventReply) (h : List EntryValue) (s : BoardState)
+        → Records empty es rs h s → IsReplay h s }
+    ensures run { (es : List Event) (rs : List EventReply) (h : List EntryValue) (s : BoardState)
+        → Records empty es rs h s → Run empty es rs s }
+    ensures journal { (es : List Event) (rs : List EventReply) (s : BoardState) → Run empty es rs s
+        → (h : List EntryValue) × Records empty es rs h s }
 {}

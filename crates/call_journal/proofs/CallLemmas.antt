@@ -1,0 +1,207 @@
+-- A call is answered alike on two boards, the second of which is the first with slices of tasks that it does
+-- not name taken and returned.
+use Rattle.std.proofs.Common.{◌≡◌, ℕ, List, [], ◌∷◌, length, nat_le, Bool, not, ◌||◌, Option, Some, None, is_some, is_none, Ok, Err, refl, sym, ap, ap₂, ◌∙◌, subst}
+use Rattle.wasm_ast.specs.Identifiers.{is_id}
+use Rattle.wasm_ast.specs.declared.refusal.Refusal.{Refusal}
+use Rattle.wasm_ast.specs.declared.refusal.Refusal.TheVariants as refusal
+use Rattle.oci_config.specs.declared.process.ProcessConfig.{ProcessConfig}
+use Rattle.oci_config.specs.Config.{process_read}
+use Rattle.content_leases.specs.Digests.{digest_of}
+use Rattle.content_leases.specs.StoreState.{StoreState, with_content, without_content, with_lease, with_member, without_lease, unheld, collected}
+use Rattle.content_leases.specs.Refusals.{Refusals, first_refusal, put_refusals, remove_refusals, lease_create_refusals, lease_add_refusals, lease_delete_refusals}
+use Rattle.task_lifecycle.specs.declared.lifecycle.TaskCall.TheVariants as call
+use Rattle.task_board.specs.declared.request.Request.{Request}
+use Rattle.task_board.specs.declared.request.Request.TheVariants as request
+use Rattle.task_board.specs.declared.request.Reply.{Reply}
+use Rattle.task_board.specs.declared.request.Reply.TheVariants as reply
+use Rattle.task_board.specs.Limits.{max_tasks, max_creates}
+use Rattle.task_board.specs.BoardState.{Task, Entries, BoardState, created_task, used_by, with_store, task_of, put_task, change_task, remove_task, with_task, without_task, with_new_task}
+use Rattle.task_board.specs.Refusals.{named_bytes, create_refusals, unless_allowed, kill_refusals, state_refusals, output_refusals, break_refusals, unbreak_refusals, step_refusals, inspect_refusals, peek_refusals, task_refusals}
+use Rattle.task_board.specs.Step.{Answer, DecidedBy, Puts, PutsText, refused, stored, Done, with_left, OnFound, Opens, Creates, on_start, on_pause, on_resume, on_kill, on_delete, on_state, on_wait, on_output, on_break, on_unbreak, on_step, on_inspect, on_peek, Answers}
+use Rattle.task_board.proofs.EntryLemmas.{none_is_not}
+use Rattle.call_journal.specs.Finding.{named}
+use Rattle.call_journal.specs.Replay.{HaveCome, IsSince}
+use Rattle.call_journal.proofs.SinceLemmas.{same_used, same_length, same_free, both_put, both_change, both_remove}
+
+-- the board with other tasks
+abbrev pub on : BoardState → Entries → BoardState
+on b es = record b { tasks = es }
+
+-- such a board is left, since which no call has been made
+abbrev pub Leaves : (BoardState → Type 0) → BoardState → Type 0
+Leaves A b' = (s' : BoardState) × A s' × IsSince s' b'
+
+-- the task that the request names is the same in both
+abbrev pub HaveSame : Request → Entries → Entries → Type 0
+HaveSame r es us = (id : List ℕ) → named r ≡ Some id → task_of id es ≡ task_of id us
+
+module _ (b : BoardState) (es : Entries) (h : HaveCome es b.tasks) where
+  since : (x b' : BoardState) (us : Entries) → HaveCome us x.tasks → b' ≡ x → IsSince (on x us) b'
+  since x b' us come is = record {
+    store = ap (λ (y : BoardState). y.store) is;
+    creates = ap (λ (y : BoardState). y.creates) is;
+    tasks = subst (λ (y : BoardState). HaveCome us y.tasks) (sym is) come;
+  }
+
+  decided : (o : Option Refusal) (E : Type 0) (F : BoardState → Type 0) (a : Answer) (b' : BoardState)
+      → (E → Leaves F b') → DecidedBy o E b a b' → Leaves (λ s'. DecidedBy o (F s') (on b es) a s') b'
+  decided None E F a b' f d = f d
+  decided (Some e) E F a b' f d = (on b es, (d.0, refl), since b b' es h d.1)
+
+  on_store : (refusals : Refusals) (rep : Reply) (new : StoreState) (a : Answer) (b' : BoardState)
+      → DecidedBy (first_refusal refusals) ((a ≡ Ok rep) × (b' ≡ with_store b new)) b a b'
+      → Leaves
+      (λ s'. DecidedBy (first_refusal refusals) ((a ≡ Ok rep) × (s' ≡ with_store (on b es) new)) (on b es) a s') b'
+  on_store refusals rep new a b' d =
+      decided (first_refusal refusals) ((a ≡ Ok rep) × (b' ≡ with_store b new))
+      (λ s'. (a ≡ Ok rep) × (s' ≡ with_store (on b es) new)) a b'
+      (λ x. (on (with_store b new) es, (x.0, refl), since (with_store b new) b' es h x.1)) d
+
+  left : (t : Task) (o : Option Task) (a : Answer) (rep : Reply) (b' : BoardState)
+      → (a ≡ Ok rep) × (b' ≡ with_left b t o)
+      → Leaves (λ s'. (a ≡ Ok rep) × (s' ≡ with_left (on b es) t o)) b'
+  left t None a rep b' d = (
+    on (without_task b t.id) (remove_task t.id es),
+    (d.0, refl),
+    since (without_task b t.id) b' (remove_task t.id es) (both_remove t.id es b.tasks h) d.1,
+  )
+  left t (Some u) a rep b' d = (
+    on (with_task b u) (change_task u es),
+    (d.0, refl),
+    since (with_task b u) b' (change_task u es) (both_change u es b.tasks h) d.1,
+  )
+
+  on_found : (id : List ℕ) (own : Task → Refusals) (does : Task → Done) (o : Option Task) (a : Answer)
+      (b' : BoardState)
+      → OnFound id own does o b a b' → Leaves (λ s'. OnFound id own does o (on b es) a s') b'
+  on_found id own does None a b' d =
+      decided (first_refusal (task_refusals id own None)) ⊥ (λ s'. ⊥) a b' (λ x. absurd x) d
+  on_found id own does (Some t) a b' d =
+      decided (first_refusal (task_refusals id own (Some t))) ((a ≡ Ok (does t).0) × (b' ≡ with_left b t (does t).1))
+      (λ s'. (a ≡ Ok (does t).0) × (s' ≡ with_left (on b es) t (does t).1)) a b'
+      (λ x. left t (does t).1 a (does t).0 b' x) d
+
+  on_task : (id : List ℕ) (own : Task → Refusals) (does : Task → Done) (a : Answer) (b' : BoardState)
+      → task_of id es ≡ task_of id b.tasks → OnFound id own does (task_of id b.tasks) b a b'
+      → Leaves (λ s'. OnFound id own does (task_of id es) (on b es) a s') b'
+  on_task id own does a b' same d =
+      subst (λ (o : Option Task). Leaves (λ s'. OnFound id own does o (on b es) a s') b') (sym same)
+      (on_found id own does (task_of id b.tasks) a b' d)
+
+  puts : (bytes : List ℕ) (a : Answer) (b' : BoardState) → Puts b bytes a b'
+      → Leaves (λ s'. Puts (on b es) bytes a s') b'
+  puts bytes a b' d =
+      on_store (put_refusals b.store bytes) (reply.Put (digest_of bytes) (length bytes)) (with_content b.store bytes)
+      a b' d
+
+  puts_text : (text : List ℕ) (a : Answer) (b' : BoardState) → PutsText b text a b'
+      → Leaves (λ s'. PutsText (on b es) text a s') b'
+  puts_text text a b' (refused e why is same) = (on b es, refused e why is refl, since b b' es h same)
+  puts_text text a b' (stored bytes is put) =
+      let left = puts bytes a b' put in (left.0, stored bytes is left.1, left.2)
+
+  removes : (digest : List ℕ) (a : Answer) (b' : BoardState) → Answers b (request.Remove digest) a b'
+      → Leaves (λ s'. Answers (on b es) (request.Remove digest) a s') b'
+  removes digest a b' d =
+      subst
+      (λ (used : List (List ℕ)).
+      Leaves
+      (λ s'.
+      DecidedBy (first_refusal (remove_refusals used b.store digest))
+      ((a ≡ Ok (reply.Remove digest)) × (s' ≡ with_store (on b es) (without_content b.store digest))) (on b es) a s')
+      b')
+      (sym (same_used es b.tasks h))
+      (on_store (remove_refusals (used_by b.tasks) b.store digest) (reply.Remove digest)
+      (without_content b.store digest) a b' d)
+
+  collects : (a : Answer) (b' : BoardState) → Answers b request.Gc a b'
+      → Leaves (λ s'. Answers (on b es) request.Gc a s') b'
+  collects a b' d =
+      subst
+      (λ (used : List (List ℕ)).
+      Leaves
+      (λ s'.
+      DecidedBy None
+      ((a ≡ Ok (reply.Gc (unheld used b.store))) × (s' ≡ with_store (on b es) (collected used b.store))) (on b es) a s')
+      b')
+      (sym (same_used es b.tasks h))
+      (on_store [] (reply.Gc (unheld (used_by b.tasks) b.store)) (collected (used_by b.tasks) b.store) a b' d)
+
+  opens : (id bytes : List ℕ) (p : ProcessConfig) (a : Answer) (b' : BoardState) → Opens b id bytes p a b'
+      → Leaves (λ s'. Opens (on b es) id bytes p a s') b'
+  opens id bytes p (Err e) b' d = (on b es, (d.0, refl), since b b' es h d.1)
+  opens id bytes p (Ok r) b' d =
+      let t = created_task id b.creates bytes d.0 p in
+      let slot = d.3.0 in (
+        on (with_new_task b slot t) (put_task slot t es),
+        (d.0, d.1, d.2, (slot, same_free slot es b.tasks h d.3.1, refl)),
+        since (with_new_task b slot t) b' (put_task slot t es) (both_put slot t es b.tasks h) d.3.2,
+      )
+
+  makes : (config id : List ℕ) (a : Answer) (b' : BoardState) → Creates b config id a b'
+      → Leaves (λ s'. Creates (on b es) config id a s') b'
+  makes config id a b' d =
+      let left = opens id d.1 d.0 a b' d.4 in
+      (left.0, (d.0, d.1, d.2, d.3, left.1), left.2)
+
+  creates : (config id : List ℕ) (a : Answer) (b' : BoardState) → task_of id es ≡ task_of id b.tasks
+      → Answers b (request.Create config id) a b'
+      → Leaves (λ s'. Answers (on b es) (request.Create config id) a s') b'
+  creates config id a b' same d =
+      let refusals : create_refusals (on b es) config id ≡ create_refusals b config id =
+      ap₂
+      (λ (o : Option Task) (n : ℕ).
+      (not (is_id id), refusal.BadId) ∷ (is_some o, refusal.Exists)
+      ∷ (nat_le max_tasks n || nat_le max_creates b.creates, refusal.TooMany)
+      ∷ (is_none (process_read config), refusal.BadConfig) ∷ (is_none (named_bytes b config), refusal.NoContent) ∷ [])
+      same (same_length es b.tasks h) in
+      subst
+      (λ (rs : Refusals).
+      Leaves (λ s'. DecidedBy (first_refusal rs) (Creates (on b es) config id a s') (on b es) a s') b') (sym refusals)
+      (decided (first_refusal (create_refusals b config id)) (Creates b config id a b')
+      (λ s'. Creates (on b es) config id a s') a b' (makes config id a b') d)
+
+  pub calls : (r : Request) (a : Answer) (b' : BoardState) → HaveSame r es b.tasks → Answers b r a b'
+      → Leaves (λ s'. Answers (on b es) r a s') b'
+  calls (request.Put bytes) a b' same d = puts bytes a b' d
+  calls (request.PutText text) a b' same d = puts_text text a b' d
+  calls (request.Remove digest) a b' same d = removes digest a b' d
+  calls (request.LeaseCreate id) a b' same d =
+      on_store (lease_create_refusals b.store id) (reply.LeaseCreate id) (with_lease b.store id) a b' d
+  calls (request.LeaseAdd digest id) a b' same d =
+      on_store (lease_add_refusals b.store digest id) (reply.LeaseAdd digest id) (with_member b.store digest id) a b' d
+  calls (request.LeaseDelete id) a b' same d =
+      on_store (lease_delete_refusals b.store id) (reply.LeaseDelete id) (without_lease b.store id) a b' d
+  calls request.Gc a b' same d = collects a b' d
+  calls (request.Create config id) a b' same d = creates config id a b' (same id refl) d
+  calls (request.Start id) a b' same d =
+      on_task id (unless_allowed call.Start refusal.WrongStatus) on_start a b' (same id refl) d
+  calls (request.Pause id) a b' same d =
+      on_task id (unless_allowed call.Pause refusal.WrongStatus) on_pause a b' (same id refl) d
+  calls (request.Resume id) a b' same d =
+      on_task id (unless_allowed call.Resume refusal.WrongStatus) on_resume a b' (same id refl) d
+  calls (request.Kill id number) a b' same d =
+      on_task id (kill_refusals number) (on_kill number) a b' (same id refl) d
+  calls (request.Delete id) a b' same d =
+      on_task id (unless_allowed call.Delete refusal.WrongStatus) on_delete a b' (same id refl) d
+  calls (request.State id) a b' same d = on_task id state_refusals on_state a b' (same id refl) d
+  calls (request.Wait id) a b' same d =
+      on_task id (unless_allowed call.Wait refusal.Busy) on_wait a b' (same id refl) d
+  calls (request.Output id number) a b' same d =
+      on_task id (output_refusals number) (on_output number) a b' (same id refl) d
+  calls (request.Break func id place) a b' same d =
+      on_task id (break_refusals func place) (on_break func place) a b' (same id refl) d
+  calls (request.Unbreak func id place) a b' same d =
+      on_task id (unbreak_refusals func place) (on_unbreak func place) a b' (same id refl) d
+  calls (request.Step count id) a b' same d =
+      on_task id (step_refusals count) (on_step count) a b' (same id refl) d
+  calls (request.Inspect id) a b' same d = on_task id inspect_refusals on_inspect a b' (same id refl) d
+  calls (request.Peek address id length) a b' same d =
+      on_task id (peek_refusals address length) (on_peek address length) a b' (same id refl) d
+
+pub calls_commute : (s b : BoardState) (r : Request) (a : Answer) (b' : BoardState) → IsSince s b
+    → HaveSame r s.tasks b.tasks → Answers b r a b' → Leaves (λ s'. Answers s r a s') b'
+calls_commute s b r a b' between same d =
+    let is : on b s.tasks ≡ s =
+    ap₂ (λ (store : StoreState) (n : ℕ). record s { store = store; creates = n }) between.store between.creates in
+    subst (λ (x : BoardState). Leaves (λ s'. Answers x r a s') b') is (calls b s.tasks between.tasks r a b' same d)
