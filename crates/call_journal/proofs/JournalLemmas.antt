@@ -1,6 +1,7 @@
 -- The journal of a run replays to its board.
-use Rattle.std.proofs.Common.{◌≡◌, ℕ, List, [], ◌∷◌, ◌++◌, Bool, true, false, MatchBool, Option, Some, None, option_map, option_and_then, refl, sym, ap, ◌∙◌, subst}
+use Rattle.std.proofs.Common.{◌≡◌, ℕ, List, [], ◌∷◌, ◌++◌, Bool, true, false, ◌&&◌, MatchBool, Option, Some, None, option_map, option_and_then, refl, sym, ap, ◌∙◌, subst}
 use Rattle.std.proofs.lemmas.List.{append_assoc, append-nil}
+use Rattle.wasm_ast.specs.declared.refusal.Refusal.TheVariants as refusal
 use Rattle.task_board.specs.declared.event.Event.{Event}
 use Rattle.task_board.specs.declared.event.Event.TheVariants as event
 use Rattle.task_board.specs.declared.event.EventReply.{EventReply}
@@ -10,7 +11,8 @@ use Rattle.task_board.specs.BoardState.{Task, Entries, BoardState, empty, task_o
 use Rattle.task_board.specs.Tasks.{lent}
 use Rattle.task_board.specs.Step.{Answer, Answers, Returns, Step}
 use Rattle.task_board.proofs.EntryLemmas.{none_is_not, some_is}
-use Rattle.task_board.specs.Run.{met_no_memory, Happens, Run}
+use Rattle.task_board.specs.Run.{takes_memory, is_no_memory, met_no_memory, Happens, Run}
+use Rattle.task_board.proofs.RunLemmas.{no_memory_is}
 use Rattle.task_board.proofs.LawLemmas.{IsTakenOf, taken_of}
 use Rattle.task_board.proofs.StepLemmas.{task_named, in_range}
 use Rattle.call_journal.specs.declared.entry.Entry.{Entry}
@@ -20,6 +22,7 @@ use Rattle.call_journal.specs.Replay.{ComesTo, stays, is_taken, Finds, no_task, 
 use Rattle.call_journal.specs.Records.{entry_on, IsOfSlice, Records, ends, call, slice, no_memory}
 use Rattle.call_journal.proofs.ComingLemmas.{comes_back}
 use Rattle.call_journal.proofs.HistoryLemmas.{one_more}
+use Rattle.call_journal.proofs.RefusalLemmas.{refusal_stays}
 use Rattle.call_journal.proofs.SinceLemmas.{same_id_of, looks, came_from, came_none, later, reached, now_there}
 use Rattle.call_journal.proofs.CallLemmas.{HaveSame, calls_commute}
 
@@ -90,7 +93,7 @@ meets_none s b r between is =
       λ id at. absurd (none_is_not id (sym is ∙ at)),
     )
 
-found_at : (x : BoardState) (r : Request) (id : List ℕ) (o : Option Task) → named r ≡ Some id → task_of id x.tasks ≡ o
+pub found_at : (x : BoardState) (r : Request) (id : List ℕ) (o : Option Task) → named r ≡ Some id → task_of id x.tasks ≡ o
     → found_of x r ≡ option_map found_in o
 found_at x r id o is at =
     ap (λ (p : Option (List ℕ)). option_map found_in (option_and_then (λ (i : List ℕ). task_of i x.tasks) p)) is
@@ -145,7 +148,7 @@ replay_call h b b' seat r a is answers =
 replays : (front : List Entry) (s : BoardState) (es : List Event) (rs : List EventReply) (h : List Entry)
     (s' : BoardState) → IsReplay front s → Records s es rs h s' → IsReplay (front ++ h) s'
 replays front _ _ _ _ _ is (ends s) = subst (λ (x : List Entry). IsReplay x s) (sym (append-nil front)) is
-replays front _ _ _ _ _ is (call s mid s' seat r a es rs h off answers rest) =
+replays front _ _ _ _ _ is (call s mid s' seat r a es rs h answers rest) =
     subst (λ (x : List Entry). IsReplay x s') (append_assoc front (entry_on s seat r ∷ []) h)
     (replays (front ++ entry_on s seat r ∷ []) mid es rs h s' (replay_call front s mid seat r a is answers) rest)
 replays front _ _ _ _ _ is (slice s mid s' e a es rs h of_slice step rest) =
@@ -161,12 +164,20 @@ no_call (event.Call r) a is = absurd is
 no_call (event.Take id budget) a is = refl
 no_call (event.Return id) a is = refl
 
+-- a call that is answered out of memory, which none is, would have changed nothing
+call_happens : (s : BoardState) (r : Request) (a : Answer) (mid : BoardState) (b c : Bool) → is_no_memory a ≡ c
+    → Answers s r a mid → MatchBool (b && c) (mid ≡ s) (Answers s r a mid)
+call_happens s r a mid true true is answers =
+    refusal_stays s r refusal.NoMemory mid (subst (λ (x : Answer). Answers s r x mid) (no_memory_is a is) answers)
+call_happens s r a mid true false is answers = answers
+call_happens s r a mid false c is answers = answers
+
 pub run_of : (s : BoardState) (es : List Event) (rs : List EventReply) (h : List Entry) (s' : BoardState)
     → Records s es rs h s' → Run s es rs s'
 run_of _ _ _ _ _ (ends s) = refl
-run_of _ _ _ _ _ (call s mid s' seat r a es rs h off answers rest) = (
+run_of _ _ _ _ _ (call s mid s' seat r a es rs h answers rest) = (
   mid,
-  subst (λ (b : Bool). MatchBool b (mid ≡ s) (Answers s r a mid)) (sym off) answers,
+  call_happens s r a mid (takes_memory r) (is_no_memory a) refl answers,
   run_of mid es rs h s' rest,
 )
 run_of _ _ _ _ _ (slice s mid s' e a es rs h of_slice step rest) = (
@@ -193,7 +204,7 @@ call_by s mid s' r a es rs true is same rest = (
       (subst (λ (x : BoardState). Records x es rs rest.0 s') same rest.1),
 )
 call_by s mid s' r a es rs false is answers rest =
-    (entry_on s 0 r ∷ rest.0, call s mid s' 0 r a es rs rest.0 is answers rest.1)
+    (entry_on s 0 r ∷ rest.0, call s mid s' 0 r a es rs rest.0 answers rest.1)
 
 event_by : (s mid s' : BoardState) (e : Event) (a : EventReply) (es : List Event) (rs : List EventReply)
     → Happens s e a mid → HaveJournal mid es rs s' → HaveJournal s (e ∷ es) (a ∷ rs) s'

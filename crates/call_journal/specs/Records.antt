@@ -1,5 +1,5 @@
 -- The journal of a run of events.
-use Rattle.std.specs.Prelude.{◌≡◌, ℕ, List, [], ◌∷◌, true, false}
+use Rattle.std.specs.Prelude.{◌≡◌, ℕ, List, [], ◌∷◌, true}
 use Rattle.task_board.specs.declared.event.Event.{Event}
 use Rattle.task_board.specs.declared.event.Event.TheVariants as event
 use Rattle.task_board.specs.declared.event.EventReply.{EventReply}
@@ -27,8 +27,7 @@ pub data Records : BoardState → List Event → List EventReply → List Entry 
   call :
       (s mid s' : BoardState) → (seat : ℕ) → (r : Request) → (a : Answer) → (es : List Event)
       → (answers : List EventReply) → (h : List Entry)
-      → met_no_memory (event.Call r) (answer.Called a) ≡ false → Answers s r a mid
-      → Records mid es answers h s'
+      → Answers s r a mid → Records mid es answers h s'
       → Records s (event.Call r ∷ es) (answer.Called a ∷ answers) (entry_on s seat r ∷ h) s'
   slice :
       (s mid s' : BoardState) → (e : Event) → (a : EventReply) → (es : List Event)

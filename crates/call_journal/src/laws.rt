@@ -14,6 +14,8 @@ ghost use Rattle.call_journal.specs.Finding.{named};
 ghost use Rattle.call_journal.specs.Records.{entry_on, IsOfSlice, Records};
 ghost use Rattle.call_journal.specs.Replay.{ComesTo, Finds, Replays, IsLegal, IsSince, IsReplay};
 
+use task_board::laws::{advances_are_slices, slices_advance_legally};
+
 /// The empty history is legal, and so is each beginning of a legal history.
 pub fn histories_have_legal_beginnings()
     ensures empty { IsLegal [] }
@@ -75,3 +77,13 @@ pub fn runs_replay()
     ensures journal { (es : List Event) (rs : List EventReply) (s : BoardState) → Run empty es rs s
         → (h : List EntryValue) × Records empty es rs h s }
 {}
+
+/// And each history that replays to a board is the journal of some run of events to that board: what replays
+/// is what may have happened.
+pub fn replays_are_runs()
+    ensures { (h : List EntryValue) (s : BoardState) → IsReplay h s
+        → (es : List Event) × (rs : List EventReply) × Records empty es rs h s }
+{
+    slices_advance_legally();
+    advances_are_slices();
+}
