@@ -1,6 +1,6 @@
 -- A call is answered alike on two boards, the second of which is the first with slices of tasks that it does
 -- not name taken and returned.
-use Rattle.std.proofs.Common.{◌≡◌, ℕ, List, [], ◌∷◌, length, nat_le, Bool, not, ◌||◌, Option, Some, None, is_some, is_none, Ok, Err, refl, sym, ap, ap₂, ◌∙◌, subst}
+use Rattle.std.proofs.Common.{◌≡◌, ℕ, List, [], ◌∷◌, length, nat_le, not, ◌||◌, Option, Some, None, is_some, is_none, Ok, Err, refl, sym, ap, ap₂, subst}
 use Rattle.wasm_ast.specs.Identifiers.{is_id}
 use Rattle.wasm_ast.specs.declared.refusal.Refusal.{Refusal}
 use Rattle.wasm_ast.specs.declared.refusal.Refusal.TheVariants as refusal
@@ -18,7 +18,6 @@ use Rattle.task_board.specs.Limits.{max_tasks, max_creates}
 use Rattle.task_board.specs.BoardState.{Task, Entries, BoardState, created_task, used_by, with_store, task_of, put_task, change_task, remove_task, with_task, without_task, with_new_task}
 use Rattle.task_board.specs.Refusals.{named_bytes, create_refusals, unless_allowed, kill_refusals, state_refusals, output_refusals, break_refusals, unbreak_refusals, step_refusals, inspect_refusals, peek_refusals, task_refusals}
 use Rattle.task_board.specs.Step.{Answer, DecidedBy, Puts, PutsText, refused, stored, Done, with_left, OnFound, Opens, Creates, on_start, on_pause, on_resume, on_kill, on_delete, on_state, on_wait, on_output, on_break, on_unbreak, on_step, on_inspect, on_peek, Answers}
-use Rattle.task_board.proofs.EntryLemmas.{none_is_not}
 use Rattle.call_journal.specs.Finding.{named}
 use Rattle.call_journal.specs.Replay.{HaveCome, IsSince}
 use Rattle.call_journal.proofs.SinceLemmas.{same_used, same_length, same_free, both_put, both_change, both_remove}

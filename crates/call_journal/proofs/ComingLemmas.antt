@@ -1,5 +1,5 @@
 -- What takes and returns make of a task, one after another.
-use Rattle.std.proofs.Common.{◌≡◌, ℕ, ◌+◌, ◌-◌, ◌<◌, ◌≤◌, nat_eq, nat_lt, List, Bool, true, false, true≢false, cond, ◌||◌, ◌&&◌, Option, Some, None, is_none, inl, inr, ◌⊎◌, refl, sym, ap, ◌∙◌, subst, arith}
+use Rattle.std.proofs.Common.{◌≡◌, ℕ, ◌+◌, ◌-◌, ◌<◌, ◌≤◌, nat_eq, nat_lt, List, Bool, true, false, cond, ◌||◌, ◌&&◌, Option, Some, None, is_none, inl, inr, refl, sym, ap, ◌∙◌, subst, arith}
 use Rattle.std.proofs.lemmas.Bool.Decides.{nat_tests}
 use Rattle.wasm_ast.specs.declared.place.Place.{Place}
 use Rattle.step_machine.specs.declared.ends.End.{End}

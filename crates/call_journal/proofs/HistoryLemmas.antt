@@ -1,5 +1,5 @@
 -- Histories are cut and joined.
-use Rattle.std.proofs.Common.{◌≡◌, List, [], ◌∷◌, ◌++◌, refl, subst}
+use Rattle.std.proofs.Common.{List, [], ◌∷◌, ◌++◌, refl, subst}
 use Rattle.task_board.specs.BoardState.{BoardState, empty}
 use Rattle.task_board.specs.Step.{Answer, Answers}
 use Rattle.call_journal.specs.declared.entry.Entry.{Entry}

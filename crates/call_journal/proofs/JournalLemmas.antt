@@ -18,7 +18,7 @@ use Rattle.task_board.proofs.StepLemmas.{task_named, in_range}
 use Rattle.call_journal.specs.declared.entry.Entry.{Entry}
 use Rattle.call_journal.specs.declared.entry.Found.{Found}
 use Rattle.call_journal.specs.Finding.{named, found_in, found_of}
-use Rattle.call_journal.specs.Replay.{ComesTo, stays, is_taken, Finds, no_task, task, Replays, HaveCome, IsSince, IsReplay}
+use Rattle.call_journal.specs.Replay.{ComesTo, is_taken, Finds, no_task, task, IsSince, IsReplay}
 use Rattle.call_journal.specs.Records.{entry_on, IsOfSlice, Records, ends, call, slice, no_memory}
 use Rattle.call_journal.proofs.ComingLemmas.{comes_back}
 use Rattle.call_journal.proofs.HistoryLemmas.{one_more}

@@ -1,22 +1,21 @@
 -- A history that replays is the journal of some run.
-use Rattle.std.proofs.Common.{◌≡◌, ◌≢◌, ℕ, List, [], ◌∷◌, ◌++◌, bytes_eq, Option, Some, None, option_map, refl, sym, ap, ap₂, ◌∙◌, subst}
+use Rattle.std.proofs.Common.{◌≡◌, ◌≢◌, ℕ, List, [], ◌∷◌, ◌++◌, bytes_eq, Option, Some, option_map, refl, sym, ap, ap₂, ◌∙◌, subst}
 use Rattle.std.proofs.lemmas.List.{append_assoc, append-nil}
 use Rattle.content_leases.specs.StoreState.{StoreState}
 use Rattle.task_board.specs.declared.event.Event.TheVariants as event
 use Rattle.task_board.specs.declared.event.EventReply.TheVariants as answer
 use Rattle.task_board.specs.declared.request.Request.{Request}
 use Rattle.task_board.specs.BoardState.{Task, Entries, BoardState, empty, entry_of, task_of, with_task, change_task}
-use Rattle.task_board.specs.Sound.{Each, AreDistinct, ids_of, IsSound, IsBoard}
-use Rattle.task_board.specs.Step.{Answer, Answers}
+use Rattle.task_board.specs.Sound.{Each, AreDistinct, ids_of, IsBoard}
 use Rattle.task_board.proofs.EntryLemmas.{cond_is_true, cond_is_false, same_id, other_id}
 use Rattle.task_board.proofs.StepLemmas.{task_named, sound_of, changed_sound}
 use Rattle.task_board.proofs.LawLemmas.{empty_sound}
 use Rattle.task_board.proofs.EffectLemmas.{answers_sound}
 use Rattle.call_journal.specs.declared.entry.Entry.{Entry}
 use Rattle.call_journal.specs.declared.entry.Found.{Found}
-use Rattle.call_journal.specs.Finding.{found_in, found_of}
-use Rattle.call_journal.specs.Replay.{ComesTo, stays, is_taken, advances, is_retaken, Finds, no_task, task, Replays, HaveCome, IsSince, IsReplay}
-use Rattle.call_journal.specs.Records.{entry_on, Records, ends, call}
+use Rattle.call_journal.specs.Finding.{found_of}
+use Rattle.call_journal.specs.Replay.{ComesTo, stays, is_taken, advances, is_retaken, Finds, no_task, task, Replays, HaveCome, IsLegal, IsReplay}
+use Rattle.call_journal.specs.Records.{Records, ends, call}
 use Rattle.call_journal.proofs.SinceLemmas.{same_id_of, now_there}
 use Rattle.call_journal.proofs.JournalLemmas.{found_at}
 use Rattle.call_journal.proofs.SliceLemmas.{HasRun, Leads, SlicesAdvance, AdvancesAreSlices, coming_leads, coming_sound}
@@ -141,3 +140,11 @@ module _ (legal : SlicesAdvance) (slices : AdvancesAreSlices) where
       subst (λ (x : BoardState). HasRun s [] x) same
       (lead [] (record s { tasks = now.tasks }) ([], [], ends (record s { tasks = now.tasks }))) in
       subst (λ (x : List Entry). HasRun empty x now) (append-nil h) (past.1 [] now last)
+
+  pub legal_runs : (h : List Entry) → IsLegal h → (s : BoardState) × HasRun empty h s
+  legal_runs h legal =
+      let s = legal.0 in (
+        s,
+        subst (λ (x : List Entry). HasRun empty x s) (append-nil h)
+            ((history_runs h empty s empty_sound legal.1).1 [] s ([], [], ends s)),
+      )

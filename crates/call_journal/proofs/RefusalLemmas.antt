@@ -1,5 +1,5 @@
 -- A refusal leaves the board.
-use Rattle.std.proofs.Common.{◌≡◌, ℕ, List, [], length, Option, Some, None, Ok, Err, refl}
+use Rattle.std.proofs.Common.{◌≡◌, ℕ, List, [], length, Option, Some, None, Ok, Err}
 use Rattle.wasm_ast.specs.declared.refusal.Refusal.{Refusal}
 use Rattle.wasm_ast.specs.declared.refusal.Refusal.TheVariants as refusal
 use Rattle.content_leases.specs.Digests.{digest_of}
@@ -12,7 +12,7 @@ use Rattle.task_board.specs.declared.request.Reply.{Reply}
 use Rattle.task_board.specs.declared.request.Reply.TheVariants as reply
 use Rattle.task_board.specs.BoardState.{Task, BoardState, used_by, with_store, task_of}
 use Rattle.task_board.specs.Refusals.{create_refusals, unless_allowed, kill_refusals, state_refusals, output_refusals, break_refusals, unbreak_refusals, step_refusals, inspect_refusals, peek_refusals, task_refusals}
-use Rattle.task_board.specs.Step.{Answer, DecidedBy, Puts, PutsText, refused, stored, Done, with_left, OnFound, Creates, on_start, on_pause, on_resume, on_kill, on_delete, on_state, on_wait, on_output, on_break, on_unbreak, on_step, on_inspect, on_peek, Answers}
+use Rattle.task_board.specs.Step.{DecidedBy, Puts, PutsText, refused, stored, Done, with_left, OnFound, Creates, on_start, on_pause, on_resume, on_kill, on_delete, on_state, on_wait, on_output, on_break, on_unbreak, on_step, on_inspect, on_peek, Answers}
 
 module _ (s : BoardState) (e : Refusal) (s' : BoardState) where
   decided : (o : Option Refusal) (E : Type 0) → (E → s' ≡ s) → DecidedBy o E s (Err e) s' → s' ≡ s

@@ -1,11 +1,10 @@
 -- What a history says of slices, some slices do.
-use Rattle.std.proofs.Common.{◌≡◌, ℕ, ◌+◌, ◌-◌, ◌<◌, ◌≤◌, List, [], ◌∷◌, Bool, true, false, cond, ◌||◌, ◌&&◌, bytes_eq, Option, Some, None, is_none, is_some, option_and_then, option_map, inl, inr, ◌⊎◌, refl, sym, ap, ap₂, ◌∙◌, subst, arith}
-use Rattle.wasm_ast.specs.declared.place.Place.{Place}
+use Rattle.std.proofs.Common.{◌≡◌, ℕ, ◌+◌, ◌-◌, ◌<◌, ◌≤◌, List, [], ◌∷◌, Bool, true, false, cond, ◌||◌, ◌&&◌, bytes_eq, Option, Some, None, is_none, is_some, option_and_then, inl, inr, refl, sym, ap, ◌∙◌, subst, arith}
 use Rattle.step_machine.specs.declared.ends.End.{End}
 use Rattle.step_machine.specs.declared.ends.End.TheVariants as own
 use Rattle.step_machine.specs.Configuration.{State as ExecutionState, running, exited, trapped, stuck, is_halted}
 use Rattle.step_machine.specs.Instantiation.{ended}
-use Rattle.step_machine.specs.Slices.{at_break, ends_slice}
+use Rattle.step_machine.specs.Slices.{ends_slice}
 use Rattle.task_lifecycle.specs.declared.status.Status.{Status}
 use Rattle.task_lifecycle.specs.declared.status.Status.TheVariants.{Created, Running, Pausing, Paused, Stopped}
 use Rattle.task_lifecycle.specs.declared.status.Signal.{Signal}
@@ -14,21 +13,20 @@ use Rattle.task_board.specs.declared.event.Event.{Event}
 use Rattle.task_board.specs.declared.event.Event.TheVariants as event
 use Rattle.task_board.specs.declared.event.EventReply.{EventReply}
 use Rattle.task_board.specs.declared.event.EventReply.TheVariants as answer
-use Rattle.task_board.specs.BoardState.{Task, Entries, BoardState, empty, task_of, with_task, change_task}
+use Rattle.task_board.specs.BoardState.{Task, Entries, BoardState, task_of, with_task, change_task}
 use Rattle.task_board.specs.Tasks.{execution_at, is_break_at, landing, advanced, MayAdvance, can_lend, lent, slice_turns, HasReturned}
 use Rattle.task_board.specs.Step.{Step, is_budget, lends, taken, Returns}
-use Rattle.task_board.specs.Sound.{IsSound, IsBoard}
+use Rattle.task_board.specs.Sound.{IsSound}
 use Rattle.task_board.specs.Moves.{MakeTurns}
-use Rattle.task_board.proofs.EntryLemmas.{none_is_not, some_is, by_id, cond_is_true, cond_is_false, same_id}
+use Rattle.task_board.proofs.EntryLemmas.{by_id, cond_is_true, cond_is_false, same_id}
 use Rattle.task_board.proofs.SoundLemmas.{advanced_sound}
-use Rattle.task_board.proofs.StepLemmas.{task_named, unchanged, sound_of, changed_sound, lent_sound}
-use Rattle.task_board.proofs.LawLemmas.{empty_sound, budget_range}
-use Rattle.task_board.proofs.EffectLemmas.{answers_sound}
+use Rattle.task_board.proofs.StepLemmas.{unchanged, lent_sound}
+use Rattle.task_board.proofs.LawLemmas.{budget_range}
 use Rattle.call_journal.specs.declared.entry.Entry.{Entry}
 use Rattle.call_journal.specs.Replay.{Spans, ComesTo, stays, is_taken, advances, is_retaken}
 use Rattle.call_journal.specs.Records.{IsOfSlice, Records, slice}
 use Rattle.call_journal.proofs.ComingLemmas.{twice}
-use Rattle.call_journal.proofs.SinceLemmas.{now_there, same_id_of}
+use Rattle.call_journal.proofs.SinceLemmas.{now_there}
 
 -- ---- boards that slices lead to
 

@@ -22,14 +22,16 @@ pub fn histories_have_legal_beginnings()
     ensures front { (front back : List EntryValue) → IsLegal (front ++ back) → IsLegal front }
 {}
 
-/// A history goes on by a call: it finds what its entry says, and then is answered. And so does each
-/// history that is longer by one.
+/// A history goes on by a call, which finds what its entry says and then is answered. What leads from one
+/// board to another by two histories, one after the other, does so by both in one.
 pub fn histories_go_on()
     ensures more { (s last mid next : BoardState) (h : List EntryValue) (e : EntryValue) (a : Answer)
         → Replays s h last → Finds last e.request e.found mid → Answers mid e.request a next
         → Replays s (h ++ e ∷ []) next }
     ensures cut { (s s' : BoardState) (front back : List EntryValue) → Replays s (front ++ back) s'
         → (mid : BoardState) × Replays s front mid × Replays mid back s' }
+    ensures join { (s mid s' : BoardState) (front back : List EntryValue) → Replays s front mid
+        → Replays mid back s' → Replays s (front ++ back) s' }
 {}
 
 /// What a call found tells how far its task has come: the boards on which two calls of one request found the
@@ -78,11 +80,13 @@ pub fn runs_replay()
         → (h : List EntryValue) × Records empty es rs h s }
 {}
 
-/// And each history that replays to a board is the journal of some run of events to that board: what replays
-/// is what may have happened.
+/// What replays is what may have happened: each history that replays to a board is the journal of some run of
+/// events to that board, and each legal history is the journal of some run.
 pub fn replays_are_runs()
-    ensures { (h : List EntryValue) (s : BoardState) → IsReplay h s
+    ensures replay { (h : List EntryValue) (s : BoardState) → IsReplay h s
         → (es : List Event) × (rs : List EventReply) × Records empty es rs h s }
+    ensures legal { (h : List EntryValue) → IsLegal h → (s : BoardState) × (es : List Event)
+        × (rs : List EventReply) × Records empty es rs h s }
 {
     slices_advance_legally();
     advances_are_slices();

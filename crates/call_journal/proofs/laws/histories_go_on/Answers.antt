@@ -1,4 +1,4 @@
-use Rattle.call_journal.proofs.HistoryLemmas.{cut, one_more}
+use Rattle.call_journal.proofs.HistoryLemmas.{cut, join, one_more}
 use Rattle.call_journal.proofs.laws.histories_go_on.Goals as goal
 
 pub returns-clause-more : goal.returns-clause-more
@@ -6,3 +6,6 @@ returns-clause-more c s last mid next h e a r finds answers = one_more h e a s l
 
 pub returns-clause-cut : goal.returns-clause-cut
 returns-clause-cut c s s' front back r = cut front back s s' r
+
+pub returns-clause-join : goal.returns-clause-join
+returns-clause-join c s mid s' front back r rest = join front back s mid s' r rest
