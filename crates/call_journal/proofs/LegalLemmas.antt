@@ -66,7 +66,7 @@ module _ (legal : SlicesAdvance) (slices : AdvancesAreSlices) where
       )
 
   -- slices lead to the board that a call finds
-  finds_leads : (s : BoardState) (r : Request) (f : Option Found) (mid : BoardState) → IsBoard s → Finds s r f mid
+  pub finds_leads : (s : BoardState) (r : Request) (f : Option Found) (mid : BoardState) → IsBoard s → Finds s r f mid
       → Leads s mid × IsBoard mid × (found_of mid r ≡ f)
   finds_leads s r _ _ b (no_task none) = ((λ h s' rest. rest), b, none)
   finds_leads s r _ _ b (task id t u named at come) =

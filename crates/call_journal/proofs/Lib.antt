@@ -6,3 +6,6 @@ pub mod RefusalLemmas
 pub mod JournalLemmas
 pub mod SliceLemmas
 pub mod LegalLemmas
+pub mod AlikeLemmas
+pub mod SameLemmas
+pub mod TwiceLemmas

@@ -1,6 +1,6 @@
 //! Laws of histories. Each function is nothing but its contract.
 
-ghost use Rattle.std.specs.Prelude.{◌≡◌, ◌++◌, ℕ, List, [], ◌∷◌, Option, Some, true};
+ghost use Rattle.std.specs.Prelude.{◌≡◌, ◌++◌, ℕ, List, [], ◌∷◌, Option, Some, option_map, true};
 ghost use Rattle.task_board.specs.declared.request.Request.{Request};
 ghost use Rattle.task_board.specs.declared.event.Event.{Event};
 ghost use Rattle.task_board.specs.declared.event.EventReply.{EventReply};
@@ -10,11 +10,13 @@ ghost use Rattle.task_board.specs.Step.{Answer, Answers, Step, is_budget};
 ghost use Rattle.task_board.specs.Tasks.{can_lend, lent, HasReturned};
 ghost use Rattle.call_journal.specs.declared.entry.Entry.{Entry as EntryValue};
 ghost use Rattle.call_journal.specs.declared.entry.Found.{Found as FoundValue};
-ghost use Rattle.call_journal.specs.Finding.{named};
+ghost use Rattle.call_journal.specs.Finding.{named, found_in};
 ghost use Rattle.call_journal.specs.Records.{entry_on, IsOfSlice, Records};
-ghost use Rattle.call_journal.specs.Replay.{ComesTo, Finds, Replays, IsLegal, IsSince, IsReplay};
+ghost use Rattle.call_journal.specs.Replay.{ComesTo, Finds, Replays, IsLegal, IsSince, IsReplay, IsAlike};
 
-use task_board::laws::{advances_are_slices, slices_advance_legally};
+use task_board::laws::{advances_are_slices, slices_advance_legally, texts_are_determined};
+use validator::laws::invalid_modules_are_not_valid;
+use wasm_binary::laws::spells_one;
 
 /// The empty history is legal, and so is each beginning of a legal history.
 pub fn histories_have_legal_beginnings()
@@ -58,6 +60,23 @@ pub fn calls_commute_with_slices()
         → Answers now r a now'
         → (s' : BoardState) × Answers s r a s' × IsSince s' now' }
 {}
+
+/// A history determines its board but for slots: two replays lead to boards that are the same but for the
+/// slots that creates chose, and two boards of one history are if each task has the same count and mark on both.
+pub fn replays_agree()
+    ensures history { (h : List EntryValue) (s s' : BoardState) → Replays empty h s → Replays empty h s'
+        → IsAlike s s' }
+    ensures present { (h : List EntryValue) (now now' : BoardState) → IsReplay h now → IsReplay h now'
+        → ((id : List ℕ) → option_map found_in (task_of id now.tasks)
+        ≡ option_map found_in (task_of id now'.tasks))
+        → IsAlike now now' }
+{
+    slices_advance_legally();
+    advances_are_slices();
+    spells_one();
+    invalid_modules_are_not_valid();
+    texts_are_determined();
+}
 
 /// The board of a history stays its board: a take or a return adds nothing to the history, and a call adds
 /// one entry, with what it finds.
