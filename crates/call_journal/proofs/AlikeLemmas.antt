@@ -3,7 +3,7 @@ use Rattle.std.proofs.Common.{◌≡◌, ◌≢◌, ℕ, suc, List, [], ◌∷�
 use Rattle.content_leases.specs.StoreState.{is_among}
 use Rattle.task_board.specs.BoardState.{Task, Entries, used_by, entry_of, task_of, put_task, change_task, remove_task}
 use Rattle.task_board.specs.Sound.{Each, AreDistinct, ids_of}
-use Rattle.task_board.proofs.EntryLemmas.{none_is_not, some_is, by_id, cond_true, cond_false, cond_is_true, cond_is_false, same_id, other_id, remove_distinct, remove_length}
+use Rattle.task_board.proofs.EntryLemmas.{none_is_not, some_is, by_id, cond_is_true, cond_is_false, same_id, other_id, remove_distinct, remove_length}
 use Rattle.task_board.proofs.StepLemmas.{found}
 
 -- for each id the same task

@@ -18,7 +18,7 @@ use Rattle.task_board.proofs.StepLemmas.{task_named, in_range}
 use Rattle.call_journal.specs.declared.entry.Entry.{Entry}
 use Rattle.call_journal.specs.declared.entry.Found.{Found}
 use Rattle.call_journal.specs.Finding.{named, found_in, found_of}
-use Rattle.call_journal.specs.Replay.{ComesTo, is_taken, Finds, no_task, task, IsSince, IsReplay}
+use Rattle.call_journal.specs.Replay.{ComesTo, is_taken, Finds, no_task, task, IsSince, IsReplay, MayAnswer}
 use Rattle.call_journal.specs.Records.{entry_on, IsOfSlice, Records, ends, call, slice, no_memory}
 use Rattle.call_journal.proofs.ComingLemmas.{comes_back}
 use Rattle.call_journal.proofs.HistoryLemmas.{one_more}
@@ -135,6 +135,13 @@ meets_some s b r id (Some u) between is at =
 meets_by : (s b : BoardState) (r : Request) (o : Option (List ℕ)) → IsSince s b → named r ≡ o → Meets s b r
 meets_by s b r None between is = meets_none s b r between is
 meets_by s b r (Some id) between is = meets_some s b r id (task_of id b.tasks) between is refl
+
+pub may_answer : (h : List Entry) (b b' : BoardState) (seat : ℕ) (r : Request) (a : Answer) → IsReplay h b
+    → Answers b r a b' → MayAnswer h (entry_on b seat r) a
+may_answer h b b' seat r a is answers =
+    let m = meets_by is.0 b r (named r) is.2 refl in
+    let c = calls_commute m.0 b r a b' m.2 m.3 answers in
+    (is.0, m.0, c.0, is.1, m.1, c.1)
 
 pub replay_call : (h : List Entry) (b b' : BoardState) (seat : ℕ) (r : Request) (a : Answer) → IsReplay h b
     → Answers b r a b' → IsReplay (h ++ entry_on b seat r ∷ []) b'

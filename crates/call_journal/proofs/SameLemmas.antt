@@ -9,7 +9,7 @@ use Rattle.oci_config.specs.Config.{process_read}
 use Rattle.step_machine.specs.Instantiation.{instantiation_refusal}
 use Rattle.validator.specs.Typing.{ValidModule}
 use Rattle.content_leases.specs.Digests.{digest_of}
-use Rattle.content_leases.specs.StoreState.{Content, Lease, StoreState, content_in, is_leased, is_held, with_content, without_content, with_lease, with_member, without_lease, unheld, collected}
+use Rattle.content_leases.specs.StoreState.{Content, Lease, StoreState, content_in, is_leased, is_held, with_content, without_content, with_lease, with_member, without_lease, collected}
 use Rattle.content_leases.specs.Refusals.{Refusals, first_refusal, put_refusals, remove_refusals, lease_create_refusals, lease_add_refusals, lease_delete_refusals}
 use Rattle.task_lifecycle.specs.declared.lifecycle.TaskCall.TheVariants as call
 use Rattle.task_board.specs.declared.request.Request.{Request}

@@ -55,6 +55,12 @@ Replays s (e ∷ es) s' =
 abbrev pub IsLegal : List Entry → Type 0
 IsLegal es = (s : BoardState) × Replays empty es s
 
+-- after a history, a call with this entry may be answered so
+abbrev pub MayAnswer : List Entry → Entry → Answer → Type 0
+MayAnswer es e a =
+    (s : BoardState) × (mid : BoardState) × (next : BoardState) × Replays empty es s
+    × Finds s e.request e.found mid × Answers mid e.request a next
+
 -- ---- the present
 
 -- each task is in its slot, and has come so far since

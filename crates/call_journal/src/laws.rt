@@ -12,7 +12,7 @@ ghost use Rattle.call_journal.specs.declared.entry.Entry.{Entry as EntryValue};
 ghost use Rattle.call_journal.specs.declared.entry.Found.{Found as FoundValue};
 ghost use Rattle.call_journal.specs.Finding.{named, found_in};
 ghost use Rattle.call_journal.specs.Records.{entry_on, IsOfSlice, Records};
-ghost use Rattle.call_journal.specs.Replay.{ComesTo, Finds, Replays, IsLegal, IsSince, IsReplay, IsAlike};
+ghost use Rattle.call_journal.specs.Replay.{ComesTo, Finds, Replays, IsLegal, MayAnswer, IsSince, IsReplay, IsAlike};
 
 use task_board::laws::{advances_are_slices, slices_advance_legally, texts_are_determined};
 use validator::laws::invalid_modules_are_not_valid;
@@ -24,8 +24,8 @@ pub fn histories_have_legal_beginnings()
     ensures front { (front back : List EntryValue) → IsLegal (front ++ back) → IsLegal front }
 {}
 
-/// A history goes on by a call, which finds what its entry says and then is answered. What leads from one
-/// board to another by two histories, one after the other, does so by both in one.
+/// A history goes on by a call, which finds what its entry says and then is answered. A longer history is
+/// legal exactly if its last call may be answered, in some way, after those before it.
 pub fn histories_go_on()
     ensures more { (s last mid next : BoardState) (h : List EntryValue) (e : EntryValue) (a : Answer)
         → Replays s h last → Finds last e.request e.found mid → Answers mid e.request a next
@@ -34,6 +34,10 @@ pub fn histories_go_on()
         → (mid : BoardState) × Replays s front mid × Replays mid back s' }
     ensures join { (s mid s' : BoardState) (front back : List EntryValue) → Replays s front mid
         → Replays mid back s' → Replays s (front ++ back) s' }
+    ensures legal { (h : List EntryValue) (e : EntryValue) (a : Answer) → MayAnswer h e a
+        → IsLegal (h ++ e ∷ []) }
+    ensures last { (h : List EntryValue) (e : EntryValue) → IsLegal (h ++ e ∷ [])
+        → (a : Answer) × MayAnswer h e a }
 {}
 
 /// What a call found tells how far its task has come: the boards on which two calls of one request found the
@@ -79,7 +83,7 @@ pub fn replays_agree()
 }
 
 /// The board of a history stays its board: a take or a return adds nothing to the history, and a call adds
-/// one entry, with what it finds.
+/// one entry, with what it finds. What the board answers, the history allows.
 pub fn replays_go_on()
     ensures empty { IsReplay [] empty }
     ensures slice { (h : List EntryValue) (s : BoardState) (e : Event) (a : EventReply) (s' : BoardState)
@@ -87,6 +91,8 @@ pub fn replays_go_on()
     ensures call { (h : List EntryValue) (s : BoardState) (seat : ℕ) (r : Request) (a : Answer)
         (s' : BoardState) → IsReplay h s → Answers s r a s'
         → IsReplay (h ++ entry_on s seat r ∷ []) s' }
+    ensures answer { (h : List EntryValue) (s : BoardState) (seat : ℕ) (r : Request) (a : Answer)
+        (s' : BoardState) → IsReplay h s → Answers s r a s' → MayAnswer h (entry_on s seat r) a }
 {}
 
 /// The calls of any run of events, with what they found, replay to the board that the events lead to.

@@ -1,4 +1,4 @@
-use Rattle.call_journal.proofs.HistoryLemmas.{cut, join, one_more}
+use Rattle.call_journal.proofs.HistoryLemmas.{cut, join, one_more, legal_more, legal_last}
 use Rattle.call_journal.proofs.laws.histories_go_on.Goals as goal
 
 pub returns-clause-more : goal.returns-clause-more
@@ -9,3 +9,9 @@ returns-clause-cut c s s' front back r = cut front back s s' r
 
 pub returns-clause-join : goal.returns-clause-join
 returns-clause-join c s mid s' front back r rest = join front back s mid s' r rest
+
+pub returns-clause-legal : goal.returns-clause-legal
+returns-clause-legal c = legal_more
+
+pub returns-clause-last : goal.returns-clause-last
+returns-clause-last c = legal_last
