@@ -58,6 +58,17 @@ same_free k (e ∷ es) (u ∷ us) h free =
     cond_is_false (nat_eq e.0 k) (Some e.1) (task_in k es) (ap (λ (j : ℕ). nat_eq j k) h.0 ∙ n)
     ∙ same_free k es us h.2 (cond_false (nat_eq u.0 k) (Some u.1) (task_in k us) None n free))
 
+pub still_free : (k : ℕ) (es us : Entries) → HaveCome es us → task_in k es ≡ None → task_in k us ≡ None
+still_free k [] [] h free = refl
+still_free k [] (u ∷ us) h free = absurd h
+still_free k (e ∷ es) [] h free = absurd h
+still_free k (e ∷ es) (u ∷ us) h free =
+    by_slot e.0 k
+    (λ y same. absurd (none_is_not e.1 (sym (cond_true (nat_eq e.0 k) (Some e.1) (task_in k es) None y free))))
+    (λ n other.
+    cond_is_false (nat_eq u.0 k) (Some u.1) (task_in k us) (ap (λ (j : ℕ). nat_eq j k) (sym h.0) ∙ n)
+    ∙ still_free k es us h.2 (cond_false (nat_eq e.0 k) (Some e.1) (task_in k es) None n free))
+
 -- ---- the tasks of an id
 
 abbrev pub MayCome : Option Task → Option Task → Type 0

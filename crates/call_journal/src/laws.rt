@@ -55,14 +55,18 @@ pub fn slices_come_together()
     ensures again { (t t' t'' : Task) → ComesTo t t' → ComesTo t' t'' → ComesTo t t'' }
 {}
 
-/// Slices of a task commute with the calls that do not name it: on two boards between which there are only
-/// slices of tasks that a call does not name, it may be answered alike, and then there are only those slices
+/// Slices of tasks commute with the calls that do not name them: a call before such slices is answered as it
+/// may be after them, and a call after them as it may be before; and then there are again only those slices
 /// between the boards that it leaves.
 pub fn calls_commute_with_slices()
-    ensures { (s now : BoardState) (r : Request) (a : Answer) (now' : BoardState) → IsSince s now
+    ensures before { (s now : BoardState) (r : Request) (a : Answer) (now' : BoardState) → IsSince s now
         → ((id : List ℕ) → named r ≡ Some id → task_of id s.tasks ≡ task_of id now.tasks)
         → Answers now r a now'
         → (s' : BoardState) × Answers s r a s' × IsSince s' now' }
+    ensures after { (s now : BoardState) (r : Request) (a : Answer) (s' : BoardState) → IsSince s now
+        → ((id : List ℕ) → named r ≡ Some id → task_of id s.tasks ≡ task_of id now.tasks)
+        → Answers s r a s'
+        → (now' : BoardState) × Answers now r a now' × IsSince s' now' }
 {}
 
 /// A history determines its board but for slots: two replays lead to boards that are the same but for the
