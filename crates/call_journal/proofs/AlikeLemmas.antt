@@ -57,7 +57,7 @@ changed_own t (e ∷ es) =
     ∙ (skip e t.id (change_task t es) n
     ∙ (changed_own t es ∙ sym (ap (option_map (λ (x : Task). t)) (skip e t.id es n)))))
 
-changed_beside : (t : Task) (id : List ℕ) (es : Entries) → t.id ≢ id → task_of id (change_task t es) ≡ task_of id es
+pub changed_beside : (t : Task) (id : List ℕ) (es : Entries) → t.id ≢ id → task_of id (change_task t es) ≡ task_of id es
 changed_beside t id [] away = refl
 changed_beside t id (e ∷ es) away =
     by_id e.1.id t.id
@@ -90,7 +90,7 @@ put_own k t (e ∷ es) none =
       | false ↦ skip e t.id (put_task k t es) n ∙ put_own k t es (sym (skip e t.id es n) ∙ none)
     ])
 
-put_beside : (k : ℕ) (t : Task) (id : List ℕ) (es : Entries) → t.id ≢ id → task_of id (put_task k t es) ≡ task_of id es
+pub put_beside : (k : ℕ) (t : Task) (id : List ℕ) (es : Entries) → t.id ≢ id → task_of id (put_task k t es) ≡ task_of id es
 put_beside k t id [] away = skip (k, t) id [] (other_id t.id id away)
 put_beside k t id (e ∷ es) away =
     elim (nat_lt k e.0) as
@@ -122,7 +122,7 @@ removed_own id (e ∷ es) d =
     ap (task_of id) (cond_is_false (bytes_eq e.1.id id) es (e ∷ remove_task id es) n)
     ∙ (skip e id (remove_task id es) n ∙ removed_own id es d.1))
 
-removed_beside : (gone id : List ℕ) (es : Entries) → gone ≢ id → task_of id (remove_task gone es) ≡ task_of id es
+pub removed_beside : (gone id : List ℕ) (es : Entries) → gone ≢ id → task_of id (remove_task gone es) ≡ task_of id es
 removed_beside gone id [] away = refl
 removed_beside gone id (e ∷ es) away =
     by_id e.1.id gone

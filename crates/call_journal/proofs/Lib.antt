@@ -9,3 +9,4 @@ pub mod LegalLemmas
 pub mod AlikeLemmas
 pub mod SameLemmas
 pub mod TwiceLemmas
+pub mod NamedLemmas

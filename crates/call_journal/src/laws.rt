@@ -47,6 +47,12 @@ pub fn entries_fix_the_count()
         → Finds s r found mid → Finds s r found mid' → mid ≡ mid' }
 {}
 
+/// A call changes no task but the one that it names.
+pub fn calls_change_the_task_they_name()
+    ensures { (s : BoardState) (r : Request) (a : Answer) (s' : BoardState) (id : List ℕ)
+        → Answers s r a s' → (named r ≡ Some id → ⊥) → task_of id s'.tasks ≡ task_of id s.tasks }
+{}
+
 /// What takes and returns make of a task, one after another, is one advance at most, and then perhaps a take.
 pub fn slices_come_together()
     ensures take { (t : Task) (budget : ℕ) → can_lend t ≡ true → is_budget budget ≡ true

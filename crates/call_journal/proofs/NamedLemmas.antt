@@ -1,0 +1,135 @@
+-- A call changes no task but the one that it names.
+use Rattle.std.proofs.Common.{◌≡◌, ◌≢◌, ℕ, List, [], length, Option, Some, None, Ok, Err, refl, sym, ap, ◌∙◌}
+use Rattle.wasm_ast.specs.declared.refusal.Refusal.{Refusal}
+use Rattle.wasm_ast.specs.declared.refusal.Refusal.TheVariants as refusal
+use Rattle.content_leases.specs.Digests.{digest_of}
+use Rattle.content_leases.specs.StoreState.{StoreState, with_content, without_content, with_lease, with_member, without_lease, unheld, collected}
+use Rattle.content_leases.specs.Refusals.{Refusals, first_refusal, put_refusals, remove_refusals, lease_create_refusals, lease_add_refusals, lease_delete_refusals}
+use Rattle.task_lifecycle.specs.declared.lifecycle.TaskCall.TheVariants as call
+use Rattle.task_lifecycle.specs.declared.status.Signal.{Signal}
+use Rattle.task_lifecycle.specs.Names.{signal_of}
+use Rattle.task_board.specs.declared.change.Change.TheVariants as change
+use Rattle.task_board.specs.declared.request.Request.{Request}
+use Rattle.task_board.specs.declared.request.Request.TheVariants as request
+use Rattle.task_board.specs.declared.request.Reply.{Reply}
+use Rattle.task_board.specs.declared.request.Reply.TheVariants as reply
+use Rattle.task_board.specs.BoardState.{Task, BoardState, created_task, used_by, with_store, task_of}
+use Rattle.task_board.specs.Tasks.{killed_by}
+use Rattle.task_board.specs.Refusals.{create_refusals, unless_allowed, kill_refusals, state_refusals, output_refusals, break_refusals, unbreak_refusals, step_refusals, inspect_refusals, peek_refusals, task_refusals}
+use Rattle.task_board.specs.Step.{Answer, DecidedBy, Puts, PutsText, refused, stored, Done, with_left, OnFound, Creates, on_start, on_pause, on_resume, on_kill, on_delete, on_state, on_wait, on_output, on_break, on_unbreak, on_step, on_inspect, on_peek, Answers}
+use Rattle.task_board.proofs.EntryLemmas.{none_is_not, some_is}
+use Rattle.task_board.proofs.StepLemmas.{task_named}
+use Rattle.task_board.proofs.EffectLemmas.{change_id}
+use Rattle.call_journal.specs.Finding.{named}
+use Rattle.call_journal.proofs.AlikeLemmas.{changed_beside, put_beside, removed_beside}
+
+-- what a request leaves of a task has its id
+abbrev KeepsId : (does : Task → Done) → Type 0
+KeepsId does = (t u : Task) → (does t).1 ≡ Some u → u.id ≡ t.id
+
+id_of : (t u v : Task) → u.id ≡ t.id → Some u ≡ Some v → v.id ≡ t.id
+id_of t u v same is = ap (λ (x : Task). x.id) (sym (some_is u v is)) ∙ same
+
+killed_id : (o : Option Signal) (t : Task) → (killed_by o t).id ≡ t.id
+killed_id None t = refl
+killed_id (Some signal) t = change_id (change.Kill signal) t
+
+module _ (s : BoardState) (a : Answer) (s' : BoardState) (id : List ℕ) where
+  stays : s' ≡ s → task_of id s'.tasks ≡ task_of id s.tasks
+  stays is = ap (λ (x : BoardState). task_of id x.tasks) is
+
+  decided : (o : Option Refusal) (E : Type 0) → (E → task_of id s'.tasks ≡ task_of id s.tasks)
+      → DecidedBy o E s a s' → task_of id s'.tasks ≡ task_of id s.tasks
+  decided None E f d = f d
+  decided (Some e) E f d = stays d.1
+
+  on_store : (refusals : Refusals) (rep : Reply) (new : StoreState)
+      → DecidedBy (first_refusal refusals) ((a ≡ Ok rep) × (s' ≡ with_store s new)) s a s'
+      → task_of id s'.tasks ≡ task_of id s.tasks
+  on_store refusals rep new d =
+      decided (first_refusal refusals) ((a ≡ Ok rep) × (s' ≡ with_store s new))
+      (λ x. ap (λ (y : BoardState). task_of id y.tasks) x.1) d
+
+  left : (t : Task) (o : Option Task) → ((u : Task) → o ≡ Some u → u.id ≡ t.id) → t.id ≢ id → s' ≡ with_left s t o
+      → task_of id s'.tasks ≡ task_of id s.tasks
+  left t None keeps away is =
+      ap (λ (y : BoardState). task_of id y.tasks) is ∙ removed_beside t.id id s.tasks away
+  left t (Some u) keeps away is =
+      ap (λ (y : BoardState). task_of id y.tasks) is
+      ∙ changed_beside u id s.tasks (λ same. away (sym (keeps u refl) ∙ same))
+
+  on_found : (x : List ℕ) (own : Task → Refusals) (does : Task → Done) (o : Option Task) → KeepsId does → x ≢ id
+      → task_of x s.tasks ≡ o → OnFound x own does o s a s' → task_of id s'.tasks ≡ task_of id s.tasks
+  on_found x own does None keeps away at d =
+      decided (first_refusal (task_refusals x own None)) ⊥ (λ y. absurd y) d
+  on_found x own does (Some t) keeps away at d =
+      decided (first_refusal (task_refusals x own (Some t))) ((a ≡ Ok (does t).0) × (s' ≡ with_left s t (does t).1))
+      (λ y. left t (does t).1 (keeps t) (λ same. away (sym (task_named x s.tasks t at) ∙ same)) y.1) d
+
+  on_task : (x : List ℕ) (own : Task → Refusals) (does : Task → Done) → KeepsId does → (Some x ≡ Some id → ⊥)
+      → OnFound x own does (task_of x s.tasks) s a s' → task_of id s'.tasks ≡ task_of id s.tasks
+  on_task x own does keeps other d =
+      on_found x own does (task_of x s.tasks) keeps (λ same. other (ap Some same)) refl d
+
+  puts : (bytes : List ℕ) → Puts s bytes a s' → task_of id s'.tasks ≡ task_of id s.tasks
+  puts bytes d =
+      on_store (put_refusals s.store bytes) (reply.Put (digest_of bytes) (length bytes)) (with_content s.store bytes) d
+
+  puts_text : (text : List ℕ) → PutsText s text a s' → task_of id s'.tasks ≡ task_of id s.tasks
+  puts_text text (refused e why is same) = stays same
+  puts_text text (stored bytes is put) = puts bytes put
+
+makes : (s : BoardState) (config new : List ℕ) (a : Answer) (s' : BoardState) (id : List ℕ) → new ≢ id
+    → Creates s config new a s' → task_of id s'.tasks ≡ task_of id s.tasks
+makes s config new (Err e) s' id away d = ap (λ (x : BoardState). task_of id x.tasks) d.4.1
+makes s config new (Ok r) s' id away d =
+    ap (λ (x : BoardState). task_of id x.tasks) d.4.3.2
+    ∙ put_beside d.4.3.0 (created_task new s.creates d.1 d.4.0 d.0) id s.tasks away
+
+pub only_named : (s : BoardState) (r : Request) (a : Answer) (s' : BoardState) (id : List ℕ) → Answers s r a s'
+    → (named r ≡ Some id → ⊥) → task_of id s'.tasks ≡ task_of id s.tasks
+only_named s (request.Put bytes) a s' id d other = puts s a s' id bytes d
+only_named s (request.PutText text) a s' id d other = puts_text s a s' id text d
+only_named s (request.Remove digest) a s' id d other =
+    on_store s a s' id (remove_refusals (used_by s.tasks) s.store digest) (reply.Remove digest)
+    (without_content s.store digest) d
+only_named s (request.LeaseCreate x) a s' id d other =
+    on_store s a s' id (lease_create_refusals s.store x) (reply.LeaseCreate x) (with_lease s.store x) d
+only_named s (request.LeaseAdd digest x) a s' id d other =
+    on_store s a s' id (lease_add_refusals s.store digest x) (reply.LeaseAdd digest x) (with_member s.store digest x) d
+only_named s (request.LeaseDelete x) a s' id d other =
+    on_store s a s' id (lease_delete_refusals s.store x) (reply.LeaseDelete x) (without_lease s.store x) d
+only_named s request.Gc a s' id d other =
+    on_store s a s' id [] (reply.Gc (unheld (used_by s.tasks) s.store)) (collected (used_by s.tasks) s.store) d
+only_named s (request.Create config x) a s' id d other =
+    decided s a s' id (first_refusal (create_refusals s config x)) (Creates s config x a s')
+    (λ made. makes s config x a s' id (λ same. other (ap Some same)) made) d
+only_named s (request.Start x) a s' id d other =
+    on_task s a s' id x (unless_allowed call.Start refusal.WrongStatus) on_start (λ t u is. id_of t _ u refl is) other d
+only_named s (request.Pause x) a s' id d other =
+    on_task s a s' id x (unless_allowed call.Pause refusal.WrongStatus) on_pause (λ t u is. id_of t _ u refl is) other d
+only_named s (request.Resume x) a s' id d other =
+    on_task s a s' id x (unless_allowed call.Resume refusal.WrongStatus) on_resume (λ t u is. id_of t _ u refl is)
+    other d
+only_named s (request.Kill x number) a s' id d other =
+    on_task s a s' id x (kill_refusals number) (on_kill number)
+    (λ t u is. id_of t _ u (killed_id (signal_of number) t) is) other d
+only_named s (request.Delete x) a s' id d other =
+    on_task s a s' id x (unless_allowed call.Delete refusal.WrongStatus) on_delete
+    (λ t u is. absurd (none_is_not u is)) other d
+only_named s (request.State x) a s' id d other =
+    on_task s a s' id x state_refusals on_state (λ t u is. id_of t _ u refl is) other d
+only_named s (request.Wait x) a s' id d other =
+    on_task s a s' id x (unless_allowed call.Wait refusal.Busy) on_wait (λ t u is. id_of t _ u refl is) other d
+only_named s (request.Output x number) a s' id d other =
+    on_task s a s' id x (output_refusals number) (on_output number) (λ t u is. id_of t _ u refl is) other d
+only_named s (request.Break func x place) a s' id d other =
+    on_task s a s' id x (break_refusals func place) (on_break func place) (λ t u is. id_of t _ u refl is) other d
+only_named s (request.Unbreak func x place) a s' id d other =
+    on_task s a s' id x (unbreak_refusals func place) (on_unbreak func place) (λ t u is. id_of t _ u refl is) other d
+only_named s (request.Step count x) a s' id d other =
+    on_task s a s' id x (step_refusals count) (on_step count) (λ t u is. id_of t _ u refl is) other d
+only_named s (request.Inspect x) a s' id d other =
+    on_task s a s' id x inspect_refusals on_inspect (λ t u is. id_of t _ u refl is) other d
+only_named s (request.Peek address x length) a s' id d other =
+    on_task s a s' id x (peek_refusals address length) (on_peek address length) (λ t u is. id_of t _ u refl is) other d
