@@ -349,7 +349,7 @@ pub data Alters (q : Request) (id : List ℕ) (t t' : Task) : Type 0 where
       (count : ℕ) → q ≡ request.Step count id → allowed call.Step t.status ≡ true → t' ≡ stepped t count
       → Alters q id t t'
 
--- all but its breakpoints, its turns and where it stands are as they were
+-- all but its breakpoints, its turns and its standing are as they were
 pub record IsSameTask (t t' : Task) : Type 0 where
   pub same_id : t'.id ≡ t.id
   pub number : t'.incarnation ≡ t.incarnation

@@ -154,7 +154,7 @@ fn params_of_use(alloc: Global, signature: &FuncType, written: &Written) -> Resu
     Ok(ids)
 }
 
-// The parameters, as locals, of a use of the type with this index, which is where so many tokens are left.
+// The parameters, as locals, of a use of the type with this index, where `left` tokens are left.
 fn used_params(
     alloc: Global,
     scopes: &Scopes,
