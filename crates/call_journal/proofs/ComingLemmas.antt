@@ -11,7 +11,7 @@ use Rattle.task_lifecycle.specs.declared.status.Status.{Status}
 use Rattle.task_lifecycle.specs.declared.status.Status.TheVariants.{Created, Running, Pausing, Paused, Stopped}
 use Rattle.task_lifecycle.specs.declared.status.Signal.{Signal}
 use Rattle.task_lifecycle.specs.Lifecycle.{takes_turns, is_running, is_pausing}
-use Rattle.task_board.specs.declared.request.Request.{Request}
+use Rattle.task_requests.specs.declared.request.Request.{Request}
 use Rattle.task_board.specs.BoardState.{Task, BoardState, task_of, with_task}
 use Rattle.task_board.specs.Tasks.{execution_at, is_break_at, landing, idle_after, advanced, MayAdvance, can_lend, lent, slice_turns, HasReturned}
 use Rattle.task_board.specs.Step.{is_budget}

@@ -2,11 +2,11 @@
 use Rattle.std.proofs.Common.{◌≡◌, ℕ, List, [], ◌∷◌, ◌++◌, Bool, true, false, ◌&&◌, MatchBool, Option, Some, None, option_map, option_and_then, refl, sym, ap, ◌∙◌, subst}
 use Rattle.std.proofs.lemmas.List.{append_assoc, append-nil}
 use Rattle.wasm_ast.specs.declared.refusal.Refusal.TheVariants as refusal
-use Rattle.task_board.specs.declared.event.Event.{Event}
-use Rattle.task_board.specs.declared.event.Event.TheVariants as event
-use Rattle.task_board.specs.declared.event.EventReply.{EventReply}
-use Rattle.task_board.specs.declared.event.EventReply.TheVariants as answer
-use Rattle.task_board.specs.declared.request.Request.{Request}
+use Rattle.task_requests.specs.declared.event.Event.{Event}
+use Rattle.task_requests.specs.declared.event.Event.TheVariants as event
+use Rattle.task_requests.specs.declared.event.EventReply.{EventReply}
+use Rattle.task_requests.specs.declared.event.EventReply.TheVariants as answer
+use Rattle.task_requests.specs.declared.request.Request.{Request}
 use Rattle.task_board.specs.BoardState.{Task, Entries, BoardState, empty, task_of, with_task, change_task}
 use Rattle.task_board.specs.Tasks.{lent}
 use Rattle.task_board.specs.Step.{Answer, Answers, Returns, Step}

@@ -1,6 +1,6 @@
 -- One history, replayed twice.
 use Rattle.std.proofs.Common.{◌≡◌, ℕ, List, [], ◌∷◌, Option, Some, None, option_map, refl, sym, ap, ◌∙◌, subst}
-use Rattle.task_board.specs.declared.request.Request.{Request}
+use Rattle.task_requests.specs.declared.request.Request.{Request}
 use Rattle.task_board.specs.BoardState.{Task, BoardState, empty, task_of, with_task}
 use Rattle.task_board.specs.Sound.{IsBoard}
 use Rattle.task_board.proofs.EntryLemmas.{none_is_not, some_is}

@@ -1,7 +1,7 @@
 -- What a call finds of the task that it names.
 use Rattle.std.specs.Prelude.{ℕ, List, Option, Some, None, option_map, option_and_then}
-use Rattle.task_board.specs.declared.request.Request.{Request}
-use Rattle.task_board.specs.declared.request.Request.TheVariants as request
+use Rattle.task_requests.specs.declared.request.Request.{Request}
+use Rattle.task_requests.specs.declared.request.Request.TheVariants as request
 use Rattle.task_board.specs.BoardState.{Task, BoardState, task_of}
 use Rattle.call_journal.specs.declared.entry.Found.{Found}
 

@@ -1,10 +1,10 @@
 -- The journal of a run of events.
 use Rattle.std.specs.Prelude.{◌≡◌, ℕ, List, [], ◌∷◌, true}
-use Rattle.task_board.specs.declared.event.Event.{Event}
-use Rattle.task_board.specs.declared.event.Event.TheVariants as event
-use Rattle.task_board.specs.declared.event.EventReply.{EventReply}
-use Rattle.task_board.specs.declared.event.EventReply.TheVariants as answer
-use Rattle.task_board.specs.declared.request.Request.{Request}
+use Rattle.task_requests.specs.declared.event.Event.{Event}
+use Rattle.task_requests.specs.declared.event.Event.TheVariants as event
+use Rattle.task_requests.specs.declared.event.EventReply.{EventReply}
+use Rattle.task_requests.specs.declared.event.EventReply.TheVariants as answer
+use Rattle.task_requests.specs.declared.request.Request.{Request}
 use Rattle.task_board.specs.BoardState.{BoardState}
 use Rattle.task_board.specs.Step.{Answer, Answers, Step}
 use Rattle.task_board.specs.Run.{met_no_memory}

@@ -3,7 +3,7 @@
 -- makes the call.
 use Rattle.std.specs.Prelude.{◌≡◌, ℕ, ◌<◌, ◌⊎◌, List, [], ◌∷◌, true, Option, Some, None}
 use Rattle.task_lifecycle.specs.declared.status.Status.TheVariants.{Running}
-use Rattle.task_board.specs.declared.request.Request.{Request}
+use Rattle.task_requests.specs.declared.request.Request.{Request}
 use Rattle.task_board.specs.BoardState.{Task, Entries, BoardState, empty, task_of, with_task}
 use Rattle.task_board.specs.Tasks.{advanced, MayAdvance, can_lend, lent, slice_turns}
 use Rattle.task_board.specs.Step.{Answer, Answers, is_budget}

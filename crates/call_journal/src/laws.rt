@@ -1,9 +1,9 @@
 //! Laws of histories. Each function is nothing but its contract.
 
 ghost use Rattle.std.specs.Prelude.{◌≡◌, ◌++◌, ℕ, List, [], ◌∷◌, Option, Some, option_map, true};
-ghost use Rattle.task_board.specs.declared.request.Request.{Request};
-ghost use Rattle.task_board.specs.declared.event.Event.{Event};
-ghost use Rattle.task_board.specs.declared.event.EventReply.{EventReply};
+ghost use Rattle.task_requests.specs.declared.request.Request.{Request};
+ghost use Rattle.task_requests.specs.declared.event.Event.{Event};
+ghost use Rattle.task_requests.specs.declared.event.EventReply.{EventReply};
 ghost use Rattle.task_board.specs.BoardState.{Task, BoardState, empty, task_of};
 ghost use Rattle.task_board.specs.Run.{Run};
 ghost use Rattle.task_board.specs.Step.{Answer, Answers, Step, is_budget};

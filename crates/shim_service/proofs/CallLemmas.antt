@@ -1,10 +1,10 @@
 -- A call of the board as an event that happens.
 use Rattle.std.proofs.Common.{◌≡◌, ◌≢◌, ℕ, List, Bool, true, false, true≢false, Err, refl, sym, ap, ◌∙◌, ◌&&◌, MatchBool}
 use Rattle.wasm_ast.specs.declared.refusal.Refusal.TheVariants as refusal
-use Rattle.task_board.specs.declared.event.Event.TheVariants as event
-use Rattle.task_board.specs.declared.event.EventReply.TheVariants as answer
-use Rattle.task_board.specs.declared.request.Request.{Request}
-use Rattle.task_board.specs.declared.request.Request.TheVariants as request
+use Rattle.task_requests.specs.declared.event.Event.TheVariants as event
+use Rattle.task_requests.specs.declared.event.EventReply.TheVariants as answer
+use Rattle.task_requests.specs.declared.request.Request.{Request}
+use Rattle.task_requests.specs.declared.request.Request.TheVariants as request
 use Rattle.task_board.specs.BoardState.{BoardState}
 use Rattle.task_board.specs.Step.{Answer, Answers}
 use Rattle.task_board.specs.Run.{takes_memory, is_no_memory, Happens}

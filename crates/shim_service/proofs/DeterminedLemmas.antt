@@ -1,22 +1,22 @@
 -- What a line is answered is determined by the line and the board.
 use Rattle.std.proofs.Common.{◌≡◌, ◌≢◌, ◌<◌, ◌&&◌, arith, ℕ, zero, suc, length, List, Bool, true, false, Option, Some, None, Ok, Err, inl, inr, ◌⊎◌, refl, sym, ap, ◌∙◌, subst}
 use Rattle.wasm_ast.specs.declared.refusal.Refusal.TheVariants as refusal
-use Rattle.task_board.specs.declared.event.Event.{Event}
-use Rattle.task_board.specs.declared.event.Event.TheVariants as event
-use Rattle.task_board.specs.declared.event.EventReply.{EventReply}
-use Rattle.task_board.specs.declared.event.EventReply.TheVariants as answer
-use Rattle.task_board.specs.declared.request.Request.{Request}
-use Rattle.task_board.specs.declared.request.Request.TheVariants as request
+use Rattle.task_requests.specs.declared.event.Event.{Event}
+use Rattle.task_requests.specs.declared.event.Event.TheVariants as event
+use Rattle.task_requests.specs.declared.event.EventReply.{EventReply}
+use Rattle.task_requests.specs.declared.event.EventReply.TheVariants as answer
+use Rattle.task_requests.specs.declared.request.Request.{Request}
+use Rattle.task_requests.specs.declared.request.Request.TheVariants as request
 use Rattle.task_board.specs.BoardState.{BoardState}
 use Rattle.task_board.specs.Choices.{IsDetermined}
 use Rattle.task_board.specs.Step.{Answer, Step, taken}
 use Rattle.task_board.specs.Run.{takes_memory, is_no_memory, met_no_memory, Happens}
-use Rattle.shim_service.specs.Shape.{max_line_bytes}
-use Rattle.shim_service.specs.Request.{IsRequest, IsEvent}
-use Rattle.shim_service.specs.Reply.{json_of, event_data, line_text}
+use Rattle.request_lines.specs.Shape.{max_line_bytes}
+use Rattle.request_lines.specs.Request.{IsRequest, IsEvent}
+use Rattle.request_lines.specs.Reply.{json_of, event_data, line_text}
 use Rattle.shim_service.specs.Replay.{IsPlayed, IsBad, IsReplied}
 use Rattle.shim_service.specs.Serving.{slice_budget, OneSlice, Slices, IsIdle, Before, IsAnswered, IsServed}
-use Rattle.shim_service.proofs.OneEvent.{one_event}
+use Rattle.request_lines.proofs.OneEvent.{one_event}
 
 -- the law of the board's events, which the laws of lines call
 abbrev pub EventsAreDetermined : Type 0

@@ -1,18 +1,18 @@
 -- A script as it is read line by line, and its run as a session.
 use Rattle.std.proofs.Common.{◌≡◌, ℕ, List, [], ◌∷◌, ◌++◌, Err, inl, inr, append_assoc, refl, sym, ap, ◌∙◌}
 use Rattle.std.proofs.lemmas.List.{append-nil}
-use Rattle.task_board.specs.declared.event.Event.{Event}
+use Rattle.task_requests.specs.declared.event.Event.{Event}
 use Rattle.shim_service.specs.declared.replay.Mark.{Mark}
 use Rattle.shim_service.specs.declared.replay.Mark.TheVariants as mark
-use Rattle.shim_service.specs.Request.{IsEvent}
-use Rattle.shim_service.specs.Lines.{lines_of, joined}
+use Rattle.request_lines.specs.Request.{IsEvent}
+use Rattle.request_lines.specs.Lines.{lines_of, joined}
 use Rattle.shim_service.specs.Inside.Script.{AreMarked, Adds, replay_text}
-use Rattle.shim_service.specs.Reply.{event_data, refusal_data, line_text}
+use Rattle.request_lines.specs.Reply.{event_data, refusal_data, line_text}
 use Rattle.shim_service.specs.Replay.{IsReplied}
 use Rattle.shim_service.specs.Session.{Session}
 use Rattle.wasm_ast.specs.declared.refusal.Refusal.TheVariants.{BadRequest}
-use Rattle.task_board.specs.declared.event.EventReply.{EventReply}
-use Rattle.task_board.specs.declared.event.EventReply.TheVariants.{Called}
+use Rattle.task_requests.specs.declared.event.EventReply.{EventReply}
+use Rattle.task_requests.specs.declared.event.EventReply.TheVariants.{Called}
 use Rattle.task_board.specs.BoardState.{BoardState}
 use Rattle.task_board.specs.Run.{Run}
 

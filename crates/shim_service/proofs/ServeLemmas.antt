@@ -5,16 +5,16 @@ use Rattle.std.specs.Result.{IsErrAnd}
 use Rattle.std.specs.Io.KnownBytes.{Appends, prepend_known}
 use Rattle.std.proofs.lemmas.List.{append-nil}
 use Rattle.wasm_ast.specs.declared.refusal.Refusal.{Refusal}
-use Rattle.task_board.specs.declared.request.Request.{Request}
+use Rattle.task_requests.specs.declared.request.Request.{Request}
 use Rattle.task_board.specs.BoardState.{BoardState}
 use Rattle.task_board.specs.Step.{Answer}
-use Rattle.shim_service.specs.declared.line_error.LineError.{LineError}
-use Rattle.shim_service.specs.declared.line_error.LineError.TheVariants.{NoRequest, OutOfMemory}
-use Rattle.shim_service.specs.Shape.{max_line_bytes}
-use Rattle.shim_service.specs.Request.{IsRequest}
-use Rattle.shim_service.specs.Inside.Parse.{refusal_of}
-use Rattle.shim_service.specs.Inside.Input.{IsKept, TakesLine}
-use Rattle.shim_service.specs.Lines.{lines_of, joined}
+use Rattle.request_lines.specs.declared.line_error.LineError.{LineError}
+use Rattle.request_lines.specs.declared.line_error.LineError.TheVariants.{NoRequest, OutOfMemory}
+use Rattle.request_lines.specs.Shape.{max_line_bytes}
+use Rattle.request_lines.specs.Request.{IsRequest}
+use Rattle.request_lines.specs.Inside.Parse.{refusal_of}
+use Rattle.request_lines.specs.Input.{IsKept, TakesLine}
+use Rattle.request_lines.specs.Lines.{lines_of, joined}
 use Rattle.shim_service.specs.Session.{Session}
 use Rattle.shim_service.specs.Serving.{IsAnswered, IsServed, BeginWithLines, Stops}
 

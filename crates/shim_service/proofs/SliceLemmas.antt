@@ -8,8 +8,8 @@ use Rattle.task_board.specs.declared.ticket.Ticket.{Ticket}
 use Rattle.task_board.specs.BoardState.{Task, BoardState, Entries, task_in, entry_of, task_of, change_task, with_task}
 use Rattle.task_board.specs.Loans.{Lent, loan_of, Fits}
 use Rattle.task_board.specs.Sound.{IsBoard}
-use Rattle.task_board.specs.declared.event.Event.TheVariants as event
-use Rattle.task_board.specs.declared.event.EventReply.TheVariants as answer
+use Rattle.task_requests.specs.declared.event.Event.TheVariants as event
+use Rattle.task_requests.specs.declared.event.EventReply.TheVariants as answer
 use Rattle.task_board.specs.Step.{Step, lends, is_budget, Returns}
 use Rattle.task_board.specs.Tasks.{can_lend, lent, slice_turns}
 use Rattle.task_board.specs.Tickets.{Lends, ticket_of}

@@ -1,15 +1,4 @@
-pub mod Shape
-pub mod Request
-pub mod Reply
-pub mod Lines
 pub mod Session
 pub mod Replay
 pub mod Serving
-pub mod Command
-pub mod Source
-pub mod Ran
-pub mod Assembled
-pub mod Checked
-pub mod TaskRun
-pub mod Examples
 pub mod Inside

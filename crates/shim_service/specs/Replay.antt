@@ -1,14 +1,14 @@
 -- What is answered to the lines of a script.
 use Rattle.std.specs.Prelude.{◌≡◌, ◌⊎◌, ℕ, List, Err}
 use Rattle.wasm_ast.specs.declared.refusal.Refusal.TheVariants.{BadRequest}
-use Rattle.task_board.specs.declared.event.Event.{Event}
-use Rattle.task_board.specs.declared.event.EventReply.{EventReply}
-use Rattle.task_board.specs.declared.event.EventReply.TheVariants.{Called}
+use Rattle.task_requests.specs.declared.event.Event.{Event}
+use Rattle.task_requests.specs.declared.event.EventReply.{EventReply}
+use Rattle.task_requests.specs.declared.event.EventReply.TheVariants.{Called}
 use Rattle.task_board.specs.BoardState.{BoardState, empty}
 use Rattle.task_board.specs.Run.{Happens}
-use Rattle.shim_service.specs.Lines.{lines_of, joined}
-use Rattle.shim_service.specs.Request.{IsEvent}
-use Rattle.shim_service.specs.Reply.{event_data, line_text}
+use Rattle.request_lines.specs.Lines.{lines_of, joined}
+use Rattle.request_lines.specs.Request.{IsEvent}
+use Rattle.request_lines.specs.Reply.{event_data, line_text}
 use Rattle.shim_service.specs.Session.{Session}
 
 -- the line is this event, which happens with this reply

@@ -2,17 +2,17 @@
 use Rattle.std.specs.Prelude.{◌≡◌, ◌≤◌, ◌⊎◌, ◌++◌, ℕ, zero, suc, true, List, length, Option, None, Some, Err}
 use Rattle.std.specs.Io.KnownBytes.{Appends}
 use Rattle.wasm_ast.specs.declared.refusal.Refusal.TheVariants.{BadRequest, NoMemory}
-use Rattle.task_board.specs.declared.event.Event.TheVariants as event
-use Rattle.task_board.specs.declared.event.EventReply.TheVariants as answer
-use Rattle.task_board.specs.declared.request.Request.{Request}
-use Rattle.task_board.specs.declared.request.Request.TheVariants as request
+use Rattle.task_requests.specs.declared.event.Event.TheVariants as event
+use Rattle.task_requests.specs.declared.event.EventReply.TheVariants as answer
+use Rattle.task_requests.specs.declared.request.Request.{Request}
+use Rattle.task_requests.specs.declared.request.Request.TheVariants as request
 use Rattle.task_board.specs.BoardState.{BoardState}
 use Rattle.task_board.specs.Step.{Answer, Step, taken}
 use Rattle.task_board.specs.Run.{Happens}
-use Rattle.shim_service.specs.Shape.{max_line_bytes}
-use Rattle.shim_service.specs.Lines.{lines_of, joined}
-use Rattle.shim_service.specs.Request.{IsRequest}
-use Rattle.shim_service.specs.Reply.{json_of, line_text}
+use Rattle.request_lines.specs.Shape.{max_line_bytes}
+use Rattle.request_lines.specs.Lines.{lines_of, joined}
+use Rattle.request_lines.specs.Request.{IsRequest}
+use Rattle.request_lines.specs.Reply.{json_of, line_text}
 use Rattle.shim_service.specs.Session.{Session}
 
 -- ---- a wait runs its task

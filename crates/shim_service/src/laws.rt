@@ -1,31 +1,20 @@
-//! Laws of lines. Each function is nothing but its contract.
+//! Laws of sessions. Each function is nothing but its contract.
 
-ghost use Rattle.std.specs.Prelude.{◌≡◌, ◌≢◌, ◌<◌, ◌↔◌, List, ℕ, length, Err};
+ghost use Rattle.std.specs.Prelude.{◌≡◌, ◌≢◌, ◌<◌, List, ℕ, length, Err};
 ghost use Rattle.wasm_ast.specs.declared.refusal.Refusal.TheVariants as refusal;
-ghost use Rattle.task_board.specs.declared.event.Event.{Event};
-ghost use Rattle.task_board.specs.declared.event.Event.TheVariants.{Call};
-ghost use Rattle.task_board.specs.declared.request.Request.{Request};
+ghost use Rattle.task_requests.specs.declared.event.Event.{Event};
+ghost use Rattle.task_requests.specs.declared.event.Event.TheVariants.{Call};
+ghost use Rattle.task_requests.specs.declared.request.Request.{Request};
 ghost use Rattle.task_board.specs.BoardState.{BoardState};
 ghost use Rattle.task_board.specs.Choices.{IsDetermined};
 ghost use Rattle.task_board.specs.Step.{Answer};
-ghost use Rattle.shim_service.specs.Examples.{PutExample, TextExample, FaultExample, LeaseExample, TwiceExample, TakeExample, RemovedExample, StoppedExample, OutputExample, WrittenExample, BreakExample, StepExample, PeekExample, ShownExample, InspectExample, FramesExample};
 ghost use Rattle.shim_service.specs.Replay.{IsReplied};
-ghost use Rattle.shim_service.specs.Reply.{json_of, line_text};
-ghost use Rattle.shim_service.specs.Request.{IsRequest, IsEvent};
+ghost use Rattle.request_lines.specs.Reply.{json_of, line_text};
+ghost use Rattle.request_lines.specs.Request.{IsRequest, IsEvent};
 ghost use Rattle.shim_service.specs.Serving.{IsAnswered, IsServed};
-ghost use Rattle.shim_service.specs.Shape.{max_line_bytes};
+ghost use Rattle.request_lines.specs.Shape.{max_line_bytes};
 
 use task_board::laws::events_are_determined;
-
-/// A line is at most one event.
-pub fn one_event_to_a_line()
-    ensures { (line : List ℕ) (a b : Event) → IsEvent line a → IsEvent line b → a ≡ b }
-{}
-
-/// A line is the event of a request exactly where it is that request.
-pub fn requests_are_events()
-    ensures { (line : List ℕ) (r : Request) → IsRequest line r ↔ IsEvent line (Call r) }
-{}
 
 /// What a line of a script is answered, and the board that it leaves, are determined by the line and the
 /// board, unless the line is a create or a put of a text, or memory ran out.
@@ -59,24 +48,4 @@ pub fn long_lines_are_no_requests()
     ensures { (s : BoardState) (line : List ℕ) (a : Answer) (s' : BoardState)
         → max_line_bytes < length line → IsAnswered s line a s'
         → (a ≡ Err refusal.BadRequest) × (s' ≡ s) }
-{}
-
-/// Lines that are read so, and some that are written so.
-pub fn examples()
-    ensures put { PutExample }
-    ensures text { TextExample }
-    ensures fault { FaultExample }
-    ensures lease { LeaseExample }
-    ensures twice { TwiceExample }
-    ensures take { TakeExample }
-    ensures output { OutputExample }
-    ensures removed { RemovedExample }
-    ensures written { WrittenExample }
-    ensures stopped { StoppedExample }
-    ensures break_line { BreakExample }
-    ensures step { StepExample }
-    ensures peek { PeekExample }
-    ensures shown { ShownExample }
-    ensures inspect { InspectExample }
-    ensures frames { FramesExample }
 {}

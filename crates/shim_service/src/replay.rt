@@ -2,13 +2,11 @@
 
 ghost use Rattle.std.specs.Prelude.{◌≡◌, ◌<◌, ◌∷◌, ◌++◌, [], IfOk, IfErr, OnOk, length, List};
 ghost use Rattle.shim_service.specs.declared.replay.Mark.{Mark};
-ghost use Rattle.shim_service.specs.Lines.{lines_of};
+ghost use Rattle.request_lines.specs.Lines.{lines_of};
 ghost use Rattle.shim_service.specs.Replay.{IsReplay};
 ghost use Rattle.shim_service.specs.Inside.Script.{AreMarked, Adds, replay_text};
 
-use crate::line_error::LineError;
-use crate::parse_event::read_event_line;
-use crate::reply_line::{bad_request_line, event_line};
+use request_lines::{LineError, bad_request_line, event_line, read_event_line};
 use std::alloc::{AllocError, Global};
 use task_board::{Event, EventReply, run_events};
 use wasm_ast::Refusal;

@@ -2,19 +2,17 @@
 
 ghost use Rattle.std.specs.Prelude.{◌≡◌, ◌<◌, List, ℕ, IsTrue, MatchBool, true, false};
 ghost use Rattle.std.specs.Io.KnownBytes.{Appends};
-ghost use Rattle.task_board.specs.declared.event.Event.TheVariants as Happening;
-ghost use Rattle.task_board.specs.declared.event.EventReply.TheVariants as Answered;
-ghost use Rattle.task_board.specs.declared.request.Request.TheVariants as Asked;
+ghost use Rattle.task_requests.specs.declared.event.Event.TheVariants as Happening;
+ghost use Rattle.task_requests.specs.declared.event.EventReply.TheVariants as Answered;
+ghost use Rattle.task_requests.specs.declared.request.Request.TheVariants as Asked;
 ghost use Rattle.task_board.specs.Run.{Happens};
-ghost use Rattle.shim_service.specs.Reply.{json_of, line_text};
+ghost use Rattle.request_lines.specs.Reply.{json_of, line_text};
 ghost use Rattle.shim_service.specs.Serving.{OneSlice, IsIdle, RunsTask, IsAnswered, Serves, Stops};
-ghost use Rattle.shim_service.specs.Inside.Input.{IsKept};
+ghost use Rattle.request_lines.specs.Input.{IsKept};
 ghost use Rattle.shim_service.specs.Inside.Calls.{Calls};
 ghost use Rattle.shim_service.specs.Inside.Turns.{turns_left_to};
 
-use crate::line_reader::{Chunk, Line, next_line};
-use crate::parse_request::read_request_line;
-use crate::reply_line::{answer_line, no_memory_line};
+use request_lines::{Chunk, Line, answer_line, next_line, no_memory_line, read_request_line};
 use std::alloc::Global;
 use std::io::{Read, Write};
 use step_machine::laws::turns_are_limited;

@@ -1,14 +1,14 @@
 -- Held contents stay: what a lease names is there, and of each task the bytes that it was created from.
 use Rattle.std.proofs.Common.{◌≡◌, ℕ, List, [], ◌∷◌, true, false, bytes_eq, nat_eq, Option, Some, None, inl, inr, ◌⊎◌, Ok, Err, refl, sym, ap, ◌∙◌, subst}
-use Rattle.task_board.specs.declared.event.Event.{Event}
-use Rattle.task_board.specs.declared.event.Event.TheVariants as event
-use Rattle.task_board.specs.declared.event.EventReply.{EventReply}
-use Rattle.task_board.specs.declared.event.EventReply.TheVariants as answer
+use Rattle.task_requests.specs.declared.event.Event.{Event}
+use Rattle.task_requests.specs.declared.event.Event.TheVariants as event
+use Rattle.task_requests.specs.declared.event.EventReply.{EventReply}
+use Rattle.task_requests.specs.declared.event.EventReply.TheVariants as answer
 use Rattle.content_leases.specs.StoreState.{StoreState, content_in, is_among, is_leased, is_held}
 use Rattle.task_board.specs.declared.change.Change.{Change}
 use Rattle.task_board.specs.declared.change.Change.TheVariants as change
 use Rattle.task_board.specs.Inside.Changes.{changed}
-use Rattle.task_board.specs.declared.request.Request.{Request}
+use Rattle.task_requests.specs.declared.request.Request.{Request}
 use Rattle.task_board.specs.BoardState.{Task, Entries, BoardState, empty, created_task, used_by, task_in, entry_of, task_of, put_task, change_task, remove_task}
 use Rattle.task_board.specs.Tasks.{killed_while, lent}
 use Rattle.task_board.specs.Step.{Answer, Creates, Returns, Step}

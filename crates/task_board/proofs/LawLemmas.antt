@@ -12,15 +12,15 @@ use Rattle.validator.specs.Faults.{NamesFault}
 use Rattle.step_machine.specs.declared.ends.End.{End}
 use Rattle.step_machine.specs.declared.ends.End.TheVariants as own
 use Rattle.step_machine.specs.Instantiation.{instantiation_refusal, ended}
-use Rattle.task_board.specs.declared.event.Event.{Event}
-use Rattle.task_board.specs.declared.event.Event.TheVariants as event
-use Rattle.task_board.specs.declared.event.EventReply.{EventReply}
-use Rattle.task_board.specs.declared.event.EventReply.TheVariants as answer
-use Rattle.task_board.specs.declared.request.Request.{Request}
-use Rattle.task_board.specs.declared.request.Request.TheVariants as request
-use Rattle.task_board.specs.declared.request.Reply.{Reply}
-use Rattle.task_board.specs.declared.request.Reply.TheVariants as reply
-use Rattle.task_board.specs.Limits.{max_budget}
+use Rattle.task_requests.specs.declared.event.Event.{Event}
+use Rattle.task_requests.specs.declared.event.Event.TheVariants as event
+use Rattle.task_requests.specs.declared.event.EventReply.{EventReply}
+use Rattle.task_requests.specs.declared.event.EventReply.TheVariants as answer
+use Rattle.task_requests.specs.declared.request.Request.{Request}
+use Rattle.task_requests.specs.declared.request.Request.TheVariants as request
+use Rattle.task_requests.specs.declared.request.Reply.{Reply}
+use Rattle.task_requests.specs.declared.request.Reply.TheVariants as reply
+use Rattle.task_requests.specs.Limits.{max_budget}
 use Rattle.content_leases.specs.Digests.{digest_of}
 use Rattle.content_leases.specs.StoreState.{StoreState, content_in, with_content, without_content, with_lease, with_member, without_lease, unheld, collected}
 use Rattle.content_leases.specs.Refusals.{Refusals, first_refusal, put_refusals, remove_refusals, lease_create_refusals, lease_add_refusals, lease_delete_refusals}
@@ -32,7 +32,8 @@ use Rattle.task_lifecycle.specs.declared.status.ExitRecord.TheVariants as exit
 use Rattle.task_lifecycle.specs.Lifecycle.{allowed, takes_turns, is_going}
 use Rattle.task_board.specs.BoardState.{Task, Entries, BoardState, empty, created_task, used_by, with_store, task_in, entry_of, task_of, put_task, change_task, remove_task, with_task, without_task, with_new_task}
 use Rattle.task_board.specs.Tasks.{execution_at, landing, killed_while, can_lend, lent, advanced, slice_turns}
-use Rattle.task_board.specs.Refusals.{create_refusals, unless_allowed, kill_refusals, state_refusals, output_refusals, break_refusals, unbreak_refusals, step_refusals, inspect_refusals, peek_refusals, task_refusals, Openable, CannotOpen, no_module, too_much, invalid, refused, IsSpelled}
+use Rattle.wasm_binary.specs.Spelled.{IsSpelled}
+use Rattle.task_board.specs.Refusals.{create_refusals, unless_allowed, kill_refusals, state_refusals, output_refusals, break_refusals, unbreak_refusals, step_refusals, inspect_refusals, peek_refusals, task_refusals, Openable, CannotOpen, no_module, too_much, invalid, refused}
 use Rattle.task_board.specs.Step.{Answer, DecidedBy, OnStore, Done, with_left, OnFound, Opens, Creates, on_start, on_pause, on_resume, on_kill, on_delete, on_state, on_wait, on_output, on_break, on_unbreak, on_step, on_inspect, on_peek, Answers, is_budget, lends, taken, is_out, Returns, Step}
 use Rattle.task_board.specs.Run.{met_no_memory, Happens, Run}
 use Rattle.task_board.specs.Sound.{AreRising, slots_of, IsSound, IsBoard}

@@ -3,7 +3,7 @@ use Rattle.std.proofs.Common.{◌≡◌, ◌≢◌, ℕ, zero, suc, ◌+◌, ◌
 use Rattle.std.specs.List.{remove}
 use Rattle.std.proofs.lemmas.Option.{slice_get_within, get_or_from_slice_get}
 use Rattle.task_board.specs.declared.ticket.Ticket.{Ticket}
-use Rattle.task_board.specs.declared.request.Request.{Request}
+use Rattle.task_requests.specs.declared.request.Request.{Request}
 use Rattle.task_board.specs.declared.change.Change.{Change}
 use Rattle.task_board.specs.declared.change.Change.TheVariants as change
 use Rattle.task_board.specs.Inside.Changes.{changed}

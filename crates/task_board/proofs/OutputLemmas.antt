@@ -7,8 +7,8 @@ use Rattle.oci_config.specs.declared.stream.Stream.{Stream}
 use Rattle.oci_config.specs.Streams.{stream_of}
 use Rattle.task_lifecycle.specs.declared.lifecycle.TaskCall.TheVariants as call
 use Rattle.content_leases.specs.Refusals.{first_refusal}
-use Rattle.task_board.specs.declared.request.Request.TheVariants as request
-use Rattle.task_board.specs.declared.request.Reply.TheVariants as reply
+use Rattle.task_requests.specs.declared.request.Request.TheVariants as request
+use Rattle.task_requests.specs.declared.request.Reply.TheVariants as reply
 use Rattle.task_board.specs.BoardState.{Task, BoardState, task_of}
 use Rattle.task_board.specs.Tasks.{output_of}
 use Rattle.task_board.specs.Refusals.{output_refusals, task_refusals}

@@ -20,8 +20,8 @@ use Rattle.content_leases.specs.Refusals.{Refusals, first_refusal}
 use Rattle.task_board.specs.declared.mark.Mark.{Mark}
 use Rattle.task_board.specs.declared.mark.Mark.TheVariants as mark
 use Rattle.task_board.specs.declared.mark.NewBreaks.{NewBreaks}
-use Rattle.task_board.specs.declared.request.Request.TheVariants as request
-use Rattle.task_board.specs.declared.request.Reply.TheVariants as reply
+use Rattle.task_requests.specs.declared.request.Request.TheVariants as request
+use Rattle.task_requests.specs.declared.request.Reply.TheVariants as reply
 use Rattle.task_board.specs.BoardState.{Task, BoardState, entry_of, task_of, with_task}
 use Rattle.task_board.specs.Limits.{max_step}
 use Rattle.task_board.specs.Tasks.{frames_of, memory_at, shown, place_of, stepped, state_of}

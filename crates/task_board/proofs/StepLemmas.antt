@@ -8,12 +8,13 @@ use Rattle.oci_config.specs.declared.process.ProcessConfig.{ProcessConfig}
 use Rattle.wasm_ast.specs.declared.place.Place.{Place}
 use Rattle.step_machine.specs.Instantiation.{after, ended}
 use Rattle.step_machine.specs.Slices.{turns_made, ends_slice}
-use Rattle.task_board.specs.declared.request.Request.{Request}
-use Rattle.task_board.specs.declared.request.Request.TheVariants as request
-use Rattle.task_board.specs.declared.request.Reply.TheVariants as reply
+use Rattle.task_requests.specs.declared.request.Request.{Request}
+use Rattle.task_requests.specs.declared.request.Request.TheVariants as request
+use Rattle.task_requests.specs.declared.request.Reply.TheVariants as reply
 use Rattle.task_lifecycle.specs.declared.status.Status.{Status}
 use Rattle.task_lifecycle.specs.declared.status.Status.TheVariants.{Created, Running, Pausing, Paused, Stopped}
-use Rattle.task_board.specs.Limits.{max_tasks, max_creates, max_budget}
+use Rattle.task_board.specs.Limits.{max_tasks, max_creates}
+use Rattle.task_requests.specs.Limits.{max_budget}
 use Rattle.wasm_ast.specs.Identifiers.{is_id}
 use Rattle.content_leases.specs.Digests.{digest_of}
 use Rattle.content_leases.specs.Refusals.{Refusals, first_refusal}

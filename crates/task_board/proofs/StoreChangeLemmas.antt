@@ -6,10 +6,10 @@ use Rattle.content_leases.specs.Digests.{digest_of}
 use Rattle.content_leases.specs.StoreState.{StoreState, with_content, without_content, with_lease, with_member, without_lease, unheld, collected}
 use Rattle.content_leases.specs.Refusals.{Refusals, first_refusal, put_refusals, remove_refusals, lease_create_refusals, lease_add_refusals, lease_delete_refusals}
 use Rattle.content_leases.proofs.StoreLemmas.{put_new, create_new, add_takes}
-use Rattle.task_board.specs.declared.request.Request.{Request}
-use Rattle.task_board.specs.declared.request.Request.TheVariants as request
-use Rattle.task_board.specs.declared.request.Reply.{Reply}
-use Rattle.task_board.specs.declared.request.Reply.TheVariants as reply
+use Rattle.task_requests.specs.declared.request.Request.{Request}
+use Rattle.task_requests.specs.declared.request.Request.TheVariants as request
+use Rattle.task_requests.specs.declared.request.Reply.{Reply}
+use Rattle.task_requests.specs.declared.request.Reply.TheVariants as reply
 use Rattle.task_board.specs.declared.store_change.StoreChange.{StoreChange}
 use Rattle.task_board.specs.declared.store_change.StoreChange.TheVariants as change
 use Rattle.task_board.specs.declared.tables.Tables.TheInside as tables

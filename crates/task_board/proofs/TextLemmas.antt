@@ -13,7 +13,7 @@ use Rattle.task_board.specs.declared.change.Change.{Change}
 use Rattle.task_board.specs.declared.change.Change.TheVariants as change
 use Rattle.task_board.specs.declared.store_change.StoreChange.{StoreChange}
 use Rattle.task_board.specs.declared.store_change.StoreChange.TheVariants as store
-use Rattle.task_board.specs.declared.request.Request.TheVariants as request
+use Rattle.task_requests.specs.declared.request.Request.TheVariants as request
 use Rattle.task_board.specs.BoardState.{BoardState}
 use Rattle.task_board.specs.BoardValue.{Room}
 use Rattle.task_board.specs.Texts.{IsAssembled, DenotesNone, CannotAssemble, bad_text, too_much, too_deep}

@@ -8,10 +8,6 @@ max_tasks = 64
 abbrev pub max_creates : ℕ
 max_creates = 2 ^ 60
 
--- turns of a slice
-abbrev pub max_budget : ℕ
-max_budget = 1000000
-
 -- turns of a step
 abbrev pub max_step : ℕ
 max_step = 1000

@@ -5,9 +5,9 @@ use Rattle.wasm_ast.specs.declared.module.Module.{Module}
 use Rattle.wasm_ast.specs.declared.place.Place.{Place}
 use Rattle.wasm_ast.specs.declared.refusal.Refusal.{Refusal}
 use Rattle.wasm_ast.specs.declared.refusal.Refusal.TheVariants as refusal
-use Rattle.wasm_ast.specs.Limits.{max_module_bytes, Within}
 use Rattle.wasm_binary.specs.Grammar.{Spells}
 use Rattle.wasm_binary.specs.Limits.{Over}
+use Rattle.wasm_binary.specs.Spelled.{IsSpelled}
 use Rattle.oci_config.specs.declared.process.ProcessConfig.{ProcessConfig}
 use Rattle.validator.specs.Typing.{ValidModule}
 use Rattle.validator.specs.Faults.{NamesFault}
@@ -49,12 +49,6 @@ create_refusals s config id =
     ∷ (is_none (process_read config), refusal.BadConfig)
     ∷ (is_none (named_bytes s config), refusal.NoContent)
     ∷ []
-
--- the bytes spell this module, within the limits of the profile
-pub record IsSpelled (bytes : List ℕ) (m : Module) : Type 0 where
-  pub spells : Spells bytes m
-  pub within : Within m
-  pub short : length bytes ≤ max_module_bytes
 
 -- why no task can be created from bytes under a process
 pub data CannotOpen (bytes : List ℕ) (p : ProcessConfig) : Refusal → Type 0 where

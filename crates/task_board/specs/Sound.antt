@@ -5,7 +5,8 @@ use Rattle.step_machine.specs.Limits.{max_breakpoints}
 use Rattle.wasm_ast.specs.Limits.{max_module_bytes}
 use Rattle.task_lifecycle.specs.declared.status.Status.TheVariants.{Created, Pausing}
 use Rattle.task_lifecycle.specs.declared.status.ExitRecord.{ExitRecord}
-use Rattle.task_board.specs.Limits.{max_tasks, max_creates, max_budget}
+use Rattle.task_board.specs.Limits.{max_tasks, max_creates}
+use Rattle.task_requests.specs.Limits.{max_budget}
 use Rattle.content_leases.specs.Limits.{max_contents, max_leases, max_members}
 use Rattle.wasm_ast.specs.Identifiers.{is_id}
 use Rattle.content_leases.specs.Digests.{digest_of}

@@ -13,7 +13,7 @@ use Rattle.step_machine.specs.Shown.{shown as frames_shown}
 use Rattle.step_machine.specs.Slices.{is_place, at_break, ends_slice, turns_made}
 use Rattle.task_lifecycle.specs.declared.lifecycle.Situation.{Situation}
 use Rattle.task_lifecycle.specs.declared.lifecycle.TaskCall.TheVariants as call
-use Rattle.task_board.specs.declared.request.TaskState.{TaskState}
+use Rattle.task_requests.specs.declared.request.TaskState.{TaskState}
 use Rattle.task_lifecycle.specs.declared.status.Status.{Status}
 use Rattle.task_lifecycle.specs.declared.status.Status.TheVariants.{Running, Paused, Stopped}
 use Rattle.task_lifecycle.specs.declared.status.Signal.{Signal}

@@ -3,8 +3,8 @@
 ghost use Rattle.std.specs.Prelude.{◌≡◌};
 ghost use Rattle.task_board.specs.Inside.Changes.{change_call, change_reply, enters};
 
-use crate::request::Reply;
 use task_lifecycle::{Signal, Status, TaskCall};
+use task_requests::Reply;
 use wasm_ast::Text;
 
 /// A change that a request makes of a task.

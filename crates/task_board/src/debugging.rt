@@ -2,20 +2,20 @@
 
 ghost use Rattle.std.specs.Prelude.{ℕ, ◌≡◌, IfOk, IfErr};
 ghost use Rattle.task_board.specs.declared.mark.Mark.TheVariants as mark;
-ghost use Rattle.task_board.specs.declared.request.Request.TheVariants as request;
+ghost use Rattle.task_requests.specs.declared.request.Request.TheVariants as request;
 ghost use Rattle.task_board.specs.Refusals.{break_refusals, unbreak_refusals, is_step, inspect_refusals, peek_refusals};
 ghost use Rattle.task_board.specs.Tasks.{place_of};
 ghost use Rattle.task_board.specs.Inside.Plans.{RefusesOwn, place_refusals, HasPlace, MayMark, HasMachine, Plans};
 
 use crate::mark::Mark;
 use crate::prepared::Plan;
-use crate::request::Reply;
 use crate::tables::Tables;
 use crate::task::Task;
 use debugger::{inspect, peek};
 use std::alloc::{AllocError, Global};
 use step_machine::Machine;
 use task_lifecycle::TaskCall;
+use task_requests::Reply;
 use wasm_ast::{Place, Refusal, Sequence, Text};
 
 /// The most breakpoints of a task.

@@ -10,19 +10,21 @@ ghost use Rattle.step_machine.specs.Limits.{max_breakpoints};
 ghost use Rattle.step_machine.specs.Slices.{ends_slice};
 ghost use Rattle.validator.specs.Typing.{ValidModule};
 ghost use Rattle.wasm_ast.specs.declared.refusal.Refusal.{Refusal as Reason};
-ghost use Rattle.task_board.specs.declared.event.Event.{Event};
-ghost use Rattle.task_board.specs.declared.event.Event.TheVariants as event;
-ghost use Rattle.task_board.specs.declared.event.EventReply.{EventReply};
-ghost use Rattle.task_board.specs.declared.request.Request.TheVariants as request;
+ghost use Rattle.task_requests.specs.declared.event.Event.{Event};
+ghost use Rattle.task_requests.specs.declared.event.Event.TheVariants as event;
+ghost use Rattle.task_requests.specs.declared.event.EventReply.{EventReply};
+ghost use Rattle.task_requests.specs.declared.request.Request.TheVariants as request;
 ghost use Rattle.content_leases.specs.StoreState.{content_in, is_leased, is_held};
 ghost use Rattle.task_board.specs.BoardState.{Task, BoardState, empty, used_by, task_in};
 ghost use Rattle.task_board.specs.Choices.{IsDetermined, AgreeOnCreate, AgreeOnText};
 ghost use Rattle.task_lifecycle.specs.declared.status.Signal.{Signal as SignalValue};
 ghost use Rattle.task_lifecycle.specs.declared.status.ExitRecord.{ExitRecord as RecordValue};
 ghost use Rattle.task_lifecycle.specs.Lifecycle.{after, takes_turns, is_going};
-ghost use Rattle.task_board.specs.Limits.{max_tasks, max_creates, max_budget, max_step};
+ghost use Rattle.task_board.specs.Limits.{max_tasks, max_creates, max_step};
+ghost use Rattle.task_requests.specs.Limits.{max_budget};
 ghost use Rattle.task_board.specs.Moves.{MakeTurns, Becomes, IsStepOf};
-ghost use Rattle.task_board.specs.Refusals.{IsSpelled, CannotOpen};
+ghost use Rattle.wasm_binary.specs.Spelled.{IsSpelled};
+ghost use Rattle.task_board.specs.Refusals.{CannotOpen};
 ghost use Rattle.task_board.specs.Run.{takes_memory, met_no_memory, Happens, Run};
 ghost use Rattle.task_board.specs.Sound.{AreDistinct, AreRising, slots_of, IsSound, IsBoard};
 ghost use Rattle.task_board.specs.Step.{Answer, Answers};
@@ -289,7 +291,6 @@ pub fn valid_modules_are_not_invalid()
 pub fn limits_are_these()
     ensures tasks { max_tasks ≡ 64 }
     ensures creates { max_creates ≡ 2 ^ 60 }
-    ensures turns { max_budget ≡ 1000000 }
     ensures breaks { max_breakpoints ≡ 32 }
     ensures steps { max_step ≡ 1000 }
 {}

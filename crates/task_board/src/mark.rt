@@ -6,11 +6,11 @@ ghost use Rattle.step_machine.specs.Limits.{max_breakpoints};
 ghost use Rattle.task_board.specs.Tasks.{is_other};
 ghost use Rattle.task_board.specs.Inside.Marks.{mark_call, mark_reply, marked_places};
 
-use crate::request::Reply;
 use std::alloc::{AllocError, Global};
 use std::sync::Arc;
 use step_machine::Breaks;
 use task_lifecycle::TaskCall;
+use task_requests::Reply;
 use wasm_ast::{Place, Text};
 
 /// A breakpoint that a request sets or removes.

@@ -6,9 +6,9 @@ ghost use Rattle.task_board.specs.Inside.Plans.{refusal_in};
 
 use crate::change::Change;
 use crate::mark::{Mark, NewBreaks};
-use crate::request::Reply;
 use crate::store_change::StoreChange;
 use crate::task::Task;
+use task_requests::Reply;
 use wasm_ast::{Refusal, Text};
 
 /// A request with all the memory that its effect and its reply need. The board that prepared it can

@@ -1,22 +1,19 @@
 //! Whole lists of events.
 
 ghost use Rattle.std.specs.Prelude.{◌≡◌, ◌+◌, ◌<◌, ◌++◌, ◌∷◌, ◌↔◌, IsTrue, [], IfOk, OnOk, OnErr, IfSome, IfNone, Some, None, Ok, Err, length, vec_len, true, false};
-ghost use Rattle.task_board.specs.declared.event.Event.TheVariants as event;
-ghost use Rattle.task_board.specs.declared.event.EventReply.{EventReply as ReplyValue};
-ghost use Rattle.task_board.specs.declared.event.EventReply.TheVariants as answer;
+ghost use Rattle.task_requests.specs.declared.event.Event.TheVariants as event;
+ghost use Rattle.task_requests.specs.declared.event.EventReply.{EventReply as ReplyValue};
+ghost use Rattle.task_requests.specs.declared.event.EventReply.TheVariants as answer;
 ghost use Rattle.task_board.specs.BoardState.{BoardState, empty};
 ghost use Rattle.task_board.specs.Step.{Step};
 ghost use Rattle.task_board.specs.Run.{Happens, Run};
 ghost use Rattle.task_board.specs.Inside.Covers.{Covered, IsFitting, FitsAt, NoneFits};
 
 use crate::board::Board;
-use crate::event::{Event, EventReply};
 use crate::loan::Loan;
 use std::alloc::{AllocError, Global};
+use task_requests::{Event, EventReply, MAX_BUDGET};
 use wasm_ast::{Refusal, Text};
-
-/// The most turns of a slice.
-pub const MAX_BUDGET: u64 = 1_000_000;
 
 fn is_fitting(board: &Board, loan: &Loan, slot: usize) -> bool
     ensures { IsTrue result ↔ IsFitting board.now.state.tasks slot loan.now }

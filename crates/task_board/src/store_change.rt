@@ -6,9 +6,9 @@ ghost use Rattle.task_board.specs.Inside.OpenedModules.{IsOpened};
 ghost use Rattle.task_board.specs.Inside.StoreChanges.{store_reply, store_after, removes, CanTake};
 
 use crate::opened::Opened;
-use crate::request::Reply;
 use content_leases::{Members, Store};
 use std::sync::Arc;
+use task_requests::Reply;
 use wasm_ast::{Bytes, Sequence, Text};
 
 /// A change that a request makes of the store, with all the memory that it and its reply need.

@@ -2,16 +2,16 @@
 
 ghost use Rattle.std.specs.Prelude.{ℕ, ◌≡◌, ◌≢◌, ◌≤◌, ◌<◌, ◌+◌, ◌↔◌, IsTrue, ◌++◌, ◌∷◌, [], Some, None, Ok, Err, IfOk, IsOk, OnOk, OnErr, IfErr, IfSome, IfNone, true, false, option_map, is_some};
 ghost use Rattle.std.specs.Arc.{arc_value};
-ghost use Rattle.task_board.specs.declared.request.Request.{Request as RequestValue};
-ghost use Rattle.task_board.specs.declared.request.Request.TheVariants as request;
-ghost use Rattle.task_board.specs.declared.event.Event.TheVariants as event;
-ghost use Rattle.task_board.specs.declared.event.EventReply.TheVariants as answer;
+ghost use Rattle.task_requests.specs.declared.request.Request.{Request as RequestValue};
+ghost use Rattle.task_requests.specs.declared.request.Request.TheVariants as request;
+ghost use Rattle.task_requests.specs.declared.event.Event.TheVariants as event;
+ghost use Rattle.task_requests.specs.declared.event.EventReply.TheVariants as answer;
 ghost use Rattle.task_lifecycle.specs.Names.{signal_of};
 ghost use Rattle.content_leases.specs.Digests.{digest_of};
 ghost use Rattle.content_leases.specs.StoreState.{content_in, unheld};
 ghost use Rattle.content_leases.specs.Refusals.{first_refusal, put_refusals, lease_create_refusals, lease_add_refusals};
 ghost use Rattle.task_board.specs.BoardState.{Task as TaskValue, empty, used_by};
-ghost use Rattle.task_board.specs.Limits.{max_budget};
+ghost use Rattle.task_requests.specs.Limits.{max_budget};
 ghost use Rattle.task_board.specs.Loans.{Fits};
 ghost use Rattle.task_board.specs.Prepared.{Prepares, refusal_of, refusal_answered};
 ghost use Rattle.wasm_ast.specs.declared.refusal.Refusal.{Refusal as Reason};
@@ -33,7 +33,6 @@ use crate::mark::{Mark, NewBreaks};
 use crate::open::module_of;
 use crate::opened::Opened;
 use crate::prepared::{Plan, Prepared};
-use crate::request::Reply;
 use crate::store_change::StoreChange;
 use crate::task::{Task, find_task, is_present, is_used, used_digests};
 use crate::ticket::Ticket;
@@ -47,6 +46,7 @@ use std::sync::Arc;
 use step_machine::FlatModule;
 use step_machine::laws::{slices_go_forward, slices_stop_first};
 use task_lifecycle::{Signal, Status, TaskCall};
+use task_requests::Reply;
 use wasm_ast::{Bytes, Refusal, Sequence, Text, is_id};
 
 /// The most tasks of a board.

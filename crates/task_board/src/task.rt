@@ -21,7 +21,6 @@ use crate::change::Change;
 use crate::checkout::{Checkout, Shared};
 use crate::loan::Loan;
 use crate::mark::NewBreaks;
-use crate::request::TaskState;
 use crate::ticket::Ticket;
 use oci_config::Stream;
 use slab::Slab;
@@ -30,6 +29,7 @@ use std::marker::Model;
 use std::sync::Arc;
 use step_machine::{Breaks, Machine};
 use task_lifecycle::{ExitRecord, Signal, Status};
+use task_requests::TaskState;
 use wasm_ast::{Place, Sequence, Text};
 use wasm_binary::laws::spells_one;
 

@@ -38,6 +38,7 @@ pub mod laws;
 mod lexer;
 mod line;
 mod numbers;
+mod numerals;
 mod parser;
 mod parts;
 mod phrases;
@@ -48,6 +49,8 @@ mod scopes;
 mod strings;
 mod token;
 mod uses;
+
+pub use numerals::{push_decimal, push_signed32, push_signed64};
 
 /// The canonical encoding of the module that a text denotes (6.1 to 6.6): what
 /// `wasm_binary::encode` gives for it. Nothing is validated.

@@ -4,22 +4,15 @@ ghost use Rattle.std.specs.Prelude.{◌≡◌, ◌<◌, ◌++◌, ◌^◌, OnOk,
 ghost use Rattle.std.specs.List.{flat_map};
 ghost use Rattle.wasm_ast.specs.declared.instr.Simple.TheVariants as instr;
 ghost use Rattle.text_assembler.specs.Words.{type_word};
-ghost use Rattle.text_assembler.specs.Lines.{keyword_for, numbered, signed, offset_part, align_part, use_of, operands, block_type_part, line_of, HasAlignment, IsAligned};
+ghost use Rattle.text_assembler.specs.Lines.{keyword_for, numbered, offset_part, align_part, use_of, operands, block_type_part, line_of, HasAlignment, IsAligned};
 ghost use Rattle.wasm_ast.specs.Syntax as syntax;
 ghost use Rattle.wasm_ast.specs.View.{op_of};
 
 use crate::keyword::Keyword;
+use crate::numerals::{push_decimal, push_signed32, push_signed64};
 use crate::plain::{load_bytes, store_bytes};
-use itoa::Buffer;
 use std::alloc::AllocError;
 use wasm_ast::{BlockType, Instr, MemArg, Simple, ValType, Value};
-
-fn push_decimal(out: &mut String, number: u64) -> Result<(), AllocError>
-    ensures { OnOk result (string_bytes out.new ≡ string_bytes out.old ++ decimal number) }
-{
-    let mut buffer = Buffer::new();
-    out.push_str(buffer.format(number))
-}
 
 fn push_number(out: &mut String, number: u32) -> Result<(), AllocError>
     ensures { OnOk result (string_bytes out.new ≡ string_bytes out.old ++ numbered number) }
@@ -48,28 +41,15 @@ fn push_type_index(out: &mut String, index: u32) -> Result<(), AllocError>
     out.push_str(")")
 }
 
-fn push_signed32(out: &mut String, number: u32) -> Result<(), AllocError>
+fn push_constant(out: &mut String, value: Value) -> Result<(), AllocError>
     ensures { OnOk result (string_bytes out.new
-        ≡ string_bytes out.old ++ codes " " ++ signed 32 number) }
+        ≡ string_bytes out.old ++ operands (instr.Const value)) }
 {
     out.push_str(" ")?;
-    if number < 1 << 31 {
-        return push_decimal(out, u64::from(number));
+    match value {
+        Value::I32(number) => push_signed32(out, number),
+        Value::I64(number) => push_signed64(out, number),
     }
-    out.push_str("-")?;
-    push_decimal(out, (1 << 32) - u64::from(number))
-}
-
-fn push_signed64(out: &mut String, number: u64) -> Result<(), AllocError>
-    ensures { OnOk result (string_bytes out.new
-        ≡ string_bytes out.old ++ codes " " ++ signed 64 number) }
-{
-    out.push_str(" ")?;
-    if number < 1 << 63 {
-        return push_decimal(out, number);
-    }
-    out.push_str("-")?;
-    push_decimal(out, u64::MAX - number + 1)
 }
 
 fn push_offset(out: &mut String, at: MemArg) -> Result<(), AllocError>
@@ -167,8 +147,7 @@ fn push_operands(out: &mut String, simple: &Simple) -> Result<(), AllocError>
         Simple::CallIndirect(index) => push_type_index(out, *index),
         Simple::Load(op, at) => push_mem_arg(out, load_bytes(*op), *at),
         Simple::Store(op, at) => push_mem_arg(out, store_bytes(*op), *at),
-        Simple::Const(Value::I32(number)) => push_signed32(out, *number),
-        Simple::Const(Value::I64(number)) => push_signed64(out, *number),
+        Simple::Const(value) => push_constant(out, *value),
         _ => Ok(()),
     }
 }

@@ -2,6 +2,7 @@ pub mod Numbers
 pub mod Opcodes
 pub mod Grammar
 pub mod Limits
+pub mod Spelled
 pub mod Canonical
 pub mod Worked
 pub mod Tables

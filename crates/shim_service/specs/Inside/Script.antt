@@ -1,10 +1,10 @@
 -- A script as it is run: its lines with a mark for each, and the events among them.
 use Rattle.std.specs.Prelude.{◌≡◌, ℕ, List, [], ◌∷◌, ◌++◌}
 use Rattle.wasm_ast.specs.declared.refusal.Refusal.TheVariants.{BadRequest}
-use Rattle.task_board.specs.declared.event.Event.{Event}
-use Rattle.task_board.specs.declared.event.EventReply.{EventReply}
-use Rattle.shim_service.specs.Request.{IsEvent}
-use Rattle.shim_service.specs.Reply.{event_data, refusal_data, line_text}
+use Rattle.task_requests.specs.declared.event.Event.{Event}
+use Rattle.task_requests.specs.declared.event.EventReply.{EventReply}
+use Rattle.request_lines.specs.Request.{IsEvent}
+use Rattle.request_lines.specs.Reply.{event_data, refusal_data, line_text}
 use Rattle.shim_service.specs.declared.replay.Mark.{Mark}
 use Rattle.shim_service.specs.declared.replay.Mark.TheVariants as mark
 

@@ -7,10 +7,10 @@ use Rattle.task_lifecycle.specs.declared.status.Status.{Status}
 use Rattle.task_lifecycle.specs.Names.{signal_number}
 use Rattle.task_board.specs.declared.change.Change.{Change}
 use Rattle.task_board.specs.declared.change.Change.TheVariants as change
-use Rattle.task_board.specs.declared.request.Request.{Request}
-use Rattle.task_board.specs.declared.request.Request.TheVariants as request
-use Rattle.task_board.specs.declared.request.Reply.{Reply}
-use Rattle.task_board.specs.declared.request.Reply.TheVariants as reply
+use Rattle.task_requests.specs.declared.request.Request.{Request}
+use Rattle.task_requests.specs.declared.request.Request.TheVariants as request
+use Rattle.task_requests.specs.declared.request.Reply.{Reply}
+use Rattle.task_requests.specs.declared.request.Reply.TheVariants as reply
 use Rattle.content_leases.specs.Refusals.{Refusals}
 use Rattle.task_board.specs.BoardState.{Task}
 use Rattle.task_board.specs.Tasks.{started, paused, resumed, killed}

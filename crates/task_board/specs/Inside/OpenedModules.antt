@@ -4,7 +4,7 @@ use Rattle.std.specs.Global.{Global}
 use Rattle.wasm_ast.specs.declared.module.Module.{Module}
 use Rattle.validator.specs.Typing.{ValidModule}
 use Rattle.content_leases.specs.StoreState.{Content, content_in}
-use Rattle.task_board.specs.Refusals.{IsSpelled}
+use Rattle.wasm_binary.specs.Spelled.{IsSpelled}
 
 pub record OpenedModule : Type 0 where
   pub digest : List ℕ

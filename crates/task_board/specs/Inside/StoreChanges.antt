@@ -8,10 +8,10 @@ use Rattle.content_leases.specs.StoreValue.{StoreValue}
 use Rattle.content_leases.specs.Refusals.{Refusals, first_refusal, put_refusals, remove_refusals, lease_create_refusals, lease_add_refusals, lease_delete_refusals}
 use Rattle.task_board.specs.declared.store_change.StoreChange.{StoreChange}
 use Rattle.task_board.specs.declared.store_change.StoreChange.TheVariants as change
-use Rattle.task_board.specs.declared.request.Request.{Request}
-use Rattle.task_board.specs.declared.request.Request.TheVariants as request
-use Rattle.task_board.specs.declared.request.Reply.{Reply}
-use Rattle.task_board.specs.declared.request.Reply.TheVariants as reply
+use Rattle.task_requests.specs.declared.request.Request.{Request}
+use Rattle.task_requests.specs.declared.request.Request.TheVariants as request
+use Rattle.task_requests.specs.declared.request.Reply.{Reply}
+use Rattle.task_requests.specs.declared.request.Reply.TheVariants as reply
 use Rattle.task_board.specs.BoardState.{BoardState, used_by}
 use Rattle.task_board.specs.BoardValue.{Room}
 use Rattle.task_board.specs.Texts.{IsAssembled}

@@ -1,5 +1,5 @@
 use Rattle.std.proofs.Common.{◌≡◌, ℕ, List, ◌++◌, length}
-use Rattle.shim_service.specs.Lines.{lines_of}
+use Rattle.request_lines.specs.Lines.{lines_of}
 use Rattle.shim_service.specs.Inside.Script.{AreMarked}
 use Rattle.shim_service.proofs.replay.read_script.Given as goal
 

@@ -1,7 +1,7 @@
 use Rattle.std.proofs.Common.{◌∙◌, ap₂}
 use Rattle.task_board.specs.BoardState.{empty}
 use Rattle.shim_service.specs.Inside.Script.{replay_text}
-use Rattle.shim_service.specs.Lines.{lines_of}
+use Rattle.request_lines.specs.Lines.{lines_of}
 use Rattle.shim_service.proofs.ReplayLemmas.{replay_session}
 use Rattle.shim_service.proofs.replay.replay_lines.Goals as goal
 

@@ -1,4 +1,4 @@
-use Rattle.shim_service.proofs.SplitLemmas.{lines_from_feed, lines_from_none}
+use Rattle.request_lines.proofs.SplitLemmas.{lines_from_feed, lines_from_none}
 use Rattle.shim_service.proofs.replay.split_line.Goals as goal
 
 pub returns-in-Some-clause-lines : goal.returns-in-Some-clause-lines

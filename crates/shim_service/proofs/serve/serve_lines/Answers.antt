@@ -1,6 +1,6 @@
 use Rattle.std.proofs.Common.{ap, refl, Ok}
 use Rattle.std.specs.Io.KnownBytes.{prepend_known}
-use Rattle.shim_service.specs.Reply.{json_of, line_text}
+use Rattle.request_lines.specs.Reply.{json_of, line_text}
 use Rattle.shim_service.proofs.ServeLemmas.{serving_none, serving_more, stops_at_once, stops_after}
 use Rattle.shim_service.proofs.serve.serve_lines.Goals as goal
 

@@ -1,7 +1,8 @@
 use Rattle.std.proofs.Common.{◌≡◌, ◌⊎◌, ◌∙◌, sym, ap, subst, Err, rules}
 use Rattle.wasm_ast.specs.declared.refusal.Refusal.{Refusal}
 use Rattle.wasm_ast.specs.declared.refusal.Refusal.TheVariants as refusal
-use Rattle.task_board.specs.Refusals.{IsSpelled, CannotOpen, invalid}
+use Rattle.wasm_binary.specs.Spelled.{IsSpelled}
+use Rattle.task_board.specs.Refusals.{CannotOpen, invalid}
 use Rattle.task_board.proofs.InstantiateLemmas.{undecoded, unchecked}
 use Rattle.task_board.proofs.open.module_of.Goals as goal
 

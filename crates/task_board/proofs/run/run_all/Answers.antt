@@ -1,5 +1,5 @@
 use Rattle.std.proofs.Common.{◌++◌, ◌∷◌, [], List, sym, subst}
-use Rattle.task_board.specs.declared.event.EventReply.{EventReply}
+use Rattle.task_requests.specs.declared.event.EventReply.{EventReply}
 use Rattle.task_board.specs.Run.{Run}
 use Rattle.task_board.proofs.RunLemmas.{run_more}
 use Rattle.task_board.proofs.run.run_all.Goals as goal

@@ -1,7 +1,7 @@
 use Rattle.std.proofs.Common.{true, subst, sym}
 use Rattle.task_board.specs.BoardValue.{BoardValue}
-use Rattle.task_board.specs.declared.event.Event.TheVariants as event
-use Rattle.task_board.specs.declared.event.EventReply.TheVariants as answer
+use Rattle.task_requests.specs.declared.event.Event.TheVariants as event
+use Rattle.task_requests.specs.declared.event.EventReply.TheVariants as answer
 use Rattle.task_board.specs.Step.{Step}
 use Rattle.task_board.specs.Loans.{Fits}
 use Rattle.task_board.proofs.board.Board.receive.Goals as goal

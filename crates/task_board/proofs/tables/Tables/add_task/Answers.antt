@@ -1,5 +1,5 @@
 use Rattle.std.proofs.Common.{Ok, subst, ℕ, sym, ◌≤◌}
-use Rattle.task_board.specs.declared.request.Reply.TheVariants as reply
+use Rattle.task_requests.specs.declared.request.Reply.TheVariants as reply
 use Rattle.task_lifecycle.specs.declared.status.Status.TheVariants.{Created}
 use Rattle.task_board.specs.BoardValue.{BoardValue}
 use Rattle.task_board.specs.Step.{Answers}

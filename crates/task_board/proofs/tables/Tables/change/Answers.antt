@@ -2,7 +2,7 @@ use Rattle.std.proofs.Common.{◌≡◌, ◌∙◌, Some, None, Ok, sym, ap, sub
 use Rattle.slab.specs.Slab.{get}
 use Rattle.task_lifecycle.specs.declared.status.Status.{Status}
 use Rattle.task_lifecycle.specs.Lifecycle.{allowed}
-use Rattle.task_board.specs.declared.request.Reply.{Reply}
+use Rattle.task_requests.specs.declared.request.Reply.{Reply}
 use Rattle.task_board.specs.BoardState.{Task}
 use Rattle.task_board.specs.BoardValue.{BoardValue}
 use Rattle.task_board.specs.Step.{Answers}

@@ -1,6 +1,6 @@
 use Rattle.std.proofs.Common.{Ok, sym, subst}
 use Rattle.content_leases.specs.StoreState.{StoreState}
-use Rattle.task_board.specs.declared.request.Reply.{Reply}
+use Rattle.task_requests.specs.declared.request.Reply.{Reply}
 use Rattle.task_board.specs.BoardState.{with_store}
 use Rattle.task_board.specs.BoardValue.{BoardValue}
 use Rattle.task_board.specs.Step.{Answers}

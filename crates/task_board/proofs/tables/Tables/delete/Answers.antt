@@ -5,9 +5,9 @@ use Rattle.task_lifecycle.specs.declared.lifecycle.TaskCall.TheVariants as call
 use Rattle.task_board.specs.declared.ticket.Ticket.{Ticket}
 use Rattle.task_board.specs.Waiting.{AreWaiting}
 use Rattle.task_board.proofs.WaitingLemmas.{filtered}
-use Rattle.task_board.specs.declared.request.Request.TheVariants as request
-use Rattle.task_board.specs.declared.request.Reply.TheVariants as reply
-use Rattle.task_board.specs.declared.request.TaskState.{TaskState}
+use Rattle.task_requests.specs.declared.request.Request.TheVariants as request
+use Rattle.task_requests.specs.declared.request.Reply.TheVariants as reply
+use Rattle.task_requests.specs.declared.request.TaskState.{TaskState}
 use Rattle.task_board.specs.BoardState.{Task}
 use Rattle.task_board.specs.BoardValue.{BoardValue}
 use Rattle.task_board.specs.Refusals.{unless_allowed}

@@ -1,6 +1,6 @@
 use Rattle.std.proofs.Common.{◌≡◌, ◌∙◌, Some, None, Ok, sym, subst, rules}
 use Rattle.slab.specs.Slab.{get}
-use Rattle.task_board.specs.declared.request.Reply.{Reply}
+use Rattle.task_requests.specs.declared.request.Reply.{Reply}
 use Rattle.task_board.specs.BoardValue.{BoardValue}
 use Rattle.task_board.specs.Step.{Answers}
 use Rattle.task_board.specs.Inside.Marks.{mark_request, mark_reply, mark_refusals}

@@ -1,6 +1,6 @@
 use Rattle.std.proofs.Common.{◌≡◌, Some, List, ℕ, subst, rules}
 use Rattle.task_lifecycle.specs.Names.{signal_of}
-use Rattle.task_board.specs.declared.request.Request.TheVariants as request
+use Rattle.task_requests.specs.declared.request.Request.TheVariants as request
 use Rattle.task_board.specs.Inside.Plans.{Plans, RefusesKill}
 use Rattle.task_board.proofs.EffectLemmas.{signal_known, refused_kill}
 use Rattle.task_board.proofs.tables.Tables.plan_kill.Goals as goal

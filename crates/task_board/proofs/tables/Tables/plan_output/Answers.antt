@@ -1,6 +1,6 @@
 use Rattle.std.proofs.Common.{List, ℕ, length, Ok, sym, ◌∙◌, subst}
-use Rattle.task_board.specs.declared.request.Request.TheVariants as request
-use Rattle.task_board.specs.declared.request.Reply.TheVariants as reply
+use Rattle.task_requests.specs.declared.request.Request.TheVariants as request
+use Rattle.task_requests.specs.declared.request.Reply.TheVariants as reply
 use Rattle.task_board.specs.Step.{Answers}
 use Rattle.task_board.specs.Inside.Plans.{TellsOutput}
 use Rattle.task_board.proofs.OutputLemmas.{output_answers}

@@ -1,8 +1,8 @@
 use Rattle.std.proofs.Common.{◌≡◌, ◌∙◌, Some, None, Ok, sym, ap, subst, rules}
 use Rattle.slab.specs.Slab.{get}
-use Rattle.task_board.specs.declared.request.Request.TheVariants as request
-use Rattle.task_board.specs.declared.request.Reply.TheVariants as reply
-use Rattle.task_board.specs.declared.request.TaskState.{TaskState}
+use Rattle.task_requests.specs.declared.request.Request.TheVariants as request
+use Rattle.task_requests.specs.declared.request.Reply.TheVariants as reply
+use Rattle.task_requests.specs.declared.request.TaskState.{TaskState}
 use Rattle.task_board.specs.BoardState.{Task}
 use Rattle.task_board.specs.BoardValue.{BoardValue}
 use Rattle.task_board.specs.Refusals.{step_refusals}

@@ -1,0 +1,145 @@
+-- How the program's command line is read, by `clap`'s own reading of its arguments.
+use Rattle.std.specs.Prelude.{◌≡◌, ◌≢◌, ◌⊎◌, List, [], ◌∷◌, map, Bool, true, false, bytes_eq, Option, Some, None, option_map, codes, string_bytes}
+use Rattle.clap.specs.Faults.{fault_of}
+use Rattle.clap.specs.Kinds.{Kinds, IsAmong}
+use Rattle.clap.specs.Simple.{App, Shape, new_shape, new_rule, subcommand_of, with_subcommand}
+use Rattle.clap.specs.Lexer.{usize_max}
+use Rattle.clap.specs.Walk.{Row, Rule, Text, first_of, all_of}
+use Rattle.clap.specs.declared.builder.action.ArgAction.TheVariants.{SetTrue}
+use Rattle.clap.specs.declared.error.kind.ErrorKind.{ErrorKind}
+use Rattle.clap.specs.declared.error.kind.ErrorKind.TheVariants.{DisplayHelp, DisplayVersion}
+use Rattle.file_commands.specs.declared.command.Command.{Command}
+use Rattle.file_commands.specs.declared.command.Command.TheVariants.{Serve, Replay, Asm, Check, Run, Show}
+use Rattle.file_commands.specs.declared.command.CommandError.{CommandError}
+use Rattle.file_commands.specs.declared.command.CommandError.TheVariants.{OutOfMemory, Arguments}
+
+abbrev pub file_rule : Rule
+file_rule = record (new_rule (codes "FILE")) { required = true }
+
+-- the flag `--list`
+abbrev pub list_rule : Rule
+list_rule = record (new_rule (codes "list")) { long = Some (codes "list"); action = Some SetTrue }
+
+-- the file of a module and all words that follow it, those that begin with a dash too
+abbrev pub module_rule : Rule
+module_rule = record (new_rule (codes "MODULE")) {
+  required = true;
+  trailing_var_arg = true;
+  range = Some (record { start_inclusive = 1; end_inclusive = usize_max });
+  value_names = 2;
+}
+
+-- a command with these arguments
+abbrev pub command_shape : (name : Text) → List Rule → Shape
+command_shape name rules = record (new_shape name) { rules = rules; has_version = true }
+
+-- the program without its commands, of which it wants one
+abbrev pub bare_program : App
+bare_program =
+    record {
+      top = record (new_shape (codes "wasm-shim"))
+          { has_version = true; subcommand_required = true };
+      subs = [];
+    }
+
+-- `serve`, `replay FILE`, `asm FILE`, `check [--list] FILE` and `run MODULE [ARG..]`
+abbrev pub serve_shape : Shape
+serve_shape = command_shape (codes "serve") []
+
+abbrev pub replay_shape : Shape
+replay_shape = command_shape (codes "replay") (file_rule ∷ [])
+
+abbrev pub asm_shape : Shape
+asm_shape = command_shape (codes "asm") (file_rule ∷ [])
+
+abbrev pub check_shape : Shape
+check_shape = command_shape (codes "check") (list_rule ∷ file_rule ∷ [])
+
+abbrev pub run_shape : Shape
+run_shape = command_shape (codes "run") (module_rule ∷ [])
+
+-- the program with the commands for lines, and with all
+abbrev pub line_program : App
+line_program = with_subcommand (with_subcommand bare_program serve_shape) replay_shape
+
+abbrev pub program : App
+program =
+    with_subcommand (with_subcommand (with_subcommand line_program asm_shape) check_shape) run_shape
+
+-- ---- what is found of the arguments of a command
+
+abbrev pub file_in : List Row → Option Text
+file_in = first_of (codes "FILE")
+
+abbrev pub is_set : Option Text → Bool
+is_set None = false
+is_set (Some value) = bytes_eq value (codes "true")
+
+-- `--list` is among them
+abbrev pub has_list : List Row → Bool
+has_list rows = is_set (first_of (codes "list") rows)
+
+-- the file of a module and the words after it
+abbrev pub module_in : List Row → Option (List Text)
+module_in = all_of (codes "MODULE")
+
+-- the command that the arguments name, and what is found of its own
+abbrev pub command_in : List Text → Option (Text × List Row)
+command_in = subcommand_of program
+
+-- its name with its FILE, with its FILE and whether `--list` is there, and with its MODULE and ARGs
+abbrev pub with_file : Text × List Row → Text × Option Text
+with_file p = (p.0, file_in p.1)
+
+abbrev pub with_list : Text × List Row → Text × Option Text × Bool
+with_list p = (p.0, file_in p.1, has_list p.1)
+
+abbrev pub with_module : Text × List Row → Text × Option (List Text)
+with_module p = (p.0, module_in p.1)
+
+-- this is the command
+abbrev pub IsCommand : Option (Text × List Row) → Command → Type 0
+IsCommand found Serve = option_map (λ p. p.0) found ≡ Some (codes "serve")
+IsCommand found (Replay file) =
+    option_map with_file found ≡ Some (codes "replay", Some (string_bytes file))
+IsCommand found (Asm file) =
+    option_map with_file found ≡ Some (codes "asm", Some (string_bytes file))
+IsCommand found (Check file list) =
+    option_map with_list found ≡ Some (codes "check", Some (string_bytes file), list)
+IsCommand found (Run name args) =
+    option_map with_module found
+    ≡ Some (codes "run", Some (string_bytes name ∷ map string_bytes args.items))
+IsCommand found (Show text) = ⊥
+
+-- what is wrong with the arguments, help and version included; empty where nothing is
+abbrev pub faults_in : List Text → Kinds
+faults_in = fault_of program
+
+-- the arguments ask for help or for the version
+abbrev pub AskToShow : List Text → Type 0
+AskToShow arguments =
+    IsAmong DisplayHelp (faults_in arguments) ⊎ IsAmong DisplayVersion (faults_in arguments)
+
+-- the arguments name this command
+abbrev pub Name : List Text → Command → Type 0
+Name arguments (Show text) = AskToShow arguments
+Name arguments Serve = (faults_in arguments ≡ []) × IsCommand (command_in arguments) Serve
+Name arguments (Replay file) =
+    (faults_in arguments ≡ []) × IsCommand (command_in arguments) (Replay file)
+Name arguments (Asm file) = (faults_in arguments ≡ []) × IsCommand (command_in arguments) (Asm file)
+Name arguments (Check file list) =
+    (faults_in arguments ≡ []) × IsCommand (command_in arguments) (Check file list)
+Name arguments (Run name args) =
+    (faults_in arguments ≡ []) × IsCommand (command_in arguments) (Run name args)
+
+-- one of the faults of the arguments is no wish for help or the version
+pub record HasFault (arguments : List Text) : Type 0 where
+  pub kind : ErrorKind
+  pub fault : IsAmong kind (faults_in arguments)
+  pub no_help : kind ≢ DisplayHelp
+  pub no_version : kind ≢ DisplayVersion
+
+-- the arguments are at fault, unless memory is
+abbrev pub AreFaulty : List Text → CommandError → Type 0
+AreFaulty arguments OutOfMemory = Unit {0}
+AreFaulty arguments (Arguments text) = HasFault arguments

@@ -1,0 +1,19 @@
+-- What the parts of the command line's reader promise.
+use Rattle.std.specs.Prelude.{◌≡◌, ◌≢◌, ◌⊎◌}
+use Rattle.clap.specs.declared.error.kind.ErrorKind.{ErrorKind}
+use Rattle.clap.specs.declared.error.kind.ErrorKind.TheVariants as kind
+use Rattle.file_commands.specs.declared.command.Command.{Command}
+use Rattle.file_commands.specs.declared.command.Command.TheVariants.{Show}
+use Rattle.file_commands.specs.declared.command.CommandError.{CommandError}
+use Rattle.file_commands.specs.declared.command.CommandError.TheVariants.{OutOfMemory, Arguments}
+
+-- an error of this kind is shown
+abbrev pub IsShown : ErrorKind → Command → Type 0
+IsShown of (Show text) = (of ≡ kind.DisplayHelp) ⊎ (of ≡ kind.DisplayVersion)
+IsShown of other = ⊥
+
+-- an error of this kind is a fault of the arguments
+abbrev pub IsOfArguments : ErrorKind → CommandError → Type 0
+IsOfArguments of OutOfMemory = Unit {0}
+IsOfArguments of (Arguments text) =
+    (of ≢ kind.OutOfMemory) × (of ≢ kind.DisplayHelp) × (of ≢ kind.DisplayVersion)

@@ -1,0 +1,7 @@
+pub mod Command
+pub mod Source
+pub mod Ran
+pub mod Assembled
+pub mod Checked
+pub mod TaskRun
+pub mod Inside

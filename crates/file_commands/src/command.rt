@@ -1,0 +1,313 @@
+//! Command lines.
+
+ghost use Rattle.std.specs.Prelude.{◌≡◌, ◌∷◌, List, [], IfOk, IfErr, Some, map, string_bytes, false, codes};
+ghost use Rattle.clap.specs.Matches.{found_of};
+ghost use Rattle.clap.specs.Simple.{app_of, shape_of, subcommand_rows_of};
+ghost use Rattle.clap.specs.Values.{kind_of};
+ghost use Rattle.clap.specs.Walk.{Row, rows_of, rule_of};
+ghost use Rattle.clap.specs.declared.builder.command.Command.TheViews.{out-Command as fields_of};
+ghost use Rattle.file_commands.specs.Command.{file_rule, list_rule, module_rule, command_shape, bare_program, line_program, program, file_in, has_list, module_in, IsCommand, Name, AreFaulty};
+ghost use Rattle.file_commands.specs.Inside.Chosen.{IsShown, IsOfArguments};
+
+use clap::error::ErrorKind;
+use clap::{Arg, ArgAction, ArgMatches, Command as Parser};
+use std::alloc::{AllocError, Global};
+use thiserror::Error;
+
+/// What the program is to do.
+#[derive(Drop)]
+pub enum Command {
+    /// Answers the lines of standard input on standard output.
+    Serve,
+    /// Runs the lines of the file of this name, and writes their answers to standard output.
+    Replay { file: String },
+    /// Writes the encoding of the module in the file of this name.
+    Asm { file: String },
+    /// Says whether the module in the file of this name is valid, and lists its instructions if that is
+    /// wanted.
+    Check { file: String, list: bool },
+    /// Runs the module in the file of this name as one task, with these arguments.
+    Run { module: String, args: Vec<String> },
+    /// Writes this text, which is help or a version, to standard output.
+    Show { text: String },
+}
+
+/// Why a command line names no command.
+#[derive(Debug, Drop, Error)]
+pub enum CommandError {
+    #[error("out of memory")]
+    OutOfMemory,
+    /// The arguments are those of no command; the text says why, and how the program is used.
+    #[error("{text}")]
+    Arguments { text: String },
+}
+
+const VERSION: &str = "0.1.0";
+
+// What FILE is in the commands that read a module.
+const MODULE_FILE: &str = "The file of the module, in the binary or the text format";
+
+// The argument FILE.
+fn file_arg<'a>(alloc: Global, help: &'a str) -> Arg<'a>
+    ensures rule { rule_of result ≡ file_rule }
+    ensures local { result.global ≡ false }
+{
+    Arg::new(alloc, "FILE").required(true).help(help)
+}
+
+// The flag `--list`.
+fn list_arg<'a>(alloc: Global) -> Arg<'a>
+    ensures rule { rule_of result ≡ list_rule }
+    ensures local { result.global ≡ false }
+{
+    Arg::new(alloc, "list")
+        .long("list")
+        .action(ArgAction::SetTrue)
+        .help("Also list the instructions, a line each: function, place, instruction")
+}
+
+// The arguments MODULE and ARG. They are one argument with several values, so that after the name of the
+// module a word that begins with a dash is one of the values.
+fn module_arg<'a>(alloc: Global) -> Arg<'a>
+    ensures rule { rule_of result ≡ module_rule }
+    ensures local { result.global ≡ false }
+{
+    Arg::new(alloc, "MODULE")
+        .required(true)
+        .num_args(1..)
+        .trailing_var_arg(true)
+        .value_names(&["MODULE", "ARG"])
+        .help("The file of the module, and the arguments of the task after its name")
+}
+
+// A command without its arguments.
+fn bare_command<'a>(alloc: Global, name: &'a str, about: &'a str, example: &'a str) -> Parser<'a>
+    ensures shape { shape_of result ≡ command_shape name.now [] }
+    ensures local { (fields_of result).has_globals ≡ false }
+{
+    Parser::new(alloc, name)
+        .about(about)
+        .version(VERSION)
+        .after_help(example)
+}
+
+// A command with the argument FILE.
+fn file_command<'a>(
+    alloc: Global,
+    name: &'a str,
+    about: &'a str,
+    file: &'a str,
+    example: &'a str,
+) -> Result<Parser<'a>, AllocError>
+    ensures shape { IfOk result (λ p. shape_of p ≡ command_shape name.now (file_rule ∷ [])) }
+    ensures local { IfOk result (λ p. (fields_of p).has_globals ≡ false) }
+{
+    let command = bare_command(alloc, name, about, example);
+    command.arg(file_arg(alloc, file))
+}
+
+// `check [--list] FILE`
+fn check_command<'a>(alloc: Global) -> Result<Parser<'a>, AllocError>
+    ensures shape { IfOk result
+        (λ p. shape_of p ≡ command_shape (codes "check") (list_rule ∷ file_rule ∷ [])) }
+    ensures local { IfOk result (λ p. (fields_of p).has_globals ≡ false) }
+{
+    let command = bare_command(
+        alloc,
+        "check",
+        "Check whether the module of a file is valid",
+        "Example: wasm-shim check --list examples/sum.wat",
+    );
+    let listed = command.arg(list_arg(alloc))?;
+    listed.arg(file_arg(alloc, MODULE_FILE))
+}
+
+// `run MODULE [ARG..]`
+fn run_command<'a>(alloc: Global) -> Result<Parser<'a>, AllocError>
+    ensures shape { IfOk result (λ p. shape_of p ≡ command_shape (codes "run") (module_rule ∷ [])) }
+    ensures local { IfOk result (λ p. (fields_of p).has_globals ≡ false) }
+{
+    let command = bare_command(
+        alloc,
+        "run",
+        "Run the module of a file as one task, and end with its status",
+        "Example: wasm-shim run examples/hello.wat --any words",
+    );
+    command.arg(module_arg(alloc))
+}
+
+// The program's name and options, without its commands.
+fn bare_parser<'a>(alloc: Global) -> Parser<'a>
+    ensures { app_of result ≡ bare_program }
+{
+    Parser::new(alloc, "wasm-shim")
+        .about("Run WebAssembly modules as container tasks")
+        .version(VERSION)
+        .subcommand_required(true)
+}
+
+// The commands that answer lines.
+fn line_parser<'a>(alloc: Global) -> Result<Parser<'a>, AllocError>
+    ensures { IfOk result (λ p. app_of p ≡ line_program) }
+{
+    let serve = bare_command(
+        alloc,
+        "serve",
+        "Answer the requests of standard input, a line each, on standard output",
+        "Example: wasm-shim serve < examples/first_run.jsonl",
+    );
+    let replay = file_command(
+        alloc,
+        "replay",
+        "Answer the requests, takes and returns of a file",
+        "The file of requests, takes and returns, a line each",
+        "Example: wasm-shim replay examples/slices.replay.jsonl",
+    )?;
+    let with_serve = bare_parser(alloc).subcommand(serve)?;
+    with_serve.subcommand(replay)
+}
+
+// The arguments of the program.
+fn parser<'a>(alloc: Global) -> Result<Parser<'a>, AllocError>
+    ensures { IfOk result (λ p. app_of p ≡ program) }
+{
+    let asm = file_command(
+        alloc,
+        "asm",
+        "Write the binary format of the module of a file, in hexadecimal",
+        MODULE_FILE,
+        "Example: wasm-shim asm examples/hello.wat",
+    )?;
+    let with_asm = line_parser(alloc)?.subcommand(asm)?;
+    let with_check = with_asm.subcommand(check_command(alloc)?)?;
+    with_check.subcommand(run_command(alloc)?)
+}
+
+// What is done where the arguments did not name a command with its arguments.
+fn unmatched(alloc: Global, error: &clap::Error) -> Result<Command, CommandError>
+    ensures ok { IfOk result (IsShown (kind_of error.now)) }
+    ensures err { IfErr result (IsOfArguments (kind_of error.now)) }
+{
+    if let ErrorKind::OutOfMemory = error.kind() {
+        return Err(CommandError::OutOfMemory);
+    }
+    let Ok(text) = format!(in alloc; "{error}") else {
+        return Err(CommandError::OutOfMemory);
+    };
+    if error.use_stderr() {
+        Err(CommandError::Arguments { text })
+    } else {
+        Ok(Command::Show { text })
+    }
+}
+
+// The argument FILE that was found.
+fn file_of(alloc: Global, found: &ArgMatches<'_>) -> Result<String, CommandError>
+    ensures ok { IfOk result (λ f. file_in (rows_of (found_of found.now)) ≡ Some (string_bytes f)) }
+    ensures err { IfErr result (λ f. f ≡ CommandError.OutOfMemory) }
+{
+    let Some(name) = found.get_str("FILE") else {
+        return Err(CommandError::OutOfMemory);
+    };
+    let Ok(file) = String::from_str(alloc, name) else {
+        return Err(CommandError::OutOfMemory);
+    };
+    Ok(file)
+}
+
+// Whether `--list` was found.
+fn has_list(found: &ArgMatches<'_>) -> bool
+    ensures { result ≡ has_list (rows_of (found_of found.now)) }
+{
+    match found.get_str("list") {
+        Some(value) => value == "true",
+        None => false,
+    }
+}
+
+// Copies of these words.
+fn copies(alloc: Global, words: &[&str]) -> Result<Vec<String>, AllocError>
+    ensures { IfOk result (λ v. map string_bytes v.items ≡ map (λ w. w.now) words.now) }
+{
+    let mut copies = Vec::new(alloc);
+    for word in words {
+        copies.push(String::from_str(alloc, word)?)?;
+    }
+    Ok(copies)
+}
+
+// The command `run` with these words as MODULE and ARGs.
+fn run_with(alloc: Global, words: &[&str]) -> Result<Command, CommandError>
+    ensures ok { (rows : List Row) → module_in rows ≡ Some (map (λ w. w.now) words.now)
+        → IfOk result (IsCommand (Some (codes "run", rows))) }
+    ensures err { IfErr result (λ f. f ≡ CommandError.OutOfMemory) }
+{
+    let Some((name, rest)) = words.split_first() else {
+        return Err(CommandError::OutOfMemory);
+    };
+    let Ok(module) = String::from_str(alloc, name) else {
+        return Err(CommandError::OutOfMemory);
+    };
+    let Ok(args) = copies(alloc, rest) else {
+        return Err(CommandError::OutOfMemory);
+    };
+    Ok(Command::Run { module, args })
+}
+
+// The command `run` with the arguments that were found.
+fn run_of(alloc: Global, found: &ArgMatches<'_>) -> Result<Command, CommandError>
+    ensures ok { IfOk result
+        (IsCommand (Some (codes "run", rows_of (found_of found.now)))) }
+    ensures err { IfErr result (λ f. f ≡ CommandError.OutOfMemory) }
+{
+    match found.get_strs("MODULE") {
+        Some(words) => run_with(alloc, words),
+        None => Err(CommandError::OutOfMemory),
+    }
+}
+
+// The command whose arguments were found.
+fn chosen(alloc: Global, matches: &ArgMatches<'_>) -> Result<Command, CommandError>
+    ensures ok { IfOk result (IsCommand (subcommand_rows_of matches.now)) }
+    ensures err { IfErr result (λ f. f ≡ CommandError.OutOfMemory) }
+{
+    match matches.subcommand() {
+        Some(("serve", _)) => Ok(Command::Serve),
+        Some(("replay", found)) => {
+            let file = file_of(alloc, found)?;
+            Ok(Command::Replay { file })
+        }
+        Some(("asm", found)) => {
+            let file = file_of(alloc, found)?;
+            Ok(Command::Asm { file })
+        }
+        Some(("check", found)) => {
+            let file = file_of(alloc, found)?;
+            Ok(Command::Check {
+                file,
+                list: has_list(found),
+            })
+        }
+        Some(("run", found)) => run_of(alloc, found),
+        _ => Err(CommandError::OutOfMemory),
+    }
+}
+
+/// The command that the arguments name. The first word is the program's own name.
+///
+/// `serve`, `replay FILE`, `asm FILE`, `check [--list] FILE` and `run MODULE [ARG..]` are the
+/// commands. Every word after MODULE is an ARG, one that begins with a dash too. `--help` and
+/// `--version`, alone or after a command, and `help` are shown. All else is
+/// `CommandError::Arguments`, and `CommandError::OutOfMemory` comes if memory ran out.
+pub fn command_of(alloc: Global, arguments: &[String]) -> Result<Command, CommandError>
+    ensures ok { IfOk result (Name (map string_bytes arguments.now)) }
+    ensures err { IfErr result (AreFaulty (map string_bytes arguments.now)) }
+{
+    let Ok(parser) = parser(alloc) else {
+        return Err(CommandError::OutOfMemory);
+    };
+    match parser.try_get_matches_from(arguments) {
+        Ok(matches) => chosen(alloc, &matches),
+        Err(error) => unmatched(alloc, &error),
+    }
+}

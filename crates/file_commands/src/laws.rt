@@ -1,0 +1,52 @@
+//! What is proved of the definitions of the commands for files.
+
+ghost use Rattle.std.specs.Prelude.{◌≡◌, ℕ, List, Bool};
+ghost use Rattle.wasm_ast.specs.declared.module.Module.{Module};
+ghost use Rattle.wasm_ast.specs.declared.refusal.Refusal.{Refusal};
+ghost use Rattle.file_commands.specs.declared.ran.Ran.{Ran};
+ghost use Rattle.file_commands.specs.Source.{IsSource, IsNoSource};
+ghost use Rattle.file_commands.specs.Assembled.{IsAssembled};
+ghost use Rattle.file_commands.specs.Checked.{IsChecked};
+ghost use Rattle.file_commands.specs.TaskRun.{IsRun};
+
+use step_machine::laws::{cuts_commute, halted_stays};
+use text_assembler::laws::denotes_one;
+use wasm_binary::laws::{over_spells_none_within, spells_one};
+
+/// A file has at most one module, and one that has a module is not refused for having none.
+pub fn one_module_to_a_file()
+    ensures one { (bytes : List ℕ) (m n : Module) → IsSource bytes m → IsSource bytes n → m ≡ n }
+    ensures either { (bytes : List ℕ) (m : Module) (e : Refusal) → IsSource bytes m
+        → IsNoSource bytes e → ⊥ }
+{
+    spells_one();
+    over_spells_none_within();
+    denotes_one();
+}
+
+/// What `asm` writes to standard output and its status are determined by the bytes of the file.
+pub fn encodings_are_determined()
+    ensures { (bytes : List ℕ) (r s : Ran) → IsAssembled bytes r → IsAssembled bytes s
+        → (r.out ≡ s.out) × (r.status ≡ s.status) }
+{
+    one_module_to_a_file();
+}
+
+/// What `check` writes to standard output and its status are determined by the bytes of the file.
+pub fn checks_are_determined()
+    ensures { (bytes : List ℕ) (list : Bool) (r s : Ran) → IsChecked bytes list r
+        → IsChecked bytes list s → (r.out ≡ s.out) × (r.status ≡ s.status) }
+{
+    one_module_to_a_file();
+}
+
+/// What `run` writes to standard output and its status are determined by the name of the file, its bytes
+/// and the arguments: a task has one end.
+pub fn runs_are_determined()
+    ensures { (name bytes : List ℕ) (args : List (List ℕ)) (r s : Ran) → IsRun name bytes args r
+        → IsRun name bytes args s → (r.out ≡ s.out) × (r.status ≡ s.status) }
+{
+    one_module_to_a_file();
+    halted_stays();
+    cuts_commute();
+}

@@ -1,0 +1,18 @@
+//! The command line, and the commands for files: what is asked for, and what `asm`, `check` and `run` write.
+#![tactic(auto)]
+
+mod asm;
+mod check;
+mod command;
+pub mod laws;
+mod ran;
+mod run;
+mod run_error;
+mod source;
+
+pub use asm::asm_file;
+pub use check::check_file;
+pub use command::{Command, CommandError, command_of};
+pub use ran::Ran;
+pub use run::{run_file, run_streams};
+pub use run_error::RunError;

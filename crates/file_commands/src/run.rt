@@ -1,0 +1,278 @@
+//! The command `run`.
+
+ghost use Rattle.std.specs.Prelude.{◌≡◌, ◌≢◌, ◌-◌, ◌<◌, ◌≤◌, ◌%◌, ◌∷◌, ◌++◌, [], List, ℕ, map, drop, length, IfOk, IfErr, OnOk, Some, None, true, false, string_bytes};
+ghost use Rattle.std.specs.Io.KnownBytes.{Appends};
+ghost use Rattle.wasm_ast.specs.declared.refusal.Refusal.TheVariants as refusal;
+ghost use Rattle.oci_config.specs.Processes.{config_of};
+ghost use Rattle.oci_config.specs.Config as config;
+ghost use Rattle.oci_config.specs.Config.{are_arguments_alone};
+ghost use Rattle.validator.specs.Typing.{ValidModule};
+ghost use Rattle.step_machine.specs.Instantiation.{instantiation_refusal, ended};
+ghost use Rattle.step_machine.specs.Limits.{last_turn};
+ghost use Rattle.step_machine.specs.MachineView.{state_of, output_of};
+ghost use Rattle.file_commands.specs.Ran.{refused_run};
+ghost use Rattle.file_commands.specs.TaskRun.{trap_line, CannotRun, IsRun, IsWritten, status_of};
+ghost use Rattle.file_commands.specs.Inside.Written.{CannotStart, IsOpened, HasEnded};
+
+use crate::ran::Ran;
+use crate::run_error::RunError;
+use crate::source::module_of;
+use oci_config::{Process, Stream, process_with};
+use std::alloc::{AllocError, Global};
+use std::io;
+use std::io::Write;
+use step_machine::laws::{outputs_grow, slices_go_forward, turns_are_limited};
+use step_machine::{Breaks, End, Machine, validate};
+use wasm_ast::{Module, Refusal, Sequence, Text};
+
+/// Turns of a slice at most.
+const SLICE_BUDGET: u64 = 1_000_000;
+
+// ---- the task
+
+// The arguments of the task: the name of its file, and the words after it.
+fn texts(alloc: Global, name: &str, args: &[String]) -> Result<Vec<Text>, AllocError>
+    ensures { IfOk result (λ v. v.items ≡ name.now ∷ map string_bytes args.now) }
+{
+    let mut texts = Vec::new(alloc);
+    texts.push(Text::from_str(alloc, name)?)?;
+    for arg in args {
+        texts.push(Text::from_str(alloc, arg.as_str())?)?;
+    }
+    Ok(texts)
+}
+
+// The process of the task, if it can have these arguments.
+fn process_of(alloc: Global, name: &str, args: &[String]) -> Result<Process, Refusal>
+    ensures process { IfOk result (λ p. config_of p
+        ≡ config.process_with (name.now ∷ map string_bytes args.now)) }
+    ensures nothing_written { IfOk result (λ p. (p.out ≡ []) × (p.err ≡ [])) }
+    ensures taken { OnOk result
+        (are_arguments_alone (name.now ∷ map string_bytes args.now) ≡ true) }
+    ensures err { IfErr result (λ e. e ≢ refusal.NoMemory → (e ≡ refusal.BadConfig)
+        × (are_arguments_alone (name.now ∷ map string_bytes args.now) ≡ false)) }
+{
+    let texts = texts(alloc, name, args)?;
+    process_with(alloc, texts)
+}
+
+// A machine of a module, if it is valid and can be instantiated.
+fn machine_of(alloc: Global, unchecked: Module, process: Process) -> Result<Machine, Refusal>
+    requires nothing_written { (process.out ≡ []) × (process.err ≡ []) }
+    ensures valid { OnOk result (ValidModule unchecked) }
+    ensures opens { OnOk result (instantiation_refusal unchecked (config_of process) ≡ None) }
+    ensures machine { IfOk result
+        (λ m. m ≡ record { «module» = unchecked; process = config_of process; turns = 0 }) }
+    ensures err { IfErr result
+        (λ e. e ≢ refusal.NoMemory → CannotStart unchecked (config_of process) e) }
+{
+    let valid = validate(alloc, unchecked)?;
+    valid.module();
+    Machine::new(alloc, valid, process)
+}
+
+// The task that runs a file with these arguments.
+fn task_of(alloc: Global, name: &str, bytes: &[u8], args: &[String]) -> Result<Machine, Refusal>
+    ensures ok { IfOk result (IsOpened bytes.now (name.now ∷ map string_bytes args.now)) }
+    ensures err { IfErr result (λ e. e ≢ refusal.NoMemory
+        → CannotRun bytes.now (name.now ∷ map string_bytes args.now) e) }
+{
+    let module = module_of(alloc, bytes)?;
+    let process = process_of(alloc, name, args)?;
+    machine_of(alloc, module, process)
+}
+
+// ---- what it writes
+
+// Writes these bytes, if there are any, and flushes.
+fn write_some<W: Write>(bytes: &[u8], writer: &mut W) -> io::Result<()>
+    ensures { OnOk result (Appends (W.contents writer.old) (W.contents writer.new) bytes.now) }
+{
+    if bytes.is_empty() {
+        return Ok(());
+    }
+    writer.write_all(bytes)?;
+    writer.flush()
+}
+
+// How many bytes of each of a task's streams have been written.
+#[derive(Drop)]
+struct Progress {
+    out: usize,
+    err: usize,
+}
+
+// Writes what is new on the streams of a task.
+fn write_new<O: Write, E: Write>(
+    machine: &Machine,
+    written: &mut Progress,
+    out: &mut O,
+    err: &mut E,
+) -> Result<(), RunError>
+    requires out { written.old.out ≤ length (output_of machine.now Stream.Out) }
+    requires err { written.old.err ≤ length (output_of machine.now Stream.Err) }
+    ensures out { OnOk result (Appends (O.contents out.old) (O.contents out.new)
+        (drop written.old.out (output_of machine.now Stream.Out))) }
+    ensures err { OnOk result (Appends (E.contents err.old) (E.contents err.new)
+        (drop written.old.err (output_of machine.now Stream.Err))) }
+    ensures all_out { OnOk result (written.new.out ≡ length (output_of machine.now Stream.Out)) }
+    ensures all_err { OnOk result (written.new.err ≡ length (output_of machine.now Stream.Err)) }
+{
+    let on_out = machine.output(Stream::Out);
+    write_some(&on_out[written.out..], out).map_err(RunError::StandardOutput)?;
+    let on_err = machine.output(Stream::Err);
+    write_some(&on_err[written.err..], err).map_err(RunError::StandardError)?;
+    written.out = on_out.len();
+    written.err = on_err.len();
+    Ok(())
+}
+
+// ---- its turns
+
+// Makes a slice of a task that has not ended.
+fn run_slice(machine: &mut Machine, none: &Breaks)
+    requires { ended (state_of machine.old) ≡ None }
+    ensures same_module { machine.new.module ≡ machine.old.module }
+    ensures same_process { machine.new.process ≡ machine.old.process }
+    ensures fewer { last_turn - machine.new.turns < last_turn - machine.old.turns }
+    ensures grown { (s : Stream) → (later : List ℕ)
+        × (output_of machine.new s ≡ output_of machine.old s ++ later) }
+{
+    turns_are_limited();
+    slices_go_forward();
+    outputs_grow();
+    machine.run(SLICE_BUDGET, none);
+}
+
+// Makes all turns of a task, slice by slice, and writes after each what is new.
+fn run_to_end<O: Write, E: Write>(
+    machine: &mut Machine,
+    none: &Breaks,
+    out: &mut O,
+    err: &mut E,
+) -> Result<End, RunError>
+    ensures same_module { machine.new.module ≡ machine.old.module }
+    ensures same_process { machine.new.process ≡ machine.old.process }
+    ensures end { IfOk result (λ e. ended (state_of machine.new) ≡ Some e) }
+    ensures out { OnOk result
+        (Appends (O.contents out.old) (O.contents out.new) (output_of machine.new Stream.Out)) }
+    ensures err { OnOk result
+        (Appends (E.contents err.old) (E.contents err.new) (output_of machine.new Stream.Err)) }
+{
+    let mut written = Progress { out: 0, err: 0 };
+    loop {
+        write_new(machine, &mut written, out, err)?;
+        if let Some(end) = machine.halted() {
+            return Ok(end);
+        }
+        run_slice(machine, none);
+    }
+}
+
+// ---- its end
+
+// The status of a program whose task has ended so.
+fn status_of(end: End) -> u8
+    ensures { result ≡ status_of end % 256 }
+{
+    match end {
+        End::Returned => 0,
+        End::Exited(code) => (code % 256) as u8,
+        End::Trapped(_) => 134,
+    }
+}
+
+// Adds the line of a trap.
+fn push_trap(err: &mut Vec<u8>, end: End) -> Result<(), AllocError>
+    ensures { OnOk result (err.new.items ≡ err.old.items ++ trap_line end) }
+{
+    let End::Trapped(trap) = end else {
+        return Ok(());
+    };
+    err.extend_from_slice(b"trap: ")?;
+    err.extend_from_slice(trap.name().as_bytes())?;
+    err.extend_from_slice(b"\n")
+}
+
+// Writes the line of a trap.
+fn write_trap<W: Write>(alloc: Global, end: End, err: &mut W) -> Result<(), RunError>
+    ensures { OnOk result (Appends (W.contents err.old) (W.contents err.new) (trap_line end)) }
+{
+    let mut line = Vec::new(alloc);
+    push_trap(&mut line, end)?;
+    write_some(line.as_slice(), err).map_err(RunError::StandardError)
+}
+
+// Writes the line of a refusal, and answers its status. `NoMemory` has no line.
+fn write_refusal<W: Write>(alloc: Global, cause: Refusal, err: &mut W) -> Result<u8, RunError>
+    ensures written { OnOk result
+        (Appends (W.contents err.old) (W.contents err.new) (refused_run cause).err) }
+    ensures status { IfOk result (λ s. s ≡ (refused_run cause).status) }
+    ensures told { OnOk result (cause ≢ refusal.NoMemory) }
+{
+    let Ok(ran) = Ran::refused_run(alloc, cause) else {
+        return Err(RunError::OutOfMemory);
+    };
+    write_some(ran.err.as_slice(), err).map_err(RunError::StandardError)?;
+    Ok(ran.status)
+}
+
+// Runs a task to its end, and writes what it writes.
+fn run_task<O: Write, E: Write>(
+    alloc: Global,
+    machine: &mut Machine,
+    out: &mut O,
+    err: &mut E,
+) -> Result<u8, RunError>
+    ensures { IfOk result (IsWritten (HasEnded machine.old.module machine.old.process)
+        (O.contents out.old) (O.contents out.new) (E.contents err.old) (E.contents err.new)) }
+{
+    let none = Breaks::none(alloc)?;
+    let end = run_to_end(machine, &none, out, err)?;
+    write_trap(alloc, end, err)?;
+    Ok(status_of(end))
+}
+
+/// The command `run` for a file of this name with these bytes, as `run_file` says, over two streams that are
+/// written to while the task runs. It makes slices of at most 1,000,000 turns; what a slice has written is
+/// written to `out` and then to `err`, and flushed, before the next one begins. The answer is the status.
+///
+/// `StandardOutput` or `StandardError` if that stream failed: the task goes no further. `OutOfMemory` if
+/// memory runs out for anything but what the task itself may be refused. What was written stays written.
+pub fn run_streams<O: Write, E: Write>(
+    alloc: Global,
+    name: &str,
+    bytes: &[u8],
+    args: &[String],
+    out: &mut O,
+    err: &mut E,
+) -> Result<u8, RunError>
+    ensures { IfOk result (IsWritten (IsRun name.now bytes.now (map string_bytes args.now))
+        (O.contents out.old) (O.contents out.new) (E.contents err.old) (E.contents err.new)) }
+{
+    match task_of(alloc, name, bytes, args) {
+        Ok(mut machine) => run_task(alloc, &mut machine, out, err),
+        Err(refusal) => write_refusal(alloc, refusal, err),
+    }
+}
+
+/// What `run` writes for a file of this name with these bytes: one task whose arguments are the name and
+/// `args`, without an environment and without a limit on its memory, is run to its end. A trap adds a line
+/// to standard error. The status is the lowest 8 bits of the task's exit status. If there is no task, that
+/// is a line on standard error, and the status is 125. `NoMemory`, and no other refusal, if memory runs out
+/// for anything but what the task itself may be refused.
+pub fn run_file(alloc: Global, name: &str, bytes: &[u8], args: &[String]) -> Result<Ran, Refusal>
+    ensures ran { IfOk result (IsRun name.now bytes.now (map string_bytes args.now)) }
+    ensures errors { IfErr result (λ e. e ≡ refusal.NoMemory) }
+{
+    let mut out = Vec::new(alloc);
+    let mut err = Vec::new(alloc);
+    match run_streams(alloc, name, bytes, args, &mut out, &mut err) {
+        Ok(status) => Ok(Ran {
+            out: Sequence::new(out),
+            err: Sequence::new(err),
+            status,
+        }),
+        Err(_) => Err(Refusal::NoMemory),
+    }
+}

@@ -1,0 +1,6 @@
+pub mod MemberLemmas
+pub mod ParseLemmas
+pub mod LineLemmas
+pub mod SplitLemmas
+pub mod OneEvent
+pub mod FloatLemmas

@@ -1,0 +1,7 @@
+pub mod Shape
+pub mod Request
+pub mod Reply
+pub mod Lines
+pub mod Input
+pub mod Examples
+pub mod Inside

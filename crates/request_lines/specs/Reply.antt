@@ -1,0 +1,191 @@
+-- What is answered, as JSON values and as lines. The members of a value are listed in the order of
+-- their keys.
+use Rattle.std.specs.Prelude.{ℕ, List, [], ◌∷◌, ◌++◌, map, true, false, Option, None, Some, Result, Ok, Err, codes}
+use Rattle.hex.specs.Hex.{encode_lower}
+use Rattle.serde_json.specs.Data.{Data, string, boolean, number, array, unsigned}
+use Rattle.serde_json.specs.View.{items_of}
+use Rattle.serde_json.specs.Written.{compact_text}
+use Rattle.wasm_ast.specs.declared.values.Value.{Value}
+use Rattle.wasm_ast.specs.declared.values.Value.TheVariants as values
+use Rattle.wasm_ast.specs.Names.{refusal_name, refusal_number, trap_name}
+use Rattle.wasm_ast.specs.declared.refusal.Refusal.{Refusal}
+use Rattle.wasm_ast.specs.declared.refusal.Refusal.TheVariants.{BadText, Invalid}
+use Rattle.text_assembler.specs.Lines.{signed}
+use Rattle.step_machine.specs.declared.shown.ShownFrame.{ShownFrame}
+use Rattle.task_lifecycle.specs.Names.{status_name, cause_name, signal_number, exit_status}
+use Rattle.task_requests.specs.declared.event.EventReply.{EventReply}
+use Rattle.task_requests.specs.declared.event.EventReply.TheVariants.{Called, Taken, Returned}
+use Rattle.task_requests.specs.declared.request.Reply.{Reply}
+use Rattle.task_requests.specs.declared.request.Reply.TheVariants as reply
+use Rattle.task_requests.specs.declared.request.TaskState.{TaskState}
+use Rattle.task_lifecycle.specs.declared.status.ExitRecord.{ExitRecord}
+use Rattle.task_lifecycle.specs.declared.status.ExitRecord.TheVariants.{Trapped, Kill}
+use Rattle.task_lifecycle.specs.declared.status.Status.{Status}
+use Rattle.request_lines.specs.Shape.{object_of}
+
+abbrev pub count : ℕ → Data
+count n = number (unsigned n)
+
+-- with its place where a text denotes no module, or where the body of a function has a fault
+abbrev pub refusal_data : Refusal → Data
+refusal_data (BadText line column) = object_of
+    ((codes "column", count column)
+    ∷ (codes "error", string (refusal_name (BadText line column)))
+    ∷ (codes "line", count line)
+    ∷ (codes "number", count (refusal_number (BadText line column)))
+    ∷ (codes "ok", boolean false)
+    ∷ [])
+refusal_data (Invalid (Some p)) = object_of
+    ((codes "error", string (refusal_name (Invalid (Some p))))
+    ∷ (codes "func", count p.func)
+    ∷ (codes "number", count (refusal_number (Invalid (Some p))))
+    ∷ (codes "ok", boolean false)
+    ∷ (codes "place", count p.instr)
+    ∷ [])
+refusal_data refusal = object_of
+    ((codes "error", string (refusal_name refusal))
+    ∷ (codes "number", count (refusal_number refusal))
+    ∷ (codes "ok", boolean false)
+    ∷ [])
+
+abbrev pub put_data : (digest : List ℕ) → (size : ℕ) → Data
+put_data digest size = object_of
+    ((codes "digest", string digest) ∷ (codes "ok", boolean true) ∷ (codes "size", count size) ∷ [])
+
+abbrev pub digest_data : (digest : List ℕ) → Data
+digest_data digest = object_of ((codes "digest", string digest) ∷ (codes "ok", boolean true) ∷ [])
+
+abbrev pub id_data : (id : List ℕ) → Data
+id_data id = object_of ((codes "id", string id) ∷ (codes "ok", boolean true) ∷ [])
+
+abbrev pub member_data : (digest id : List ℕ) → Data
+member_data digest id = object_of
+    ((codes "digest", string digest) ∷ (codes "id", string id) ∷ (codes "ok", boolean true) ∷ [])
+
+-- a list of texts
+abbrev pub texts_data : List (List ℕ) → Data
+texts_data texts = array (items_of (map string texts))
+
+abbrev pub removed_data : (digests : List (List ℕ)) → Data
+removed_data digests =
+    object_of ((codes "ok", boolean true) ∷ (codes "removed", texts_data digests) ∷ [])
+
+abbrev pub status_data : (id : List ℕ) → Status → Data
+status_data id status = object_of
+    ((codes "id", string id) ∷ (codes "ok", boolean true)
+    ∷ (codes "status", string (status_name status)) ∷ [])
+
+-- why a stopped task ended, and its exit status
+abbrev pub cause_members : Option ExitRecord → List (List ℕ × Data)
+cause_members None = []
+cause_members (Some end) =
+    (codes "cause", string (cause_name end)) ∷ (codes "exit", count (exit_status end)) ∷ []
+
+-- the signal of a killed task
+abbrev pub signal_members : Option ExitRecord → List (List ℕ × Data)
+signal_members (Some (Kill signal)) = (codes "signal", count (signal_number signal)) ∷ []
+signal_members other = []
+
+-- the trap of a trapped task
+abbrev pub trap_members : Option ExitRecord → List (List ℕ × Data)
+trap_members (Some (Trapped trap)) = (codes "trap", string (trap_name trap)) ∷ []
+trap_members other = []
+
+abbrev pub state_data : TaskState → Data
+state_data s = object_of
+    (cause_members s.end
+    ++ (codes "id", string s.id)
+    ∷ (codes "n", count s.n)
+    ∷ (codes "ok", boolean true)
+    ∷ signal_members s.end
+    ++ (codes "status", string (status_name s.status))
+    ∷ trap_members s.end)
+
+-- the bytes in lower-case hexadecimal digits
+abbrev pub output_data : (bytes id : List ℕ) → (size : ℕ) → Data
+output_data bytes id size = object_of
+    ((codes "hex", string (encode_lower bytes))
+    ∷ (codes "id", string id)
+    ∷ (codes "ok", boolean true)
+    ∷ (codes "size", count size)
+    ∷ [])
+
+abbrev pub peek_data : (bytes id : List ℕ) → Data
+peek_data bytes id =
+    object_of ((codes "hex", string (encode_lower bytes)) ∷ (codes "id", string id)
+    ∷ (codes "ok", boolean true) ∷ [])
+
+-- a value as a text: its type, and its number read as signed
+abbrev pub value_text : Value → List ℕ
+value_text (values.I32 n) = codes "i32:" ++ signed 32 n
+value_text (values.I64 n) = codes "i64:" ++ signed 64 n
+
+abbrev pub values_data : List Value → Data
+values_data vs = array (items_of (map (λ v. string (value_text v)) vs))
+
+abbrev pub places_data : List ℕ → Data
+places_data places = array (items_of (map count places))
+
+-- the place that is next in a frame, or the text that tells its end
+abbrev pub next_data : Option ℕ → Data
+next_data None = string (codes "end")
+next_data (Some place) = count place
+
+abbrev pub frame_data : ShownFrame → Data
+frame_data f = object_of
+    ((codes "func", count f.func)
+    ∷ (codes "labels", places_data f.labels)
+    ∷ (codes "locals", values_data f.locals)
+    ∷ (codes "next", next_data f.next)
+    ∷ (codes "operands", values_data f.operands)
+    ∷ [])
+
+abbrev pub frames_data : List ShownFrame → Data
+frames_data frames = array (items_of (map frame_data frames))
+
+abbrev pub inspect_data : List ShownFrame → (id : List ℕ) → (n : ℕ) → Data
+inspect_data frames id n = object_of
+    ((codes "frames", frames_data frames)
+    ∷ (codes "id", string id)
+    ∷ (codes "n", count n)
+    ∷ (codes "ok", boolean true)
+    ∷ [])
+
+abbrev pub reply_data : Reply → Data
+reply_data (reply.Put digest size) = put_data digest size
+reply_data (reply.Remove digest) = digest_data digest
+reply_data (reply.LeaseCreate id) = id_data id
+reply_data (reply.LeaseAdd digest id) = member_data digest id
+reply_data (reply.LeaseDelete id) = id_data id
+reply_data (reply.Gc removed) = removed_data removed
+reply_data (reply.Create id status) = status_data id status
+reply_data (reply.Start id status) = status_data id status
+reply_data (reply.Pause id status) = status_data id status
+reply_data (reply.Resume id status) = status_data id status
+reply_data (reply.Kill id status) = status_data id status
+reply_data (reply.Delete state) = state_data state
+reply_data (reply.State state) = state_data state
+reply_data (reply.Wait state) = state_data state
+reply_data (reply.Output bytes id size) = output_data bytes id size
+reply_data (reply.Break id) = id_data id
+reply_data (reply.Unbreak id) = id_data id
+reply_data (reply.Step state) = state_data state
+reply_data (reply.Inspect frames id n) = inspect_data frames id n
+reply_data (reply.Peek bytes id) = peek_data bytes id
+
+-- what a request is answered
+abbrev pub json_of : Result Reply Refusal → Data
+json_of (Ok reply) = reply_data reply
+json_of (Err refusal) = refusal_data refusal
+
+-- what an event is answered
+abbrev pub event_data : EventReply → Data
+event_data (Called answer) = json_of answer
+event_data (Taken taken) =
+    object_of ((codes "ok", boolean true) ∷ (codes "taken", boolean taken) ∷ [])
+event_data (Returned returned) =
+    object_of ((codes "ok", boolean true) ∷ (codes "returned", boolean returned) ∷ [])
+
+-- a line: compact JSON with its keys in byte order, and a line feed
+abbrev pub line_text : Data → List ℕ
+line_text d = compact_text d ++ 10 ∷ []

@@ -1,0 +1,275 @@
+//! Lines as they are read.
+
+ghost use Rattle.std.specs.Prelude.{◌≡◌, ◌≢◌, ◌↔◌, ◌<◌, ◌≤◌, ◌++◌, [], List, ℕ, Some, None, Ok, Err, false, true, IfOk, OnOk, OnErr, IsTrue, length, drop, take, vec_len, option_map};
+ghost use Rattle.std.specs.Io.KnownBytes.{Consumes, Keeps, IsAtEnd, prepend_known};
+ghost use Rattle.std.specs.IoError.{error_kind};
+ghost use Rattle.request_lines.specs.Input.{IsKept, TakesPiece, TakesLine, ReadsPiece};
+
+use crate::members::MAX_LINE_BYTES;
+use std::alloc::{AllocError, Global};
+use std::io::{Error, ErrorKind, Read};
+use std::marker::Model;
+
+/// Bytes that are asked of a reader at a time.
+const CHUNK_BYTES: usize = 65_536;
+
+/// Why no line could be read.
+#[derive(Clone, Copy, PartialEq, Eq, Debug)]
+pub enum Stop {
+    /// The reader failed.
+    Stream,
+    /// Memory ran out.
+    OutOfMemory,
+}
+
+impl From<AllocError> for Stop {
+    ghost use Rattle.std.specs.Prelude.{◌≡◌};
+    ghost use Rattle.request_lines.specs.declared.line_reader.Stop.TheVariants.{OutOfMemory};
+
+    ghost from_gives = { λ _ stop. stop ≡ OutOfMemory };
+
+    fn from(_error: AllocError) -> Stop {
+        Stop::OutOfMemory
+    }
+}
+
+/// Bytes that were read and not yet used. Contracts see these.
+#[derive(Drop)]
+pub struct Chunk {
+    buffer: Vec<u8>,
+    start: usize,
+    end: usize,
+}
+
+impl Model for Chunk {
+    ghost use Rattle.std.specs.Prelude.{List, ℕ, take, drop, vec_len, ◌-◌, ◌≤◌, ◌<◌};
+
+    ghost Value = { List ℕ };
+
+    ghost view = { λ c. take (c.end - c.start) (drop c.start c.buffer.items) };
+
+    ghost invariant = { λ c. (c.start ≤ c.end) × (c.end ≤ vec_len c.buffer)
+        × (0 < vec_len c.buffer) };
+}
+
+impl Chunk {
+    /// An empty chunk with its memory.
+    pub fn new(alloc: Global) -> Result<Chunk, AllocError>
+        ensures { IfOk result (λ c. c ≡ []) }
+    {
+        let buffer = vec![in alloc; 0u8; CHUNK_BYTES]?;
+        Ok(Chunk {
+            buffer,
+            start: 0,
+            end: 0,
+        })
+    }
+
+    fn bytes(&self) -> &[u8]
+        ensures { result.now ≡ self.now }
+    {
+        &self.buffer[self.start..self.end]
+    }
+
+    /// Drops the first n bytes.
+    fn skip(&mut self, n: usize)
+        requires { n ≤ length self.old }
+        ensures { self.new ≡ drop n self.old }
+    {
+        self.start += n;
+    }
+}
+
+/// What a call of a reader gave.
+#[derive(Clone, Copy, PartialEq, Eq, Debug)]
+pub(crate) enum Filled {
+    /// At least one byte.
+    Bytes,
+    /// Nothing, and it is to be called again.
+    Interrupted,
+    /// Nothing, since it is at its end.
+    End,
+}
+
+/// Says of an error whether the reader is to be called again: only if it was interrupted.
+fn retry_if_interrupted(error: &Error) -> Result<Filled, Stop>
+    ensures again { error_kind error.now ≡ ErrorKind.Interrupted → result ≡ Ok Filled.Interrupted }
+    ensures stop { error_kind error.now ≢ ErrorKind.Interrupted → result ≡ Err Stop.Stream }
+{
+    if error.kind() == ErrorKind::Interrupted {
+        Ok(Filled::Interrupted)
+    } else {
+        Err(Stop::Stream)
+    }
+}
+
+impl Chunk {
+    /// Reads the next bytes.
+    fn fill<R: Read>(&mut self, reader: &mut R) -> Result<Filled, Stop>
+        requires { self.old ≡ [] }
+        ensures bytes { OnOk result
+            (Consumes (R.remaining reader.old) (R.remaining reader.new) self.new) }
+        ensures some { result ≡ Ok Filled.Bytes → self.new ≢ [] }
+        ensures end { result ≡ Ok Filled.End → IsAtEnd (R.remaining reader.new) × (self.new ≡ []) }
+    {
+        self.start = 0;
+        self.end = 0;
+        match reader.read(&mut self.buffer) {
+            Ok(0) => Ok(Filled::End),
+            Ok(count) => {
+                self.end = count;
+                Ok(Filled::Bytes)
+            }
+            Err(error) => retry_if_interrupted(&error),
+        }
+    }
+}
+
+/// A line as far as it is read. Contracts see its bytes, or none if it is too long; then none are kept, so
+/// that no line takes more memory than the limit.
+#[derive(Drop)]
+pub struct Line {
+    kept: Vec<u8>,
+    is_long: bool,
+}
+
+impl Model for Line {
+    ghost use Rattle.std.specs.Prelude.{List, ℕ, Option, Some, None, ◌≤◌, vec_len, if◌then◌else◌};
+    ghost use Rattle.request_lines.specs.Shape.{max_line_bytes};
+
+    ghost Value = { Option (List ℕ) };
+
+    ghost view = { λ l. if l.is_long then None else Some l.kept.items };
+
+    ghost invariant = { λ l. vec_len l.kept ≤ max_line_bytes };
+}
+
+impl Line {
+    /// An empty line.
+    pub fn new(alloc: Global) -> Line
+        ensures { result ≡ Some [] }
+    {
+        Line {
+            kept: Vec::new(alloc),
+            is_long: false,
+        }
+    }
+
+    /// The bytes, or none if the line is too long.
+    pub fn bytes(&self) -> Option<&[u8]>
+        ensures { option_map (λ b. b.now) result ≡ self.now }
+    {
+        if self.is_long {
+            None
+        } else {
+            Some(self.kept.as_slice())
+        }
+    }
+
+    fn clear(&mut self)
+        ensures { self.new ≡ Some [] }
+    {
+        self.kept.clear();
+        self.is_long = false;
+    }
+
+    fn is_empty(&self) -> bool
+        ensures { IsTrue result ↔ (self.now ≡ Some []) }
+    {
+        !self.is_long && self.kept.is_empty()
+    }
+
+    /// Adds what was read.
+    fn add(&mut self, piece: &[u8]) -> Result<(), AllocError>
+        ensures { OnOk result
+            ((line : List ℕ) → IsKept self.old line → IsKept self.new (line ++ piece.now)) }
+    {
+        if self.is_long || MAX_LINE_BYTES - self.kept.len() < piece.len() {
+            self.is_long = true;
+            return Ok(());
+        }
+        self.kept.extend_from_slice(piece)
+    }
+}
+
+/// Moves what is there of a line from the bytes to it, and says whether its line feed was found.
+fn take_piece(chunk: &mut Chunk, line: &mut Line) -> Result<bool, Stop>
+    ensures { IfOk result (λ found. (piece : List ℕ) × TakesPiece found chunk.old chunk.new piece
+        × ((before : List ℕ) → IsKept line.old before → IsKept line.new (before ++ piece))) }
+{
+    let bytes = chunk.bytes();
+    match memchr::memchr(b'\n', bytes) {
+        Some(end) => {
+            line.add(&bytes[..end])?;
+            chunk.skip(end + 1);
+            Ok(true)
+        }
+        None => {
+            let n = bytes.len();
+            line.add(bytes)?;
+            chunk.skip(n);
+            Ok(false)
+        }
+    }
+}
+
+/// How far the line is read.
+#[derive(Clone, Copy, PartialEq, Eq, Debug)]
+pub(crate) enum Progress {
+    /// Its line feed was found.
+    Found,
+    /// It goes on.
+    More,
+    /// The reader is at its end.
+    End,
+}
+
+/// Reads the next bytes if none are left; false if there are none to read.
+fn refill<R: Read>(chunk: &mut Chunk, reader: &mut R) -> Result<bool, Stop>
+    ensures bytes { OnOk result (Keeps (prepend_known chunk.old (R.remaining reader.old))
+        (prepend_known chunk.new (R.remaining reader.new))) }
+    ensures end { result ≡ Ok false → IsAtEnd (prepend_known chunk.new (R.remaining reader.new)) }
+{
+    if !chunk.bytes().is_empty() {
+        return Ok(true);
+    }
+    match chunk.fill(reader)? {
+        Filled::Bytes | Filled::Interrupted => Ok(true),
+        Filled::End => Ok(false),
+    }
+}
+
+/// Moves a piece of a line from the reader to the line.
+fn read_piece<R: Read>(chunk: &mut Chunk, line: &mut Line, reader: &mut R) -> Result<Progress, Stop>
+    ensures { IfOk result
+        (λ p. ReadsPiece p (prepend_known chunk.old (R.remaining reader.old))
+        (prepend_known chunk.new (R.remaining reader.new))
+        line.old line.new) }
+{
+    if !refill(chunk, reader)? {
+        return Ok(Progress::End);
+    }
+    if take_piece(chunk, line)? {
+        Ok(Progress::Found)
+    } else {
+        Ok(Progress::More)
+    }
+}
+
+/// Reads the next line; false if there is none.
+pub fn next_line<R: Read>(chunk: &mut Chunk, line: &mut Line, reader: &mut R) -> Result<bool, Stop>
+    ensures line { result ≡ Ok true → (text : List ℕ) × IsKept line.new text
+        × TakesLine (prepend_known chunk.old (R.remaining reader.old))
+        (prepend_known chunk.new (R.remaining reader.new)) text }
+    ensures end { result ≡ Ok false → IsAtEnd (prepend_known chunk.old (R.remaining reader.old)) }
+{
+    line.clear();
+    for _ in 0..u64::MAX {
+        match read_piece(chunk, line, reader)? {
+            Progress::Found => return Ok(true),
+            Progress::More => {}
+            Progress::End => return Ok(!line.is_empty()),
+        }
+    }
+    Err(Stop::Stream)
+}

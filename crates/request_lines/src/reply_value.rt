@@ -1,0 +1,236 @@
+//! Replies as JSON values.
+
+ghost use Rattle.std.specs.Prelude.{◌≡◌, IfOk, OnOk, codes, [], ◌∷◌, true, Some};
+ghost use Rattle.serde_json.specs.Data.{string, boolean, put};
+ghost use Rattle.serde_json.specs.View.{view, members_view};
+ghost use Rattle.task_lifecycle.specs.Names.{cause_name, exit_status};
+ghost use Rattle.request_lines.specs.Reply.{count as count_data, refusal_data, put_data, digest_data, id_data, member_data, texts_data, removed_data, status_data, state_data, output_data, peek_data, reply_data, json_of, event_data};
+ghost use Rattle.request_lines.specs.Inside.States.{base_members, with_detail};
+
+use crate::frame_value::inspect_value;
+use crate::members::Members;
+use serde_json::{Map, Value, json};
+use std::alloc::{AllocError, Global};
+use task_requests::{EventReply, ExitRecord, Reply, Status, TaskState};
+use wasm_ast::{Place, Refusal, Text};
+
+// The value of the refusal of a text that denotes no module.
+fn text_refusal_value(alloc: Global, line: u64, column: u64) -> Result<Value, AllocError>
+    ensures { IfOk result (λ v. view v ≡ refusal_data (Refusal.BadText line column)) }
+{
+    json!(in alloc; {"column": column, "error": "BadText", "line": line, "number": 18, "ok": false})
+}
+
+// The value of the refusal of a module with a fault in a body.
+fn fault_value(alloc: Global, place: Place) -> Result<Value, AllocError>
+    ensures { IfOk result (λ v. view v ≡ refusal_data (Refusal.Invalid (Some place))) }
+{
+    let func = u64::from(place.func);
+    let instr = u64::from(place.instr);
+    json!(in alloc; {"error": "Invalid", "func": func, "number": 8, "ok": false, "place": instr})
+}
+
+// The value of a refusal.
+fn refusal_value(alloc: Global, refusal: &Refusal) -> Result<Value, AllocError>
+    ensures { IfOk result (λ v. view v ≡ refusal_data refusal.now) }
+{
+    match refusal {
+        Refusal::BadText { line, column } => text_refusal_value(alloc, *line, *column),
+        Refusal::Invalid(Some(place)) => fault_value(alloc, *place),
+        _ => json!(in alloc; {"error": refusal.name(), "number": refusal.number(), "ok": false}),
+    }
+}
+
+// The value of a reply to a put.
+fn put_value(alloc: Global, digest: &str, size: u64) -> Result<Value, AllocError>
+    ensures { IfOk result (λ v. view v ≡ put_data digest.now size) }
+{
+    json!(in alloc; {"digest": digest, "ok": true, "size": size})
+}
+
+// The value of a reply to a removal.
+fn digest_value(alloc: Global, digest: &str) -> Result<Value, AllocError>
+    ensures { IfOk result (λ v. view v ≡ digest_data digest.now) }
+{
+    json!(in alloc; {"digest": digest, "ok": true})
+}
+
+// The value of a reply that is an id.
+fn id_value(alloc: Global, id: &str) -> Result<Value, AllocError>
+    ensures { IfOk result (λ v. view v ≡ id_data id.now) }
+{
+    json!(in alloc; {"id": id, "ok": true})
+}
+
+// The value of a reply to an addition to a lease.
+fn member_value(alloc: Global, digest: &str, id: &str) -> Result<Value, AllocError>
+    ensures { IfOk result (λ v. view v ≡ member_data digest.now id.now) }
+{
+    json!(in alloc; {"digest": digest, "id": id, "ok": true})
+}
+
+// The value of a list of texts.
+fn texts_value(alloc: Global, texts: &[Text]) -> Result<Value, AllocError>
+    ensures { IfOk result (λ v. view v ≡ texts_data texts.now) }
+{
+    let mut list = Vec::new(alloc);
+    for text in texts {
+        let value = Value::String(String::from_str(alloc, text.as_str())?);
+        list.push(value)?;
+    }
+    Ok(Value::Array(list))
+}
+
+// The value of a reply to a removal of all contents that are not held.
+fn removed_value(alloc: Global, digests: &[Text]) -> Result<Value, AllocError>
+    ensures { IfOk result (λ v. view v ≡ removed_data digests.now) }
+{
+    let list = texts_value(alloc, digests)?;
+    let mut members = Map::new(alloc);
+    serde_json::put(&mut members, alloc, "ok", Value::Bool(true))?;
+    serde_json::put(&mut members, alloc, "removed", list)?;
+    Ok(Value::Object(members))
+}
+
+// The value of a reply that is a task's status.
+fn status_value(alloc: Global, id: &str, status: Status) -> Result<Value, AllocError>
+    ensures { IfOk result (λ v. view v ≡ status_data id.now status) }
+{
+    json!(in alloc; {"id": id, "ok": true, "status": status.name()})
+}
+
+/// Adds a text to the members of an object.
+fn put_text(alloc: Global, members: &mut Members, key: &str, text: &str) -> Result<(), AllocError>
+    ensures { OnOk result (members_view members.new.entries
+        ≡ put key.now (string text.now) (members_view members.old.entries)) }
+{
+    let value = Value::String(String::from_str(alloc, text)?);
+    serde_json::put(members, alloc, key, value)
+}
+
+/// Adds a count to the members of an object.
+fn put_count(alloc: Global, members: &mut Members, key: &str, count: u64) -> Result<(), AllocError>
+    ensures { OnOk result (members_view members.new.entries
+        ≡ put key.now (count_data count) (members_view members.old.entries)) }
+{
+    serde_json::put(members, alloc, key, Value::from(count))
+}
+
+/// Adds why a task ended: its cause and exit status.
+fn put_cause(alloc: Global, members: &mut Members, end: &ExitRecord) -> Result<(), AllocError>
+    ensures { OnOk result
+        (members_view members.new.entries ≡ put (codes "exit") (count_data (exit_status end.now))
+        (put (codes "cause") (string (cause_name end.now)) (members_view members.old.entries))) }
+{
+    put_text(alloc, members, "cause", end.cause())?;
+    put_count(alloc, members, "exit", end.exit())
+}
+
+/// Adds the trap or the signal that ended a task.
+fn put_detail(alloc: Global, members: &mut Members, end: &ExitRecord) -> Result<(), AllocError>
+    ensures { OnOk result
+        (members_view members.new.entries
+        ≡ with_detail end.now (members_view members.old.entries)) }
+{
+    match end {
+        ExitRecord::Trapped(trap) => put_text(alloc, members, "trap", trap.name()),
+        ExitRecord::Kill(signal) => put_count(alloc, members, "signal", signal.number()),
+        ExitRecord::Return | ExitRecord::Exit(_) => Ok(()),
+    }
+}
+
+/// The members that every state has.
+fn base_members(alloc: Global, state: &TaskState) -> Result<Members, AllocError>
+    ensures { IfOk result (λ m. members_view m.entries ≡ base_members state.now) }
+{
+    let mut members = Map::new(alloc);
+    put_text(alloc, &mut members, "id", state.id.as_str())?;
+    put_count(alloc, &mut members, "n", state.n)?;
+    serde_json::put(&mut members, alloc, "ok", Value::Bool(true))?;
+    put_text(alloc, &mut members, "status", state.status.name())?;
+    Ok(members)
+}
+
+// The value of a state.
+fn state_value(alloc: Global, state: &TaskState) -> Result<Value, AllocError>
+    ensures { IfOk result (λ v. view v ≡ state_data state.now) }
+{
+    let mut members = base_members(alloc, state)?;
+    if let Some(end) = &state.end {
+        put_cause(alloc, &mut members, end)?;
+        put_detail(alloc, &mut members, end)?;
+    }
+    Ok(Value::Object(members))
+}
+
+// The value of a reply that is what a task has written.
+fn output_value(alloc: Global, bytes: &[u8], id: &str, size: u64) -> Result<Value, AllocError>
+    ensures { IfOk result (λ v. view v ≡ output_data bytes.now id.now size) }
+{
+    let digits = hex::encode(alloc, bytes)?;
+    json!(in alloc; {"hex": digits.as_str(), "id": id, "ok": true, "size": size})
+}
+
+// The value of a reply that is bytes of a task's memory.
+fn peek_value(alloc: Global, bytes: &[u8], id: &str) -> Result<Value, AllocError>
+    ensures { IfOk result (λ v. view v ≡ peek_data bytes.now id.now) }
+{
+    let shown = hex::encode(alloc, bytes)?;
+    json!(in alloc; {"hex": shown.as_str(), "id": id, "ok": true})
+}
+
+// The value of a reply.
+fn reply_value(alloc: Global, reply: &Reply) -> Result<Value, AllocError>
+    ensures { IfOk result (λ v. view v ≡ reply_data reply.now) }
+{
+    match reply {
+        Reply::Put { digest, size } => put_value(alloc, digest.as_str(), *size),
+        Reply::Remove { digest } => digest_value(alloc, digest.as_str()),
+        Reply::LeaseCreate { id } => id_value(alloc, id.as_str()),
+        Reply::LeaseAdd { digest, id } => member_value(alloc, digest.as_str(), id.as_str()),
+        Reply::LeaseDelete { id } => id_value(alloc, id.as_str()),
+        Reply::Break { id } => id_value(alloc, id.as_str()),
+        Reply::Unbreak { id } => id_value(alloc, id.as_str()),
+        Reply::Gc { removed } => removed_value(alloc, removed.as_slice()),
+        Reply::Create { id, status } => status_value(alloc, id.as_str(), *status),
+        Reply::Start { id, status } => status_value(alloc, id.as_str(), *status),
+        Reply::Pause { id, status } => status_value(alloc, id.as_str(), *status),
+        Reply::Resume { id, status } => status_value(alloc, id.as_str(), *status),
+        Reply::Kill { id, status } => status_value(alloc, id.as_str(), *status),
+        Reply::Delete(state) | Reply::State(state) | Reply::Wait(state) => {
+            state_value(alloc, state)
+        }
+        Reply::Step(state) => state_value(alloc, state),
+        Reply::Inspect { frames, id, n } => {
+            inspect_value(alloc, frames.as_slice(), id.as_str(), *n)
+        }
+        Reply::Peek { bytes, id } => peek_value(alloc, bytes.as_slice(), id.as_str()),
+        Reply::Output { bytes, id, size } => {
+            output_value(alloc, bytes.as_slice(), id.as_str(), *size)
+        }
+    }
+}
+
+// The value of what a request is answered.
+pub(crate) fn answer_value(
+    alloc: Global,
+    answer: &Result<Reply, Refusal>,
+) -> Result<Value, AllocError>
+    ensures { IfOk result (λ v. view v ≡ json_of answer.now) }
+{
+    match answer {
+        Ok(reply) => reply_value(alloc, reply),
+        Err(refusal) => refusal_value(alloc, refusal),
+    }
+}
+
+// The value of what an event is answered.
+pub(crate) fn event_value(alloc: Global, reply: &EventReply) -> Result<Value, AllocError>
+    ensures { IfOk result (λ v. view v ≡ event_data reply.now) }
+{
+    match reply {
+        EventReply::Called(answer) => answer_value(alloc, answer),
+        EventReply::Taken(taken) => json!(in alloc; {"ok": true, "taken": *taken}),
+        EventReply::Returned(returned) => json!(in alloc; {"ok": true, "returned": *returned}),
+    }
+}

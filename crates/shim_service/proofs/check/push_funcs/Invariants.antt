@@ -1,9 +1,0 @@
-use Rattle.std.proofs.Common.{◌≡◌, ◌++◌, string_bytes, drop}
-use Rattle.shim_service.specs.Checked.{func_lines}
-use Rattle.shim_service.proofs.check.push_funcs.Given as goal
-
--- the lines so far, and those of the functions left
-abbrev pub invariant-loop-each : goal.invariant-loop-each
-invariant-loop-each l =
-    string_bytes l.list ++ func_lines l.func (drop l.each-index l.funcs)
-    ≡ string_bytes l.fn.list ++ func_lines l.fn.first l.funcs

@@ -1,5 +1,0 @@
-use Rattle.shim_service.proofs.FileLaws.{checked_alike}
-use Rattle.shim_service.proofs.file_laws.checks_are_determined.Goals as goal
-
-pub returns : goal.returns
-returns c = checked_alike c.one_module_to_a_file.ensures.one c.one_module_to_a_file.ensures.either

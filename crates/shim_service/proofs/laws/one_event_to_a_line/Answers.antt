@@ -1,5 +1,0 @@
-use Rattle.shim_service.proofs.OneEvent.{one_event}
-use Rattle.shim_service.proofs.laws.one_event_to_a_line.Goals as goal
-
-pub returns : goal.returns
-returns c = one_event

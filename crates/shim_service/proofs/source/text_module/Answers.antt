@@ -1,6 +1,0 @@
-use Rattle.std.proofs.Common.{inr}
-use Rattle.shim_service.specs.Source.{no_text}
-use Rattle.shim_service.proofs.source.text_module.Goals as goal
-
-pub returns-in-None-clause-err : goal.returns-in-None-clause-err
-returns-in-None-clause-err c = inr (no_text c.requires c.in-None.ensures.none)

@@ -1,0 +1,10 @@
+//! What is asked of a board of tasks and what it answers, as plain data.
+#![tactic(auto)]
+
+mod event;
+pub mod laws;
+mod request;
+
+pub use event::{Event, EventReply, MAX_BUDGET};
+pub use request::{Reply, Request, TaskState};
+pub use task_lifecycle::{ExitRecord, Status};
