@@ -5,3 +5,4 @@ pub mod SettleLemmas
 pub mod CallLemmas
 pub mod TurnLemmas
 pub mod MachineLemmas
+pub mod ShownLemmas

@@ -36,6 +36,13 @@ pub struct Label<'m> {
 }
 
 impl<'m> Label<'m> {
+    /// The place of the block.
+    pub fn place(&self) -> u64
+        ensures { result ≡ (open_of self.now).place }
+    {
+        self.place
+    }
+
     /// What follows the block. `Limit` if its place is 2^64 or more.
     pub fn after(&self) -> Result<Ahead<'m>, Refusal>
         ensures { IfOk result (λ a. (a.place ≡ (open_of self.now).next_place)

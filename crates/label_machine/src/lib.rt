@@ -19,6 +19,7 @@ mod places;
 mod room;
 mod run;
 mod settle;
+mod shown;
 mod simple;
 mod store;
 mod turns;

@@ -8,6 +8,7 @@ ghost use Rattle.oci_config.specs.declared.process.ProcessConfig.{ProcessConfig}
 ghost use Rattle.step_machine.specs.Instantiation.{ended, instantiation_refusal, initial, entry as entry_of, zero_memory, empty_table, are_pages_within, are_elements_inside, are_segments_inside};
 ghost use Rattle.step_machine.specs.MachineView.{state_of, output_of};
 ghost use Rattle.step_machine.specs.Program.{program};
+ghost use Rattle.step_machine.specs.Shown.{shown};
 ghost use Rattle.label_machine.specs.Inside.Runs.{IsSettled, LeadsTo};
 ghost use Rattle.label_machine.specs.Inside.Reached.{state_from, kept_by, Reached as reached_by, IsFirst};
 
@@ -16,11 +17,12 @@ use crate::first_store::first_store;
 use crate::places::sum;
 use crate::run::{Run, Step};
 use crate::settle::{begin, settle};
+use crate::shown::shown_frames;
 use crate::store::Store;
 use oci_config::{Process, Stream};
 use std::alloc::Global;
 use std::marker::Model;
-use step_machine::{End, LAST_TURN, find_entry};
+use step_machine::{End, LAST_TURN, ShownFrame, find_entry};
 use validator::Valid;
 use wasm_ast::{Module, Refusal, Trap};
 
@@ -189,6 +191,17 @@ impl<'m> LabelMachine<'m> {
         match stream {
             Stream::Out => process.out.as_slice(),
             Stream::Err => process.err.as_slice(),
+        }
+    }
+
+    /// Its frames, the innermost first; none if it has ended. `NoMemory` if memory for them cannot be
+    /// allocated; `Limit` if a place is 2^32 or more, to which no valid module comes.
+    pub fn frames(&self, alloc: Global) -> Result<Vec<ShownFrame>, Refusal>
+        ensures { IfOk result (λ v. v.items ≡ shown (state_of self.now)) }
+    {
+        match &self.state {
+            State::Going(run) => shown_frames(alloc, run),
+            State::Ended(_, _) => Ok(Vec::new(alloc)),
         }
     }
 

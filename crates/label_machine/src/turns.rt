@@ -3,10 +3,13 @@
 ghost use Rattle.std.specs.Prelude.{◌≡◌, ◌+◌, IfOk, None};
 ghost use Rattle.step_machine.specs.Instantiation.{ended};
 ghost use Rattle.step_machine.specs.MachineView.{MachineView, state_of, output_of};
+ghost use Rattle.step_machine.specs.Shown.{shown};
 
 use crate::machine::LabelMachine;
+use debugger::inspect;
 use oci_config::Stream;
-use step_machine::{End, Machine};
+use std::alloc::Global;
+use step_machine::{End, Machine, ShownFrame};
 use wasm_ast::Refusal;
 
 /// A machine by how it makes turns (4.2.13, 4.4): with targets that are found before it runs, or with
@@ -27,6 +30,10 @@ pub trait Control: Sized {
     /// What it has written to an output stream.
     fn output(&self, stream: Stream) -> &[u8]
         ensures { result.now ≡ output_of (seen self.now) stream };
+
+    /// Its frames, the innermost first; none if it has ended.
+    fn frames(&self, alloc: Global) -> Result<Vec<ShownFrame>, Refusal>
+        ensures { IfOk result (λ v. v.items ≡ shown (state_of (seen self.now))) };
 
     /// Makes one turn. A machine that takes memory for it may answer `NoMemory`, and is lost then.
     fn turn(self) -> Result<Self, Refusal>
@@ -50,6 +57,10 @@ impl Control for Machine {
         Machine::output(self, stream)
     }
 
+    fn frames(&self, alloc: Global) -> Result<Vec<ShownFrame>, Refusal> {
+        Ok(inspect(alloc, self)?.frames.into_vec())
+    }
+
     fn turn(self) -> Result<Machine, Refusal> {
         let mut machine = self;
         Machine::turn(&mut machine);
@@ -70,6 +81,10 @@ impl<'m> Control for LabelMachine<'m> {
 
     fn output(&self, stream: Stream) -> &[u8] {
         LabelMachine::output(self, stream)
+    }
+
+    fn frames(&self, alloc: Global) -> Result<Vec<ShownFrame>, Refusal> {
+        LabelMachine::frames(self, alloc)
     }
 
     fn turn(self) -> Result<LabelMachine<'m>, Refusal> {

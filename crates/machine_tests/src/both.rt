@@ -8,7 +8,7 @@ use oci_config::{Process, Stream, process_with};
 use std::alloc::Global;
 use std::process::Abort;
 use std::test::Fail;
-use step_machine::{End, Machine};
+use step_machine::{End, Machine, ShownFrame};
 use text_assembler::assemble;
 use validator::{Valid, validate};
 use wasm_ast::Text;
@@ -44,56 +44,87 @@ fn next<C: Control + Drop>(rt: &impl Abort, what: &str, control: C) -> Result<C,
     Ok(control.turn()?)
 }
 
-/// Runs a program on a machine up to its end.
-fn check_turns<C: Control + Drop>(
+fn check_bytes(rt: &impl Abort, what: &str, found: &[u8], wanted: &[u8]) {
+    assert_eq!(rt; found, wanted, "the output of {what}");
+}
+
+/// Asserts that two frames are shown in the same way.
+fn check_frame(rt: &impl Abort, what: &str, frame: &ShownFrame, other: &ShownFrame) {
+    assert_eq!(rt; frame.func, other.func, "the function of a frame of {what}");
+    assert!(rt;
+        frame.next == other.next,
+        "the next instruction of a frame of {what}"
+    );
+    assert!(rt;
+        frame.labels.as_slice() == other.labels.as_slice(),
+        "the blocks of a frame of {what}"
+    );
+    assert!(rt;
+        frame.locals.as_slice() == other.locals.as_slice(),
+        "the locals of a frame of {what}"
+    );
+    assert!(rt;
+        frame.operands.as_slice() == other.operands.as_slice(),
+        "the operands of a frame of {what}"
+    );
+}
+
+/// Asserts that two machines show the same frames.
+fn check_frames<A: Control, B: Control>(
     rt: &impl Abort,
-    control: C,
-    program: &Program,
+    alloc: Global,
+    what: &str,
+    machine: &A,
+    other: &B,
 ) -> Result<(), Fail> {
-    let mut control = control;
-    for turns in 0..program.turns {
-        check(rt, program.what, &control, None, turns);
-        control = next(rt, program.what, control)?;
+    let frames = machine.frames(alloc)?;
+    let others = other.frames(alloc)?;
+    assert_eq!(rt; frames.len(), others.len(), "the frames of {what}");
+    for (frame, other) in frames.iter().zip(others.iter()) {
+        check_frame(rt, what, frame, other);
     }
-    check(rt, program.what, &control, Some(program.end), program.turns);
+    Ok(())
+}
+
+/// Asserts what a machine that has ended has written.
+fn check_end<C: Control>(rt: &impl Abort, control: &C, program: &Program) {
+    check(rt, program.what, control, Some(program.end), program.turns);
     check_bytes(
         rt,
         program.what,
         control.output(Stream::Out),
         program.out.as_bytes(),
     );
-    Ok(())
 }
 
-fn check_bytes(rt: &impl Abort, what: &str, found: &[u8], wanted: &[u8]) {
-    assert_eq!(rt; found, wanted, "the output of {what}");
-}
-
-fn check_targets(
+/// Runs a program on two machines up to its end, and compares what they show before each turn.
+fn check_turns<A: Control + Drop, B: Control + Drop>(
     rt: &impl Abort,
     alloc: Global,
-    valid: &Valid,
+    machine: A,
+    other: B,
     program: &Program,
 ) -> Result<(), Fail> {
-    let machine = Machine::new(alloc, valid.share()?, process(alloc)?)?;
-    check_turns(rt, machine, program)
-}
-
-fn check_labels(
-    rt: &impl Abort,
-    alloc: Global,
-    valid: &Valid,
-    program: &Program,
-) -> Result<(), Fail> {
-    let machine = LabelMachine::new(alloc, valid, process(alloc)?)?;
-    check_turns(rt, machine, program)
+    let mut machine = machine;
+    let mut other = other;
+    for turns in 0..program.turns {
+        check(rt, program.what, &machine, None, turns);
+        check(rt, program.what, &other, None, turns);
+        check_frames(rt, alloc, program.what, &machine, &other)?;
+        machine = next(rt, program.what, machine)?;
+        other = next(rt, program.what, other)?;
+    }
+    check_end(rt, &machine, program);
+    check_end(rt, &other, program);
+    check_frames(rt, alloc, program.what, &machine, &other)
 }
 
 /// Runs a program on both machines.
 fn check_program(rt: &impl Abort, alloc: Global, program: &Program) -> Result<(), Fail> {
     let valid = module_of(alloc, program)?;
-    check_targets(rt, alloc, &valid, program)?;
-    check_labels(rt, alloc, &valid, program)
+    let machine = Machine::new(alloc, valid.share()?, process(alloc)?)?;
+    let labels = LabelMachine::new(alloc, &valid, process(alloc)?)?;
+    check_turns(rt, alloc, machine, labels, program)
 }
 
 #[test]

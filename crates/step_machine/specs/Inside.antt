@@ -1,5 +1,6 @@
 -- What only private clauses and the machine's invariant name.
 pub mod Levels
+pub mod ShownLevels
 pub mod FlatState
 pub mod CallersView
 pub mod FlatView
