@@ -1,6 +1,6 @@
 //! A memory.
 
-ghost use Rattle.std.specs.Prelude.{◌≡◌, ◌≤◌, ◌<◌, ◌*◌, ◌^◌, ◌++◌, All, IfSome, length, option_map, replicate};
+ghost use Rattle.std.specs.Prelude.{◌≡◌, ◌≤◌, ◌<◌, ◌*◌, ◌^◌, ◌++◌, All, IfSome, Some, length, option_map, replicate};
 ghost use Rattle.linear_memory.specs.Memory.{new_memory, page_bytes, max_pages, is_inside, read_at, written_at, byte_count, loaded, stored, grown, grow_result};
 
 use crate::width::Width;
@@ -114,9 +114,21 @@ impl LinearMemory {
         ensures number { result ≡ loaded self.now address width }
         ensures range { IfSome result (λ n. n < 2 ^ (8 * byte_count width)) }
     {
+        match self.load_near(address, width) {
+            Some(number) => Some(number),
+            None => self.load_far(address, width),
+        }
+    }
+
+    /// The same number, if all its bytes are among those that are written: None says nothing of it.
+    #[inline(always)]
+    pub fn load_near(&self, address: u64, width: Width) -> Option<u64>
+        ensures number { IfSome result (λ n. loaded self.now address width ≡ Some n) }
+        ensures range { IfSome result (λ n. n < 2 ^ (8 * byte_count width)) }
+    {
         let bytes = self.bytes.as_slice();
         if address.saturating_add(width.bytes() as u64) > bytes.len() as u64 {
-            return self.load_far(address, width);
+            return None;
         }
         let at = address as usize;
         let number = match width {
