@@ -12,7 +12,7 @@ ghost use Rattle.step_machine.specs.Inside.FlatView.{flat_from};
 ghost use Rattle.step_machine.specs.Inside.Going.{Holds};
 
 use crate::callers::Callers;
-use crate::current::{Current, MAX_VALUES};
+use crate::current::{Base, Current, MAX_VALUES};
 use crate::ends::End;
 use crate::flat_module::FlatModule;
 use crate::kept::Kept;
@@ -62,7 +62,7 @@ fn first_current(alloc: Global) -> Result<Current, AllocError>
     match OperandStack::new(alloc, MAX_VALUES) {
         Some(stack) => Ok(Current {
             stack,
-            base: 0,
+            base: Base::of(0),
             cell: 0,
         }),
         None => Err(AllocError),
