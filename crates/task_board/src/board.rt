@@ -8,13 +8,14 @@ ghost use Rattle.task_requests.specs.declared.request.Request.{Request as Reques
 ghost use Rattle.task_requests.specs.declared.request.Request.TheVariants as request;
 ghost use Rattle.task_requests.specs.declared.event.Event.TheVariants as event;
 ghost use Rattle.task_requests.specs.declared.event.EventReply.TheVariants as answer;
-ghost use Rattle.task_board.specs.BoardState.{Task as TaskValue, empty};
+ghost use Rattle.task_board.specs.BoardState.{Task as TaskValue, empty, task_of};
 ghost use Rattle.task_requests.specs.Limits.{max_budget};
 ghost use Rattle.task_board.specs.Loans.{Fits};
 ghost use Rattle.task_board.specs.Prepared.{Prepares, refusal_of, refusal_answered};
 ghost use Rattle.task_board.specs.Refusals.{Openable};
 ghost use Rattle.task_board.specs.Run.{takes_memory};
 ghost use Rattle.task_board.specs.Sound.{IsBoard};
+ghost use Rattle.task_board.specs.Settled.{is_settled};
 ghost use Rattle.task_board.specs.Step.{Answers, Step};
 ghost use Rattle.task_board.specs.Tickets.{ticket_of, CanLend, Lends, ticket_in};
 ghost use Rattle.task_board.specs.Waiting.{enter_again, waiting_after, AreWaiting};
@@ -342,6 +343,14 @@ impl Board {
         ensures { result ≡ ticket_of id.now self.now.state.tasks }
     {
         self.tables.ticket(id)
+    }
+
+    /// Whether a wait for the task with an id is not answered Busy: no task has it, or that is created, paused
+    /// or stopped.
+    pub fn is_settled(&self, id: &str) -> bool
+        ensures { result ≡ is_settled (task_of id.now self.now.state.tasks) }
+    {
+        self.tables.is_settled(id)
     }
 
     /// Lends the machine of the ticket's task for a slice of at most `budget` turns. None, and nothing

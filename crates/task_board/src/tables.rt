@@ -10,7 +10,7 @@ ghost use Rattle.task_lifecycle.specs.Names.{signal_of};
 ghost use Rattle.content_leases.specs.Digests.{digest_of};
 ghost use Rattle.content_leases.specs.StoreState.{content_in, unheld};
 ghost use Rattle.content_leases.specs.Refusals.{first_refusal, put_refusals, lease_create_refusals, lease_add_refusals};
-ghost use Rattle.task_board.specs.BoardState.{Task as TaskValue, empty, used_by};
+ghost use Rattle.task_board.specs.BoardState.{Task as TaskValue, empty, used_by, task_of};
 ghost use Rattle.task_requests.specs.Limits.{max_budget};
 ghost use Rattle.task_board.specs.Loans.{Fits};
 ghost use Rattle.task_board.specs.Prepared.{Prepares, refusal_of, refusal_answered};
@@ -19,6 +19,7 @@ ghost use Rattle.oci_config.specs.declared.process.ProcessConfig.{ProcessConfig 
 ghost use Rattle.task_board.specs.Refusals.{is_full, unless_allowed, step_refusals, CannotOpen};
 ghost use Rattle.task_board.specs.Inside.OpenedModules.{IsOpen};
 ghost use Rattle.task_board.specs.Sound.{IsBoard};
+ghost use Rattle.task_board.specs.Settled.{is_settled};
 ghost use Rattle.task_board.specs.Step.{Answers, Step};
 ghost use Rattle.task_board.specs.Tickets.{ticket_of, CanLend, Lends, ticket_in};
 ghost use Rattle.task_board.specs.Waiting.{enter_if, enter_again, running_ticket, waiting_after_call, waiting_after, AreWaiting};
@@ -555,6 +556,16 @@ impl Tables {
             slot,
             incarnation: task.incarnation(),
         })
+    }
+
+    /// Whether no task has the id, or a wait is allowed in the status of the one that has it.
+    pub fn is_settled(&self, id: &str) -> bool
+        ensures { result ≡ is_settled (task_of id.now self.now.state.tasks) }
+    {
+        match find_task(&self.tasks, id) {
+            Some((_, task)) => task.status().allows(TaskCall::Wait),
+            None => true,
+        }
     }
 
     /// Lends the machine of the ticket's task.
