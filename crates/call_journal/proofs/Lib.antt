@@ -10,3 +10,7 @@ pub mod AlikeLemmas
 pub mod SameLemmas
 pub mod TwiceLemmas
 pub mod NamedLemmas
+pub mod FrontLemmas
+pub mod RowLemmas
+pub mod SeatLemmas
+pub mod Sent

@@ -1,3 +1,6 @@
 pub mod Finding
 pub mod Replay
 pub mod Records
+pub mod Fronts
+pub mod Seats
+pub mod Inside

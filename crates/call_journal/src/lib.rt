@@ -1,7 +1,18 @@
-//! The journal of the calls to a board: its entries, what replays them, and when a history is legal.
+//! The journal of the calls to a board: its entries, what replays them, and when a history is legal; the
+//! cells that hold the entries, and the seats of the callers that see them.
 #![tactic(auto)]
 
+mod cells;
 mod entry;
+mod front;
 pub mod laws;
+mod row;
+mod seat;
+mod seen;
 
+pub use cells::{Cells, MOST_ENTRIES};
 pub use entry::{Entry, Found};
+pub use front::Front;
+pub use row::Row;
+pub use seat::Seat;
+pub use seen::Seen;

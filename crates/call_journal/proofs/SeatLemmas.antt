@@ -1,0 +1,38 @@
+-- How many calls of a history are of one seat.
+use Rattle.std.proofs.Common.{◌≡◌, ℕ, suc, ◌+◌, ◌≤◌, ◌==◌, List, [], ◌∷◌, ◌++◌, length, Some, true, false, refl, ap, ◌∙◌, arith}
+use Rattle.std.specs.Prelude.{slice_get}
+use Rattle.std.proofs.lemmas.List.Sums.{sum_by-append, sum_by-cons}
+use Rattle.std.proofs.lemmas.Bool.Decides.{nat_tests}
+use Rattle.call_journal.specs.declared.entry.Entry.{Entry}
+use Rattle.call_journal.specs.Seats.{own_calls, EndsWithCall}
+
+-- where no entry after a front is of the seat, none of the rest is
+pub none_own :
+    (n : ℕ) (front rest : List Entry)
+    → ((k : ℕ) → (e : Entry) → length front ≤ k → slice_get (front ++ rest) k ≡ Some e → (e.seat == n) ≡ false)
+    → own_calls n rest ≡ 0
+none_own n [] [] f = refl
+none_own n [] (e ∷ rest) f =
+    let no = f 0 e (omega arith) refl in
+    let r = none_own n [] rest (λ k x le p. f (suc k) x (omega arith) p) in
+    sum_by-cons _ e rest ∙ rw (no, r) refl
+none_own n (x ∷ front) rest f = none_own n front rest (λ k e le p. f (suc k) e (omega arith) p)
+
+pub one_more :
+    (n : ℕ) (history journal : List Entry) → EndsWithCall n history journal
+    → own_calls n journal ≡ own_calls n history + 1
+one_more n history journal h =
+    let e = h.entry in
+    let on = h.on in
+    let a :
+    own_calls n (h.before ++ e ∷ []) ≡ own_calls n h.before + own_calls n (e ∷ []) =
+    sum_by-append _ h.before (e ∷ []) in
+    let b :
+    own_calls n (history ++ on.rest) ≡ own_calls n history + own_calls n on.rest =
+    sum_by-append _ history on.rest in
+    let seat = h.seat in
+    let yes : (e.seat == n) ≡ true = grind (arith, nat_tests) in
+    let one : own_calls n (e ∷ []) ≡ 1 = rw yes refl in
+    let c = ap (own_calls n) on.joins in
+    let d = ap (own_calls n) h.is in
+    omega (arith, a, b, one, c, d, on.none)
