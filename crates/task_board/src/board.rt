@@ -345,6 +345,14 @@ impl Board {
         self.tables.ticket(id)
     }
 
+    /// How many turns the task with an id has made, and the budget of its slice while that is out: then it
+    /// had made so many before. None if no task has the id.
+    pub fn found(&self, id: &str) -> Option<(u64, Option<u64>)>
+        ensures { result ≡ option_map (λ t. (t.turns, t.out)) (task_of id.now self.now.state.tasks) }
+    {
+        self.tables.found(id)
+    }
+
     /// Whether a wait for the task with an id is not answered Busy: no task has it, or that is created, paused
     /// or stopped.
     pub fn is_settled(&self, id: &str) -> bool

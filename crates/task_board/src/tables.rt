@@ -558,6 +558,14 @@ impl Tables {
         })
     }
 
+    /// How many turns the task with an id has made, and the budget of its slice while that is out.
+    pub fn found(&self, id: &str) -> Option<(u64, Option<u64>)>
+        ensures { result ≡ option_map (λ t. (t.turns, t.out)) (task_of id.now self.now.state.tasks) }
+    {
+        let (_, task) = find_task(&self.tasks, id)?;
+        Some(task.found())
+    }
+
     /// Whether no task has the id, or a wait is allowed in the status of the one that has it.
     pub fn is_settled(&self, id: &str) -> bool
         ensures { result ≡ is_settled (task_of id.now self.now.state.tasks) }

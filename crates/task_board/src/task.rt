@@ -115,6 +115,13 @@ impl Task {
         self.status
     }
 
+    /// How many turns it has made, and the budget of its slice while that is out.
+    pub fn found(&self) -> (u64, Option<u64>)
+        ensures { result ≡ (self.now.turns, self.now.out) }
+    {
+        (self.turns, self.out)
+    }
+
     /// How many creates its board had accepted before it.
     pub fn incarnation(&self) -> u64
         ensures { result ≡ self.now.incarnation }
