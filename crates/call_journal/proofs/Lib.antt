@@ -14,3 +14,4 @@ pub mod FrontLemmas
 pub mod RowLemmas
 pub mod SeatLemmas
 pub mod Sent
+pub mod JournalledLemmas

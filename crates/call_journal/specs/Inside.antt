@@ -1,2 +1,4 @@
 -- What only private clauses and invariants name.
 pub mod Known
+pub mod Requests
+pub mod Calls

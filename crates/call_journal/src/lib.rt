@@ -4,7 +4,9 @@
 
 mod cells;
 mod entry;
+mod finding;
 mod front;
+mod journalled;
 pub mod laws;
 mod row;
 mod seat;
@@ -13,6 +15,7 @@ mod seen;
 pub use cells::{Cells, MOST_ENTRIES};
 pub use entry::{Entry, Found};
 pub use front::Front;
+pub use journalled::{JournalledBoard, PreparedCall};
 pub use row::Row;
 pub use seat::Seat;
 pub use seen::Seen;
