@@ -15,3 +15,4 @@ pub mod RowLemmas
 pub mod SeatLemmas
 pub mod Sent
 pub mod JournalledLemmas
+pub mod BookLemmas

@@ -1,7 +1,8 @@
 //! The journal of the calls to a board: its entries, what replays them, and when a history is legal; the
-//! cells that hold the entries, and the seats of the callers that see them.
+//! cells that hold the entries, the seats of the callers that see them, and the book that they share.
 #![tactic(auto)]
 
+mod book;
 mod cells;
 mod entry;
 mod finding;
@@ -12,6 +13,7 @@ mod row;
 mod seat;
 mod seen;
 
+pub use book::{Book, MOST_SEATS};
 pub use cells::{Cells, MOST_ENTRIES};
 pub use entry::{Entry, Found};
 pub use front::Front;

@@ -1,0 +1,208 @@
+//! The book: the board with its journal, the row's cells as far as they hold it, and the ledger.
+ghost use Rattle.std.specs.Prelude.{◌≡◌, ◌↔◌, ◌≢◌, ◌+◌, ◌<◌, ◌≤◌, [], ◌∷◌, length, true, false, Err, None, IfOk, IfSome, IfNone, IsSome, IsOk, IfErr, OnErr};
+ghost use Rattle.call_journal.specs.Books.{is_due, is_refused, HasCalled};
+ghost use Rattle.task_requests.specs.declared.event.Event.TheVariants as event;
+ghost use Rattle.task_requests.specs.declared.event.EventReply.TheVariants as answer;
+ghost use Rattle.task_board.specs.BoardState.{Task as TaskValue, empty};
+ghost use Rattle.task_requests.specs.Limits.{max_budget};
+ghost use Rattle.task_board.specs.Loans.{Fits};
+ghost use Rattle.task_board.specs.Step.{Step};
+ghost use Rattle.task_board.specs.Tickets.{CanLend, Lends, ticket_in};
+ghost use Rattle.task_board.specs.Waiting.{enter_again};
+ghost use Rattle.call_journal.specs.Journalled.{IsSlice};
+ghost use Rattle.call_journal.specs.Seats.{most_entries, most_seats, GoesOn};
+ghost use Rattle.call_journal.specs.Inside.Calls.{PreparesCall, IsEntered};
+ghost use Rattle.task_requests.specs.declared.request.Request.{Request as RequestValue};
+
+use crate::cells::Cells;
+use crate::journalled::{JournalledBoard, PreparedCall};
+use crate::row::Row;
+use crate::seat::Seat;
+use crate::seen::Seen;
+use std::alloc::Global;
+use std::marker::Model;
+use std::sync::ledger;
+use std::sync::ledger::{Blank, Share};
+use task_board::{Loan, Reply, Ticket};
+use wasm_ast::{Refusal, Text};
+
+/// How many seats there are at most.
+pub const MOST_SEATS: u64 = 1 << 60;
+
+/// The board with its journal, which the first cells of the row hold; the ledger that counts the entries, and
+/// what is left of its parts; and how many seats there are.
+#[derive(Drop)]
+pub struct Book<R: Row> {
+    alloc: Global,
+    board: JournalledBoard,
+    seen: Seen<R>,
+    count: ledger::Book<R>,
+    rest: Share<R>,
+    seats: u64,
+}
+
+impl<R: Row> Model for Book<R> {
+    ghost use Rattle.std.specs.Prelude.{◌≡◌, ◌≤◌, ◌+◌, length};
+    ghost use Rattle.std.specs.Coded.{codes};
+    ghost use Rattle.wasm_ast.specs.Inside.Code.{ops_code};
+    ghost use Rattle.call_journal.specs.Books.{BookValue};
+    ghost use Rattle.call_journal.specs.Seats.{most_seats};
+
+    ghost Value = { BookValue };
+
+    ghost coded = { Prim.hlevel (codes, ops_code) };
+
+    ghost view = { λ b. record { journalled = b.board; seats = b.seats } };
+
+    ghost invariant = { λ b. (b.seen ≡ b.board.journal) × (b.count.total ≡ length b.board.journal)
+        × (b.rest.parts + b.seats ≡ most_seats + 1) × (b.seats ≤ most_seats) × (b.rest.amount ≡ 0) };
+}
+
+impl<R: Row> Book<R> {
+    /// Whether a seat may make a call: `Closed`, `JournalFull`, or `JournalFault` where the journal does not go on
+    /// from what it has seen with calls of others.
+    pub fn may_go(&self, cells: &Cells, seat: &Seat<R>) -> Result<(), Refusal>
+        requires { cells.now ≡ R.cells }
+        ensures room { IsOk result → length self.now.journalled.journal < most_entries }
+        ensures on { IsOk result
+            → GoesOn seat.now.number seat.now.history self.now.journalled.journal }
+        ensures closed { (result ≡ Err Refusal.Closed) ↔ (self.now.journalled.closed ≡ true) }
+        ensures full { result ≡ Err Refusal.JournalFull
+            → length self.now.journalled.journal ≡ most_entries }
+        ensures err { IfErr result (λ e. is_refused e ≡ true) }
+    {
+        self.board.may_call()?;
+        if !seat.may_follow(cells, &self.seen) {
+            return Err(Refusal::JournalFault);
+        }
+        Ok(())
+    }
+
+    /// Makes the call that was prepared for a seat, of which the entry is in its cell: the board has made it, with
+    /// one entry more, and the seat has seen the whole journal.
+    pub fn enter(
+        &mut self,
+        seat: &mut Seat<R>,
+        seen: Seen<R>,
+        call: PreparedCall,
+    ) -> Result<Reply, Refusal>
+        requires call { IsEntered self.old.journalled seat.old.number call seen }
+        requires room { length self.old.journalled.journal < most_entries }
+        requires on { GoesOn seat.old.number seat.old.history self.old.journalled.journal }
+        ensures called { (r : RequestValue) → PreparesCall self.old.journalled seat.old.number r call
+            → HasCalled self.old self.new seat.old seat.new r result }
+        ensures number { seat.new.number ≡ seat.old.number }
+    {
+        let answer = self.board.apply(call);
+        self.board.sound();
+        seat.made(&mut self.count, seen.again());
+        self.seen = seen;
+        answer
+    }
+
+    /// Whether a call `wait` for the task with an id is not answered Busy: the book is closed, or the task is
+    /// not there, or it is created, paused or stopped.
+    pub fn is_due(&self, id: &Text) -> bool
+        ensures { result ≡ is_due self.now.journalled id.now }
+    {
+        self.board.is_due(id)
+    }
+
+    /// Lends the machine of the ticket's task for a slice of at most `budget` turns. None, and nothing has
+    /// changed, exactly if the book is closed, or that task is gone, of another incarnation, not running, or
+    /// out.
+    pub fn take(&mut self, ticket: Ticket, budget: u64) -> Option<Loan>
+        requires { (1 ≤ budget) × (budget ≤ max_budget) }
+        ensures some { IfSome result
+            (λ l. Lends self.old.journalled.board ticket budget l self.new.journalled.board) }
+        ensures opened { IfSome result (λ l. self.old.journalled.closed ≡ false) }
+        ensures none { IfNone result (self.old.journalled.closed ≡ false
+            → (t : TaskValue) → CanLend ticket self.old.journalled.board.tasks t → ⊥) }
+        ensures same { IfNone result (self.new ≡ self.old) }
+        ensures kept { IsSlice self.old.journalled self.new.journalled × (self.new.seats ≡ self.old.seats) }
+    {
+        self.board.take(ticket, budget)
+    }
+
+    /// Takes back the machine of a loan that has been run. A loan that does not fit is ended, and changes
+    /// nothing. A ticket of the task comes exactly if the loan fits and the task is running afterwards.
+    pub fn give_back(&mut self, loan: Loan) -> Option<Ticket>
+        requires { loan.ran ≡ true }
+        ensures step { Fits loan self.old.journalled.board.tasks → Step self.old.journalled.board
+            (event.Return loan.id) (answer.Returned true) self.new.journalled.board }
+        ensures ticket { Fits loan self.old.journalled.board.tasks
+            → result ≡ ticket_in loan.slot self.new.journalled.board.tasks }
+        ensures unfit { (Fits loan self.old.journalled.board.tasks → ⊥)
+            → (self.new ≡ self.old) × (result ≡ None) }
+        ensures kept { IsSlice self.old.journalled self.new.journalled × (self.new.seats ≡ self.old.seats) }
+    {
+        self.board.give_back(loan)
+    }
+
+    /// The task that has waited longest for a worker, which waits no more. None if none waits.
+    pub fn next_waiting(&mut self) -> Option<Ticket>
+        ensures some { IfSome result
+            (λ ticket. self.old.journalled.waiting ≡ ticket ∷ self.new.journalled.waiting) }
+        ensures none { IfNone result (self.old.journalled.waiting ≡ []) }
+        ensures rest { self.new ≡ record self.old {
+          journalled
+              = record self.old.journalled { waiting = self.new.journalled.waiting };
+        } }
+    {
+        self.board.next_waiting()
+    }
+
+    /// Lets the ticket's task wait for a worker, after all that wait, unless it waits already. A ticket of no
+    /// present task is dropped.
+    pub fn wait_again(&mut self, ticket: Ticket)
+        ensures { self.new ≡ record self.old {
+          journalled = record self.old.journalled {
+            waiting = enter_again self.old.journalled.board.tasks ticket self.old.journalled.waiting;
+          };
+        } }
+    {
+        self.board.wait_again(ticket);
+    }
+
+    /// Closes the book.
+    pub fn close(&mut self)
+        ensures { self.new ≡ record self.old { journalled = record self.old.journalled { closed = true } } }
+    {
+        self.board.close();
+    }
+
+    /// A book over an empty board, for the row that the type names. `NoMemory` if it cannot be allocated.
+    pub fn new(alloc: Global, blank: Blank) -> Result<Book<R>, Refusal>
+        requires name { blank.name ≡ R.name }
+        requires parts { (blank.parts ≡ R.parts) × (blank.parts ≡ most_seats + 1) }
+        ensures empty { IfOk result (λ b. (b.journalled.board ≡ empty) × (b.journalled.journal ≡ [])
+            × (b.journalled.closed ≡ false) × (b.seats ≡ 0)) }
+        ensures err { OnErr result (result ≡ Err Refusal.NoMemory) }
+    {
+        let board = JournalledBoard::new(alloc)?;
+        let (count, rest) = blank.open::<R>();
+        Ok(Book {
+            alloc,
+            board,
+            seen: Seen::none(),
+            count,
+            rest,
+            seats: 0,
+        })
+    }
+
+    /// A seat with a number of its own, which has seen nothing. None if the numbers are used up.
+    pub fn seat(&mut self) -> Option<Seat<R>>
+        ensures some { IfSome result (λ s. s ≡ record { number = self.old.seats; history = []; share = 0 }) }
+        ensures more { IsSome result → self.new ≡ record self.old { seats = self.old.seats + 1 } }
+        ensures none { IfNone result ((self.old.seats ≡ most_seats) × (self.new ≡ self.old)) }
+    {
+        if self.seats >= MOST_SEATS {
+            return None;
+        }
+        let mine = self.rest.split_off(1, 0);
+        let seat = Seat::new(self.seats, mine);
+        self.seats += 1;
+        Some(seat)
+    }
+}
