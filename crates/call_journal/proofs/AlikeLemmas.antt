@@ -90,7 +90,8 @@ put_own k t (e ∷ es) none =
       | false ↦ skip e t.id (put_task k t es) n ∙ put_own k t es (sym (skip e t.id es n) ∙ none)
     ])
 
-pub put_beside : (k : ℕ) (t : Task) (id : List ℕ) (es : Entries) → t.id ≢ id → task_of id (put_task k t es) ≡ task_of id es
+pub put_beside :
+    (k : ℕ) (t : Task) (id : List ℕ) (es : Entries) → t.id ≢ id → task_of id (put_task k t es) ≡ task_of id es
 put_beside k t id [] away = skip (k, t) id [] (other_id t.id id away)
 put_beside k t id (e ∷ es) away =
     elim (nat_lt k e.0) as

@@ -16,7 +16,8 @@ pub ends_with :
     (s : JournalValue) (number : ℕ) (r : Request) (p : PreparedCall) (seen : List Entry)
     → IsEntered s number p seen → PreparesCall s number r p → seen ≡ s.journal ++ entry_on s.board number r ∷ []
 ends_with s number r p seen is prepares =
-    let same : entry_on s.board number is.request ≡ entry_on s.board number r = sym is.prepares.entry ∙ prepares.entry in
+    let same :
+    entry_on s.board number is.request ≡ entry_on s.board number r = sym is.prepares.entry ∙ prepares.entry in
     is.ends ∙ ap (λ (e : Entry). s.journal ++ e ∷ []) same
 
 pub has_called :

@@ -86,7 +86,8 @@ goes_on t k goes =
 -- ---- k turns and then j
 
 -- they are k + j
-pub twice : (t : Task) (k j : ℕ) → takes_turns (advanced t k).status ≡ true → advanced (advanced t k) j ≡ advanced t (k + j)
+pub twice :
+    (t : Task) (k j : ℕ) → takes_turns (advanced t k).status ≡ true → advanced (advanced t k) j ≡ advanced t (k + j)
 twice t k j goes =
     let g = goes_on t k goes in
     let F : ℕ → Option Signal → Bool → Task = λ n x s. idle_after t n x (s || is_break_at t n) in

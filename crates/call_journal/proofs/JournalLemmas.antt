@@ -93,7 +93,8 @@ meets_none s b r between is =
       λ id at. absurd (none_is_not id (sym is ∙ at)),
     )
 
-pub found_at : (x : BoardState) (r : Request) (id : List ℕ) (o : Option Task) → named r ≡ Some id → task_of id x.tasks ≡ o
+pub found_at :
+    (x : BoardState) (r : Request) (id : List ℕ) (o : Option Task) → named r ≡ Some id → task_of id x.tasks ≡ o
     → found_of x r ≡ option_map found_in o
 found_at x r id o is at =
     ap (λ (p : Option (List ℕ)). option_map found_in (option_and_then (λ (i : List ℕ). task_of i x.tasks) p)) is

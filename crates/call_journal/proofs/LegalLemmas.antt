@@ -133,7 +133,8 @@ module _ (legal : SlicesAdvance) (slices : AdvancesAreSlices) where
       let s = is.0 in
       let past = history_runs h empty s empty_sound is.1 in
       let same : record s { tasks = now.tasks } ≡ now =
-      ap₂ (λ (store : StoreState) (n : ℕ). record now { store = store; creates = n }) (sym is.2.store) (sym is.2.creates)
+      ap₂ (λ (store : StoreState) (n : ℕ). record now { store = store; creates = n }) (sym is.2.store)
+      (sym is.2.creates)
       in
       let lead = since_leads s [] s.tasks now.tasks past.0 refl is.2.tasks in
       let last : HasRun s [] now =

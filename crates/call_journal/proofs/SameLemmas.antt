@@ -102,7 +102,8 @@ module _ (one : One) (faulty : Faulty) (texts : TextsAgree) (b : BoardState) (es
   put_by : (o : Option Refusal) (rep : Reply) (new : StoreState)
       → DecidedBy o ((a ≡ Ok rep) × (n ≡ with_store (on b es) new)) (on b es) a n
       → (m : BoardState) × DecidedBy o ((a ≡ Ok rep) × (m ≡ with_store b new)) b a m × IsAlike n m
-  put_by None rep new x = (with_store b new, (x.0, refl), alike (with_store b new) es n (with_store b new) same x.1 refl)
+  put_by None rep new x =
+      (with_store b new, (x.0, refl), alike (with_store b new) es n (with_store b new) same x.1 refl)
   put_by (Some e) rep new x = (b, (x.0, refl), alike b es n b same x.1 refl)
 
   puts_text : (text : List ℕ) → PutsText (on b es) text a n → PutsText b text a' n' → IsAlike n n'
@@ -114,7 +115,9 @@ module _ (one : One) (faulty : Faulty) (texts : TextsAgree) (b : BoardState) (es
       (with_content b.store bytes) put in
       subst (IsAlike n) (texts b text a m.0 a' n' (stored bytes is m.1) y).1 m.2
 
-  held : (leases : List Lease) (digest : List ℕ) → is_held (used_by es) leases digest ≡ is_held (used_by b.tasks) leases digest
+  held :
+      (leases : List Lease) (digest : List ℕ)
+      → is_held (used_by es) leases digest ≡ is_held (used_by b.tasks) leases digest
   held leases digest = ap (λ (x : Bool). is_leased leases digest || x) (same_uses digest es b.tasks d d' same)
 
   removes : (digest : List ℕ) → Answers (on b es) (request.Remove digest) a n → Answers b (request.Remove digest) a' n'
@@ -176,12 +179,14 @@ module _ (one : One) (faulty : Faulty) (texts : TextsAgree) (b : BoardState) (es
       ∷ (nat_le max_tasks m || nat_le max_creates b.creates, refusal.TooMany)
       ∷ (is_none (process_read config), refusal.BadConfig) ∷ (is_none (named_bytes b config), refusal.NoContent) ∷ [])
       (same id) (same_count es b.tasks d d' same) in
-      decided (first_refusal (create_refusals b config id)) (Creates (on b es) config id a n) (Creates b config id a' n')
+      decided (first_refusal (create_refusals b config id)) (Creates (on b es) config id a n)
+      (Creates b config id a' n')
       (λ none p q.
       let first = none_first (not (is_id id)) refusal.BadId _ none in
       let exists = none_first (is_some (task_of id b.tasks)) refusal.Exists _ first.1 in
       makes config id (no_task (task_of id b.tasks) exists.0) p q)
-      (subst (λ (rs : Refusals). DecidedBy (first_refusal rs) (Creates (on b es) config id a n) (on b es) a n) refusals x)
+      (subst
+      (λ (rs : Refusals). DecidedBy (first_refusal rs) (Creates (on b es) config id a n) (on b es) a n) refusals x)
       y
 
   pub calls : (r : Request) → Answers (on b es) r a n → Answers b r a' n' → IsAlike n n'

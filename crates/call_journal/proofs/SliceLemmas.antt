@@ -140,7 +140,8 @@ can_go_on t a j is quiet low some may = record {
     runs : (advanced t a).status ≡ Running
     runs =
         let off = (or_false (is_halted (execution_at t (t.turns + a))) (is_break_at t (t.turns + a)) cut).1 in
-        lands_running (ended (execution_at t (t.turns + a))) t.signal (is_pausing t.status || is_break_at t (t.turns + a))
+        lands_running (ended (execution_at t (t.turns + a))) t.signal
+        (is_pausing t.status || is_break_at t (t.turns + a))
         none quiet (ap (λ (x : Status). is_pausing x || is_break_at t (t.turns + a)) is ∙ off)
 
 can_again : (status : Status) (o : Option ℕ) → status ≡ Running → o ≡ None → (is_running status && is_none o) ≡ true
@@ -185,7 +186,8 @@ module _ (legal : SlicesAdvance) (slices : AdvancesAreSlices) (c : ℕ) where
       (can_again u.status u.out made.1 refl) made.4 in
       let both : Leads s (with_task s (advanced u j)) =
       lead_on s u (advanced u j) refl (slice_leads s t budget sound at can made.0) rest in
-      subst (λ (x : Task). Leads s (with_task s x)) (twice t a j (ap takes_turns made.1) ∙ ap (advanced t) (sym made.3)) both
+      subst (λ (x : Task). Leads s (with_task s x))
+      (twice t a j (ap takes_turns made.1) ∙ ap (advanced t) (sym made.3)) both
 
   idle_leads : (s : BoardState) (t : Task) (k : ℕ) → IsSound c t → task_of t.id s.tasks ≡ Some t → can_lend t ≡ true
       → MayAdvance t k → Leads s (with_task s (advanced t k))
@@ -222,7 +224,8 @@ module _ (legal : SlicesAdvance) (slices : AdvancesAreSlices) (c : ℕ) where
       lead_on s u (advanced u j) refl (return_leads s t u at (back t budget sound out))
       (idle_leads (with_task s u) u j (advanced_sound c t a sound) (there s t u refl at)
       (can_again u.status u.out go.running refl) go.may) in
-      subst (λ (x : Task). Leads s (with_task s x)) (twice t a j (ap takes_turns go.running) ∙ ap (advanced t) (sym sum))
+      subst (λ (x : Task). Leads s (with_task s x))
+      (twice t a j (ap takes_turns go.running) ∙ ap (advanced t) (sym sum))
       both
 
   advance_leads : (s : BoardState) (t : Task) (k : ℕ) (o : Option ℕ) → IsSound c t → task_of t.id s.tasks ≡ Some t

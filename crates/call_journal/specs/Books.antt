@@ -29,7 +29,8 @@ is_journalled (Err e) = not (is_refused e)
 
 -- The board has made the call, with one entry more; and the seat has seen the whole journal, so that the
 -- first cells of the row hold it
-pub record HasCalled (old new : BookValue) (was now : Known) (r : Request) (a : Answer) : Type 0 where
+pub record HasCalled (old new : BookValue) (was now : Known) (r : Request) (a : Answer) :
+    Type 0 where
   pub makes : Makes old.journalled new.journalled was.number r a
   pub seats : new.seats ≡ old.seats
   pub seen : now.history ≡ new.journalled.journal

@@ -22,7 +22,8 @@ IsOfSlice other = Unit {0}
 
 -- The events lead from one board to another with these answers, and these are the entries of the calls
 -- among them. A call that ran out of memory has none.
-pub data Records : BoardState → List Event → List EventReply → List Entry → BoardState → Type 0 where
+pub data Records :
+    BoardState → List Event → List EventReply → List Entry → BoardState → Type 0 where
   ends : (s : BoardState) → Records s [] [] [] s
   call :
       (s mid s' : BoardState) → (seat : ℕ) → (r : Request) → (a : Answer) → (es : List Event)

@@ -55,12 +55,13 @@ impl<R: Row> Model for Book<R> {
     ghost view = { λ b. record { journalled = b.board; seats = b.seats } };
 
     ghost invariant = { λ b. (b.seen ≡ b.board.journal) × (b.count.total ≡ length b.board.journal)
-        × (b.rest.parts + b.seats ≡ most_seats + 1) × (b.seats ≤ most_seats) × (b.rest.amount ≡ 0) };
+        × (b.rest.parts + b.seats ≡ most_seats + 1) × (b.seats ≤ most_seats)
+        × (b.rest.amount ≡ 0) };
 }
 
 impl<R: Row> Book<R> {
-    /// Whether a seat may make a call: `Closed`, `JournalFull`, or `JournalFault` where the journal does not go on
-    /// from what it has seen with calls of others.
+    /// Whether a seat may make a call: `Closed`, `JournalFull`, or `JournalFault` where the journal
+    /// does not go on from what it has seen with calls of others.
     pub fn may_go(&self, cells: &Cells, seat: &Seat<R>) -> Result<(), Refusal>
         requires { cells.now ≡ R.cells }
         ensures room { IsOk result → length self.now.journalled.journal < most_entries }
@@ -78,8 +79,8 @@ impl<R: Row> Book<R> {
         Ok(())
     }
 
-    /// Makes the call that was prepared for a seat, of which the entry is in its cell: the board has made it, with
-    /// one entry more, and the seat has seen the whole journal.
+    /// Makes the call that was prepared for a seat, of which the entry is in its cell: the board
+    /// has made it, with one entry more, and the seat has seen the whole journal.
     pub fn enter(
         &mut self,
         seat: &mut Seat<R>,
@@ -89,7 +90,8 @@ impl<R: Row> Book<R> {
         requires call { IsEntered self.old.journalled seat.old.number call seen }
         requires room { length self.old.journalled.journal < most_entries }
         requires on { GoesOn seat.old.number seat.old.history self.old.journalled.journal }
-        ensures called { (r : RequestValue) → PreparesCall self.old.journalled seat.old.number r call
+        ensures called { (r : RequestValue)
+            → PreparesCall self.old.journalled seat.old.number r call
             → HasCalled self.old self.new seat.old seat.new r result }
         ensures number { seat.new.number ≡ seat.old.number }
     {
@@ -119,7 +121,8 @@ impl<R: Row> Book<R> {
         ensures none { IfNone result (self.old.journalled.closed ≡ false
             → (t : TaskValue) → CanLend ticket self.old.journalled.board.tasks t → ⊥) }
         ensures same { IfNone result (self.new ≡ self.old) }
-        ensures kept { IsSlice self.old.journalled self.new.journalled × (self.new.seats ≡ self.old.seats) }
+        ensures kept { IsSlice self.old.journalled self.new.journalled
+            × (self.new.seats ≡ self.old.seats) }
     {
         self.board.take(ticket, budget)
     }
@@ -134,7 +137,8 @@ impl<R: Row> Book<R> {
             → result ≡ ticket_in loan.slot self.new.journalled.board.tasks }
         ensures unfit { (Fits loan self.old.journalled.board.tasks → ⊥)
             → (self.new ≡ self.old) × (result ≡ None) }
-        ensures kept { IsSlice self.old.journalled self.new.journalled × (self.new.seats ≡ self.old.seats) }
+        ensures kept { IsSlice self.old.journalled self.new.journalled
+            × (self.new.seats ≡ self.old.seats) }
     {
         self.board.give_back(loan)
     }
@@ -157,7 +161,8 @@ impl<R: Row> Book<R> {
     pub fn wait_again(&mut self, ticket: Ticket)
         ensures { self.new ≡ record self.old {
           journalled = record self.old.journalled {
-            waiting = enter_again self.old.journalled.board.tasks ticket self.old.journalled.waiting;
+            waiting =
+                enter_again self.old.journalled.board.tasks ticket self.old.journalled.waiting;
           };
         } }
     {
@@ -166,7 +171,8 @@ impl<R: Row> Book<R> {
 
     /// Closes the book.
     pub fn close(&mut self)
-        ensures { self.new ≡ record self.old { journalled = record self.old.journalled { closed = true } } }
+        ensures { self.new
+            ≡ record self.old { journalled = record self.old.journalled { closed = true } } }
     {
         self.board.close();
     }
@@ -193,7 +199,8 @@ impl<R: Row> Book<R> {
 
     /// A seat with a number of its own, which has seen nothing. None if the numbers are used up.
     pub fn seat(&mut self) -> Option<Seat<R>>
-        ensures some { IfSome result (λ s. s ≡ record { number = self.old.seats; history = []; share = 0 }) }
+        ensures some { IfSome result
+            (λ s. s ≡ record { number = self.old.seats; history = []; share = 0 }) }
         ensures more { IsSome result → self.new ≡ record self.old { seats = self.old.seats + 1 } }
         ensures none { IfNone result ((self.old.seats ≡ most_seats) × (self.new ≡ self.old)) }
     {

@@ -100,7 +100,8 @@ impl JournalledBoard {
         ensures room { IsOk result → length self.now.journal < most_entries }
         ensures closed { (result ≡ Err Refusal.Closed) ↔ (self.now.closed ≡ true) }
         ensures full { result ≡ Err Refusal.JournalFull → length self.now.journal ≡ most_entries }
-        ensures err { OnErr result ((result ≡ Err Refusal.Closed) ⊎ (result ≡ Err Refusal.JournalFull)) }
+        ensures err { OnErr result
+            ((result ≡ Err Refusal.Closed) ⊎ (result ≡ Err Refusal.JournalFull)) }
     {
         if self.closed {
             return Err(Refusal::Closed);

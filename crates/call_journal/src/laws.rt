@@ -27,7 +27,8 @@ pub fn histories_have_legal_beginnings()
 /// A history goes on by a call, which finds what its entry says and then is answered. A longer history is
 /// legal exactly if its last call may be answered, in some way, after those before it.
 pub fn histories_go_on()
-    ensures more { (s last mid next : BoardState) (h : List EntryValue) (e : EntryValue) (a : Answer)
+    ensures more { (s last mid next : BoardState) (h : List EntryValue)
+        (e : EntryValue) (a : Answer)
         → Replays s h last → Finds last e.request e.found mid → Answers mid e.request a next
         → Replays s (h ++ e ∷ []) next }
     ensures cut { (s s' : BoardState) (front back : List EntryValue) → Replays s (front ++ back) s'
@@ -65,22 +66,27 @@ pub fn slices_come_together()
 /// may be after them, and a call after them as it may be before; and then there are again only those slices
 /// between the boards that it leaves.
 pub fn calls_commute_with_slices()
-    ensures before { (s now : BoardState) (r : Request) (a : Answer) (now' : BoardState) → IsSince s now
+    ensures before { (s now : BoardState) (r : Request) (a : Answer) (now' : BoardState)
+        → IsSince s now
         → ((id : List ℕ) → named r ≡ Some id → task_of id s.tasks ≡ task_of id now.tasks)
         → Answers now r a now'
         → (s' : BoardState) × Answers s r a s' × IsSince s' now' }
-    ensures after { (s now : BoardState) (r : Request) (a : Answer) (s' : BoardState) → IsSince s now
+    ensures after { (s now : BoardState) (r : Request) (a : Answer) (s' : BoardState)
+        → IsSince s now
         → ((id : List ℕ) → named r ≡ Some id → task_of id s.tasks ≡ task_of id now.tasks)
         → Answers s r a s'
         → (now' : BoardState) × Answers now r a now' × IsSince s' now' }
 {}
 
 /// A history determines its board but for slots: two replays lead to boards that are the same but for the
-/// slots that creates chose, and two boards of one history are if each task has the same count and mark on both.
+/// slots that creates chose, and two boards of one history are if each task has the same count and
+/// mark on both.
 pub fn replays_agree()
-    ensures history { (h : List EntryValue) (s s' : BoardState) → Replays empty h s → Replays empty h s'
+    ensures history { (h : List EntryValue) (s s' : BoardState) → Replays empty h s
+        → Replays empty h s'
         → IsAlike s s' }
-    ensures present { (h : List EntryValue) (now now' : BoardState) → IsReplay h now → IsReplay h now'
+    ensures present { (h : List EntryValue) (now now' : BoardState) → IsReplay h now
+        → IsReplay h now'
         → ((id : List ℕ) → option_map found_in (task_of id now.tasks)
         ≡ option_map found_in (task_of id now'.tasks))
         → IsAlike now now' }
@@ -96,7 +102,8 @@ pub fn replays_agree()
 /// one entry, with what it finds. What the board answers, the history allows.
 pub fn replays_go_on()
     ensures empty { IsReplay [] empty }
-    ensures slice { (h : List EntryValue) (s : BoardState) (e : Event) (a : EventReply) (s' : BoardState)
+    ensures slice { (h : List EntryValue) (s : BoardState) (e : Event) (a : EventReply)
+        (s' : BoardState)
         → IsReplay h s → IsOfSlice e → Step s e a s' → IsReplay h s' }
     ensures call { (h : List EntryValue) (s : BoardState) (seat : ℕ) (r : Request) (a : Answer)
         (s' : BoardState) → IsReplay h s → Answers s r a s'

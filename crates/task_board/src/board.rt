@@ -345,8 +345,8 @@ impl Board {
         self.tables.ticket(id)
     }
 
-    /// How many turns the task with an id has made, and the budget of its slice while that is out: then it
-    /// had made so many before. None if no task has the id.
+    /// How many turns the task with an id has made; while its slice is out, how many it had made before, and
+    /// the budget of the slice. None if no task has the id.
     pub fn found(&self, id: &str) -> Option<(u64, Option<u64>)>
         ensures { result ≡ option_map (λ t. (t.turns, t.out)) (task_of id.now self.now.state.tasks) }
     {

@@ -13,15 +13,18 @@ pub invariant_of-self : goal.invariant_of-self
 invariant_of-self c =
     let p = c.requires.prepared in
     let items = c.self.inside.journal.items in
-    let q = subst (λ (s : JournalValue). PreparesCall s p.by_seat p.request c.args.call) (sym c.self.view_is) p.prepares in
+    let q =
+    subst (λ (s : JournalValue). PreparesCall s p.by_seat p.request c.args.call) (sym c.self.view_is) p.prepares in
     let answers = c.apply-answer.ensures.answers p.request q.board in
     let is = c.replays_go_on.ensures.call (map (λ s. s.value) items) c.self.inside.board.state p.by_seat p.request
     c.apply-answer.result c.apply-answer.new.self.state c.self.invariant.0 answers in
     let more = journal_more (λ s. s.value) items c.push_reserved.new.self.items c.args.call.entry _
     c.push_reserved.ensures.items q.entry in
-    let few : length (map (λ s. s.value) items) < most_entries = rw (ap (λ s. s.journal) c.self.view_is) c.requires.few in (
+    let few :
+    length (map (λ s. s.value) items) < most_entries = rw (ap (λ s. s.journal) c.self.view_is) c.requires.few in (
       subst (λ (h : List Entry). IsReplay h c.apply-answer.new.self.state) (sym more) is,
-      (let n = length-map items (λ s. s.value) in omega (arith, n, few, c.push_reserved.ensures.len, c.self.inside.journal.ok.0)),
+      (let n = length-map items (λ s. s.value)
+          in omega (arith, n, few, c.push_reserved.ensures.len, c.self.inside.journal.ok.0)),
     )
 
 pub returns-clause-makes : goal.returns-clause-makes
