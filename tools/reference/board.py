@@ -176,6 +176,17 @@ class Refused(Exception):
         super().__init__(number)
         self.number, self.place = number, place
 
+    def reply(self):
+        reply = {"error": NAMES[self.number], "number": self.number, "ok": False}
+        if self.place is not None:
+            reply["func"], reply["place"] = self.place
+        return reply
+
+
+def line_of(reply):
+    """The line of a reply, without its line feed."""
+    return json.dumps(reply, separators=(",", ":"), sort_keys=True, ensure_ascii=False).encode()
+
 
 class Task:
     def __init__(self, process, data):
@@ -221,10 +232,8 @@ class Board:
                 raise Refused(1)
             reply = getattr(self, request.pop("op") + "_")(**request)
         except Refused as refused:
-            reply = {"error": NAMES[refused.number], "number": refused.number, "ok": False}
-            if refused.place is not None:
-                reply["func"], reply["place"] = refused.place
-        return json.dumps(reply, separators=(",", ":"), sort_keys=True, ensure_ascii=False).encode()
+            reply = refused.reply()
+        return line_of(reply)
 
     def put_(self, hex):
         data = bytes.fromhex(hex)
