@@ -1,0 +1,152 @@
+"""A shim's process and its pipes: lines go in, and as many lines come out."""
+from __future__ import annotations
+
+import contextlib
+import os
+import select
+import signal
+import subprocess
+import time
+
+from feulgama.errors import BadReply, NoShim, ShimEnded
+
+CHUNK = 1 << 18
+PATIENCE = 5.0
+
+
+class Pipe:
+    """A running `wasm-shim serve`. It has a session of its own, so that a Ctrl-C in a terminal does not reach it."""
+
+    def __init__(self, words: list[str]) -> None:
+        try:
+            self._process = subprocess.Popen([*words, "serve"], bufsize=0, start_new_session=True,
+                                             stdin=subprocess.PIPE, stdout=subprocess.PIPE, stderr=subprocess.PIPE)
+        except OSError as error:
+            raise NoShim(f"{words[-1]}: {error.strerror}") from error
+        streams = self._process.stdin, self._process.stdout, self._process.stderr
+        assert streams[0] and streams[1] and streams[2]
+        self._streams = streams[0], streams[1], streams[2]
+        self._in, self._out, self._error = (stream.fileno() for stream in self._streams)
+        for descriptor in (self._in, self._error):
+            os.set_blocking(descriptor, False)
+        self._ended: ShimEnded | None = None
+        self._unanswered = 0
+
+    @property
+    def pid(self) -> int:
+        """The number of the process."""
+        return self._process.pid
+
+    def exchange(self, line: bytes) -> bytes:
+        """The reply to one line, without its line feed."""
+        self._begin(1)
+        try:
+            sent = os.write(self._in, line)
+            if sent < len(line):
+                return self._pump(line[sent:], 1)[:-1]
+            found = os.read(self._out, CHUNK)
+            while found[-1:] != b"\n":
+                more = os.read(self._out, CHUNK)
+                if not more:
+                    raise self.end("the shim closed its output")
+                found += more
+        except BlockingIOError:
+            return self._pump(line, 1)[:-1]
+        except OSError as error:
+            raise self.end("the shim does not read") from error
+        if found.find(b"\n") != len(found) - 1:
+            raise self.refuse(found)
+        self._unanswered = 0
+        return found[:-1]
+
+    def exchange_many(self, lines: bytes, count: int) -> bytes:
+        """The replies to this many lines, each with its line feed. Lines are written while replies are read."""
+        self._begin(count)
+        return self._pump(lines, count)
+
+    def _begin(self, count: int) -> None:
+        if self._ended is not None:
+            raise self._ended
+        if self._unanswered:
+            raise self.end("an earlier request was broken off")
+        self._unanswered = count
+
+    def _pump(self, lines: bytes, count: int) -> bytes:
+        poll = select.poll()
+        poll.register(self._out, select.POLLIN)
+        if lines:
+            poll.register(self._in, select.POLLOUT)
+        left, found, missing = memoryview(lines), [], count
+        while missing > 0:
+            for descriptor, _ in poll.poll():
+                if descriptor == self._in:
+                    left = self._write(left)
+                    if not left:
+                        poll.unregister(self._in)
+                else:
+                    chunk = os.read(self._out, CHUNK)
+                    if not chunk:
+                        raise self.end("the shim closed its output")
+                    missing -= chunk.count(b"\n")
+                    found.append(chunk)
+        if missing < 0 or found[-1][-1:] != b"\n":
+            raise self.refuse(found[-1])
+        self._unanswered = 0
+        return b"".join(found)
+
+    def _write(self, left: memoryview) -> memoryview:
+        try:
+            return left[os.write(self._in, left[:CHUNK]):]
+        except BlockingIOError:
+            return left
+        except OSError as error:
+            raise self.end("the shim does not read") from error
+
+    def refuse(self, line: bytes) -> BadReply:
+        """Ends the shim because of a line that is no reply."""
+        self.end("the shim wrote a line that is no reply")
+        return BadReply(line)
+
+    def end(self, why: str) -> ShimEnded:
+        """Ends the process, if it has not ended, and says how it did."""
+        if self._ended is None:
+            status = self._process.poll()
+            if status is None:
+                status = self._stop()
+            said = b""
+            with contextlib.suppress(OSError):
+                said = os.read(self._error, CHUNK)
+            self._ended = ShimEnded(why, status, said.decode(errors="replace").strip())
+            for stream in self._streams:
+                stream.close()
+        return self._ended
+
+    def _stop(self) -> int | None:
+        """Waits a moment for a process that is about to end, and then kills it with what it has started."""
+        deadline = time.monotonic() + 0.2
+        while time.monotonic() < deadline:
+            status = self._process.poll()
+            if status is not None:
+                return status
+            time.sleep(0.005)
+        self.kill()
+        try:
+            return self._process.wait(PATIENCE)
+        except subprocess.TimeoutExpired:
+            return None
+
+    def kill(self) -> None:
+        """Kills the process and what it has started; an exchange of another thread finds that it has ended."""
+        if self._process.poll() is None:
+            with contextlib.suppress(ProcessLookupError):
+                os.killpg(self._process.pid, signal.SIGKILL)
+
+    def close(self) -> None:
+        """Closes its input, and waits until it has ended."""
+        if self._ended is not None:
+            return
+        if not self._unanswered:
+            self._streams[0].close()
+            with contextlib.suppress(subprocess.TimeoutExpired):
+                self._process.wait(PATIENCE)
+        self.end("the shim was closed")

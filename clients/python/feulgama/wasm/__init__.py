@@ -1,0 +1,1 @@
+"""Modules of WebAssembly, as far as a debugger has to know them."""

@@ -1,0 +1,83 @@
+"""Bodies of functions as numbered instructions, with the text that `wasm-shim check --list` prints."""
+from __future__ import annotations
+
+from dataclasses import dataclass
+
+from feulgama.wasm import opcodes as op
+from feulgama.wasm.reader import NotAModule, Reader
+
+
+@dataclass(frozen=True, slots=True)
+class Instruction:
+    """An instruction. `place` is its number in the function; `text` its line of a listing; `depth` how many blocks are
+    open round it; `offset` where its first byte is, counted from the first byte of the contents of the code section,
+    as line tables count; `size` its bytes, a block's first line alone."""
+    place: int
+    opcode: int
+    text: str
+    depth: int
+    offset: int
+    size: int
+
+    @property
+    def is_call(self) -> bool:
+        """Whether it calls a function."""
+        return self.opcode in op.CALLS
+
+
+def instructions(reader: Reader, start: int) -> list[Instruction]:
+    """The instructions of a body up to its end. `start` is where the contents of the code section begin."""
+    found: list[Instruction] = []
+    depth = 0
+    while True:
+        at = reader.at
+        opcode = reader.byte()
+        if opcode == op.END:
+            if depth == 0:
+                return found
+            depth -= 1
+        elif opcode != op.ELSE:
+            text = text_of(reader, opcode)
+            found.append(Instruction(len(found), opcode, text, depth, at - start, reader.at - at))
+            depth += opcode in op.BLOCKS
+
+
+def text_of(reader: Reader, opcode: int) -> str:
+    """The line of an instruction whose opcode was read."""
+    if opcode in op.BARE:
+        return op.BARE[opcode]
+    if opcode in op.INDEXED:
+        return f"{op.INDEXED[opcode]} {reader.unsigned()}"
+    if opcode in op.ACCESSES:
+        return access(reader, *op.ACCESSES[opcode])
+    if opcode in (op.I32_CONST, op.I64_CONST):
+        return f"{'i32' if opcode == op.I32_CONST else 'i64'}.const {reader.signed()}"
+    if opcode in op.BLOCKS:
+        return op.BLOCKS[opcode] + block_type(reader)
+    if opcode == op.BR_TABLE:
+        labels = [*reader.vector(reader.unsigned), reader.unsigned()]
+        return f"br_table {' '.join(map(str, labels))}"
+    if opcode == op.CALL_INDIRECT:
+        index = reader.unsigned()
+        reader.byte()
+        return f"call_indirect (type {index})"
+    if opcode in (op.MEMORY_SIZE, op.MEMORY_GROW):
+        reader.byte()
+        return "memory.size" if opcode == op.MEMORY_SIZE else "memory.grow"
+    raise NotAModule(f"there is no instruction with the byte {opcode:#04x} in the profile")
+
+
+def access(reader: Reader, word: str, natural: int) -> str:
+    """A load or a store: an offset that is not 0, and an alignment that is not natural, are told."""
+    align, offset = 1 << reader.unsigned(), reader.unsigned()
+    return f"{word}{f' offset={offset}' if offset else ''}{f' align={align}' if align != natural else ''}"
+
+
+def block_type(reader: Reader) -> str:
+    """What follows the word of a block."""
+    kind = reader.signed()
+    if kind == -0x40:
+        return ""
+    if kind >= 0:
+        return f" (type {kind})"
+    return f" (result {op.TYPES[kind & 0x7F]})"
