@@ -89,7 +89,7 @@ class Pipe:
                         raise self.end("the shim closed its output")
                     missing -= chunk.count(b"\n")
                     found.append(chunk)
-        if missing < 0 or found[-1][-1:] != b"\n":
+        if missing < 0 or (found and found[-1][-1:] != b"\n"):
             raise self.refuse(found[-1])
         self._unanswered = 0
         return b"".join(found)

@@ -1,0 +1,6 @@
+"""python3 -m feulgama"""
+import sys
+
+from feulgama.cli import main
+
+sys.exit(main())

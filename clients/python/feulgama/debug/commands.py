@@ -1,0 +1,307 @@
+"""The commands of the terminal debugger: what a line of the user's does, and the lines that it shows."""
+from __future__ import annotations
+
+from collections.abc import Callable, Iterable
+from dataclasses import dataclass
+
+from feulgama.debug import render
+from feulgama.debug.debugger import Breakpoint, Debugger
+from feulgama.debug.expressions import Scope, address, evaluate
+from feulgama.debug.look import Place
+from feulgama.debug.memory import dump, format_of
+from feulgama.debug.timeline import Why
+from feulgama.errors import FeulgamaError
+from feulgama.model import Frame, Stream, Value
+
+Lines = Iterable[str]
+
+
+class BadCommand(FeulgamaError):
+    """A line that is no command, or has words that the command does not take."""
+
+
+class Quit(Exception):
+    """The user has had enough."""
+
+
+@dataclass(frozen=True, slots=True)
+class Command:
+    """A command: its name, its short forms, what follows it, what it does in a line, and the method that does it."""
+    name: str
+    short: tuple[str, ...]
+    words: str
+    help: str
+    run: Callable[["Commands", str], Lines]
+
+
+class Commands:
+    """The state of a terminal: the debugger, the frame that is looked at, and how much output was shown."""
+
+    def __init__(self, debugger: Debugger) -> None:
+        self.debugger = debugger
+        self.timeline, self.symbols = debugger.timeline, debugger.symbols
+        self.selected = 0
+        self._listed: Place | None = None
+        self._written = dict.fromkeys(Stream, 0)
+
+    def answer(self, line: str) -> Lines:
+        """The lines that a line of the user's is answered. Raises what goes wrong as a FeulgamaError, and Quit."""
+        word, _, rest = line.strip().partition(" ")
+        if "/" in word:
+            word, slash, form = word.partition("/")
+            rest = f"{slash}{form} {rest}"
+        return named(word).run(self, rest.strip()) if word else []
+
+    # What is shown.
+
+    def stopped(self, why: Why | None = None) -> Lines:
+        """Where the run is now, after what it wrote on the way."""
+        self.selected, self._listed = 0, None
+        yield from self._new_output()
+        if why in (Why.INTERRUPTED, Why.LIMIT, Why.BEGIN):
+            yield {Why.INTERRUPTED: "interrupted", Why.LIMIT: "the turns asked for are made",
+                   Why.BEGIN: "the begin of the run"}[why]
+        look = self.timeline.look()
+        if look.place is None:
+            yield f"ended after {self.timeline.turn} turns: {self.timeline.exit}"
+            return
+        for found in self.debugger.hit():
+            yield f"breakpoint {found.number}"
+        yield from render.stop_lines(self.symbols, look.turn, look.place, look.depth)
+
+    def _new_output(self) -> Lines:
+        for stream in Stream:
+            written = self.timeline.output(stream)
+            new = written[self._written[stream]:]
+            self._written[stream] = max(len(written), self._written[stream])
+            yield from (f"{stream.name.lower()}: {line}" for line in new.decode(errors="replace").splitlines())
+
+    def _frame(self) -> Frame:
+        frames = self.debugger.frames()
+        if not frames:
+            raise BadCommand("the task has ended, and has no frames")
+        return frames[self.selected]
+
+    def _place(self) -> Place:
+        return self.debugger.place_of(self._frame(), self.selected == 0)
+
+    def _scope(self) -> Scope:
+        frames = self.debugger.frames()
+        return Scope(frames[self.selected] if frames else None, self.symbols.names, self.timeline.turn,
+                     self.timeline.memory)
+
+    # Moving.
+
+    def run(self, rest: str) -> Lines:
+        self.timeline.seek(0)
+        return self.continue_(rest)
+
+    def continue_(self, rest: str) -> Lines:
+        limit = self.timeline.turn + count_of(rest) if rest else None
+        return self.stopped(self.debugger.go_on(limit))
+
+    def step(self, rest: str) -> Lines:
+        return self.stopped(self.debugger.step(count_of(rest)))
+
+    def next(self, rest: str) -> Lines:
+        return self._repeated(self.debugger.next, rest)
+
+    def step_line(self, rest: str) -> Lines:
+        return self._repeated(lambda: self.debugger.step_line(False), rest)
+
+    def next_line(self, rest: str) -> Lines:
+        return self._repeated(lambda: self.debugger.step_line(True), rest)
+
+    def _repeated(self, move: Callable[[], Why], rest: str) -> Lines:
+        why = Why.FOUND
+        for _ in range(count_of(rest)):
+            why = move()
+            if why is not Why.FOUND or self.debugger.hit():
+                break
+        return self.stopped(why)
+
+    def finish(self, rest: str) -> Lines:
+        taking_nothing(rest)
+        self._frame()
+        return self.stopped(self.debugger.finish(self.selected))
+
+    def until(self, rest: str) -> Lines:
+        places, remark = self.symbols.places(rest)
+        return [*([remark] if remark else []), *self.stopped(self.debugger.until(places))]
+
+    def reverse_step(self, rest: str) -> Lines:
+        return self.stopped(self.debugger.step_back(count_of(rest)))
+
+    def reverse_line(self, rest: str) -> Lines:
+        return self._repeated(self.debugger.step_line_back, rest)
+
+    def reverse_continue(self, rest: str) -> Lines:
+        taking_nothing(rest)
+        return self.stopped(self.debugger.go_back())
+
+    def goto(self, rest: str) -> Lines:
+        why = self.timeline.seek(count_of(rest, least=0))
+        return self.stopped(None if why is Why.FOUND else why)
+
+    # Breakpoints.
+
+    def break_(self, rest: str) -> Lines:
+        if rest:
+            places, remark = self.symbols.places(rest)
+        else:
+            places, remark = [self._place()], ""
+        added = self.debugger.add_breakpoint(rest or str(places[0]), places)
+        return [*([remark] if remark else []), self._breakpoint_line(added)]
+
+    def delete(self, rest: str) -> Lines:
+        number = count_of(rest)
+        if rest and number not in self.debugger.breakpoints:
+            raise BadCommand(f"there is no breakpoint {number}")
+        if rest:
+            del self.debugger.breakpoints[number]
+        else:
+            self.debugger.breakpoints.clear()
+        return []
+
+    def _breakpoint_line(self, found: Breakpoint) -> str:
+        return f"breakpoint {found.number} at {', '.join(map(self.symbols.told, found.places))}"
+
+    # Looking.
+
+    def info(self, rest: str) -> Lines:
+        shows: dict[str, Callable[[], Lines]] = {
+            "breakpoints": self._info_breakpoints, "locals": lambda: render.local_lines(self.symbols, self._frame()),
+            "stack": lambda: render.operand_lines(self._frame()), "memory": self._info_memory,
+            "output": self._info_output, "functions": self._info_functions}
+        found = [name for name in shows if rest and name.startswith(rest)]
+        if len(found) != 1:
+            raise BadCommand(f"info takes one of {', '.join(shows)}")
+        return shows[found[0]]()
+
+    def _info_breakpoints(self) -> Lines:
+        return list(map(self._breakpoint_line, self.debugger.breakpoints.values())) or ["no breakpoints"]
+
+    def _info_memory(self) -> Lines:
+        size = self.timeline.memory_size()
+        return [f"{size} bytes, {size // 65_536} pages"]
+
+    def _info_output(self) -> Lines:
+        for stream in Stream:
+            written = self.timeline.output(stream)
+            yield f"{stream.name.lower()}: {len(written)} bytes"
+            yield from (f"    {line}" for line in written.decode(errors="replace").splitlines())
+
+    def _info_functions(self) -> Lines:
+        imports = self.symbols.module.imports
+        yield from (f"{index} {module}.{name}" for index, (module, name, _) in enumerate(imports))
+        for function in self.symbols.module.functions:
+            yield f"{function.index} {self.symbols.names.function(function.index)}, " \
+                  f"{len(function.instructions)} instructions"
+
+    def backtrace(self, rest: str) -> Lines:
+        frames = self.debugger.frames()
+        shown = frames[:count_of(rest)] if rest else frames
+        lines = [render.frame_line(self.symbols, number, frame) for number, frame in enumerate(shown)]
+        return lines or ["no frames"]
+
+    def frame(self, rest: str) -> Lines:
+        number = count_of(rest, least=0) if rest else self.selected
+        frames = self.debugger.frames()
+        if number >= len(frames):
+            raise BadCommand(f"there is no frame {number}")
+        self.selected, self._listed = number, None
+        yield render.frame_line(self.symbols, number, frames[number])
+
+    def examine(self, rest: str) -> Lines:
+        form, text = "", rest
+        if rest.startswith("/"):
+            form, _, text = rest[1:].partition(" ")
+        if not text.strip():
+            raise BadCommand("x takes an address: x/4xw 1024")
+        return dump(format_of(form), address(text, self._scope()), self.timeline.memory)
+
+    def list_(self, rest: str) -> Lines:
+        places, _ = self.symbols.places(rest) if rest else ([self._place()], "")
+        source = self.symbols.line_at(places[0])
+        lines = render.source_listing(self.symbols, source) if source is not None else None
+        return lines if lines is not None else self.disassemble(rest)
+
+    def disassemble(self, rest: str) -> Lines:
+        marked = self.timeline.look().place
+        if rest:
+            middle = self.symbols.places(rest)[0][0]
+        elif self._listed is not None:
+            middle = Place(self._listed.func, self._listed.place + 2 * render.AROUND + 1)
+        else:
+            middle = self._place()
+        lines = render.listing(self.symbols, middle, marked)
+        self._listed = middle if lines else None
+        return lines or ["no more instructions"]
+
+    def print_(self, rest: str) -> Lines:
+        found = evaluate(rest, self._scope())
+        if not isinstance(found, Value):
+            return [str(found)]
+        bits = 32 if found.type == "i32" else 64
+        return [f"{found} ({found.number % 2**bits:#x})"]
+
+    def help(self, rest: str) -> Lines:
+        shown = [named(rest)] if rest else COMMANDS
+        for command in shown:
+            forms = ", ".join([command.name, *command.short])
+            yield f"{forms + ' ' + command.words:<34} {command.help}"
+
+    def quit(self, _rest: str) -> Lines:
+        raise Quit
+
+
+def count_of(rest: str, least: int = 1) -> int:
+    """A number of at least that; 1 if there are no words."""
+    if not rest:
+        return 1
+    if not rest.isdigit() or int(rest) < least:
+        raise BadCommand(f"{rest} is no number from {least} on")
+    return int(rest)
+
+
+def taking_nothing(rest: str) -> None:
+    """Refuses words after a command that takes none."""
+    if rest:
+        raise BadCommand(f"{rest} is one word too many")
+
+
+COMMANDS = [
+    Command("run", ("r",), "[TURNS]", "runs from the first turn to a breakpoint or the end", Commands.run),
+    Command("continue", ("c",), "[TURNS]", "runs on to a breakpoint or the end", Commands.continue_),
+    Command("step", ("s", "si"), "[TURNS]", "makes turns, up to a breakpoint", Commands.step),
+    Command("next", ("n", "ni"), "[COUNT]", "makes a turn, and runs over a call", Commands.next),
+    Command("step-line", ("sl",), "[COUNT]", "runs to another line of the source", Commands.step_line),
+    Command("next-line", ("nl",), "[COUNT]", "the same, over calls", Commands.next_line),
+    Command("finish", ("fin",), "", "runs to where the frame has returned", Commands.finish),
+    Command("until", ("u",), "PLACE", "runs to a place", Commands.until),
+    Command("reverse-step", ("rs", "rsi"), "[TURNS]", "takes turns back", Commands.reverse_step),
+    Command("reverse-line", ("rl",), "[COUNT]", "goes back to the line before", Commands.reverse_line),
+    Command("reverse-continue", ("rc",), "", "runs back to a breakpoint or the first turn", Commands.reverse_continue),
+    Command("goto", ("g",), "TURN", "goes to a turn, forward or back", Commands.goto),
+    Command("break", ("b",), "[PLACE]", "sets a breakpoint: FUNC, FUNC:PLACE or FILE:LINE", Commands.break_),
+    Command("delete", ("d",), "[NUMBER]", "takes a breakpoint away, or all", Commands.delete),
+    Command("info", ("i",), "WHAT", "breakpoints, locals, stack, memory, output or functions", Commands.info),
+    Command("backtrace", ("bt", "where"), "[COUNT]", "the frames, the innermost first", Commands.backtrace),
+    Command("frame", ("f",), "[NUMBER]", "looks at a frame", Commands.frame),
+    Command("x", (), "[/FORMAT] ADDRESS", "memory: x/4xw 1024, x/s local 0", Commands.examine),
+    Command("list", ("l",), "[PLACE]", "the source, or the instructions, around a place", Commands.list_),
+    Command("disassemble", ("dis",), "[PLACE]", "the instructions around a place", Commands.disassemble),
+    Command("print", ("p",), "EXPRESSION", "a number: local 3, operand 0, a name, *1024, sums", Commands.print_),
+    Command("help", ("h",), "[COMMAND]", "this list", Commands.help),
+    Command("quit", ("q", "exit"), "", "ends", Commands.quit),
+]
+
+
+def named(word: str) -> Command:
+    """The command of a name, a short form, or the begin of one name alone."""
+    exact = [command for command in COMMANDS if word == command.name or word in command.short]
+    found = exact or [command for command in COMMANDS if command.name.startswith(word)]
+    if len(found) != 1:
+        told = f"; is it {' or '.join(command.name for command in found)}?" if found else "; see help"
+        raise BadCommand(f"{word} is no command{told}")
+    return found[0]

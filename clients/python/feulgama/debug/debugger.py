@@ -1,0 +1,201 @@
+"""A debugger without a face: it moves a run to where a user wants it, by instructions, lines, calls and breakpoints."""
+from __future__ import annotations
+
+from dataclasses import dataclass
+
+from feulgama.debug.lines import SourceLine
+from feulgama.debug.look import Look, Place
+from feulgama.debug.symbols import Symbols
+from feulgama.debug.timeline import Search, Timeline, Why, at_any
+from feulgama.model import Frame
+
+
+@dataclass(frozen=True, slots=True)
+class Breakpoint:
+    """A breakpoint of the user's: its number, the words that asked for it, and its places."""
+    number: int
+    words: str
+    places: tuple[Place, ...]
+
+
+class Debugger:
+    """A run of a module under a user's hand. Each method that moves it says why it stopped."""
+
+    def __init__(self, timeline: Timeline, symbols: Symbols) -> None:
+        self.timeline, self.symbols = timeline, symbols
+        self.breakpoints: dict[int, Breakpoint] = {}
+        self._numbers = 0
+
+    # Breakpoints.
+
+    def add_breakpoint(self, words: str, places: list[Place]) -> Breakpoint:
+        """Sets a breakpoint at places."""
+        self._numbers += 1
+        found = Breakpoint(self._numbers, words, tuple(places))
+        self.breakpoints[found.number] = found
+        return found
+
+    def places(self) -> frozenset[Place]:
+        """The places of all breakpoints."""
+        return frozenset(place for found in self.breakpoints.values() for place in found.places)
+
+    def hit(self) -> list[Breakpoint]:
+        """The breakpoints that the run is at."""
+        place = self.timeline.look().place
+        return [found for found in self.breakpoints.values() if place in found.places]
+
+    # Where it is.
+
+    def frames(self) -> tuple[Frame, ...]:
+        """The frames, the innermost first."""
+        return self.timeline.inspection().frames
+
+    def place_of(self, frame: Frame, is_innermost: bool) -> Place:
+        """The instruction that a frame is at: its next one, or of a frame that has called the call itself, as far as
+        that can be told from the instruction after it."""
+        if frame.next is None:
+            function = self.symbols.module.function(frame.func)
+            return Place(frame.func, len(function.instructions) - 1 if function is not None else 0)
+        if is_innermost or frame.next == 0:
+            return Place(frame.func, frame.next)
+        before = Place(frame.func, frame.next - 1)
+        return before if self.symbols.instruction(before).is_call else Place(frame.func, frame.next)
+
+    # Moving by instructions.
+
+    def go_on(self, limit: int | None = None) -> Why:
+        """Runs to a breakpoint or the end, at most to this turn."""
+        return self.timeline.forward(at_any(self.places()), limit)
+
+    def go_back(self) -> Why:
+        """Runs back to the last breakpoint, or to the first turn."""
+        places = self.places()
+        if not places:
+            self.timeline.seek(0)
+            return Why.BEGIN
+        return self.timeline.backward(at_any(places))
+
+    def step(self, count: int = 1) -> Why:
+        """Makes turns, up to a breakpoint."""
+        turn = self.timeline.turn + count
+        if count == 1 or not self.breakpoints:
+            return self._to(turn)
+        why = self.go_on(turn)
+        return Why.FOUND if why is Why.LIMIT else why
+
+    def step_back(self, count: int = 1) -> Why:
+        """Takes turns back."""
+        turn = max(0, self.timeline.turn - count)
+        return Why.BEGIN if self._to(turn) is Why.FOUND and turn == 0 else Why.FOUND
+
+    def _to(self, turn: int) -> Why:
+        why = self.timeline.seek(turn)
+        return Why.ENDED if self.timeline.exit is not None else why
+
+    def next(self) -> Why:
+        """Makes a turn, and if it calls a function runs to where that has returned."""
+        look = self.timeline.look()
+        if look.place is None:
+            return Why.ENDED
+        is_call = self.symbols.instruction(look.place).is_call
+        why = self.step()
+        if is_call and why is Why.FOUND and self.timeline.look().depth > look.depth:
+            return self.return_to(look.depth)
+        return why
+
+    def finish(self, frame: int = 0) -> Why:
+        """Runs to where a frame has returned, the innermost having the number 0."""
+        return self.return_to(self.timeline.look().depth - frame - 1)
+
+    def return_to(self, depth: int) -> Why:
+        """Runs to where there are at most this many frames, or to a breakpoint."""
+        frames, own = self.frames(), self.places()
+        outer = [(at, frame) for at, frame in enumerate(frames) if len(frames) - at <= depth and frame.next is not None]
+        if not outer:
+            return self.go_on()
+        at, frame = outer[0]
+        assert frame.next is not None
+        back, most = Place(frame.func, frame.next), len(frames) - at
+        search = Search(lambda look: look.place in own or look.place == back and look.depth <= most, own | {back})
+        return self.timeline.forward(search)
+
+    def until(self, places: list[Place]) -> Why:
+        """Runs to one of these places, or to a breakpoint."""
+        return self.timeline.forward(at_any(self.places() | set(places)))
+
+    # Moving by lines.
+
+    def line(self) -> SourceLine | None:
+        """The line of the next instruction."""
+        place = self.timeline.look().place
+        return None if place is None else self.symbols.line_at(place)
+
+    def step_line(self, is_over: bool) -> Why:
+        """Runs to the beginning of another line; over calls, or into those whose functions have lines. Without lines
+        it makes one turn."""
+        look = self.timeline.look()
+        if look.place is None or self.line() is None:
+            return self.next() if is_over else self.step()
+        from_, depth = (look.place.func, self.line()), look.depth
+        while True:
+            search = Search(lambda look: self._has_left(look, from_, depth), each_turn=True)
+            why = self.timeline.forward(search)
+            look = self.timeline.look()
+            if why is not Why.FOUND or self.hit():
+                return why
+            if look.depth > depth and (is_over or self.line() is None):
+                why = self.return_to(depth)
+                if why is not Why.FOUND or self.hit():
+                    return why
+                look = self.timeline.look()
+            if self._is_elsewhere(look, from_, depth):
+                return Why.FOUND
+
+    def _has_left(self, look: Look, from_: tuple[int, SourceLine | None], depth: int) -> bool:
+        """Whether a run has called a function, is at another line, or is at a breakpoint."""
+        return look.depth > depth or look.place in self.places() or self._is_elsewhere(look, from_, depth)
+
+    def _is_elsewhere(self, look: Look, from_: tuple[int, SourceLine | None], depth: int) -> bool:
+        if look.place is None:
+            return True
+        line = self.symbols.line_at(look.place)
+        return line is not None and (look.depth != depth or (look.place.func, line) != from_)
+
+    def step_line_back(self) -> Why:
+        """Goes back to where the line before this one began, in this function or in one that called it; of a line
+        that has begun before, to its own beginning."""
+        look = self.timeline.look()
+        if look.place is None:
+            why = self.step_back()
+            look = self.timeline.look()
+            if look.place is None or self.symbols.line_at(look.place) is None:
+                return why
+        elif self.line() is None:
+            return self.step_back()
+        depth = look.depth
+        why = self.step_back()
+        if why is Why.FOUND and not self._is_line_of(self.timeline.look(), depth):
+            why = self.timeline.backward(Search(lambda found: self._is_line_of(found, depth), each_turn=True))
+        if why is Why.FOUND:
+            why = self._to_line_begin(depth)
+        return why
+
+    def _is_line_of(self, look: Look, depth: int) -> bool:
+        """Whether a look is of a line in this frame or an outer one."""
+        return look.depth <= depth and look.place is not None and self.symbols.line_at(look.place) is not None
+
+    def _to_line_begin(self, depth: int) -> Why:
+        """Goes back to the first turn that was in this line without a break, calls from it counted."""
+        look = self.timeline.look()
+        assert look.place is not None
+        here = look.place.func, self.symbols.line_at(look.place)
+
+        def is_before(found: Look) -> bool:
+            return found.depth <= look.depth and self._is_elsewhere(found, here, look.depth)
+
+        why = self.timeline.backward(Search(is_before, each_turn=True))
+        if why is not Why.FOUND:
+            return why
+        inside = Search(lambda found: found.depth == look.depth and found.place is not None
+                        and (found.place.func, self.symbols.line_at(found.place)) == here, each_turn=True)
+        return self.timeline.forward(inside)

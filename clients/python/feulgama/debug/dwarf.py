@@ -1,0 +1,109 @@
+"""Line tables of the custom sections that `clang -g` writes, read by Debian's python3-pyelftools if it is there."""
+from __future__ import annotations
+
+import posixpath
+from collections.abc import Iterator
+from io import BytesIO
+from typing import Any
+
+from feulgama.debug.lines import Lines, Row, SourceLine
+from feulgama.wasm.module import Module
+
+try:
+    from elftools.common.exceptions import DWARFError, ELFParseError
+    from elftools.construct import ConstructError
+    from elftools.dwarf.dwarfinfo import DebugSectionDescriptor, DwarfConfig, DWARFInfo
+except ImportError:
+    IS_THERE = False
+else:
+    IS_THERE = True
+
+SECTIONS = ("info", "aranges", "abbrev", "frame", "str", "loc", "ranges", "line", "pubtypes", "pubnames", "addr",
+            "str_offsets", "line_str", "loclists", "rnglists", "sup")
+OTHERS = ("eh_frame_sec", "gnu_debugaltlink_sec", "debug_types_sec")
+
+
+def lines_of(module: Module) -> Lines | None:
+    """The line table of a module; None if it has none, or if pyelftools is not there."""
+    if not IS_THERE or ".debug_line" not in module.customs or ".debug_info" not in module.customs:
+        return None
+    try:
+        rows = list(rows_of(module))
+    except (DWARFError, ELFParseError, ConstructError):
+        return None
+    return Lines(module, rows) if rows else None
+
+
+def dwarf_of(module: Module) -> Any:
+    """What pyelftools reads of the module's custom sections."""
+    names = DWARFInfo.__init__.__code__.co_varnames[:DWARFInfo.__init__.__code__.co_argcount]
+    given: dict[str, Any] = {name: None for name in OTHERS if name in names}
+    for name in SECTIONS:
+        if f"debug_{name}_sec" in names:
+            given[f"debug_{name}_sec"] = section(module, f".debug_{name}")
+    config = DwarfConfig(little_endian=True, machine_arch="wasm", default_address_size=4)
+    return DWARFInfo(config=config, **given)
+
+
+def section(module: Module, name: str) -> Any:
+    data = module.customs.get(name)
+    if data is None:
+        return None
+    return DebugSectionDescriptor(stream=BytesIO(data), name=name, global_offset=0, size=len(data), address=0)
+
+
+def rows_of(module: Module) -> Iterator[Row]:
+    """The rows of all units, but for those of functions that were left out by the linker."""
+    dwarf = dwarf_of(module)
+    for unit in dwarf.iter_CUs():
+        program = dwarf.line_program_for_CU(unit)
+        if program is None:
+            continue
+        folder = text(unit.get_top_DIE().attributes.get("DW_AT_comp_dir"))
+        files = files_of(program, folder, unit["version"])
+        for sequence in sequences(program):
+            yield from rows_of_sequence(module, sequence, files)
+
+
+def text(attribute: Any) -> str:
+    return attribute.value.decode(errors="replace") if attribute is not None else ""
+
+
+def files_of(program: Any, folder: str, version: int) -> list[str]:
+    """The paths of a unit's files, by the numbers that its rows have."""
+    header = program.header
+    folders = [part.decode(errors="replace") for part in header["include_directory"]]
+    if version < 5:
+        folders.insert(0, folder)
+    found = [] if version >= 5 else [""]
+    for entry in header["file_entry"]:
+        inside = folders[entry.dir_index] if entry.dir_index < len(folders) else ""
+        path = posixpath.join(folder, inside, entry.name.decode(errors="replace"))
+        found.append(posixpath.normpath(path))
+    return found
+
+
+def sequences(program: Any) -> Iterator[list[Any]]:
+    """The states of a line program, cut at the ends of its sequences."""
+    states: list[Any] = []
+    for entry in program.get_entries():
+        if entry.state is not None:
+            states.append(entry.state)
+            if entry.state.end_sequence:
+                yield states
+                states = []
+
+
+def rows_of_sequence(module: Module, states: list[Any], files: list[str]) -> Iterator[Row]:
+    """The rows of a sequence. The linker gives a function that it leaves out an address in none of those that are."""
+    first = states[0].address
+    if not any(function.begin <= first < function.end for function in module.functions):
+        return
+    for at, state in enumerate(states):
+        is_last_at_address = at + 1 == len(states) or states[at + 1].address != state.address
+        if state.end_sequence:
+            yield Row(state.address, None, False)
+        elif is_last_at_address:
+            known = state.line > 0 and state.file < len(files)
+            source = SourceLine(files[state.file], state.line) if known else None
+            yield Row(state.address, source, state.is_stmt)

@@ -1,0 +1,129 @@
+"""Numbers that a user names: `12`, `0x40`, `local 3`, `operand 0`, `turn`, the name of a local, `*ADDRESS`, sums and
+products, parentheses."""
+from __future__ import annotations
+
+import re
+from collections.abc import Callable
+from dataclasses import dataclass
+
+from feulgama.errors import FeulgamaError
+from feulgama.model import Frame, Value, ValueType
+from feulgama.wasm.names import Names
+
+TOKEN = re.compile(r"\s*(0x[0-9a-fA-F]+|\d+|[A-Za-z_$.][\w$.]*|[-+*()])")
+
+
+class NoValue(FeulgamaError):
+    """Words that name no number here."""
+
+
+@dataclass(frozen=True, slots=True)
+class Scope:
+    """What words may name: the frame, None of a task that has ended; the names; the turn; and memory, by an address
+    and a number of bytes."""
+    frame: Frame | None
+    names: Names
+    turn: int
+    memory: Callable[[int, int], bytes]
+
+
+def evaluate(text: str, scope: Scope) -> Value | int:
+    """The number that a text names; of a local or an operand alone its value. Raises NoValue."""
+    tokens, at = [], 0
+    text = text.strip()
+    while at < len(text):
+        match = TOKEN.match(text, at)
+        if match is None:
+            raise NoValue(f"{text[at:]} is no expression")
+        tokens.append(match[1])
+        at = match.end()
+    reader = Expression(tokens, scope)
+    found = reader.sum()
+    if reader.left():
+        raise NoValue(f"{' '.join(reader.left())} is one word too many")
+    return found
+
+
+def address(text: str, scope: Scope) -> int:
+    """The number that a text names, as an address: an i32 is taken without its sign."""
+    found = evaluate(text, scope)
+    number = found.number if isinstance(found, Value) else found
+    return number % 2**32 if -2**31 <= number < 0 else number
+
+
+class Expression:
+    """The tokens of an expression, read from the front."""
+
+    def __init__(self, tokens: list[str], scope: Scope) -> None:
+        self._tokens, self._scope = tokens[::-1], scope
+
+    def left(self) -> list[str]:
+        """The tokens that are not read."""
+        return self._tokens[::-1]
+
+    def _next(self) -> str:
+        if not self._tokens:
+            raise NoValue("a number is missing")
+        return self._tokens.pop()
+
+    def sum(self) -> Value | int:
+        found = self.product()
+        while self._tokens and self._tokens[-1] in "+-":
+            sign = self._next()
+            other = number(self.product())
+            found = number(found) + (other if sign == "+" else -other)
+        return found
+
+    def product(self) -> Value | int:
+        found = self.factor()
+        while self._tokens and self._tokens[-1] == "*":
+            self._next()
+            found = number(found) * number(self.factor())
+        return found
+
+    def factor(self) -> Value | int:
+        word = self._next()
+        if word == "(":
+            found = self.sum()
+            if self._next() != ")":
+                raise NoValue("a parenthesis is not closed")
+            return found
+        if word == "-":
+            return -number(self.factor())
+        if word == "*":
+            at = number(self.factor()) % 2**32
+            data = self._scope.memory(at, 4)
+            if len(data) < 4:
+                raise NoValue(f"there is no memory at {at:#x}")
+            return Value(ValueType.I32, int.from_bytes(data, "little", signed=True))
+        if word[0].isdigit():
+            return int(word, 0) if word.startswith("0x") else int(word)
+        return self._named(word)
+
+    def _named(self, word: str) -> Value | int:
+        if word == "turn":
+            return self._scope.turn
+        frame = self._scope.frame
+        if frame is None:
+            raise NoValue("the task has ended, and has no frame")
+        if word in ("local", "operand"):
+            index = self._next()
+            if not index.isdigit():
+                raise NoValue(f"{index} is no number of a {word}")
+            return picked(frame.locals if word == "local" else frame.operands, word, int(index))
+        for index, value in enumerate(frame.locals):
+            if self._scope.names.local(frame.func, index) == word.removeprefix("$"):
+                return value
+        raise NoValue(f"there is no local named {word} in this frame")
+
+
+def picked(values: tuple[Value, ...], word: str, index: int) -> Value:
+    """The local or the operand with a number."""
+    if index >= len(values):
+        raise NoValue(f"there is no {word} {index}; this frame has {len(values)}")
+    return values[index]
+
+
+def number(found: Value | int) -> int:
+    """The number of a value."""
+    return found.number if isinstance(found, Value) else found

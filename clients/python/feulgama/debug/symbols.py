@@ -1,0 +1,80 @@
+"""What places of a module are called, and which places a user's words name."""
+from __future__ import annotations
+
+import re
+from pathlib import Path
+
+from feulgama.debug.dwarf import lines_of
+from feulgama.debug.lines import Sources, SourceLine
+from feulgama.debug.look import Place
+from feulgama.errors import FeulgamaError
+from feulgama.wasm.body import Instruction
+from feulgama.wasm.module import Module
+from feulgama.wasm.names import names_of
+
+
+class NoPlace(FeulgamaError):
+    """Words that name no place."""
+
+
+class Symbols:
+    """The names and the lines of a module. `folders` are where its source files may be."""
+
+    def __init__(self, module: Module, folders: list[Path]) -> None:
+        self.module = module
+        self.names = names_of(module)
+        self.lines = lines_of(module)
+        self.sources = Sources(folders)
+
+    def instruction(self, place: Place) -> Instruction:
+        """The instruction at a place. Raises NoPlace if there is none."""
+        found = self.module.instruction(*place)
+        if found is None:
+            raise NoPlace(f"there is no instruction {place}")
+        return found
+
+    def line_at(self, place: Place) -> SourceLine | None:
+        """The line of a place; None if it has none."""
+        return self.lines.at(place) if self.lines is not None else None
+
+    def told(self, place: Place) -> str:
+        """A place with the name of its function and its line: `1:3 <main> main.c:12`."""
+        source = self.line_at(place)
+        return f"{place} <{self.names.function(place.func)}>{f' {source}' if source is not None else ''}"
+
+    def places(self, words: str) -> tuple[list[Place], str]:
+        """The places that `FUNC`, `FUNC:PLACE` or `FILE:LINE` names, FUNC a name or an index; and a remark, if the
+        line is another than the one asked for. Raises NoPlace if there are none."""
+        head, colon, tail = words.rpartition(":")
+        if colon and tail.isdigit():
+            files = self.lines.files_named(head) if self.lines is not None else []
+            if files:
+                return self._at_line(files, int(tail))
+            return [self._checked(Place(func, int(tail))) for func in self.functions(head)], ""
+        return [self._checked(Place(func, 0)) for func in self.functions(words)], ""
+
+    def functions(self, word: str) -> list[int]:
+        """The functions of a name or an index. Raises NoPlace if there are none."""
+        if re.fullmatch(r"\d+", word):
+            return [int(word)]
+        found = self.names.named(word.removeprefix("$"))
+        if not found:
+            raise NoPlace(f"there is no function and no source file named {word}")
+        return found
+
+    def _at_line(self, files: list[str], line: int) -> tuple[list[Place], str]:
+        assert self.lines is not None
+        found: list[Place] = []
+        told = line
+        for file in files:
+            told, places = self.lines.breakable(file, line)
+            found += places
+        if not found:
+            raise NoPlace(f"there is no statement from line {line} on in {files[0]}")
+        return found, "" if told == line else f"line {line} has no statement; the next one is at line {told}"
+
+    def _checked(self, place: Place) -> Place:
+        if place.func < len(self.module.imports):
+            raise NoPlace(f"function {place.func} is an import, and has no instructions")
+        self.instruction(place)
+        return place

@@ -1,0 +1,115 @@
+"""The terminal of the debugger: reads lines, from a user or from a script, and shows what they are answered."""
+from __future__ import annotations
+
+import signal
+import sys
+from collections.abc import Callable, Iterator
+from pathlib import Path
+from types import FrameType
+from typing import TextIO
+
+from feulgama.debug.commands import COMMANDS, Commands, Quit
+from feulgama.errors import FeulgamaError, NoShim, ShimEnded
+
+PROMPT = "(feulgama) "
+HISTORY = Path("~/.feulgama_history").expanduser()
+TAKES_PLACE = {"break", "b", "until", "u", "list", "l", "disassemble", "dis"}
+
+
+def words_for(commands: Commands, before: str) -> list[str]:
+    """The words that may come at the end of a line that is being written."""
+    head, space, _ = before.partition(" ")
+    if not space:
+        return [command.name for command in COMMANDS]
+    if head in TAKES_PLACE:
+        lines = commands.symbols.lines
+        files = [file.rpartition("/")[2] + ":" for file in lines.files] if lines is not None else []
+        return [*commands.symbols.names.functions.values(), *files]
+    if head in ("info", "i"):
+        return ["breakpoints", "locals", "stack", "memory", "output", "functions"]
+    return ["local", "operand", "turn"] if head in ("print", "p", "x") else []
+
+
+def asked(commands: Commands) -> Iterator[str]:
+    """The lines of a user at a terminal, with completion and a history if prompt_toolkit is there."""
+    read = reader(commands)
+    while True:
+        try:
+            yield read()
+        except KeyboardInterrupt:
+            continue
+        except EOFError:
+            return
+
+
+def reader(commands: Commands) -> Callable[[], str]:
+    """What reads one line of a terminal."""
+    try:
+        from prompt_toolkit import PromptSession
+        from prompt_toolkit.completion import CompleteEvent, Completer, Completion
+        from prompt_toolkit.document import Document
+        from prompt_toolkit.history import FileHistory
+    except ImportError:
+        return lambda: input(PROMPT)
+
+    class Words(Completer):
+        """Completes the last word of a line."""
+
+        def get_completions(self, document: Document, complete_event: CompleteEvent) -> Iterator[Completion]:
+            before = document.text_before_cursor
+            word = before.rpartition(" ")[2]
+            for found in words_for(commands, before):
+                if found.startswith(word):
+                    yield Completion(found, start_position=-len(word))
+
+    session: PromptSession[str] = PromptSession(history=FileHistory(str(HISTORY)), completer=Words(),
+                                                complete_while_typing=False)
+    return lambda: session.prompt(PROMPT)
+
+
+def scripted(source: TextIO) -> Iterator[str]:
+    """The lines of a script, each shown as if a user had written it."""
+    for line in source:
+        print(PROMPT + line.rstrip("\n"))
+        yield line.rstrip("\n")
+
+
+def answer(commands: Commands, line: str) -> None:
+    """Does what a line asks for and shows what comes of it; what goes wrong is shown too."""
+    timeline = commands.timeline
+
+    def interrupt(_number: int, _frame: FrameType | None) -> None:
+        timeline.interrupted.set()
+
+    timeline.interrupted.clear()
+    before = signal.signal(signal.SIGINT, interrupt)
+    try:
+        for shown in commands.answer(line):
+            print(shown)
+    except (ShimEnded, NoShim):
+        raise
+    except FeulgamaError as error:
+        print(error)
+    finally:
+        signal.signal(signal.SIGINT, before)
+
+
+def debug(commands: Commands, source: TextIO) -> int:
+    """Answers the lines of a user or a script, up to its end or `quit`."""
+    is_user = source.isatty()
+    last = ""
+    for shown in commands.stopped():
+        print(shown)
+    for line in asked(commands) if is_user else scripted(source):
+        last = line.strip() or (last if is_user else "")
+        if last.startswith("#"):
+            continue
+        try:
+            answer(commands, last)
+        except Quit:
+            break
+        except ShimEnded as error:
+            print(error, file=sys.stderr)
+            return 1
+        sys.stdout.flush()
+    return 0

@@ -1,0 +1,233 @@
+"""A run of a module as a line of turns: any of them can be gone to, forward and back.
+
+A task makes the same turns each time, so the turn n of a new task is the turn n of every other. To go back, a task that
+is behind is taken, or a new one, and makes turns up to the one that was asked for.
+"""
+from __future__ import annotations
+
+import enum
+import threading
+from collections.abc import Callable
+from dataclasses import dataclass
+
+from feulgama import requests
+from feulgama.config import Config
+from feulgama.debug.look import Look, Place, look_of
+from feulgama.debug.track import STRIDE, Track
+from feulgama.model import Exit, Inspection
+from feulgama.shim import Shim
+
+MOST_BREAKS = 32
+MOST_PEEK = 256
+MOST_PARKED = 8
+MOST_REPEATS = 2048
+PATIENT_LOOKS = 64
+TRAIL = 128
+LONG_WAY = 1_000_000
+PAGE, MOST_PAGES = 65_536, 256
+LAST_TURN = 10**15
+
+
+class Why(enum.Enum):
+    """Why a search ended."""
+    FOUND = "found"
+    ENDED = "ended"
+    BEGIN = "begin"
+    LIMIT = "limit"
+    INTERRUPTED = "interrupted"
+
+
+@dataclass(frozen=True, slots=True)
+class Search:
+    """What is looked for: a turn that `accept` takes, among those at `breaks`, or among all if `each_turn` is set."""
+    accept: Callable[[Look], bool]
+    breaks: frozenset[Place] = frozenset()
+    each_turn: bool = False
+
+    def is_dense(self) -> bool:
+        """Whether each turn is looked at; also if there are more breakpoints than a task may have."""
+        return self.each_turn or len(self.breaks) > MOST_BREAKS
+
+    def takes(self, look: Look) -> bool:
+        """Whether a look is one that is looked for."""
+        return (self.each_turn or look.place in self.breaks) and self.accept(look)
+
+
+def at_any(breaks: frozenset[Place]) -> Search:
+    """The search for the next breakpoint."""
+    return Search(lambda _look: True, breaks)
+
+
+class Timeline:
+    """A run of a module. `turn` is where it is shown. `interrupted` may be set by another thread or by a signal's
+    handler; it breaks off what is going on, and the caller clears it."""
+
+    def __init__(self, shim: Shim, config: Config) -> None:
+        self._shim, self._config = shim, config
+        self._track = Track(shim, config)
+        self._parked: list[Track] = []
+        self._seen: dict[int, bytes] = {}
+        self._end: tuple[int, Exit] | None = None
+        self._note_end(self._track)
+        self.turn = self._track.turn
+        self.interrupted = threading.Event()
+
+    @property
+    def exit(self) -> Exit | None:
+        """How the task ended, if it has ended at this turn."""
+        return self._end[1] if self._end is not None and self._end[0] == self.turn else None
+
+    # What is there at this turn.
+
+    def inspection(self) -> Inspection:
+        """The frames."""
+        return requests.inspect(self._track.id).result(self._line())
+
+    def look(self) -> Look:
+        """The place that is next, and the number of frames."""
+        return look_of(self._line())
+
+    def _line(self) -> bytes:
+        if self.turn not in self._seen:
+            if len(self._seen) > 4 * TRAIL:
+                self._seen.clear()
+            self._seen[self.turn] = self._here().look().line
+        return self._seen[self.turn]
+
+    def memory(self, address: int, length: int) -> bytes:
+        """Bytes of memory from an address on; fewer where memory ends."""
+        length = max(0, min(length, self.memory_size() - address))
+        asked = [requests.peek(self._here().id, address + at, min(MOST_PEEK, length - at))
+                 for at in range(0, length, MOST_PEEK)]
+        found = b""
+        for part in self._shim.call_all(asked):
+            if isinstance(part, Exception):
+                raise part
+            found += part
+        return found
+
+    def memory_size(self) -> int:
+        """How many bytes of memory there are."""
+        id, least, most = self._here().id, 0, MOST_PAGES
+        while least < most:
+            middle = (least + most + 1) // 2
+            asked = requests.peek(id, middle * PAGE, 0)
+            if isinstance(self._shim.call_all([asked])[0], bytes):
+                least = middle
+            else:
+                most = middle - 1
+        return least * PAGE
+
+    def output(self, stream: int) -> bytes:
+        """What was written to a stream up to this turn."""
+        return self._shim.output(self._here().id, stream)
+
+    # Going to a turn.
+
+    def seek(self, turn: int) -> Why:
+        """Goes to a turn, or to the task's end if that is before it."""
+        if turn in self._seen and turn < self._track.turn:
+            self.turn = turn
+            return Why.FOUND
+        way_back = turn < self.turn and turn > LONG_WAY
+        reached = self._take(turn - TRAIL if way_back else turn, self.interrupted)
+        if way_back and reached is Why.FOUND:
+            self._leave_trail(turn)
+        if reached is not Why.INTERRUPTED or self._track.turn <= turn:
+            self.turn = self._track.turn
+        return reached
+
+    def _here(self) -> Track:
+        """The task, at this turn."""
+        while self._track.turn != self.turn:
+            self._take(self.turn, threading.Event())
+        return self._track
+
+    def _take(self, turn: int, interrupted: threading.Event) -> Why:
+        """Lets the task that is nearest behind a turn, or a new one, go on to it and be the one that is shown."""
+        behind = [track for track in (self._track, *self._parked) if track.turn <= turn]
+        track = max(behind, key=lambda found: found.turn, default=None) or Track(self._shim, self._config)
+        track.advance(turn, interrupted)
+        self._note_end(track)
+        is_reached = track.turn == turn or track.exit is not None
+        if track is not self._track:
+            self._park(self._track if is_reached else track, track)
+        if not is_reached:
+            return Why.INTERRUPTED
+        self._track = track
+        return Why.FOUND if track.turn == turn else Why.ENDED
+
+    def _note_end(self, track: Track) -> None:
+        if track.exit is not None:
+            self._end = track.turn, track.exit
+
+    def _park(self, parked: Track, other: Track) -> None:
+        """Keeps a task for later; if there are too many, the one that was kept longest is removed."""
+        self._parked = [track for track in self._parked if track not in (parked, other)] + [parked]
+        if len(self._parked) > MOST_PARKED:
+            self._parked.pop(0).drop()
+
+    def _leave_trail(self, turn: int) -> None:
+        """Goes on to a turn, and keeps what is seen on the way, since who went back may go back further."""
+        self._seen.clear()
+        first = self._track.look()
+        looks = self._track.looks(1, turn - self._track.turn, frozenset())
+        self._seen = {look.turn: look.line for look in (first, *looks)}
+
+    # Searching.
+
+    def forward(self, search: Search, limit: int | None = None) -> Why:
+        """Goes on to the next turn that is looked for, at most to the turn `limit`, or to the task's end."""
+        goal = LAST_TURN if limit is None else limit
+        if not search.breaks and not search.each_turn:
+            found = self.seek(goal)
+            return Why.LIMIT if found is Why.FOUND else found
+        track, is_dense, looked, repeats = self._here(), search.is_dense(), 0, 1
+        while track.exit is None and track.turn < goal:
+            if self.interrupted.is_set():
+                return Why.INTERRUPTED
+            count, repeats = self._pace(goal - track.turn, is_dense, repeats)
+            breaks = frozenset() if is_dense else search.breaks
+            for look in track.looks(count, repeats, breaks):
+                if search.takes(look):
+                    self._note_end(track)
+                    return self.seek(look.turn)
+            self._note_end(track)
+            self.turn = track.turn
+            looked += repeats
+            repeats = 1 if is_dense and looked < PATIENT_LOOKS else min(2 * repeats, MOST_REPEATS)
+        return Why.ENDED if track.exit is not None else Why.LIMIT
+
+    @staticmethod
+    def _pace(left: int, is_dense: bool, repeats: int) -> tuple[int, int]:
+        """How many turns are made at a time, and how many times, of those that are left."""
+        count = 1 if is_dense else min(STRIDE, left)
+        return count, min(repeats, left // count)
+
+    def backward(self, search: Search) -> Why:
+        """Goes back to the last turn before this one that is looked for, or to the first turn."""
+        end, width = self.turn, TRAIL if search.is_dense() else STRIDE
+        while end > 0:
+            begin = max(0, end - width)
+            found = self._last(search, begin, end)
+            if self.interrupted.is_set():
+                return Why.INTERRUPTED
+            if found is not None:
+                return self.seek(found)
+            end, width = begin, 64 * width
+        self.seek(0)
+        return Why.BEGIN
+
+    def _last(self, search: Search, begin: int, end: int) -> int | None:
+        """The last turn from one on and before another that is looked for."""
+        if self._take(begin, self.interrupted) is Why.INTERRUPTED:
+            return None
+        track, is_dense = self._track, search.is_dense()
+        found = begin if search.takes(track.look()) else None
+        while track.exit is None and track.turn < end and not self.interrupted.is_set():
+            count, repeats = self._pace(end - track.turn, is_dense, MOST_REPEATS)
+            for look in track.looks(count, repeats, frozenset() if is_dense else search.breaks):
+                if look.turn < end and search.takes(look):
+                    found = look.turn
+        self._note_end(track)
+        return found

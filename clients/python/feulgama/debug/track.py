@@ -1,0 +1,98 @@
+"""One task of a shim, which is moved forward by whole numbers of turns and by nothing else."""
+from __future__ import annotations
+
+import threading
+from collections.abc import Iterator
+
+from feulgama import requests
+from feulgama.config import Config
+from feulgama.debug.look import Look, Place, look_of
+from feulgama.errors import WrongStatus
+from feulgama.model import Exit, Status
+from feulgama.shim import Shim
+
+STRIDE = 1000
+BATCH = 4096
+
+
+class Track:
+    """A task that is paused after `turn` turns, or has ended after them by `exit`. It makes no turn that it is not
+    asked for, also in a shim that runs tasks once they are started: a breakpoint at its first instruction holds it."""
+
+    def __init__(self, shim: Shim, config: Config) -> None:
+        self._shim = shim
+        self.id = shim.create(config).id
+        self.turn = 0
+        self.exit: Exit | None = None
+        self._breaks: frozenset[Place] = frozenset()
+        frames = shim.inspect(self.id).frames
+        if frames and frames[0].next is not None:
+            self.set_breaks(frozenset({Place(frames[0].func, frames[0].next)}))
+        shim.start(self.id)
+        if frames:
+            self.set_breaks(frozenset())
+        else:
+            self._read_state()
+
+    def _read_state(self) -> None:
+        state = self._shim.state(self.id)
+        self.turn = state.turns
+        self.exit = state.exit
+
+    def drop(self) -> None:
+        """Ends the task and removes it."""
+        if self.exit is None:
+            self._shim.kill(self.id)
+        self._shim.delete(self.id)
+
+    def set_breaks(self, wanted: frozenset[Place]) -> None:
+        """Lets the task have these breakpoints and no others."""
+        if self.exit is not None:
+            return
+        for place in self._breaks - wanted:
+            self._shim.unbreak(self.id, *place)
+        for place in wanted - self._breaks:
+            self._shim.break_(self.id, *place)
+        self._breaks = wanted
+
+    def advance(self, turn: int, interrupted: threading.Event) -> None:
+        """Goes on to a turn that is not before its own, or to its end. Stops early, at a turn that it has then, if
+        it is interrupted."""
+        self.set_breaks(frozenset())
+        while self.exit is None and self.turn < turn and not interrupted.is_set():
+            full, rest = divmod(turn - self.turn, STRIDE)
+            steps = min(full, BATCH)
+            lines = requests.step(self.id, STRIDE).line * steps
+            if steps == full and rest:
+                lines += requests.step(self.id, rest).line
+                steps += 1
+            asked = requests.state(self.id)
+            replies = self._shim.raw(lines + asked.line, steps + 1)
+            state = asked.result(replies[replies.rindex(b"\n", 0, -1) + 1:-1])
+            self.turn, self.exit = state.turns, state.exit
+
+    def look(self) -> Look:
+        """Where the task is."""
+        return look_of(self._shim.raw(requests.inspect(self.id).line, 1)[:-1])
+
+    def looks(self, count: int, repeats: int, breaks: frozenset[Place]) -> Iterator[Look]:
+        """Makes this many turns, this many times, each time up to a breakpoint or the task's end; where it is after
+        each time, but not of its end."""
+        self.set_breaks(breaks)
+        step, inspect = requests.step(self.id, count), requests.inspect(self.id)
+        lines = self._shim.raw((step.line + inspect.line) * repeats, 2 * repeats).split(b"\n")
+        self.turn = look_of(lines[-2]).turn
+        for at in range(0, 2 * repeats, 2):
+            if b'"status":"paused"' not in lines[at]:
+                self._note_end(step, lines[at])
+                break
+        return (look_of(line) for line in lines[1:at + 1 if self.exit else 2 * repeats:2])
+
+    def _note_end(self, step: requests.Request[requests.State], line: bytes) -> None:
+        try:
+            state = step.result(line)
+        except WrongStatus:
+            self._read_state()
+            return
+        if state.status is Status.STOPPED:
+            self.turn, self.exit = state.turns, state.exit
