@@ -3,33 +3,15 @@ from __future__ import annotations
 
 import argparse
 import sys
-from collections.abc import Mapping, Sequence
+from collections.abc import Sequence
 from pathlib import Path
 
-from feulgama.config import Config
+from feulgama.dap.adapter import serve
 from feulgama.debug.commands import Commands
-from feulgama.debug.debugger import Debugger
-from feulgama.debug.symbols import Symbols
 from feulgama.debug.terminal import debug
-from feulgama.debug.timeline import Timeline
 from feulgama.errors import FeulgamaError
-from feulgama.program import assemble, program
+from feulgama.opening import module_bytes, open_debugger
 from feulgama.shim import Shim
-from feulgama.wasm.module import decode
-
-
-def module_bytes(path: Path, shim_file: str | None) -> bytes:
-    """The bytes of a module's file, in the binary or the text format."""
-    data = path.read_bytes()
-    return data if data[:1] == b"\0" else assemble(data, program(shim_file))
-
-
-def open_debugger(shim: Shim, path: Path, data: bytes, args: Sequence[str], env: Mapping[str, str],
-                  memory_limit: int | None) -> Debugger:
-    """A debugger over a run of a module, before its first turn. Its arguments are the module's path and these."""
-    digest = shim.ensure(data)
-    timeline = Timeline(shim, Config(digest, (str(path), *args), env, memory_limit))
-    return Debugger(timeline, Symbols(decode(data), [path.parent, Path.cwd()]))
 
 
 def variable(text: str) -> tuple[str, str]:
@@ -61,7 +43,6 @@ def main(words: Sequence[str] | None = None) -> int:
     found = parser().parse_args(words)
     try:
         if found.command == "dap":
-            from feulgama.dap.adapter import serve
             return serve(found.shim)
         data = module_bytes(found.module, found.shim)
         with Shim(found.shim) as shim:

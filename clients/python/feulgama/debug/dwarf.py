@@ -66,7 +66,7 @@ def rows_of(module: Module) -> Iterator[Row]:
 
 
 def text(attribute: Any) -> str:
-    return attribute.value.decode(errors="replace") if attribute is not None else ""
+    return str(attribute.value, errors="replace") if attribute is not None else ""
 
 
 def files_of(program: Any, folder: str, version: int) -> list[str]:
@@ -106,4 +106,4 @@ def rows_of_sequence(module: Module, states: list[Any], files: list[str]) -> Ite
         elif is_last_at_address:
             known = state.line > 0 and state.file < len(files)
             source = SourceLine(files[state.file], state.line) if known else None
-            yield Row(state.address, source, state.is_stmt)
+            yield Row(state.address, source, bool(state.is_stmt))

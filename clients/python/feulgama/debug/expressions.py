@@ -107,10 +107,10 @@ class Expression:
         if frame is None:
             raise NoValue("the task has ended, and has no frame")
         if word in ("local", "operand"):
-            index = self._next()
-            if not index.isdigit():
-                raise NoValue(f"{index} is no number of a {word}")
-            return picked(frame.locals if word == "local" else frame.operands, word, int(index))
+            which = self._next()
+            if not which.isdigit():
+                raise NoValue(f"{which} is no number of a {word}")
+            return picked(frame.locals if word == "local" else frame.operands, word, int(which))
         for index, value in enumerate(frame.locals):
             if self._scope.names.local(frame.func, index) == word.removeprefix("$"):
                 return value

@@ -96,7 +96,7 @@ class Sources:
     def path(self, file: str) -> Path | None:
         """Where a file is; None if it is not there."""
         told = Path(file)
-        beside = [folder / part for folder in self._folders for part in (told, told.name)]
+        beside = [folder / part for folder in self._folders for part in (told, Path(told.name))]
         return next((path for path in (*beside, told) if path.is_file()), None)
 
     def lines(self, file: str) -> list[str] | None:

@@ -8,7 +8,7 @@ from feulgama import requests
 from feulgama.config import Config
 from feulgama.debug.look import Look, Place, look_of
 from feulgama.errors import WrongStatus
-from feulgama.model import Exit, Status
+from feulgama.model import Exit, State, Status
 from feulgama.shim import Shim
 
 STRIDE = 1000
@@ -88,7 +88,7 @@ class Track:
                 break
         return (look_of(line) for line in lines[1:at + 1 if self.exit else 2 * repeats:2])
 
-    def _note_end(self, step: requests.Request[requests.State], line: bytes) -> None:
+    def _note_end(self, step: requests.Request[State], line: bytes) -> None:
         try:
             state = step.result(line)
         except WrongStatus:

@@ -1,0 +1,45 @@
+"""The adapter: reads an editor's messages on standard input, and answers on standard output."""
+from __future__ import annotations
+
+import contextlib
+import queue
+import sys
+import threading
+from pathlib import Path
+from typing import BinaryIO
+
+from feulgama.dap.session import Session, opener_of
+from feulgama.dap.wire import BadMessage, Message, Writer, read_message
+from feulgama.debug.debugger import Debugger
+from feulgama.opening import module_bytes, open_debugger
+from feulgama.shim import Shim
+
+BREAKS_OFF = ("pause", "disconnect", "terminate")
+
+
+def read_all(stream: BinaryIO, session: Session, found: queue.SimpleQueue[Message | None]) -> None:
+    """Hands each message on; one that has to break off what is running does so at once."""
+    with contextlib.suppress(BadMessage):
+        while (message := read_message(stream)) is not None:
+            found.put(message)
+            if message.get("command") in BREAKS_OFF:
+                session.interrupt()
+    session.interrupt()
+    found.put(None)
+
+
+def serve(shim_file: str | None) -> int:
+    """Answers one editor to the end of its session."""
+    with contextlib.ExitStack() as shims:
+        def open_file(path: Path, args: list[str], env: dict[str, str], memory: int | None) -> Debugger:
+            data = module_bytes(path, shim_file)
+            return open_debugger(shims.enter_context(Shim(shim_file)), path, data, args, env, memory)
+
+        writer = Writer(sys.stdout.buffer)
+        session = Session(writer, opener_of(open_file))
+        messages: queue.SimpleQueue[Message | None] = queue.SimpleQueue()
+        threading.Thread(target=read_all, args=(sys.stdin.buffer, session, messages), daemon=True).start()
+        while not session.is_over and (message := messages.get()) is not None:
+            if message.get("type") == "request":
+                session.answer(message)
+    return 0

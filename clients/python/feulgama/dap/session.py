@@ -1,0 +1,307 @@
+"""A session of an editor: what each request of the Debug Adapter Protocol does."""
+from __future__ import annotations
+
+from collections.abc import Callable
+from functools import partial
+from pathlib import Path
+
+from feulgama.dap.views import Body, Views
+from feulgama.dap.wire import Message, Writer
+from feulgama.debug.commands import BadCommand, Commands, Quit
+from feulgama.debug.debugger import Breakpoint, Debugger
+from feulgama.debug.expressions import NoValue, evaluate
+from feulgama.debug.look import Place
+from feulgama.debug.symbols import NoPlace
+from feulgama.debug.timeline import Why
+from feulgama.errors import FeulgamaError
+from feulgama.model import Stream, Value
+
+THREAD = 1
+CAPABILITIES = {
+    "supportsConfigurationDoneRequest": True, "supportsFunctionBreakpoints": True, "supportsStepBack": True,
+    "supportsEvaluateForHovers": True, "supportsReadMemoryRequest": True, "supportsDisassembleRequest": True,
+    "supportsInstructionBreakpoints": True, "supportsSteppingGranularity": True, "supportsRestartRequest": True,
+    "supportsTerminateRequest": True,
+}
+
+
+class NoSession(FeulgamaError):
+    """A request that needs a module, before one was launched."""
+
+
+class Session:
+    """A run under an editor's hand. `opener` makes a debugger of the arguments of `launch`."""
+
+    def __init__(self, writer: Writer, opener: Callable[[Body], Debugger]) -> None:
+        self._writer, self._opener = writer, opener
+        self._debugger: Debugger | None = None
+        self._views: Views | None = None
+        self._commands: Commands | None = None
+        self._launch: Body = {}
+        self._owned: dict[str, list[Breakpoint]] = {}
+        self._written = dict.fromkeys(Stream, 0)
+        self.is_over = False
+
+    @property
+    def debugger(self) -> Debugger:
+        """The debugger. Raises NoSession before a launch."""
+        if self._debugger is None:
+            raise NoSession("no module is launched")
+        return self._debugger
+
+    @property
+    def views(self) -> Views:
+        """What is shown of the debugger's run."""
+        if self._views is None:
+            raise NoSession("no module is launched")
+        return self._views
+
+    def interrupt(self) -> None:
+        """Breaks off what is running. Another thread may call this."""
+        if self._debugger is not None:
+            self._debugger.timeline.interrupted.set()
+
+    def answer(self, request: Message) -> None:
+        """Answers a request, with the events that it brings. Raises what the shim's end brings."""
+        method = REQUESTS.get(str(request.get("command")))
+        if method is None:
+            self._writer.refuse(request, f"there is no request {request.get('command')}")
+            return
+        try:
+            method(self, request, request.get("arguments") or {})
+        except (FeulgamaError, OSError) as error:
+            self._writer.refuse(request, str(error))
+
+    # The begin and the end.
+
+    def initialize(self, request: Message, _given: Body) -> None:
+        self._writer.respond(request, CAPABILITIES)
+
+    def launch(self, request: Message, given: Body) -> None:
+        self._debugger = self._opener(given)
+        self._views, self._commands, self._launch = Views(self._debugger), Commands(self._debugger), given
+        self._writer.respond(request)
+        self._writer.event("initialized")
+
+    def configuration_done(self, request: Message, _given: Body) -> None:
+        self._writer.respond(request)
+        if self._launch.get("stopOnEntry") or self.debugger.hit():
+            self._stopped("entry", None)
+        else:
+            self._moved("breakpoint", self.debugger.go_on())
+
+    def restart(self, request: Message, _given: Body) -> None:
+        self.debugger.timeline.seek(0)
+        self.configuration_done(request, {})
+
+    def disconnect(self, request: Message, _given: Body) -> None:
+        self.is_over = True
+        self._writer.respond(request)
+
+    def terminate(self, request: Message, _given: Body) -> None:
+        self._writer.respond(request)
+        self._writer.event("terminated")
+
+    # Breakpoints.
+
+    def set_breakpoints(self, request: Message, given: Body) -> None:
+        source = given.get("source") or {}
+        key = f"{source.get('sourceReference') or ''} {source.get('path', source.get('name', ''))}"
+        self._replace(key)
+        shown = [self._at_line(key, source, found["line"]) for found in given.get("breakpoints") or []]
+        self._writer.respond(request, {"breakpoints": shown})
+
+    def _at_line(self, key: str, source: Body, line: int) -> Body:
+        places, told = self.views.places_in(source, line)
+        if not places:
+            return {"verified": False, "line": line, "message": f"line {line} has no instruction"}
+        added = self.debugger.add_breakpoint(f"{key}:{line}", places)
+        self._owned[key].append(added)
+        return {"id": added.number, "verified": True, "line": told, "source": source}
+
+    def set_function_breakpoints(self, request: Message, given: Body) -> None:
+        self._replace("functions")
+        shown = [self._named("functions", partial(self._places_named, found["name"]))
+                 for found in given.get("breakpoints") or []]
+        self._writer.respond(request, {"breakpoints": shown})
+
+    def set_instruction_breakpoints(self, request: Message, given: Body) -> None:
+        self._replace("instructions")
+        shown = [self._named("instructions", partial(self._places_at, found))
+                 for found in given.get("breakpoints") or []]
+        self._writer.respond(request, {"breakpoints": shown})
+
+    def _places_named(self, name: str) -> list[Place]:
+        return self.debugger.symbols.places(name)[0]
+
+    def _places_at(self, found: Body) -> list[Place]:
+        return [self.views.place_at(found["instructionReference"], found.get("offset", 0))]
+
+    def _named(self, key: str, places_of: Callable[[], list[Place]]) -> Body:
+        try:
+            places = places_of()
+        except (NoPlace, NoValue) as error:
+            return {"verified": False, "message": str(error)}
+        added = self.debugger.add_breakpoint(key, places)
+        self._owned[key].append(added)
+        source, line = self.views.source_of(places[0])
+        return {"id": added.number, "verified": True, "source": source, "line": line}
+
+    def _replace(self, key: str) -> None:
+        """Takes away what was set under a key before."""
+        for old in self._owned.pop(key, []):
+            self.debugger.breakpoints.pop(old.number, None)
+        self._owned[key] = []
+
+    def set_exception_breakpoints(self, request: Message, _given: Body) -> None:
+        self._writer.respond(request, {"breakpoints": []})
+
+    # Moving.
+
+    def continue_(self, request: Message, _given: Body) -> None:
+        self._writer.respond(request, {"allThreadsContinued": True})
+        self._moved("breakpoint", self.debugger.go_on())
+
+    def next(self, request: Message, given: Body) -> None:
+        self._step(request, given, self.debugger.next, partial(self.debugger.step_line, True))
+
+    def step_in(self, request: Message, given: Body) -> None:
+        self._step(request, given, self.debugger.step, partial(self.debugger.step_line, False))
+
+    def step_out(self, request: Message, given: Body) -> None:
+        self._step(request, given, self.debugger.finish, self.debugger.finish)
+
+    def step_back(self, request: Message, given: Body) -> None:
+        self._step(request, given, self.debugger.step_back, self.debugger.step_line_back)
+
+    def reverse_continue(self, request: Message, _given: Body) -> None:
+        self._writer.respond(request)
+        self._moved("breakpoint", self.debugger.go_back())
+
+    def _step(self, request: Message, given: Body, by_turn: Callable[[], Why], by_line: Callable[[], Why]) -> None:
+        self._writer.respond(request)
+        self._moved("step", by_turn() if given.get("granularity") == "instruction" else by_line())
+
+    def pause(self, request: Message, _given: Body) -> None:
+        """Answers a pause. What was running was broken off when the message was read."""
+        self.debugger.timeline.interrupted.clear()
+        self._writer.respond(request)
+
+    def _moved(self, reason: str, why: Why) -> None:
+        """Tells what came of a move: what the task wrote, and where it stopped or how it ended."""
+        self._new_output()
+        if self.debugger.timeline.exit is not None and not self._launch.get("stopAtEnd"):
+            self._ended()
+        elif self.debugger.timeline.exit is not None:
+            self._console(self._end_line())
+            self._stopped("pause", "the task has ended")
+        else:
+            hit = self.debugger.hit()
+            told = {Why.INTERRUPTED: "pause", Why.BEGIN: "entry"}.get(why, "breakpoint" if hit else reason)
+            self._stopped(told, None)
+
+    def _new_output(self) -> None:
+        for stream in Stream:
+            written = self.debugger.timeline.output(stream)
+            new = written[self._written[stream]:]
+            self._written[stream] = max(len(written), self._written[stream])
+            if new:
+                self._writer.event("output", {"category": stream.name.lower(),
+                                              "output": new.decode(errors="replace")})
+
+    def _stopped(self, reason: str, description: str | None) -> None:
+        body: Body = {"reason": reason, "threadId": THREAD, "allThreadsStopped": True,
+                      "hitBreakpointIds": [found.number for found in self.debugger.hit()]}
+        if description is not None:
+            body["description"] = description
+        self._writer.event("stopped", body)
+
+    def _ended(self) -> None:
+        found = self.debugger.timeline.exit
+        assert found is not None
+        self._console(self._end_line())
+        self._writer.event("exited", {"exitCode": found.code})
+        self._writer.event("terminated")
+
+    def _end_line(self) -> str:
+        return f"ended after {self.debugger.timeline.turn} turns: {self.debugger.timeline.exit}\n"
+
+    def _console(self, text: str) -> None:
+        self._writer.event("output", {"category": "console", "output": text})
+
+    # Looking.
+
+    def threads(self, request: Message, _given: Body) -> None:
+        self._writer.respond(request, {"threads": [{"id": THREAD, "name": "task"}]})
+
+    def stack_trace(self, request: Message, given: Body) -> None:
+        self._writer.respond(request, self.views.frames(given.get("startFrame") or 0, given.get("levels") or 0))
+
+    def scopes(self, request: Message, given: Body) -> None:
+        self._writer.respond(request, self.views.scopes(given["frameId"]))
+
+    def variables(self, request: Message, given: Body) -> None:
+        self._writer.respond(request, self.views.variables(given["variablesReference"]))
+
+    def source(self, request: Message, given: Body) -> None:
+        reference = (given.get("source") or {}).get("sourceReference") or given.get("sourceReference") or 0
+        self._writer.respond(request, {"content": self.views.content(reference)})
+
+    def read_memory(self, request: Message, given: Body) -> None:
+        body = self.views.read_memory(given["memoryReference"], given.get("offset") or 0, given["count"])
+        self._writer.respond(request, body)
+
+    def disassemble(self, request: Message, given: Body) -> None:
+        body = self.views.disassemble(given["memoryReference"], given.get("offset") or 0,
+                                      given.get("instructionOffset") or 0, given["instructionCount"])
+        self._writer.respond(request, body)
+
+    def evaluate(self, request: Message, given: Body) -> None:
+        """The value of an expression; in the console also what a command of the terminal shows."""
+        text = given["expression"]
+        try:
+            found = evaluate(text, self.views.scope(given.get("frameId")))
+        except NoValue:
+            if given.get("context") != "repl":
+                raise
+            self._command(request, text)
+            return
+        body: Body = {"result": str(found), "variablesReference": 0}
+        if isinstance(found, Value):
+            body |= {"type": found.type.value, "memoryReference": hex(found.number % 2**32)}
+        self._writer.respond(request, body)
+
+    def _command(self, request: Message, text: str) -> None:
+        assert self._commands is not None
+        turn = self.debugger.timeline.turn
+        try:
+            lines = list(self._commands.answer(text))
+        except Quit:
+            raise BadCommand("end the session in the editor") from None
+        self._writer.respond(request, {"result": "\n".join(lines), "variablesReference": 0})
+        if self.debugger.timeline.turn != turn:
+            self._moved("goto", Why.FOUND)
+
+
+def opener_of(open_file: Callable[[Path, list[str], dict[str, str], int | None], Debugger]) -> Callable[[Body], Debugger]:
+    """What makes a debugger of the arguments of `launch`: program, args, env and memory."""
+    def opened(given: Body) -> Debugger:
+        if not isinstance(given.get("program"), str):
+            raise NoSession("launch needs `program`, the file of a module")
+        return open_file(Path(given["program"]), list(given.get("args") or []), dict(given.get("env") or {}),
+                         given.get("memory"))
+    return opened
+
+
+REQUESTS: dict[str, Callable[[Session, Message, Body], None]] = {
+    "initialize": Session.initialize, "launch": Session.launch, "configurationDone": Session.configuration_done,
+    "restart": Session.restart, "disconnect": Session.disconnect, "terminate": Session.terminate,
+    "setBreakpoints": Session.set_breakpoints, "setFunctionBreakpoints": Session.set_function_breakpoints,
+    "setInstructionBreakpoints": Session.set_instruction_breakpoints,
+    "setExceptionBreakpoints": Session.set_exception_breakpoints, "continue": Session.continue_, "next": Session.next,
+    "stepIn": Session.step_in, "stepOut": Session.step_out, "stepBack": Session.step_back,
+    "reverseContinue": Session.reverse_continue, "pause": Session.pause, "threads": Session.threads,
+    "stackTrace": Session.stack_trace, "scopes": Session.scopes, "variables": Session.variables,
+    "source": Session.source, "readMemory": Session.read_memory, "disassemble": Session.disassemble,
+    "evaluate": Session.evaluate,
+}

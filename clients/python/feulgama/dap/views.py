@@ -1,0 +1,177 @@
+"""What an editor is shown of a run: sources, frames, variables, memory and instructions."""
+from __future__ import annotations
+
+import base64
+import bisect
+from pathlib import Path
+from typing import Any
+
+from feulgama.debug.debugger import Debugger
+from feulgama.debug.expressions import NoValue, Scope, address
+from feulgama.debug.look import Place
+from feulgama.model import Frame, Stream, Value
+from feulgama.wasm.module import Function
+
+Body = dict[str, Any]
+FIRST_SOURCE = 1000
+LOCALS, OPERANDS, MEMORY = 1, 2, 3
+KINDS = 4
+
+
+class Views:
+    """Reads a debugger for an editor. Frames have their number from the innermost as id. The reference of a scope is
+    KINDS times the frame's number and one of the kinds. A function's instructions are a source of their own, with one
+    line for each place; the address of an instruction is its offset in the code section."""
+
+    def __init__(self, debugger: Debugger) -> None:
+        self._debugger = debugger
+        self._symbols, self._timeline = debugger.symbols, debugger.timeline
+        module = self._symbols.module
+        self._code = [(instruction.offset, Place(function.index, instruction.place))
+                      for function in module.functions for instruction in function.instructions]
+
+    # Sources.
+
+    def source_of(self, place: Place) -> tuple[Body, int]:
+        """The source of a place and the line there: a file's, if it is there, or the function's instructions."""
+        line = self._symbols.line_at(place)
+        path = self._symbols.sources.path(line.file) if line is not None else None
+        if line is not None and path is not None:
+            return {"name": path.name, "path": str(path.resolve())}, line.line
+        name = f"{place.func} {self._symbols.names.function(place.func)}.wat"
+        return {"name": name, "sourceReference": FIRST_SOURCE + place.func, "path": name}, place.place + 1
+
+    def content(self, reference: int) -> str:
+        """The text of a function's instructions. Raises NoValue if there is no such function."""
+        function = self._function(reference)
+        return "\n".join("  " * found.depth + found.text for found in function.instructions) + "\n"
+
+    def _function(self, reference: int) -> Function:
+        function = self._symbols.module.function(reference - FIRST_SOURCE)
+        if function is None:
+            raise NoValue(f"there is no source {reference}")
+        return function
+
+    def places_in(self, source: Body, line: int) -> tuple[list[Place], int]:
+        """The places of a line in a source, and the line that they are of. No places if it has none."""
+        reference = source.get("sourceReference") or self._reference_named(str(source.get("path", "")))
+        if reference:
+            function = self._function(reference)
+            found = 0 < line <= len(function.instructions)
+            return ([Place(function.index, line - 1)] if found else []), line
+        file = self._file_named(Path(source.get("path", "")))
+        if file is None or self._symbols.lines is None:
+            return [], line
+        told, places = self._symbols.lines.breakable(file, line)
+        return places, told
+
+    def _reference_named(self, path: str) -> int:
+        """The reference of a function's instructions, by the path that `source_of` tells; 0 of any other path."""
+        index, _, rest = path.rpartition("/")[2].partition(" ")
+        return FIRST_SOURCE + int(index) if index.isdigit() and rest.endswith(".wat") else 0
+
+    def _file_named(self, path: Path) -> str | None:
+        """The file of the line table that a path is; by its name alone if none of them is there."""
+        files = self._symbols.lines.files if self._symbols.lines is not None else []
+        for file in files:
+            found = self._symbols.sources.path(file)
+            if found is not None and path.exists() and found.samefile(path):
+                return file
+        return next((file for file in files if Path(file).name == path.name), None)
+
+    # Frames and variables.
+
+    def frames(self, first: int, count: int) -> Body:
+        """The frames from one on; all of them for a count of 0."""
+        frames = self._debugger.frames()
+        shown = list(enumerate(frames))[first:first + count if count else None]
+        return {"stackFrames": [self._frame(number, frame) for number, frame in shown], "totalFrames": len(frames)}
+
+    def _frame(self, number: int, frame: Frame) -> Body:
+        place = self._debugger.place_of(frame, number == 0)
+        source, line = self.source_of(place)
+        function = self._symbols.names.function(frame.func)
+        return {"id": number, "name": f"{function} ({place})", "source": source, "line": line, "column": 1,
+                "instructionPointerReference": hex(self._symbols.instruction(place).offset)}
+
+    def scopes(self, number: int) -> Body:
+        """The scopes of a frame."""
+        return {"scopes": [{"name": name, "variablesReference": KINDS * number + kind, "expensive": False,
+                            "presentationHint": hint}
+                           for name, kind, hint in (("Locals", LOCALS, "locals"), ("Operands", OPERANDS, "registers"),
+                                                    ("Task", MEMORY, "task"))]}
+
+    def variables(self, reference: int) -> Body:
+        """The variables of a scope."""
+        number, kind = divmod(reference, KINDS)
+        if kind == MEMORY:
+            return {"variables": self._task_variables()}
+        frame = self.frame(number)
+        values = frame.locals if kind == LOCALS else frame.operands
+        word = "local" if kind == LOCALS else "operand"
+        return {"variables": [self._variable(frame, word, index, value) for index, value in enumerate(values)]}
+
+    def frame(self, number: int) -> Frame:
+        """The frame with a number. Raises NoValue if there is none."""
+        frames = self._debugger.frames()
+        if not 0 <= number < len(frames):
+            raise NoValue(f"there is no frame {number}")
+        return frames[number]
+
+    def _variable(self, frame: Frame, word: str, index: int, value: Value) -> Body:
+        name = self._symbols.names.local(frame.func, index) if word == "local" else None
+        shown: Body = {"name": name or f"{word} {index}", "value": str(value.number), "type": value.type.value,
+                       "evaluateName": f"{word} {index}", "variablesReference": 0}
+        if value.type == "i32":
+            shown["memoryReference"] = hex(value.number % 2**32)
+        return shown
+
+    def _task_variables(self) -> list[Body]:
+        size = self._timeline.memory_size()
+        shown = [("turn", str(self._timeline.turn)), ("memory", f"{size} bytes")]
+        shown += [(stream.name.lower(), f"{len(self._timeline.output(stream))} bytes") for stream in Stream]
+        found: list[Body] = [{"name": name, "value": value, "variablesReference": 0} for name, value in shown]
+        found[1]["memoryReference"] = "0x0"
+        return found
+
+    def scope(self, number: int | None) -> Scope:
+        """What an expression may name in a frame, the innermost if none is told."""
+        frames = self._debugger.frames()
+        frame = frames[number or 0] if (number or 0) < len(frames) else None
+        return Scope(frame, self._symbols.names, self._timeline.turn, self._timeline.memory)
+
+    # Memory and instructions.
+
+    def read_memory(self, reference: str, offset: int, count: int) -> Body:
+        """Bytes of memory; those that there are not are told as unreadable."""
+        at = address(reference, self.scope(None)) + offset
+        if at < 0:
+            raise NoValue("there is no memory before address 0")
+        data = self._timeline.memory(at, count)
+        return {"address": hex(at), "data": base64.b64encode(data).decode("ascii"),
+                "unreadableBytes": count - len(data)}
+
+    def disassemble(self, reference: str, offset: int, instruction_offset: int, count: int) -> Body:
+        """Instructions from an address on; where there are none a line says so."""
+        at = bisect.bisect_right(self._code, int(reference, 0) + offset, key=lambda found: found[0]) - 1
+        first = at + instruction_offset
+        return {"instructions": [self._disassembled(index) for index in range(first, first + count)]}
+
+    def _disassembled(self, index: int) -> Body:
+        if not 0 <= index < len(self._code):
+            beyond = index if index < 0 else self._code[-1][0] + 1 + index - len(self._code) if self._code else 0
+            return {"address": hex(max(beyond, 0)), "instruction": "(none)", "presentationHint": "invalid"}
+        offset, place = self._code[index]
+        source, line = self.source_of(place)
+        instruction = self._symbols.instruction(place)
+        data = self._symbols.module.data[self._symbols.module.code_at + offset:][:instruction.size]
+        return {"address": hex(offset), "instructionBytes": data.hex(" "), "symbol": str(place),
+                "instruction": "  " * instruction.depth + instruction.text, "location": source, "line": line}
+
+    def place_at(self, reference: str, offset: int) -> Place:
+        """The instruction at an address. Raises NoValue if none begins there."""
+        wanted = int(reference, 0) + offset
+        at = bisect.bisect_left(self._code, wanted, key=lambda found: found[0])
+        if at == len(self._code) or self._code[at][0] != wanted:
+            raise NoValue(f"no instruction begins at {wanted:#x}")
+        return self._code[at][1]

@@ -1,0 +1,70 @@
+"""Messages of the Debug Adapter Protocol on two streams: a head with their length, and JSON."""
+from __future__ import annotations
+
+import json
+import threading
+from collections.abc import Mapping
+from typing import Any, BinaryIO
+
+from feulgama.errors import FeulgamaError
+
+Message = dict[str, Any]
+
+
+class BadMessage(FeulgamaError):
+    """Bytes that are no message of the protocol."""
+
+
+def read_message(stream: BinaryIO) -> Message | None:
+    """The next message; None at the end of the stream."""
+    length: int | None = None
+    while True:
+        line = stream.readline()
+        if not line:
+            return None
+        if line in (b"\r\n", b"\n"):
+            break
+        name, _, value = line.partition(b":")
+        if name.strip().lower() == b"content-length" and value.strip().isdigit():
+            length = int(value)
+    if length is None:
+        raise BadMessage("a message has no length")
+    data = stream.read(length)
+    if len(data) < length:
+        return None
+    try:
+        found = json.loads(data)
+    except ValueError as error:
+        raise BadMessage("a message is no JSON") from error
+    if not isinstance(found, dict):
+        raise BadMessage("a message is no object")
+    return found
+
+
+class Writer:
+    """Writes responses and events, each with its number. Several threads may use it."""
+
+    def __init__(self, stream: BinaryIO) -> None:
+        self._stream, self._lock, self._count = stream, threading.Lock(), 0
+
+    def _write(self, message: Message) -> None:
+        with self._lock:
+            self._count += 1
+            data = json.dumps({"seq": self._count, **message}).encode()
+            self._stream.write(b"Content-Length: %d\r\n\r\n" % len(data) + data)
+            self._stream.flush()
+
+    def respond(self, request: Message, body: Mapping[str, Any] | None = None) -> None:
+        """Answers a request that was done."""
+        self._write({"type": "response", "request_seq": request.get("seq", 0), "success": True,
+                     "command": request.get("command", ""), "body": dict(body or {})})
+
+    def refuse(self, request: Message, why: str) -> None:
+        """Answers a request that could not be done."""
+        self._write({"type": "response", "request_seq": request.get("seq", 0), "success": False,
+                     "command": request.get("command", ""), "message": why,
+                     "body": {"error": {"id": 1, "format": "{why}", "variables": {"why": why}, "showUser": True}}})
+
+    def event(self, name: str, body: Mapping[str, Any] | None = None) -> None:
+        """Tells an event."""
+        self._write({"type": "event", "event": name, "body": dict(body or {})})
