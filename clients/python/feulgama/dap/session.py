@@ -13,7 +13,7 @@ from feulgama.debug.expressions import NoValue, evaluate
 from feulgama.debug.look import Place
 from feulgama.debug.symbols import NoPlace
 from feulgama.debug.timeline import Why
-from feulgama.errors import FeulgamaError
+from feulgama.errors import FeulgamaError, ShimEnded
 from feulgama.model import Stream, Value
 
 THREAD = 1
@@ -62,15 +62,27 @@ class Session:
             self._debugger.timeline.interrupted.set()
 
     def answer(self, request: Message) -> None:
-        """Answers a request, with the events that it brings. Raises what the shim's end brings."""
+        """Answers a request, with the events that it brings."""
         method = REQUESTS.get(str(request.get("command")))
         if method is None:
             self._writer.refuse(request, f"there is no request {request.get('command')}")
             return
         try:
             method(self, request, request.get("arguments") or {})
-        except (FeulgamaError, OSError) as error:
-            self._writer.refuse(request, str(error))
+        except ShimEnded as error:
+            self._failed(request, str(error))
+            self._writer.event("terminated")
+        except (FeulgamaError, OSError, ValueError) as error:
+            self._failed(request, str(error))
+        except KeyError as error:
+            self._failed(request, f"the argument {error} is missing")
+
+    def _failed(self, request: Message, why: str) -> None:
+        """Refuses a request; if it is answered already, what went wrong after that is told as output."""
+        if self._writer.has_answered(request):
+            self._writer.event("output", {"category": "stderr", "output": why + "\n"})
+        else:
+            self._writer.refuse(request, why)
 
     # The begin and the end.
 

@@ -46,6 +46,11 @@ class Writer:
 
     def __init__(self, stream: BinaryIO) -> None:
         self._stream, self._lock, self._count = stream, threading.Lock(), 0
+        self._answered: object = None
+
+    def has_answered(self, request: Message) -> bool:
+        """Whether the last response was to this request."""
+        return self._answered is request
 
     def _write(self, message: Message) -> None:
         with self._lock:
@@ -56,11 +61,13 @@ class Writer:
 
     def respond(self, request: Message, body: Mapping[str, Any] | None = None) -> None:
         """Answers a request that was done."""
+        self._answered = request
         self._write({"type": "response", "request_seq": request.get("seq", 0), "success": True,
                      "command": request.get("command", ""), "body": dict(body or {})})
 
     def refuse(self, request: Message, why: str) -> None:
         """Answers a request that could not be done."""
+        self._answered = request
         self._write({"type": "response", "request_seq": request.get("seq", 0), "success": False,
                      "command": request.get("command", ""), "message": why,
                      "body": {"error": {"id": 1, "format": "{why}", "variables": {"why": why}, "showUser": True}}})

@@ -201,8 +201,10 @@ class Commands:
     def backtrace(self, rest: str) -> Lines:
         frames = self.debugger.frames()
         shown = frames[:count_of(rest)] if rest else frames
-        lines = [render.frame_line(self.symbols, number, frame) for number, frame in enumerate(shown)]
-        return lines or ["no frames"]
+        return [self._frame_line(number, frame) for number, frame in enumerate(shown)] or ["no frames"]
+
+    def _frame_line(self, number: int, frame: Frame) -> str:
+        return render.frame_line(self.symbols, number, frame, self.debugger.place_of(frame, number == 0))
 
     def frame(self, rest: str) -> Lines:
         number = count_of(rest, least=0) if rest else self.selected
@@ -210,7 +212,7 @@ class Commands:
         if number >= len(frames):
             raise BadCommand(f"there is no frame {number}")
         self.selected, self._listed = number, None
-        yield render.frame_line(self.symbols, number, frames[number])
+        yield self._frame_line(number, frames[number])
 
     def examine(self, rest: str) -> Lines:
         form, text = "", rest

@@ -19,11 +19,11 @@ def stop_lines(symbols: Symbols, turn: int, place: Place, depth: int) -> list[st
     return [*lines, f"=>  {place}  {symbols.instruction(place).text}"]
 
 
-def frame_line(symbols: Symbols, number: int, frame: Frame) -> str:
-    """A frame in one line, with all that is known of it."""
+def frame_line(symbols: Symbols, number: int, frame: Frame, place: Place) -> str:
+    """A frame in one line, with all that is known of it. `place` is the instruction that it is at."""
     at = "end" if frame.next is None else str(frame.next)
     where = f"#{number} {frame.func}:{at} <{symbols.names.function(frame.func)}>"
-    source = symbols.line_at(Place(frame.func, frame.next)) if frame.next is not None else None
+    source = symbols.line_at(place)
     parts = [f"labels {' '.join(map(str, frame.labels)) or '-'}", f"locals {' '.join(map(str, frame.locals)) or '-'}",
              f"operands {' '.join(map(str, frame.operands)) or '-'}"]
     return f"{where}{f' {source}' if source is not None else ''} | {' | '.join(parts)}"

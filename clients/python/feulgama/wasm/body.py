@@ -69,7 +69,10 @@ def text_of(reader: Reader, opcode: int) -> str:
 
 def access(reader: Reader, word: str, natural: int) -> str:
     """A load or a store: an offset that is not 0, and an alignment that is not natural, are told."""
-    align, offset = 1 << reader.unsigned(), reader.unsigned()
+    exponent, offset = reader.unsigned(), reader.unsigned()
+    if exponent > 31:
+        raise NotAModule("an alignment is too large")
+    align = 1 << exponent
     return f"{word}{f' offset={offset}' if offset else ''}{f' align={align}' if align != natural else ''}"
 
 

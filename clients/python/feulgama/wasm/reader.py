@@ -7,6 +7,7 @@ from typing import TypeVar
 from feulgama.errors import FeulgamaError
 
 T = TypeVar("T")
+LONGEST = 70
 
 
 class NotAModule(FeulgamaError):
@@ -45,6 +46,8 @@ class Reader:
             shift += 7
             if byte < 0x80:
                 return value
+            if shift >= LONGEST:
+                raise NotAModule("a number is too long")
 
     def signed(self) -> int:
         """A signed number in LEB128."""
@@ -55,6 +58,8 @@ class Reader:
             shift += 7
             if byte < 0x80:
                 return value - (1 << shift) if byte & 0x40 else value
+            if shift >= LONGEST:
+                raise NotAModule("a number is too long")
 
     def name(self) -> str:
         """A text after its length."""

@@ -1,0 +1,48 @@
+"""What the tests share: which shim they run, modules, and the second reading of the standards (tools/reference)."""
+from __future__ import annotations
+
+import json
+import os
+import random
+import sys
+from pathlib import Path
+from typing import Any
+
+TOP = Path(__file__).resolve().parents[3]
+CLIENT = TOP / "clients/python"
+EXAMPLES = TOP / "examples"
+SHIM = os.environ.get("FEULGAMA_SHIM") or str(TOP / "crates/wasm_shim/out/wasm_shim")
+IS_REFERENCE = SHIM.endswith(".py")
+sys.path.insert(0, str(TOP / "tools"))
+
+from reference import frames, programs, wasm  # noqa: E402
+from reference.execute import Machine  # noqa: E402
+
+
+def module_of(example: str) -> bytes:
+    """The module that the first line of an example puts."""
+    with (EXAMPLES / f"{example}.jsonl").open() as lines:
+        return bytes.fromhex(json.loads(lines.readline())["hex"])
+
+
+EXIT_7 = module_of("first_run")
+
+
+def machine_of(data: bytes) -> Any:
+    """A task of the second reading before its first turn."""
+    return Machine(wasm.Decoder(data).module())
+
+
+def some_programs(seed: int, count: int, most: int) -> list[tuple[bytes, int]]:
+    """Random modules that run for at least 40 turns, and how many turns they make, at most `most`."""
+    random.seed(seed)
+    found: list[tuple[bytes, int]] = []
+    while len(found) < count:
+        data = frames.program() if random.random() < 0.5 else programs.program()
+        if wasm.refusals_of(data):
+            continue
+        machine = machine_of(data)
+        machine.run(most)
+        if machine.turns >= 40:
+            found.append((data, machine.turns))
+    return found

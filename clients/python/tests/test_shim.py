@@ -1,0 +1,169 @@
+"""The library over one shim: requests, results, refusals."""
+from __future__ import annotations
+
+import os
+import time
+import unittest
+from pathlib import Path
+from unittest import mock
+
+import feulgama
+from feulgama import requests
+from feulgama.model import Cause, Exit, Status
+from tests.support import EXIT_7, IS_REFERENCE, SHIM, module_of
+
+BROKEN = Path(__file__).with_name("broken_shim.py")
+
+
+class Requests(unittest.TestCase):
+    def setUp(self) -> None:
+        self.shim = self.enterContext(feulgama.Shim(SHIM))
+
+    def paused(self) -> str:
+        """A task that is paused before its first turn."""
+        id = self.shim.create(feulgama.Config(self.shim.ensure(EXIT_7))).id
+        self.shim.break_(id, 1, 0)
+        self.assertEqual(self.shim.start(id).status, Status.PAUSED)
+        return id
+
+    def test_run(self) -> None:
+        ran = self.shim.run(EXIT_7)
+        self.assertEqual(ran, (Exit(Cause.EXIT, 7), b"", b""))
+        self.assertEqual(self.shim.gc(), ())
+
+    def test_run_with_arguments(self) -> None:
+        exit_, stdout, stderr = self.shim.run(module_of("arguments"), ["a", "b c"], {"NAME": "value"}, 1 << 21)
+        self.assertIn(b"b c", stdout)
+        self.assertIn(b"NAME=value", stdout)
+        self.assertEqual((exit_.cause in (Cause.RETURN, Cause.EXIT), stderr), (True, b""))
+
+    def test_run_keeps_what_was_stored(self) -> None:
+        self.shim.put(EXIT_7)
+        self.shim.run(EXIT_7)
+        self.assertEqual(self.shim.gc(), (feulgama.digest_of(EXIT_7),))
+
+    def test_task(self) -> None:
+        id = self.paused()
+        state = self.shim.step(id)
+        self.assertEqual((state.status, state.turns, state.exit), (Status.PAUSED, 1, None))
+        frame, = self.shim.inspect(id).frames
+        self.assertEqual((frame.func, frame.next, frame.operands[0].number, str(frame.operands[0])), (1, 1, 7, "i32:7"))
+        self.assertEqual(self.shim.peek(id, 0, 0), b"")
+        self.shim.unbreak(id, 1, 0)
+        self.assertEqual(self.shim.resume(id).status, Status.RUNNING)
+        self.assertEqual(self.shim.wait(id).exit, Exit(Cause.EXIT, 7))
+        self.assertEqual(self.shim.output(id), b"")
+        self.assertEqual(self.shim.delete(id).turns, 2)
+
+    def test_kill(self) -> None:
+        id = self.paused()
+        self.assertEqual(self.shim.kill(id, feulgama.Signal.TERM).status, Status.STOPPED)
+        self.assertEqual(self.shim.state(id).exit, Exit(Cause.KILL, 143, None, 15))
+
+    def test_leases(self) -> None:
+        digest, lease = self.shim.ensure(EXIT_7), self.shim.lease_create()
+        self.shim.lease_add(lease, digest)
+        self.assertEqual(self.shim.gc(), ())
+        with self.assertRaises(feulgama.InUse):
+            self.shim.remove(digest)
+        self.shim.lease_delete(lease)
+        self.shim.remove(digest)
+
+    def test_many(self) -> None:
+        id = self.paused()
+        answers = self.shim.call_all([requests.state(id), requests.state("none"), requests.state(id)])
+        self.assertEqual([type(answer) for answer in answers], [feulgama.State, feulgama.NotFound, feulgama.State])
+        self.assertEqual(self.shim.call_all([]), [])
+
+    def test_longest_lines(self) -> None:
+        data = os.urandom(262_144)
+        self.assertEqual(self.shim.put(data).size, 262_144)
+        with self.assertRaises(feulgama.Limit):
+            self.shim.put(data + b"a")
+        with self.assertRaises(feulgama.BadRequest):
+            self.shim.put(bytes(1_000_000))
+        self.assertEqual(len(self.shim.gc()), 1)
+
+
+class Refusals(unittest.TestCase):
+    def setUp(self) -> None:
+        self.shim = self.enterContext(feulgama.Shim(SHIM))
+
+    def refused(self, kind: type[feulgama.Refusal], request: requests.Request[object]) -> feulgama.Refusal:
+        with self.assertRaises(kind) as found:
+            self.shim.call(request)
+        self.assertEqual((found.exception.number, found.exception.name), (kind.NUMBER, kind.__name__))
+        return found.exception
+
+    def test_each(self) -> None:
+        digest = self.shim.ensure(EXIT_7)
+        id = self.shim.create(feulgama.Config(digest)).id
+        self.refused(feulgama.BadRequest, requests.step(id, -1))
+        self.refused(feulgama.BadId, requests.start("-"))
+        self.refused(feulgama.Exists, requests.put(EXIT_7))
+        self.refused(feulgama.NotFound, requests.start("none"))
+        self.refused(feulgama.NoContent, requests.remove("sha256:" + "0" * 64))
+        self.refused(feulgama.InUse, requests.remove(digest))
+        self.refused(feulgama.BadConfig, requests.create("b", "{}"))
+        self.refused(feulgama.WrongStatus, requests.step(id))
+        self.refused(feulgama.OutOfRange, requests.peek(id, 0, 257))
+        for text, kind in ((b"abc", feulgama.BadModule), (b"\0asm\1\0\0\0", feulgama.NoEntry)):
+            self.refused(kind, requests.create("b", feulgama.Config(self.shim.ensure(text))))
+        for number in range(63):
+            self.shim.create(feulgama.Config(digest))
+        self.refused(feulgama.TooMany, requests.create("b", feulgama.Config(digest)))
+
+    @unittest.skipIf(IS_REFERENCE, "the second reading reads no texts")
+    def test_of_texts(self) -> None:
+        with self.assertRaises(feulgama.BadText) as found:
+            self.shim.put_text("(module (type (func)) (func (type 0) i32.cons 1))")
+        self.assertEqual((found.exception.line, found.exception.column), (1, 38))
+        digest = self.shim.put_text('(module (type (func)) (func (type 0) nop drop) (export "_start" (func 0)))').digest
+        with self.assertRaises(feulgama.Invalid) as fault:
+            self.shim.create(feulgama.Config(digest))
+        self.assertEqual((fault.exception.func, fault.exception.place), (0, 1))
+
+    def test_numbers_are_those_of_the_page(self) -> None:
+        self.assertEqual(sorted(feulgama.REFUSALS), [*range(1, 15), 16, 17, 18, 21, 22, 23])
+
+
+class Broken(unittest.TestCase):
+    """A program that does not do what a shim does."""
+
+    def asked(self, how: str) -> BaseException:
+        with mock.patch.dict(os.environ, BROKEN=how), self.assertRaises(feulgama.FeulgamaError) as found:
+            begin = time.monotonic()
+            with feulgama.Shim(BROKEN) as shim:
+                shim.gc()
+        self.assertLess(time.monotonic() - begin, 2)
+        return found.exception
+
+    def test_ends(self) -> None:
+        error = self.asked("ends")
+        self.assertIsInstance(error, feulgama.ShimEnded)
+        self.assertIn("status 1: wasm-shim: out of memory", str(error))
+
+    def test_no_reply(self) -> None:
+        for how in ("half", "closes"):
+            self.assertIsInstance(self.asked(how), feulgama.ShimEnded, how)
+        for how in ("words", "list", "bare", "keys", "two"):
+            self.assertIsInstance(self.asked(how), feulgama.BadReply, how)
+
+    def test_number_that_is_not_known(self) -> None:
+        error = self.asked("new")
+        self.assertIs(type(error), feulgama.Refusal)
+        self.assertEqual(getattr(error, "number"), 99)
+
+    def test_not_there(self) -> None:
+        with self.assertRaises(feulgama.NoShim):
+            feulgama.Shim("/nowhere")
+
+    def test_after_the_end(self) -> None:
+        shim = feulgama.Shim(SHIM)
+        shim.close()
+        with self.assertRaises(feulgama.ShimEnded):
+            shim.gc()
+
+
+if __name__ == "__main__":
+    unittest.main()

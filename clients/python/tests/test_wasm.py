@@ -1,0 +1,69 @@
+"""Modules: instructions as the shim lists them, names, and bytes with faults."""
+from __future__ import annotations
+
+import json
+import random
+import subprocess
+import tempfile
+import unittest
+
+from feulgama.wasm.module import Module, decode
+from feulgama.wasm.names import names_of
+from feulgama.wasm.reader import NotAModule
+from tests.support import CLIENT, EXAMPLES, IS_REFERENCE, SHIM, some_programs
+
+
+def listing(module: Module) -> list[str]:
+    """The lines of `wasm-shim check --list`."""
+    return ["ok"] + [f"{function.index} {found.place} {found.text}"
+                     for function in module.functions for found in function.instructions]
+
+
+class Listings(unittest.TestCase):
+    @unittest.skipIf(IS_REFERENCE, "the second reading has no command `check`")
+    def test_as_the_shim_lists(self) -> None:
+        modules = [data for data, _ in some_programs(11, 40, 100)]
+        modules += [(CLIENT / "examples/words.wasm").read_bytes()]
+        for script in sorted(EXAMPLES.glob("*.jsonl")):
+            put = json.loads(script.read_text().splitlines()[0])
+            modules += [bytes.fromhex(put["hex"])] if put.get("hex", "").startswith("0061736d") else []
+        for data in modules:
+            with tempfile.NamedTemporaryFile() as file:
+                file.write(data)
+                file.flush()
+                run = subprocess.run([SHIM, "check", "--list", file.name], stdout=subprocess.PIPE, check=True, text=True)
+            self.assertEqual(listing(decode(data)), run.stdout.splitlines())
+
+
+class Names(unittest.TestCase):
+    def test_of_a_c_program(self) -> None:
+        names = names_of(decode((CLIENT / "examples/words.wasm").read_bytes()))
+        self.assertEqual(names.functions[3], "count")
+        self.assertEqual(names.named("end_word"), [7])
+        self.assertEqual(names.function(99), "func99")
+
+    def test_of_locals(self) -> None:
+        part = bytes([1, 0, 2, 0, 1]) + b"a" + bytes([2, 2]) + b"bc"
+        section = b"\x04name" + bytes([2, len(part)]) + part
+        names = names_of(decode(b"\0asm\1\0\0\0\0" + bytes([len(section)]) + section))
+        self.assertEqual((names.local(0, 0), names.local(0, 1), names.local(0, 2)), ("a", None, "bc"))
+
+
+class Faults(unittest.TestCase):
+    def test_bytes_that_are_cut_or_bent(self) -> None:
+        """Nothing but NotAModule is raised, whatever the bytes are."""
+        random.seed(5)
+        data = (CLIENT / "examples/words.wasm").read_bytes()
+        for _ in range(400):
+            bent = bytearray(data[:random.randrange(len(data))])
+            for _ in range(random.randint(0, 3)):
+                if bent:
+                    bent[random.randrange(len(bent))] = random.randrange(256)
+            try:
+                names_of(decode(bytes(bent)))
+            except NotAModule:
+                pass
+
+
+if __name__ == "__main__":
+    unittest.main()

@@ -1,0 +1,86 @@
+;;; dap-emacs.el --- a session of Emacs' dap-mode with the adapter of clients/python -*- lexical-binding: t -*-
+;;; Commentary:
+;; Run by tools/dap-emacs in batch mode.  The environment variable FEULGAMA names the adapter's program, and EXAMPLES
+;; the folder with words.c and words.wasm.  Prints a line for each step; a step that fails ends Emacs with status 1.
+;;; Code:
+(require 'dap-mode)
+(require 'dap-ui)
+
+(defvar examples (file-name-as-directory (getenv "EXAMPLES")))
+(defvar source (concat examples "words.c"))
+(defvar stops 0 "How often the task has stopped.")
+(defvar is-over nil "Whether the session has ended.")
+
+(add-hook 'dap-stopped-hook (lambda (_) (setq stops (1+ stops))))
+(add-hook 'dap-terminated-hook (lambda (_) (setq is-over t)))
+(setq dap-auto-configure-features nil
+      dap-auto-show-output nil
+      dap-output-buffer-filter '("stdout" "stderr" "console")
+      lsp-session-file (make-temp-name "/tmp/dap-emacs-session")
+      dap-breakpoints-file (make-temp-name "/tmp/dap-emacs-breakpoints"))
+
+(dap-register-debug-provider
+ "feulgama"
+ (lambda (conf) (plist-put conf :dap-server-path (list (getenv "FEULGAMA") "dap"))))
+
+(defun wait-until (what test)
+  "Read from the adapter until TEST holds; WHAT is said if it does not within 20 seconds."
+  (let ((deadline (+ (float-time) 20)))
+    (while (not (funcall test))
+      (when (> (float-time) deadline)
+        (princ (format "FAILED: waited for %s\n" what))
+        (kill-emacs 1))
+      (accept-process-output nil 0.05))))
+
+(defun ask (command &rest arguments)
+  "The body of the reply to COMMAND with ARGUMENTS."
+  (let (reply)
+    (dap--send-message (dap--make-request command arguments) (lambda (found) (setq reply found)) (dap--cur-session))
+    (wait-until command (lambda () reply))
+    (gethash "body" reply)))
+
+(defun place ()
+  "The name and the line of the frame that Emacs shows."
+  (let ((frame (dap--debug-session-active-frame (dap--cur-session))))
+    (format "%s, line %s, point at line %s of %s" (gethash "name" frame) (gethash "line" frame)
+            (line-number-at-pos) (file-name-nondirectory (or buffer-file-name "")))))
+
+(defun stopped-by (what move)
+  "Do MOVE, wait until the task has stopped, and print WHAT and where it is."
+  (let ((before stops))
+    (setf (dap--debug-session-active-frame (dap--cur-session)) nil)
+    (funcall move)
+    (wait-until what (lambda () (and (> stops before) (dap--debug-session-active-frame (dap--cur-session)))))
+    (princ (format "%s: %s\n" what (place)))))
+
+(defun move-by (command)
+  "Send COMMAND, a request of a step that dap-mode has no key for."
+  (dap--step command (dap--cur-session)))
+
+(find-file source)
+(goto-char (point-min))
+(forward-line 48)
+(dap-breakpoint-add)
+(dap-debug (list :type "feulgama" :request "launch" :name "words" :program (concat examples "words.wasm")))
+(wait-until "a first stop" (lambda () (and (> stops 0) (dap--cur-session)
+                                           (dap--debug-session-active-frame (dap--cur-session)))))
+(princ (format "breakpoint: %s\n" (place)))
+(let* ((scopes (gethash "scopes" (ask "scopes" :frameId 0)))
+       (locals (gethash "variables" (ask "variables" :variablesReference (gethash "variablesReference" (elt scopes 0)))))
+       (third (elt locals 3)))
+  (princ (format "locals: %d, %s = %s\n" (length locals) (gethash "name" third) (gethash "value" third))))
+(princ (format "evaluate: %s\n" (gethash "result" (ask "evaluate" :expression "*(local 3 + 8)" :frameId 0))))
+(stopped-by "next" (lambda () (dap-next (dap--cur-session))))
+(stopped-by "step back" (lambda () (move-by "stepBack")))
+(stopped-by "step in" (lambda () (dap-step-in (dap--cur-session))))
+(stopped-by "step out" (lambda () (dap-step-out (dap--cur-session))))
+(stopped-by "continue" (lambda () (dap-continue (dap--cur-session) 1)))
+(stopped-by "reverse continue" (lambda () (move-by "reverseContinue")))
+(dap-breakpoint-delete-all)
+(let ((session (dap--cur-session)))
+  (dap-continue session 1)
+  (wait-until "the end" (lambda () is-over))
+  (with-current-buffer (dap--debug-session-output-buffer session)
+    (princ (format "output: %s\n" (string-trim (replace-regexp-in-string "\n" " | " (string-trim (buffer-string))))))))
+(kill-emacs 0)
+;;; dap-emacs.el ends here
