@@ -5,6 +5,7 @@ import os
 import time
 import unittest
 from pathlib import Path
+from typing import Any
 from unittest import mock
 
 import feulgama
@@ -89,7 +90,7 @@ class Refusals(unittest.TestCase):
     def setUp(self) -> None:
         self.shim = self.enterContext(feulgama.Shim(SHIM))
 
-    def refused(self, kind: type[feulgama.Refusal], request: requests.Request[object]) -> feulgama.Refusal:
+    def refused(self, kind: type[feulgama.Refusal], request: requests.Request[Any]) -> feulgama.Refusal:
         with self.assertRaises(kind) as found:
             self.shim.call(request)
         self.assertEqual((found.exception.number, found.exception.name), (kind.NUMBER, kind.__name__))

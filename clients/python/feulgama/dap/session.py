@@ -1,6 +1,7 @@
 """A session of an editor: what each request of the Debug Adapter Protocol does."""
 from __future__ import annotations
 
+import codecs
 from collections.abc import Callable
 from functools import partial
 from pathlib import Path
@@ -40,6 +41,7 @@ class Session:
         self._launch: Body = {}
         self._owned: dict[str, list[Breakpoint]] = {}
         self._written = dict.fromkeys(Stream, 0)
+        self._decoders = {stream: codecs.getincrementaldecoder("utf-8")("replace") for stream in Stream}
         self.is_over = False
 
     @property
@@ -91,6 +93,7 @@ class Session:
 
     def launch(self, request: Message, given: Body) -> None:
         self._debugger = self._opener(given)
+        self._debugger.timeline.progress = self._new_output
         self._views, self._commands, self._launch = Views(self._debugger), Commands(self._debugger), given
         self._writer.respond(request)
         self._writer.event("initialized")
@@ -219,7 +222,7 @@ class Session:
             self._written[stream] = max(len(written), self._written[stream])
             if new:
                 self._writer.event("output", {"category": stream.name.lower(),
-                                              "output": new.decode(errors="replace")})
+                                              "output": self._decoders[stream].decode(new)})
 
     def _stopped(self, reason: str, description: str | None) -> None:
         body: Body = {"reason": reason, "threadId": THREAD, "allThreadsStopped": True,
@@ -270,9 +273,14 @@ class Session:
 
     def evaluate(self, request: Message, given: Body) -> None:
         """The value of an expression; in the console also what a command of the terminal shows."""
-        text = given["expression"]
+        text = given["expression"].strip()
+        scope = self.debugger.scope(given.get("frameId") or 0)
+        variable = scope.variable(text)
+        if variable is not None:
+            self._writer.respond(request, {"result": variable.text, "type": variable.type, "variablesReference": 0})
+            return
         try:
-            found = evaluate(text, self.views.scope(given.get("frameId")))
+            found = evaluate(text, scope)
         except NoValue:
             if given.get("context") != "repl":
                 raise

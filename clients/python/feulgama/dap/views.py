@@ -6,16 +6,17 @@ import bisect
 from pathlib import Path
 from typing import Any
 
+from feulgama.debug.c_variables import Found
 from feulgama.debug.debugger import Debugger
-from feulgama.debug.expressions import NoValue, Scope, address
+from feulgama.debug.expressions import NoValue, address
 from feulgama.debug.look import Place
 from feulgama.model import Frame, Stream, Value
 from feulgama.wasm.module import Function
 
 Body = dict[str, Any]
 FIRST_SOURCE = 1000
-LOCALS, OPERANDS, MEMORY = 1, 2, 3
-KINDS = 4
+VARIABLES, LOCALS, OPERANDS, MEMORY = 1, 2, 3, 4
+KINDS = 5
 
 
 class Views:
@@ -96,16 +97,19 @@ class Views:
 
     def scopes(self, number: int) -> Body:
         """The scopes of a frame."""
+        names = [("Locals", LOCALS, "locals"), ("Operands", OPERANDS, "registers"), ("Task", MEMORY, "task")]
+        if self._debugger.variables(number):
+            names.insert(0, ("Variables", VARIABLES, "locals"))
         return {"scopes": [{"name": name, "variablesReference": KINDS * number + kind, "expensive": False,
-                            "presentationHint": hint}
-                           for name, kind, hint in (("Locals", LOCALS, "locals"), ("Operands", OPERANDS, "registers"),
-                                                    ("Task", MEMORY, "task"))]}
+                            "presentationHint": hint} for name, kind, hint in names]}
 
     def variables(self, reference: int) -> Body:
         """The variables of a scope."""
         number, kind = divmod(reference, KINDS)
         if kind == MEMORY:
             return {"variables": self._task_variables()}
+        if kind == VARIABLES:
+            return {"variables": list(map(self._c_variable, self._debugger.variables(number)))}
         frame = self.frame(number)
         values = frame.locals if kind == LOCALS else frame.operands
         word = "local" if kind == LOCALS else "operand"
@@ -117,6 +121,14 @@ class Views:
         if not 0 <= number < len(frames):
             raise NoValue(f"there is no frame {number}")
         return frames[number]
+
+    @staticmethod
+    def _c_variable(found: Found) -> Body:
+        shown: Body = {"name": found.name, "value": found.text, "type": found.type, "evaluateName": found.name,
+                       "variablesReference": 0}
+        if found.address is not None:
+            shown["memoryReference"] = hex(found.address)
+        return shown
 
     def _variable(self, frame: Frame, word: str, index: int, value: Value) -> Body:
         name = self._symbols.names.local(frame.func, index) if word == "local" else None
@@ -134,17 +146,11 @@ class Views:
         found[1]["memoryReference"] = "0x0"
         return found
 
-    def scope(self, number: int | None) -> Scope:
-        """What an expression may name in a frame, the innermost if none is told."""
-        frames = self._debugger.frames()
-        frame = frames[number or 0] if (number or 0) < len(frames) else None
-        return Scope(frame, self._symbols.names, self._timeline.turn, self._timeline.memory)
-
     # Memory and instructions.
 
     def read_memory(self, reference: str, offset: int, count: int) -> Body:
         """Bytes of memory; those that there are not are told as unreadable."""
-        at = address(reference, self.scope(None)) + offset
+        at = address(reference, self._debugger.scope(0)) + offset
         if at < 0:
             raise NoValue("there is no memory before address 0")
         data = self._timeline.memory(at, count)

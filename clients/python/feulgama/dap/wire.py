@@ -4,7 +4,7 @@ from __future__ import annotations
 import json
 import threading
 from collections.abc import Mapping
-from typing import Any, BinaryIO
+from typing import IO, Any
 
 from feulgama.errors import FeulgamaError
 
@@ -15,7 +15,7 @@ class BadMessage(FeulgamaError):
     """Bytes that are no message of the protocol."""
 
 
-def read_message(stream: BinaryIO) -> Message | None:
+def read_message(stream: IO[bytes]) -> Message | None:
     """The next message; None at the end of the stream."""
     length: int | None = None
     while True:
@@ -44,7 +44,7 @@ def read_message(stream: BinaryIO) -> Message | None:
 class Writer:
     """Writes responses and events, each with its number. Several threads may use it."""
 
-    def __init__(self, stream: BinaryIO) -> None:
+    def __init__(self, stream: IO[bytes]) -> None:
         self._stream, self._lock, self._count = stream, threading.Lock(), 0
         self._answered: object = None
 

@@ -86,9 +86,7 @@ class Commands:
         return self.debugger.place_of(self._frame(), self.selected == 0)
 
     def _scope(self) -> Scope:
-        frames = self.debugger.frames()
-        return Scope(frames[self.selected] if frames else None, self.symbols.names, self.timeline.turn,
-                     self.timeline.memory)
+        return self.debugger.scope(self.selected)
 
     # Moving.
 
@@ -171,7 +169,7 @@ class Commands:
     def info(self, rest: str) -> Lines:
         shows: dict[str, Callable[[], Lines]] = {
             "breakpoints": self._info_breakpoints, "locals": lambda: render.local_lines(self.symbols, self._frame()),
-            "stack": lambda: render.operand_lines(self._frame()), "memory": self._info_memory,
+            "variables": self._info_variables, "stack": lambda: render.operand_lines(self._frame()), "memory": self._info_memory,
             "output": self._info_output, "functions": self._info_functions}
         found = [name for name in shows if rest and name.startswith(rest)]
         if len(found) != 1:
@@ -180,6 +178,10 @@ class Commands:
 
     def _info_breakpoints(self) -> Lines:
         return list(map(self._breakpoint_line, self.debugger.breakpoints.values())) or ["no breakpoints"]
+
+    def _info_variables(self) -> Lines:
+        found = self.debugger.variables(self.selected)
+        return [f"{one.type} {one.name} = {one.text}" for one in found] or ["no variables of C"]
 
     def _info_memory(self) -> Lines:
         size = self.timeline.memory_size()
@@ -241,6 +243,9 @@ class Commands:
         return lines or ["no more instructions"]
 
     def print_(self, rest: str) -> Lines:
+        variable = self._scope().variable(rest)
+        if variable is not None:
+            return [f"{variable.type} {variable.text}"]
         found = evaluate(rest, self._scope())
         if not isinstance(found, Value):
             return [str(found)]
@@ -287,7 +292,7 @@ COMMANDS = [
     Command("goto", ("g",), "TURN", "goes to a turn, forward or back", Commands.goto),
     Command("break", ("b",), "[PLACE]", "sets a breakpoint: FUNC, FUNC:PLACE or FILE:LINE", Commands.break_),
     Command("delete", ("d",), "[NUMBER]", "takes a breakpoint away, or all", Commands.delete),
-    Command("info", ("i",), "WHAT", "breakpoints, locals, stack, memory, output or functions", Commands.info),
+    Command("info", ("i",), "WHAT", "breakpoints, locals, variables, stack, memory, output or functions", Commands.info),
     Command("backtrace", ("bt", "where"), "[COUNT]", "the frames, the innermost first", Commands.backtrace),
     Command("frame", ("f",), "[NUMBER]", "looks at a frame", Commands.frame),
     Command("x", (), "[/FORMAT] ADDRESS", "memory: x/4xw 1024, x/s local 0", Commands.examine),

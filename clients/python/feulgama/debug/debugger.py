@@ -3,6 +3,8 @@ from __future__ import annotations
 
 from dataclasses import dataclass
 
+from feulgama.debug.c_variables import Found
+from feulgama.debug.expressions import Scope
 from feulgama.debug.lines import SourceLine
 from feulgama.debug.look import Look, Place
 from feulgama.debug.symbols import Symbols
@@ -60,6 +62,20 @@ class Debugger:
             return Place(frame.func, frame.next)
         before = Place(frame.func, frame.next - 1)
         return before if self.symbols.instruction(before).is_call else Place(frame.func, frame.next)
+
+    def variables(self, number: int) -> list[Found]:
+        """The variables of C of the frame with a number from the innermost; none if there is no such frame."""
+        frames = self.frames()
+        if number >= len(frames):
+            return []
+        place = self.place_of(frames[number], number == 0)
+        return self.symbols.variables(frames[number], place, self.timeline.memory)
+
+    def scope(self, number: int) -> Scope:
+        """What an expression may name in the frame with a number; without a frame only the turn and memory."""
+        frames = self.frames()
+        return Scope(frames[number] if number < len(frames) else None, self.symbols.names, self.timeline.turn,
+                     self.timeline.memory, lambda: self.variables(number))
 
     # Moving by instructions.
 

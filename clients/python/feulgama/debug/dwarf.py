@@ -1,4 +1,5 @@
-"""Line tables of the custom sections that `clang -g` writes, read by Debian's python3-pyelftools if it is there."""
+"""Line tables and variables of the custom sections that `clang -g` writes, read by Debian's python3-pyelftools if it is
+there."""
 from __future__ import annotations
 
 import posixpath
@@ -6,6 +7,7 @@ from collections.abc import Iterator
 from io import BytesIO
 from typing import Any
 
+from feulgama.debug.c_variables import Variables
 from feulgama.debug.lines import Lines, Row, SourceLine
 from feulgama.wasm.module import Module
 
@@ -32,6 +34,16 @@ def lines_of(module: Module) -> Lines | None:
     except (DWARFError, ELFParseError, ConstructError):
         return None
     return Lines(module, rows) if rows else None
+
+
+def variables_of(module: Module) -> Variables | None:
+    """The variables of C of a module; None if it has none, or if pyelftools is not there."""
+    if not IS_THERE or ".debug_info" not in module.customs or ".debug_abbrev" not in module.customs:
+        return None
+    try:
+        return Variables(module, dwarf_of(module))
+    except (DWARFError, ELFParseError, ConstructError, KeyError):
+        return None
 
 
 def dwarf_of(module: Module) -> Any:

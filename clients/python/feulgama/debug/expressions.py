@@ -1,16 +1,17 @@
-"""Numbers that a user names: `12`, `0x40`, `local 3`, `operand 0`, `turn`, the name of a local, `*ADDRESS`, sums and
-products, parentheses."""
+"""Numbers that a user names: `12`, `0x40`, `local 3`, `operand 0`, `turn`, the name of a local or of a variable of C,
+`&NAME`, `*ADDRESS`, sums and products, parentheses."""
 from __future__ import annotations
 
 import re
 from collections.abc import Callable
 from dataclasses import dataclass
 
+from feulgama.debug.c_variables import Found
 from feulgama.errors import FeulgamaError
 from feulgama.model import Frame, Value, ValueType
 from feulgama.wasm.names import Names
 
-TOKEN = re.compile(r"\s*(0x[0-9a-fA-F]+|\d+|[A-Za-z_$.][\w$.]*|[-+*()])")
+TOKEN = re.compile(r"\s*(0x[0-9a-fA-F]+|\d+|[A-Za-z_$.][\w$.]*|[-+*&()])")
 
 
 class NoValue(FeulgamaError):
@@ -19,12 +20,17 @@ class NoValue(FeulgamaError):
 
 @dataclass(frozen=True, slots=True)
 class Scope:
-    """What words may name: the frame, None of a task that has ended; the names; the turn; and memory, by an address
-    and a number of bytes."""
+    """What words may name: the frame, None of a task that has ended; the names; the turn; memory, by an address and a
+    number of bytes; and the variables of C."""
     frame: Frame | None
     names: Names
     turn: int
     memory: Callable[[int, int], bytes]
+    variables: Callable[[], list[Found]]
+
+    def variable(self, name: str) -> Found | None:
+        """The variable of C with a name."""
+        return next((found for found in self.variables() if found.name == name), None)
 
 
 def evaluate(text: str, scope: Scope) -> Value | int:
@@ -90,6 +96,8 @@ class Expression:
             return found
         if word == "-":
             return -number(self.factor())
+        if word == "&":
+            return self._address()
         if word == "*":
             at = number(self.factor()) % 2**32
             data = self._scope.memory(at, 4)
@@ -114,7 +122,20 @@ class Expression:
         for index, value in enumerate(frame.locals):
             if self._scope.names.local(frame.func, index) == word.removeprefix("$"):
                 return value
-        raise NoValue(f"there is no local named {word} in this frame")
+        variable = self._scope.variable(word)
+        if variable is None:
+            raise NoValue(f"there is nothing named {word} in this frame")
+        if variable.number is None:
+            raise NoValue(f"{word} is no number but {variable.type}")
+        return variable.number
+
+    def _address(self) -> int:
+        """The address of a variable of C."""
+        name = self._next()
+        variable = self._scope.variable(name)
+        if variable is None or variable.address is None:
+            raise NoValue(f"{name} has no address")
+        return variable.address
 
 
 def picked(values: tuple[Value, ...], word: str, index: int) -> Value:

@@ -2,12 +2,15 @@
 from __future__ import annotations
 
 import re
+from collections.abc import Callable
 from pathlib import Path
 
-from feulgama.debug.dwarf import lines_of
+from feulgama.debug.c_variables import Found
+from feulgama.debug.dwarf import lines_of, variables_of
 from feulgama.debug.lines import Sources, SourceLine
 from feulgama.debug.look import Place
 from feulgama.errors import FeulgamaError
+from feulgama.model import Frame
 from feulgama.wasm.body import Instruction
 from feulgama.wasm.module import Module
 from feulgama.wasm.names import names_of
@@ -24,6 +27,7 @@ class Symbols:
         self.module = module
         self.names = names_of(module)
         self.lines = lines_of(module)
+        self._variables = variables_of(module)
         self.sources = Sources(folders)
 
     def instruction(self, place: Place) -> Instruction:
@@ -36,6 +40,12 @@ class Symbols:
     def line_at(self, place: Place) -> SourceLine | None:
         """The line of a place; None if it has none."""
         return self.lines.at(place) if self.lines is not None else None
+
+    def variables(self, frame: Frame, place: Place, memory: Callable[[int, int], bytes]) -> list[Found]:
+        """The variables of C of a frame that is at a place; none without `clang -g`."""
+        if self._variables is None:
+            return []
+        return self._variables.found(frame, self.instruction(place).offset, memory)
 
     def told(self, place: Place) -> str:
         """A place with the name of its function and its line: `1:3 <main> main.c:12`."""

@@ -24,6 +24,7 @@ MOST_REPEATS = 2048
 PATIENT_LOOKS = 64
 TRAIL = 128
 LONG_WAY = 1_000_000
+RUN_ON = 50_000_000
 PAGE, MOST_PAGES = 65_536, 256
 LAST_TURN = 10**15
 
@@ -60,7 +61,8 @@ def at_any(breaks: frozenset[Place]) -> Search:
 
 class Timeline:
     """A run of a module. `turn` is where it is shown. `interrupted` may be set by another thread or by a signal's
-    handler; it breaks off what is going on, and the caller clears it."""
+    handler; it breaks off what is going on, and the caller clears it. `progress` is called now and then on the way of
+    a long search."""
 
     def __init__(self, shim: Shim, config: Config) -> None:
         self._shim, self._config = shim, config
@@ -71,6 +73,7 @@ class Timeline:
         self._note_end(self._track)
         self.turn = self._track.turn
         self.interrupted = threading.Event()
+        self.progress: Callable[[], None] = lambda: None
 
     @property
     def exit(self) -> Exit | None:
@@ -180,8 +183,7 @@ class Timeline:
         """Goes on to the next turn that is looked for, at most to the turn `limit`, or to the task's end."""
         goal = LAST_TURN if limit is None else limit
         if not search.breaks and not search.each_turn:
-            found = self.seek(goal)
-            return Why.LIMIT if found is Why.FOUND else found
+            return self._run_on(goal)
         track, is_dense, looked, repeats = self._here(), search.is_dense(), 0, 1
         while track.exit is None and track.turn < goal:
             if self.interrupted.is_set():
@@ -194,9 +196,20 @@ class Timeline:
                     return self.seek(look.turn)
             self._note_end(track)
             self.turn = track.turn
+            self.progress()
             looked += repeats
             repeats = 1 if is_dense and looked < PATIENT_LOOKS else min(2 * repeats, MOST_REPEATS)
         return Why.ENDED if track.exit is not None else Why.LIMIT
+
+    def _run_on(self, goal: int) -> Why:
+        """Goes on to a turn or to the task's end."""
+        while True:
+            why = self.seek(goal if self._end is not None else min(goal, self.turn + RUN_ON))
+            self.progress()
+            if why is not Why.FOUND:
+                return why
+            if self.turn == goal:
+                return Why.LIMIT
 
     @staticmethod
     def _pace(left: int, is_dense: bool, repeats: int) -> tuple[int, int]:

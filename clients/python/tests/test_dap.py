@@ -1,0 +1,213 @@
+"""The debug adapter, as an editor speaks to it."""
+from __future__ import annotations
+
+import base64
+import io
+import json
+import subprocess
+import sys
+import tempfile
+import threading
+import unittest
+from typing import Any
+
+from feulgama.dap.wire import BadMessage, read_message
+from feulgama.debug import dwarf
+from tests.support import CLIENT, EXIT_7, SHIM
+
+Body = dict[str, Any]
+FOLDER = CLIENT / "examples"
+SOURCE = {"path": str(FOLDER / "words.c")}
+
+
+class Editor:
+    """An editor: sends requests, and keeps the events that come before their responses."""
+
+    def __init__(self) -> None:
+        self.process = subprocess.Popen([sys.executable, CLIENT / "bin/feulgama", "--shim", SHIM, "dap"],
+                                        stdin=subprocess.PIPE, stdout=subprocess.PIPE)
+        self.events: list[Body] = []
+        self.count = 0
+        self.timer = threading.Timer(60, self.process.kill)
+        self.timer.start()
+
+    def send(self, command: str, **arguments: Any) -> None:
+        self.count += 1
+        data = json.dumps({"seq": self.count, "type": "request", "command": command, "arguments": arguments}).encode()
+        assert self.process.stdin is not None
+        self.process.stdin.write(b"Content-Length: %d\r\n\r\n" % len(data) + data)
+        self.process.stdin.flush()
+
+    def read(self) -> Body:
+        assert self.process.stdout is not None
+        message = read_message(self.process.stdout)
+        assert message is not None, "the adapter has ended"
+        return message
+
+    def ask(self, command: str, **arguments: Any) -> Body:
+        """The response to a request."""
+        self.send(command, **arguments)
+        while True:
+            message = self.read()
+            if message["type"] == "response":
+                assert message["request_seq"] == self.count
+                return message
+            self.events.append(message)
+
+    def event(self, *names: str) -> Body:
+        """The next event with one of these names; what comes before it is passed over."""
+        while True:
+            message = self.events.pop(0) if self.events else self.read()
+            if message["type"] == "event" and message["event"] in names:
+                return message
+
+    def move(self, command: str, **arguments: Any) -> tuple[str, int]:
+        """Moves; the reason of the stop, and the line of the innermost frame."""
+        assert self.ask(command, threadId=1, **arguments)["success"]
+        reason = self.event("stopped")["body"]["reason"]
+        return reason, self.frames()[0]["line"]
+
+    def frames(self) -> list[Body]:
+        found: list[Body] = self.ask("stackTrace", threadId=1)["body"]["stackFrames"]
+        return found
+
+    def evaluate(self, text: str, context: str = "watch") -> str:
+        return str(self.ask("evaluate", expression=text, frameId=0, context=context)["body"]["result"])
+
+    def close(self) -> None:
+        assert self.process.stdin is not None and self.process.stdout is not None
+        self.process.stdin.close()
+        self.process.wait()
+        self.process.stdout.close()
+        self.timer.cancel()
+
+
+class WithEditor(unittest.TestCase):
+    def setUp(self) -> None:
+        self.editor = Editor()
+        self.addCleanup(self.editor.close)
+        self.assertTrue(self.editor.ask("initialize", adapterID="feulgama")["body"]["supportsStepBack"])
+
+    def launch(self, **arguments: Any) -> None:
+        self.assertTrue(self.editor.ask("launch", **{"program": str(FOLDER / "words.wasm"), **arguments})["success"])
+        self.editor.event("initialized")
+
+
+@unittest.skipUnless(dwarf.IS_THERE, "needs python3-pyelftools")
+class Lines(WithEditor):
+    """A C program with lines."""
+
+    def stop_at(self, line: int) -> None:
+        self.launch()
+        answer = self.editor.ask("setBreakpoints", source=SOURCE, breakpoints=[{"line": line}])
+        self.assertTrue(answer["body"]["breakpoints"][0]["verified"])
+        self.editor.ask("configurationDone")
+        self.assertEqual(self.editor.event("stopped")["body"]["reason"], "breakpoint")
+
+    def test_steps_forward_and_back(self) -> None:
+        self.stop_at(49)
+        turn = self.editor.evaluate("turn")
+        self.assertEqual(self.editor.move("next"), ("step", 50))
+        self.assertEqual(self.editor.move("next"), ("step", 45))
+        self.assertEqual(self.editor.move("stepBack"), ("step", 50))
+        self.assertEqual(self.editor.move("stepBack"), ("breakpoint", 49))
+        self.assertEqual(self.editor.evaluate("turn"), turn)
+        self.assertEqual(self.editor.move("stepIn"), ("step", 34))
+        self.assertEqual(self.editor.move("stepOut")[0], "step")
+        self.assertEqual(self.editor.move("stepBack", granularity="instruction")[0], "step")
+        self.assertEqual(self.editor.move("continue"), ("breakpoint", 49))
+        self.assertEqual(self.editor.move("reverseContinue"), ("breakpoint", 49))
+        self.assertEqual(self.editor.evaluate("turn"), turn)
+        self.assertEqual(self.editor.move("reverseContinue")[0], "entry")
+
+    def test_looks(self) -> None:
+        self.stop_at(49)
+        scopes = {scope["name"]: scope["variablesReference"]
+                  for scope in self.editor.ask("scopes", frameId=0)["body"]["scopes"]}
+        shown = {found["name"]: found for name in scopes
+                 for found in self.editor.ask("variables", variablesReference=scopes[name])["body"]["variables"]}
+        self.assertEqual((shown["local 3"]["value"], shown["local 3"]["type"]), ("17456", "i32"))
+        self.assertEqual(shown["memory"]["value"], "65536 bytes")
+        self.assertEqual((shown["length"]["value"], shown["length"]["type"]), ("3", "unsigned int"))
+        self.assertEqual(shown["found"]["value"], "{words = 0, longest = 0, sum = 0}")
+        self.assertEqual((self.editor.evaluate("length"), self.editor.evaluate("&length - local 3")), ("3", "8"))
+        data = self.editor.ask("readMemory", memoryReference=shown["local 3"]["memoryReference"], offset=4, count=8)
+        self.assertEqual(base64.b64decode(data["body"]["data"]), bytes([3, 4, 0, 0, 3, 0, 0, 0]))
+        beyond = self.editor.ask("readMemory", memoryReference="65530", count=16)["body"]
+        self.assertEqual((len(base64.b64decode(beyond["data"])), beyond["unreadableBytes"]), (6, 10))
+        self.assertEqual(self.editor.evaluate("*(local 3 + 8)"), "i32:3")
+        self.assertIn("0x00000400: ", self.editor.evaluate("x/4xw 1024", "repl"))
+        self.assertFalse(self.editor.ask("evaluate", expression="nothing", frameId=0)["success"])
+
+    def test_instructions(self) -> None:
+        self.stop_at(49)
+        here = self.editor.frames()[0]["instructionPointerReference"]
+        found = self.editor.ask("disassemble", memoryReference=here, instructionOffset=-2, instructionCount=5)
+        texts = [one["instruction"].strip() for one in found["body"]["instructions"]]
+        self.assertEqual(texts[1:4], ["br 1", "local.get 3", "i32.load offset=8"])
+        after = found["body"]["instructions"][3]["address"]
+        answer = self.editor.ask("setInstructionBreakpoints", breakpoints=[{"instructionReference": after}])
+        self.assertTrue(answer["body"]["breakpoints"][0]["verified"])
+        self.editor.move("continue")
+        self.assertEqual(self.editor.frames()[0]["instructionPointerReference"], after)
+
+    def test_end(self) -> None:
+        self.launch()
+        self.editor.ask("setFunctionBreakpoints", breakpoints=[{"name": "decimal"}, {"name": "none"}])
+        self.editor.ask("configurationDone")
+        self.editor.event("stopped")
+        self.editor.ask("setFunctionBreakpoints", breakpoints=[])
+        self.editor.ask("continue", threadId=1)
+        self.assertEqual(self.editor.event("output")["body"], {"category": "stdout", "output": "35\n"})
+        self.assertEqual(self.editor.event("output")["body"]["output"], "ended after 8069 turns: exit, exit 9\n")
+        self.assertEqual(self.editor.event("exited")["body"]["exitCode"], 9)
+        self.editor.event("terminated")
+
+    def test_back_from_the_end(self) -> None:
+        self.launch(stopAtEnd=True)
+        self.editor.ask("configurationDone")
+        self.assertEqual(self.editor.event("stopped")["body"]["description"], "the task has ended")
+        self.assertEqual(self.editor.frames(), [])
+        self.assertEqual(self.editor.move("stepBack"), ("step", 61))
+
+
+class Instructions(WithEditor):
+    """Functions as sources of their own."""
+
+    def test_a_function_as_a_source(self) -> None:
+        file = self.enterContext(tempfile.NamedTemporaryFile(suffix=".wasm"))
+        file.write(EXIT_7)
+        file.flush()
+        self.launch(program=file.name, stopOnEntry=True)
+        self.editor.ask("configurationDone")
+        self.assertEqual(self.editor.event("stopped")["body"]["reason"], "entry")
+        source = self.editor.frames()[0]["source"]
+        self.assertEqual(self.editor.ask("source", source=source, sourceReference=source["sourceReference"])["body"],
+                         {"content": "i32.const 7\ncall 0\n"})
+        answer = self.editor.ask("setBreakpoints", source=source, breakpoints=[{"line": 2}, {"line": 3}])
+        self.assertEqual([found["verified"] for found in answer["body"]["breakpoints"]], [True, False])
+        self.assertEqual(self.editor.move("continue"), ("breakpoint", 2))
+        self.editor.ask("continue", threadId=1)
+        self.assertEqual(self.editor.event("exited")["body"]["exitCode"], 7)
+
+    def test_faults(self) -> None:
+        self.assertFalse(self.editor.ask("stackTrace", threadId=1)["success"])
+        self.assertFalse(self.editor.ask("launch", program="/nowhere")["success"])
+        self.assertFalse(self.editor.ask("launch")["success"])
+        self.launch()
+        self.assertFalse(self.editor.ask("scopes")["success"])
+        self.assertFalse(self.editor.ask("dance")["success"])
+        self.assertTrue(self.editor.ask("disconnect")["success"])
+
+
+class Messages(unittest.TestCase):
+    def test_faults(self) -> None:
+        self.assertIsNone(read_message(io.BytesIO(b"")))
+        self.assertIsNone(read_message(io.BytesIO(b"Content-Length: 9\r\n\r\n{}")))
+        for data in (b"\r\n", b"Content-Length: 2\r\n\r\n[]", b"Content-Length: 1\r\n\r\n{"):
+            with self.assertRaises(BadMessage):
+                read_message(io.BytesIO(data))
+
+
+if __name__ == "__main__":
+    unittest.main()
