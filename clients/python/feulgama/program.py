@@ -3,6 +3,7 @@ from __future__ import annotations
 
 import os
 import subprocess
+import sys
 from pathlib import Path
 
 from feulgama.errors import FeulgamaError, NoShim
@@ -22,7 +23,6 @@ def program(named: str | os.PathLike[str] | None = None) -> list[str]:
     if not path.is_file():
         raise NoShim(f"{path}: there is no such program; build it by tools/shim, or name it by {VARIABLE}")
     if path.suffix == ".py":
-        import sys
         return [sys.executable, str(path)]
     return [str(path)]
 

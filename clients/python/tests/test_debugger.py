@@ -9,7 +9,10 @@ from typing import Any
 
 import feulgama
 from feulgama.debug.commands import Commands
+from feulgama.debug.symbols import Symbols
+from feulgama.model import Frame
 from feulgama.opening import open_debugger
+from feulgama.wasm.module import decode
 from tests.support import SHIM, machine_of, some_programs
 
 FRAME = re.compile(r"#(\d+) (\d+):(\d+|end) <[^>]*> \| labels (.*) \| locals (.*) \| operands (.*)")
@@ -133,6 +136,23 @@ class Calls(unittest.TestCase):
                         debugger.finish()
                         out = [at for at in range(turn + 1, len(depths)) if depths[at] < depths[turn]]
                         self.assert_turn(debugger.timeline, out, oracle)
+
+    def test_the_call_of_each_frame(self) -> None:
+        """The place of a frame that has called is that of its call, as the second reading knows it; or the last call
+        of the other arm of an `if`, which no reply tells apart."""
+        frames = other = 0
+        for data, _ in some_programs(5, 20, 600):
+            symbols = Symbols(decode(data), [])
+            machine = machine_of(data)
+            while machine.end is None and machine.turns < 600:
+                machine.turn()
+                for shown, frame in zip(machine.shown()[1:], machine.frames[-2::-1]):
+                    found = symbols.call_of(Frame(shown["func"], tuple(shown["labels"]), (),
+                                                  None if shown["next"] == "end" else shown["next"], ()))
+                    frames += 1
+                    other += found.place != machine.number_of((frame.sequence, frame.at - 1))
+        self.assertGreater(frames, 500)
+        self.assertLess(other, frames / 10)
 
     def depths(self, oracle: Oracle) -> list[int]:
         machine, found = machine_of(oracle.data), []

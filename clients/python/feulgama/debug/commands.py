@@ -92,7 +92,7 @@ class Commands:
 
     def run(self, rest: str) -> Lines:
         self.timeline.seek(0)
-        return self.continue_(rest)
+        return self.stopped() if self.debugger.hit() else self.continue_(rest)
 
     def continue_(self, rest: str) -> Lines:
         limit = self.timeline.turn + count_of(rest) if rest else None
@@ -124,6 +124,8 @@ class Commands:
         return self.stopped(self.debugger.finish(self.selected))
 
     def until(self, rest: str) -> Lines:
+        if not rest:
+            raise BadCommand("until takes a place")
         places, remark = self.symbols.places(rest)
         return [*([remark] if remark else []), *self.stopped(self.debugger.until(places))]
 

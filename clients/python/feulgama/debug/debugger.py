@@ -53,15 +53,10 @@ class Debugger:
         return self.timeline.inspection().frames
 
     def place_of(self, frame: Frame, is_innermost: bool) -> Place:
-        """The instruction that a frame is at: its next one, or of a frame that has called the call itself, as far as
-        that can be told from the instruction after it."""
-        if frame.next is None:
-            function = self.symbols.module.function(frame.func)
-            return Place(frame.func, len(function.instructions) - 1 if function is not None else 0)
-        if is_innermost or frame.next == 0:
+        """The instruction that a frame is at: its next one, or of a frame that has called the call itself."""
+        if is_innermost and frame.next is not None:
             return Place(frame.func, frame.next)
-        before = Place(frame.func, frame.next - 1)
-        return before if self.symbols.instruction(before).is_call else Place(frame.func, frame.next)
+        return self.symbols.call_of(frame)
 
     def variables(self, number: int) -> list[Found]:
         """The variables of C of the frame with a number from the innermost; none if there is no such frame."""

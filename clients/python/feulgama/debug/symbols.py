@@ -12,6 +12,7 @@ from feulgama.debug.look import Place
 from feulgama.errors import FeulgamaError
 from feulgama.model import Frame
 from feulgama.wasm.body import Instruction
+from feulgama.wasm.calls import Shown, calls_of
 from feulgama.wasm.module import Module
 from feulgama.wasm.names import names_of
 
@@ -28,6 +29,7 @@ class Symbols:
         self.names = names_of(module)
         self.lines = lines_of(module)
         self._variables = variables_of(module)
+        self._calls: dict[int, dict[Shown, list[int]]] = {}
         self.sources = Sources(folders)
 
     def instruction(self, place: Place) -> Instruction:
@@ -40,6 +42,17 @@ class Symbols:
     def line_at(self, place: Place) -> SourceLine | None:
         """The line of a place; None if it has none."""
         return self.lines.at(place) if self.lines is not None else None
+
+    def call_of(self, frame: Frame) -> Place:
+        """The call that a frame waits for. Of two that cannot be told apart, the last ones of the two arms of an `if`,
+        it is the second."""
+        if frame.func not in self._calls:
+            function = self.module.function(frame.func)
+            self._calls[frame.func] = calls_of(function.instructions) if function is not None else {}
+        places = self._calls[frame.func].get((frame.labels, frame.next))
+        if not places:
+            raise NoPlace(f"function {frame.func} has no call before {frame.next}")
+        return Place(frame.func, places[-1])
 
     def variables(self, frame: Frame, place: Place, memory: Callable[[int, int], bytes]) -> list[Found]:
         """The variables of C of a frame that is at a place; none without `clang -g`."""

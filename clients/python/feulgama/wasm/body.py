@@ -11,13 +11,16 @@ from feulgama.wasm.reader import NotAModule, Reader
 class Instruction:
     """An instruction. `place` is its number in the function; `text` its line of a listing; `depth` how many blocks are
     open round it; `offset` where its first byte is, counted from the first byte of the contents of the code section,
-    as line tables count; `size` its bytes, a block's first line alone."""
+    as line tables count; `size` its bytes, a block's first line alone. `block` is the place of the block that it is
+    in, None if it is in none; `is_in_else` says that it is in the second arm of that block."""
     place: int
     opcode: int
     text: str
     depth: int
     offset: int
     size: int
+    block: int | None
+    is_in_else: bool
 
     @property
     def is_call(self) -> bool:
@@ -28,18 +31,24 @@ class Instruction:
 def instructions(reader: Reader, start: int) -> list[Instruction]:
     """The instructions of a body up to its end. `start` is where the contents of the code section begin."""
     found: list[Instruction] = []
-    depth = 0
+    open_: list[tuple[int, bool]] = []
     while True:
         at = reader.at
         opcode = reader.byte()
         if opcode == op.END:
-            if depth == 0:
+            if not open_:
                 return found
-            depth -= 1
-        elif opcode != op.ELSE:
+            open_.pop()
+        elif opcode == op.ELSE:
+            if not open_:
+                raise NotAModule("an else is in no block")
+            open_[-1] = open_[-1][0], True
+        else:
             text = text_of(reader, opcode)
-            found.append(Instruction(len(found), opcode, text, depth, at - start, reader.at - at))
-            depth += opcode in op.BLOCKS
+            block, is_in_else = open_[-1] if open_ else (None, False)
+            found.append(Instruction(len(found), opcode, text, len(open_), at - start, reader.at - at, block, is_in_else))
+            if opcode in op.BLOCKS:
+                open_.append((found[-1].place, False))
 
 
 def text_of(reader: Reader, opcode: int) -> str:
