@@ -74,9 +74,10 @@ class AsyncShim:
         assert self._process is not None and self._process.stdin is not None
         future: asyncio.Future[T] = asyncio.get_running_loop().create_future()
         self._pending.append((request, future))
-        self._process.stdin.write(request.line)
-        with contextlib.suppress(ConnectionError):
-            await self._process.stdin.drain()
+        if not self._process.stdin.is_closing():
+            self._process.stdin.write(request.line)
+            with contextlib.suppress(ConnectionError):
+                await self._process.stdin.drain()
         return await future
 
     def _kill(self) -> None:
@@ -102,12 +103,15 @@ class AsyncShim:
 
     async def _end(self, process: asyncio.subprocess.Process) -> tuple[int | None, bytes]:
         """The status of a process whose output has ended, and what it wrote to standard error."""
-        assert process.stderr is not None
+        assert process.stdin is not None and process.stderr is not None
         try:
             status = await asyncio.wait_for(process.wait(), 0.2)
         except TimeoutError:
             self._kill()
             status = await process.wait()
+        process.stdin.close()
+        with contextlib.suppress(OSError, TimeoutError):
+            await asyncio.wait_for(process.stdin.wait_closed(), 0.2)
         try:
             return status, await asyncio.wait_for(process.stderr.read(), 0.2)
         except TimeoutError:

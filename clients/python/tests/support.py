@@ -28,6 +28,13 @@ def module_of(example: str) -> bytes:
 EXIT_7 = module_of("first_run")
 
 
+# Each round of the loop is six turns, the fifth of which sets the local.
+FOREVER = b"""(module (type $v (func))
+  (func $main (type $v) (local $i i32)
+    loop  local.get $i  i32.const 1  i32.add  local.set $i  br 0  end)
+  (export "_start" (func $main)))"""
+
+
 def machine_of(data: bytes) -> Any:
     """A task of the second reading before its first turn."""
     return Machine(wasm.Decoder(data).module())

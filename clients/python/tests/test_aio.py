@@ -23,6 +23,7 @@ KILLS = 5 if IS_REFERENCE else 50
 
 class Pipelined(unittest.IsolatedAsyncioTestCase):
     async def asyncSetUp(self) -> None:
+        asyncio.get_running_loop().set_debug(False)
         self.shim = await self.enterAsyncContext(feulgama.AsyncShim(SHIM))
 
     async def test_run(self) -> None:
@@ -109,6 +110,7 @@ class Killed(unittest.IsolatedAsyncioTestCase):
         return id
 
     async def test_many_at_once(self) -> None:
+        asyncio.get_running_loop().set_debug(False)
         for _ in range(KILLS):
             async with asyncio.timeout(5), feulgama.AsyncShim(SHIM) as shim:
                 asyncio.get_running_loop().call_later(random.uniform(0, 0.05), os.kill, shim.pid, signal.SIGKILL)

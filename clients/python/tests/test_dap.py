@@ -8,12 +8,13 @@ import subprocess
 import sys
 import tempfile
 import threading
+import time
 import unittest
 from typing import Any
 
 from feulgama.dap.wire import BadMessage, read_message
 from feulgama.debug import dwarf
-from tests.support import CLIENT, EXIT_7, SHIM
+from tests.support import CLIENT, EXIT_7, FOREVER, IS_REFERENCE, SHIM
 
 Body = dict[str, Any]
 FOLDER = CLIENT / "examples"
@@ -198,6 +199,36 @@ class Instructions(WithEditor):
         self.assertFalse(self.editor.ask("scopes")["success"])
         self.assertFalse(self.editor.ask("dance")["success"])
         self.assertTrue(self.editor.ask("disconnect")["success"])
+
+
+@unittest.skipIf(IS_REFERENCE, "the second reading is too slow, and reads no texts")
+class Forever(WithEditor):
+    """A program that does not end, as a text."""
+
+    def setUp(self) -> None:
+        super().setUp()
+        file = self.enterContext(tempfile.NamedTemporaryFile(suffix=".wat"))
+        file.write(FOREVER)
+        file.flush()
+        self.launch(program=file.name)
+        self.editor.ask("configurationDone")
+
+    def test_pause(self) -> None:
+        for _ in range(3):
+            time.sleep(0.2)
+            begin = time.monotonic()
+            self.editor.ask("pause", threadId=1)
+            self.assertEqual(self.editor.event("stopped")["body"]["reason"], "pause")
+            self.assertLess(time.monotonic() - begin, 2)
+            turn = int(self.editor.evaluate("turn"))
+            self.assertEqual(self.editor.evaluate("local 0"), f"i32:{(turn + 1) // 6}")
+            self.assertTrue(self.editor.ask("continue", threadId=1)["success"])
+
+    def test_disconnect_while_it_runs(self) -> None:
+        begin = time.monotonic()
+        self.assertTrue(self.editor.ask("disconnect")["success"])
+        self.assertEqual(self.editor.process.wait(10), 0)
+        self.assertLess(time.monotonic() - begin, 3)
 
 
 class Messages(unittest.TestCase):

@@ -3,17 +3,23 @@ from __future__ import annotations
 
 import random
 import re
+import threading
+import time
 import unittest
+from collections.abc import Callable
 from pathlib import Path
 from typing import Any
 
 import feulgama
 from feulgama.debug.commands import Commands
+from feulgama.debug.look import Place
 from feulgama.debug.symbols import Symbols
+from feulgama.debug.timeline import Search, Why
 from feulgama.model import Frame
 from feulgama.opening import open_debugger
+from feulgama.program import assemble
 from feulgama.wasm.module import decode
-from tests.support import SHIM, machine_of, some_programs
+from tests.support import FOREVER, IS_REFERENCE, SHIM, machine_of, some_programs
 
 FRAME = re.compile(r"#(\d+) (\d+):(\d+|end) <[^>]*> \| labels (.*) \| locals (.*) \| operands (.*)")
 PROGRAMS, STOPS, TURNS = 10, 20, 3000
@@ -114,6 +120,60 @@ class RandomStops(unittest.TestCase):
 
     def answer(self, commands: Commands, line: str) -> list[str]:
         return list(commands.answer(line))
+
+
+@unittest.skipIf(IS_REFERENCE, "the second reading is too slow, and reads no texts")
+class Forever(unittest.TestCase):
+    """A program that does not end."""
+
+    def setUp(self) -> None:
+        shim = self.enterContext(feulgama.Shim(SHIM))
+        self.debugger = open_debugger(shim, Path("module"), assemble(FOREVER, [SHIM]), [], {}, None)
+        self.timeline = self.debugger.timeline
+
+    def assert_exact(self, turn: int) -> None:
+        """The state is that of the turn: each round of the loop is six turns, the fifth of which sets the local."""
+        self.assertEqual(self.timeline.turn, turn)
+        frame, = self.debugger.frames()
+        self.assertEqual((frame.next, frame.locals[0].number), (turn % 6, (turn + 1) // 6))
+
+    def test_it_can_be_broken_off(self) -> None:
+        """Each search ends soon after an interrupt, at a turn whose state is right."""
+        self.debugger.add_breakpoint("none", [Place(0, 0)])
+        moves: list[Callable[[], Why]] = [
+            lambda: self.timeline.forward(Search(lambda _: False, self.debugger.places())),
+            lambda: self.timeline.seek(10**12), lambda: self.timeline.forward(Search(lambda _: False))]
+        for move in moves:
+            timer = threading.Timer(0.3, self.timeline.interrupted.set)
+            timer.start()
+            begin = time.monotonic()
+            self.assertIs(move(), Why.INTERRUPTED)
+            self.assertLess(time.monotonic() - begin, 2)
+            self.timeline.interrupted.clear()
+            self.assert_exact(self.timeline.turn)
+
+    def test_a_way_back_that_is_broken_off_changes_nothing(self) -> None:
+        self.timeline.seek(20_000_000)
+        self.timeline.interrupted.set()
+        self.assertIs(self.timeline.seek(19_000_000), Why.INTERRUPTED)
+        self.timeline.interrupted.clear()
+        self.assert_exact(20_000_000)
+
+    def test_far_turns(self) -> None:
+        random.seed(2)
+        for _ in range(12):
+            turn = random.choice([random.randrange(30_000_000), max(0, self.timeline.turn - random.randint(1, 200))])
+            self.timeline.seek(turn)
+            self.assert_exact(turn)
+
+    def test_breakpoints_that_are_far_apart(self) -> None:
+        self.timeline.seek(3_000_000)
+        self.debugger.add_breakpoint("the second turn", [Place(0, 1)])
+        self.debugger.go_back()
+        self.assert_exact(2_999_995)
+        only_first = Search(lambda look: look.turn < 10, frozenset({Place(0, 1)}))
+        self.timeline.backward(only_first)
+        self.assert_exact(7)
 
 
 class Calls(unittest.TestCase):

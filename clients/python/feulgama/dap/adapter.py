@@ -18,12 +18,14 @@ BREAKS_OFF = ("pause", "disconnect", "terminate")
 
 
 def read_all(stream: BinaryIO, session: Session, found: queue.SimpleQueue[Message | None]) -> None:
-    """Hands each message on; one that has to break off what is running does so at once."""
+    """Hands each message on, up to a `disconnect`; one that has to break off what is running does so at once."""
     with contextlib.suppress(BadMessage):
         while (message := read_message(stream)) is not None:
             found.put(message)
             if message.get("command") in BREAKS_OFF:
                 session.interrupt()
+            if message.get("command") == "disconnect":
+                return
     session.interrupt()
     found.put(None)
 
@@ -38,7 +40,7 @@ def serve(shim_file: str | None) -> int:
         writer = Writer(sys.stdout.buffer)
         session = Session(writer, opener_of(open_file))
         messages: queue.SimpleQueue[Message | None] = queue.SimpleQueue()
-        threading.Thread(target=read_all, args=(sys.stdin.buffer, session, messages), daemon=True).start()
+        threading.Thread(target=read_all, args=(sys.stdin.buffer, session, messages)).start()
         while not session.is_over and (message := messages.get()) is not None:
             if message.get("type") == "request":
                 session.answer(message)

@@ -40,7 +40,6 @@ class Session:
         self._commands: Commands | None = None
         self._launch: Body = {}
         self._owned: dict[str, list[Breakpoint]] = {}
-        self._written = dict.fromkeys(Stream, 0)
         self._decoders = {stream: codecs.getincrementaldecoder("utf-8")("replace") for stream in Stream}
         self.is_over = False
 
@@ -216,10 +215,7 @@ class Session:
             self._stopped(told, None)
 
     def _new_output(self) -> None:
-        for stream in Stream:
-            written = self.debugger.timeline.output(stream)
-            new = written[self._written[stream]:]
-            self._written[stream] = max(len(written), self._written[stream])
+        for stream, new in self.debugger.timeline.new_output().items():
             if new:
                 self._writer.event("output", {"category": stream.name.lower(),
                                               "output": self._decoders[stream].decode(new)})

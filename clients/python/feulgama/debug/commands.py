@@ -35,14 +35,13 @@ class Command:
 
 
 class Commands:
-    """The state of a terminal: the debugger, the frame that is looked at, and how much output was shown."""
+    """The state of a terminal: the debugger, and the frame that is looked at."""
 
     def __init__(self, debugger: Debugger) -> None:
         self.debugger = debugger
         self.timeline, self.symbols = debugger.timeline, debugger.symbols
         self.selected = 0
         self._listed: Place | None = None
-        self._written = dict.fromkeys(Stream, 0)
 
     def answer(self, line: str) -> Lines:
         """The lines that a line of the user's is answered. Raises what goes wrong as a FeulgamaError, and Quit."""
@@ -70,10 +69,7 @@ class Commands:
         yield from render.stop_lines(self.symbols, look.turn, look.place, look.depth)
 
     def _new_output(self) -> Lines:
-        for stream in Stream:
-            written = self.timeline.output(stream)
-            new = written[self._written[stream]:]
-            self._written[stream] = max(len(written), self._written[stream])
+        for stream, new in self.timeline.new_output().items():
             yield from (f"{stream.name.lower()}: {line}" for line in new.decode(errors="replace").splitlines())
 
     def _frame(self) -> Frame:

@@ -1,6 +1,11 @@
-"""Where a task is between two turns, read from the bytes of an `inspect`'s reply."""
+"""Where a task is between two turns, read from the bytes of an `inspect`'s reply.
+
+A search reads a hundred thousand replies a second, so they are not read as JSON: a reply has its keys in a fixed order, and
+no spaces.
+"""
 from __future__ import annotations
 
+import functools
 import re
 from typing import NamedTuple
 
@@ -37,3 +42,14 @@ def look_of(line: bytes) -> Look:
     func, next_ = innermost.groups()
     place = None if func is None else Place(int(func), int(next_))
     return Look(int(count[1]), place, line.count(b'"func":'), line)
+
+
+@functools.lru_cache(maxsize=16)
+def innermost_at(places: frozenset[Place]) -> re.Pattern[bytes]:
+    """What matches the replies whose innermost frame is at one of these places."""
+    by_func: dict[int, list[str]] = {}
+    for place in places:
+        by_func.setdefault(place.func, []).append(str(place.place))
+    funcs = (rf'{func},"labels":\[[\d,]*\],"locals":\[[^\]]*\],"next":(?:{"|".join(numbers)}),'
+             for func, numbers in by_func.items())
+    return re.compile(rf'\{{"frames":\[\{{"func":(?:{"|".join(funcs)})'.encode())

@@ -14,7 +14,7 @@ from feulgama import requests
 from feulgama.config import Config
 from feulgama.debug.look import Look, Place, look_of
 from feulgama.debug.track import STRIDE, Track
-from feulgama.model import Exit, Inspection
+from feulgama.model import Exit, Inspection, Stream
 from feulgama.shim import Shim
 
 MOST_BREAKS = 32
@@ -25,6 +25,7 @@ PATIENT_LOOKS = 64
 TRAIL = 128
 LONG_WAY = 1_000_000
 RUN_ON = 50_000_000
+NEAR, NEAR_TURNS, MANY_LOOKS = 50_000, 4096, 20_000
 PAGE, MOST_PAGES = 65_536, 256
 LAST_TURN = 10**15
 
@@ -74,6 +75,7 @@ class Timeline:
         self.turn = self._track.turn
         self.interrupted = threading.Event()
         self.progress: Callable[[], None] = lambda: None
+        self._told, self._told_turn = dict.fromkeys(Stream, 0), 0
 
     @property
     def exit(self) -> Exit | None:
@@ -124,6 +126,19 @@ class Timeline:
     def output(self, stream: int) -> bytes:
         """What was written to a stream up to this turn."""
         return self._shim.output(self._here().id, stream)
+
+    def new_output(self) -> dict[Stream, bytes]:
+        """What was written to the streams up to this turn, but for what this method has answered before. At a turn
+        that is not after the last one for which it was asked there is nothing, and no task is moved."""
+        if self.turn <= self._told_turn:
+            return {}
+        self._told_turn = self.turn
+        found = {}
+        for stream in Stream:
+            written = self.output(stream)
+            found[stream] = written[self._told[stream]:]
+            self._told[stream] = len(written)
+        return found
 
     # Going to a turn.
 
@@ -219,28 +234,36 @@ class Timeline:
 
     def backward(self, search: Search) -> Why:
         """Goes back to the last turn before this one that is looked for, or to the first turn."""
-        end, width = self.turn, TRAIL if search.is_dense() else STRIDE
-        while end > 0:
-            begin = max(0, end - width)
+        end = self.turn
+        near = max(0, end - NEAR_TURNS) if search.is_dense() else 0
+        found = self._last_of_parts(search, [0, near, end] if near else [0, end])
+        if self.interrupted.is_set():
+            return Why.INTERRUPTED
+        why = self.seek(found or 0)
+        return Why.BEGIN if found is None and why is Why.FOUND else why
+
+    def _last_of_parts(self, search: Search, ends: list[int]) -> int | None:
+        """The last turn that is looked for, in the last of the parts between these turns that has one."""
+        for begin, end in reversed(list(zip(ends, ends[1:]))):
             found = self._last(search, begin, end)
-            if self.interrupted.is_set():
-                return Why.INTERRUPTED
-            if found is not None:
-                return self.seek(found)
-            end, width = begin, 64 * width
-        self.seek(0)
-        return Why.BEGIN
+            if found is not None or self.interrupted.is_set():
+                return found
+        return None
 
     def _last(self, search: Search, begin: int, end: int) -> int | None:
-        """The last turn from one on and before another that is looked for."""
+        """The last turn from one on and before another that is looked for. If there turns out to be much to look at,
+        the end of what is left comes first. None if it was broken off, too."""
         if self._take(begin, self.interrupted) is Why.INTERRUPTED:
             return None
-        track, is_dense = self._track, search.is_dense()
+        track, is_dense, looked = self._track, search.is_dense(), 0
         found = begin if search.takes(track.look()) else None
         while track.exit is None and track.turn < end and not self.interrupted.is_set():
+            if looked > MANY_LOOKS and end - track.turn > 2 * NEAR:
+                later = self._last_of_parts(search, [track.turn, (track.turn + end) // 2, end - NEAR, end])
+                return found if later is None else later
             count, repeats = self._pace(end - track.turn, is_dense, MOST_REPEATS)
-            for look in track.looks(count, repeats, frozenset() if is_dense else search.breaks):
-                if look.turn < end and search.takes(look):
-                    found = look.turn
+            looks = track.looks(count, repeats, frozenset() if is_dense else search.breaks)
+            looked += len(looks)
+            found = max((look.turn for look in looks if look.turn < end and search.takes(look)), default=found)
         self._note_end(track)
         return found

@@ -2,17 +2,17 @@
 from __future__ import annotations
 
 import threading
-from collections.abc import Iterator
 
 from feulgama import requests
 from feulgama.config import Config
-from feulgama.debug.look import Look, Place, look_of
+from feulgama.debug.look import Look, Place, innermost_at, look_of
 from feulgama.errors import WrongStatus
 from feulgama.model import Exit, State, Status
 from feulgama.shim import Shim
 
 STRIDE = 1000
 BATCH = 4096
+PAUSED = b'"status":"paused"'
 
 
 class Track:
@@ -75,18 +75,23 @@ class Track:
         """Where the task is."""
         return look_of(self._shim.raw(requests.inspect(self.id).line, 1)[:-1])
 
-    def looks(self, count: int, repeats: int, breaks: frozenset[Place]) -> Iterator[Look]:
+    def looks(self, count: int, repeats: int, breaks: frozenset[Place]) -> list[Look]:
         """Makes this many turns, this many times, each time up to a breakpoint or the task's end; where it is after
-        each time, but not of its end."""
+        each time, but not of its end. With breakpoints there are looks at these alone."""
         self.set_breaks(breaks)
         step, inspect = requests.step(self.id, count), requests.inspect(self.id)
-        lines = self._shim.raw((step.line + inspect.line) * repeats, 2 * repeats).split(b"\n")
+        replies = self._shim.raw((step.line + inspect.line) * repeats, 2 * repeats)
+        lines = replies.split(b"\n")
         self.turn = look_of(lines[-2]).turn
-        for at in range(0, 2 * repeats, 2):
-            if b'"status":"paused"' not in lines[at]:
-                self._note_end(step, lines[at])
-                break
-        return (look_of(line) for line in lines[1:at + 1 if self.exit else 2 * repeats:2])
+        made = repeats
+        if replies.count(PAUSED) < repeats:
+            made = next(at for at in range(repeats) if PAUSED not in lines[2 * at])
+            self._note_end(step, lines[2 * made])
+        shown = lines[1:2 * made:2]
+        if breaks:
+            matches = innermost_at(breaks).match
+            shown = [line for line in shown if matches(line)]
+        return list(map(look_of, shown))
 
     def _note_end(self, step: requests.Request[State], line: bytes) -> None:
         try:
