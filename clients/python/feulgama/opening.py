@@ -27,10 +27,10 @@ def module_bytes(path: Path, shim_file: str | None) -> bytes:
 def open_debugger(shim: Shim, path: Path, data: bytes, args: Sequence[str], env: Mapping[str, str],
                   memory_limit: int | None) -> Debugger:
     """A debugger over a run of a module, before its first turn. Its arguments are the module's path and these."""
-    digest = shim.ensure(data)
+    module, digest = decode(data), shim.ensure(data)
     try:
-        timeline = Timeline(shim, Config(digest, (str(path), *args), env, memory_limit))
+        timeline = Timeline(shim, Config(digest, (str(path), *args), env, memory_limit), module)
     except Limit as error:
         raise NeedsMemory(f"{error}; its memory may begin with more pages than the task may have, which an option "
                           "for memory raises") from error
-    return Debugger(timeline, Symbols(decode(data), [path.parent, Path.cwd()]))
+    return Debugger(timeline, Symbols(module, [path.parent, Path.cwd()]))

@@ -15,8 +15,10 @@ SHIM = os.environ.get("FEULGAMA_SHIM") or str(TOP / "crates/wasm_shim/out/wasm_s
 IS_REFERENCE = SHIM.endswith(".py")
 sys.path.insert(0, str(TOP / "tools"))
 
-from reference import frames, programs, wasm  # noqa: E402
+from reference import callers, frames, programs, wasm  # noqa: E402
 from reference.execute import Machine  # noqa: E402
+
+__all__ = ["callers", "wasm"]
 
 
 def module_of(example: str) -> bytes:

@@ -14,8 +14,11 @@ from feulgama import requests
 from feulgama.config import Config
 from feulgama.debug.look import Look, Place, look_of
 from feulgama.debug.track import STRIDE, Track
+from feulgama.debug.trail import Trail, leave_trail
+from feulgama.errors import FeulgamaError
 from feulgama.model import Exit, Inspection, Stream
 from feulgama.shim import Shim
+from feulgama.wasm.module import Module
 
 MOST_BREAKS = 32
 MOST_PEEK = 256
@@ -65,11 +68,12 @@ class Timeline:
     handler; it breaks off what is going on, and the caller clears it. `progress` is called now and then on the way of
     a long search."""
 
-    def __init__(self, shim: Shim, config: Config) -> None:
-        self._shim, self._config = shim, config
+    def __init__(self, shim: Shim, config: Config, module: Module) -> None:
+        self._shim, self._config, self._module = shim, config, module
         self._track = Track(shim, config)
         self._parked: list[Track] = []
         self._seen: dict[int, bytes] = {}
+        self._trail: Trail | None = None
         self._end: tuple[int, Exit] | None = None
         self._note_end(self._track)
         self.turn = self._track.turn
@@ -101,19 +105,29 @@ class Timeline:
 
     def memory(self, address: int, length: int) -> bytes:
         """Bytes of memory from an address on; fewer where memory ends."""
-        length = max(0, min(length, self.memory_size() - address))
-        asked = [requests.peek(self._here().id, address + at, min(MOST_PEEK, length - at))
-                 for at in range(0, length, MOST_PEEK)]
+        id, trail = self._with_memory()
+        length = max(0, min(length, self._size(id) - address))
+        asked = [requests.peek(id, address + at, min(MOST_PEEK, length - at)) for at in range(0, length, MOST_PEEK)]
         found = b""
         for part in self._shim.call_all(asked):
-            if isinstance(part, Exception):
+            if isinstance(part, FeulgamaError):
                 raise part
             found += part
-        return found
+        return found if trail is None else trail.memory_at(self.turn, address, found)
 
     def memory_size(self) -> int:
         """How many bytes of memory there are."""
-        id, least, most = self._here().id, 0, MOST_PAGES
+        return self._size(self._with_memory()[0])
+
+    def _with_memory(self) -> tuple[str, Trail | None]:
+        """A task whose memory is that of this turn, or together with a trail tells it."""
+        trail = self._trail
+        if trail is not None and trail.end == self._track.turn and trail.knows_memory(self.turn):
+            return self._track.id, trail
+        return self._here().id, None
+
+    def _size(self, id: str) -> int:
+        least, most = 0, MOST_PAGES
         while least < most:
             middle = (least + most + 1) // 2
             asked = requests.peek(id, middle * PAGE, 0)
@@ -148,9 +162,10 @@ class Timeline:
             self.turn = turn
             return Why.FOUND
         way_back = turn < self.turn and turn > LONG_WAY
-        reached = self._take(turn - TRAIL if way_back else turn, self.interrupted)
+        reached = self._take(max(0, turn - TRAIL) if way_back else turn, self.interrupted)
         if way_back and reached is Why.FOUND:
-            self._leave_trail(turn)
+            self._trail = leave_trail(self._shim, self._track, self._module, turn)
+            self._seen = dict(self._trail.lines)
         if reached is not Why.INTERRUPTED or self._track.turn <= turn:
             self.turn = self._track.turn
         return reached
@@ -184,13 +199,6 @@ class Timeline:
         self._parked = [track for track in self._parked if track not in (parked, other)] + [parked]
         if len(self._parked) > MOST_PARKED:
             self._parked.pop(0).drop()
-
-    def _leave_trail(self, turn: int) -> None:
-        """Goes on to a turn, and keeps what is seen on the way, since who went back may go back further."""
-        self._seen.clear()
-        first = self._track.look()
-        looks = self._track.looks(1, turn - self._track.turn, frozenset())
-        self._seen = {look.turn: look.line for look in (first, *looks)}
 
     # Searching.
 
