@@ -16,8 +16,8 @@
 (setq dap-auto-configure-features nil
       dap-auto-show-output nil
       dap-output-buffer-filter '("stdout" "stderr" "console")
-      lsp-session-file (make-temp-name "/tmp/dap-emacs-session")
-      dap-breakpoints-file (make-temp-name "/tmp/dap-emacs-breakpoints"))
+      lsp-session-file (expand-file-name "session" "~")
+      dap-breakpoints-file (expand-file-name "breakpoints" "~"))
 
 (dap-register-debug-provider
  "feulgama"

@@ -3,16 +3,20 @@
 
     clients/python/bench/measure.py [PROGRAM]
 
-First the time of a request by the library, by asyncio, and by the bare pipe (the same line written and its reply read by
+PROGRAM is that of FEULGAMA_SHIM, or the one that tools/shim builds, if it is not told. First the time of a request by the library, by asyncio, and by the bare pipe (the same line written and its reply read by
 two system calls). Then how long the debugger takes to move in a program that runs for ever: to a turn, back from it, to a
-breakpoint, and back to one. Each figure is the best of some rounds.
+breakpoint, and back to one. Last, how soon a call ends whose shim is killed at a random moment, at most of 50 times. The
+time of a request is the best of five rounds; the others are of one.
 """
 from __future__ import annotations
 
 import asyncio
 import os
+import random
+import signal
 import subprocess
 import sys
+import threading
 import time
 from collections.abc import Callable
 from pathlib import Path
@@ -134,11 +138,34 @@ def with_breakpoint(debugger: Debugger, timed: Callable[[str, Callable[[], objec
     timed("continue 100,000,000", lambda: debugger.go_on(debugger.timeline.turn + FAR))
 
 
+def kills(name: str, data: bytes) -> None:
+    slowest = 0.0
+    for _ in range(50):
+        with feulgama.Shim(name) as shim:
+            shim.create(feulgama.Config(shim.ensure(data)), "a")
+            killed: list[float] = []
+
+            def kill(pid: int = shim.pid, killed: list[float] = killed) -> None:
+                killed.append(time.perf_counter())
+                os.kill(pid, signal.SIGKILL)
+
+            timer = threading.Timer(random.uniform(0, 0.03), kill)
+            timer.start()
+            try:
+                while True:
+                    shim.inspect("a")
+            except feulgama.ShimEnded:
+                slowest = max(slowest, time.perf_counter() - killed[0])
+            timer.join()
+    print(f"an exception after a kill: at most {slowest * 1000:.1f} ms")
+
+
 def main(words: list[str]) -> int:
     name = words[0] if words else program()[0]
     data = assemble(FOREVER, program(name))
     requests_of(program(name), name, data)
     moves(name, data)
+    kills(name, data)
     return 0
 
 

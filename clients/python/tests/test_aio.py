@@ -14,7 +14,7 @@ from typing import Any
 from unittest import mock
 
 import feulgama
-from tests.support import EXIT_7, IS_REFERENCE, SHIM
+from tests.support import EXIT_7, FOREVER, IS_REFERENCE, SHIM
 
 BROKEN = Path(__file__).with_name("broken_shim.py")
 REQUESTS = 640 if IS_REFERENCE else 10_000
@@ -108,6 +108,17 @@ class Killed(unittest.IsolatedAsyncioTestCase):
         id = shim.create(feulgama.Config(digest)).id
         shim.kill(id)
         return id
+
+    @unittest.skipIf(IS_REFERENCE, "the second reading reads no texts")
+    def test_while_a_task_runs_for_ever(self) -> None:
+        with feulgama.Shim(SHIM) as shim:
+            id = shim.create(feulgama.Config(shim.put_text(FOREVER.decode()).digest)).id
+            shim.start(id)
+            threading.Timer(0.2, shim.kill_shim).start()
+            begin = time.monotonic()
+            with self.assertRaises(feulgama.ShimEnded):
+                shim.wait(id)
+            self.assertLess(time.monotonic() - begin, 1.2)
 
     async def test_many_at_once(self) -> None:
         asyncio.get_running_loop().set_debug(False)
