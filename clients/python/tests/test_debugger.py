@@ -78,6 +78,22 @@ class RandomStops(unittest.TestCase):
                     stops += 1
         self.assertEqual(stops, PROGRAMS * STOPS)
 
+    def test_more_breakpoints_than_a_task_may_have(self) -> None:
+        for data, turns in some_programs(17, 3, TURNS):
+            oracle = Oracle(data, turns)
+            places = sorted({place for place in oracle.places if place is not None})
+            chosen = set(random.sample(places, min(40, len(places) // 2)))
+            with feulgama.Shim(SHIM) as shim:
+                debugger = open_debugger(shim, Path("module"), data, [], {}, None)
+                debugger.add_breakpoint("many", [Place(*place) for place in chosen])
+                hits = [at for at, place in enumerate(oracle.places) if place in chosen and at > 0][:20]
+                for wanted in hits:
+                    debugger.go_on()
+                    self.assertEqual(debugger.timeline.turn, wanted)
+                for wanted in hits[-2::-1]:
+                    debugger.go_back()
+                    self.assertEqual(debugger.timeline.turn, wanted)
+
     def move(self, commands: Commands, oracle: Oracle) -> None:
         """Moves in some way, and compares the turn, the frames and memory with those that there have to be."""
         turn, kind = commands.timeline.turn, random.choice(["goto", "step", "back", "continue", "reverse"])

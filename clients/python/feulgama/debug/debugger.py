@@ -173,40 +173,30 @@ class Debugger:
         return line is not None and (look.depth != depth or (look.place.func, line) != from_)
 
     def step_line_back(self) -> Why:
-        """Goes back to where the line before this one began, in this function or in one that called it; of a line
-        that has begun before, to its own beginning."""
+        """Goes back to where the line before this one began, over calls, in this function or in one that called it; of a
+        line that has begun before, to its own beginning. Without lines it takes one turn back."""
+        why = self.back_over()
         look = self.timeline.look()
-        if look.place is None:
-            why = self.step_back()
-            look = self.timeline.look()
-            if look.place is None or self.symbols.line_at(look.place) is None:
-                return why
-        elif self.line() is None:
-            return self.step_back()
-        depth = look.depth
-        why = self.step_back()
-        if why is Why.FOUND and not self._is_line_of(self.timeline.look(), depth):
-            why = self.timeline.backward(Search(lambda found: self._is_line_of(found, depth), each_turn=True))
-        if why is Why.FOUND:
-            why = self._to_line_begin(depth)
-        return why
-
-    def _is_line_of(self, look: Look, depth: int) -> bool:
-        """Whether a look is of a line in this frame or an outer one."""
-        return look.depth <= depth and look.place is not None and self.symbols.line_at(look.place) is not None
-
-    def _to_line_begin(self, depth: int) -> Why:
-        """Goes back to the first turn that was in this line without a break, calls from it counted."""
-        look = self.timeline.look()
-        assert look.place is not None
-        here = look.place.func, self.symbols.line_at(look.place)
-
-        def is_before(found: Look) -> bool:
-            return found.depth <= look.depth and self._is_elsewhere(found, here, look.depth)
-
-        why = self.timeline.backward(Search(is_before, each_turn=True))
-        if why is not Why.FOUND:
+        if why is not Why.FOUND or look.place is None or self.line() is None:
             return why
-        inside = Search(lambda found: found.depth == look.depth and found.place is not None
-                        and (found.place.func, self.symbols.line_at(found.place)) == here, each_turn=True)
-        return self.timeline.forward(inside)
+        here, depth = (look.place.func, self.line()), look.depth
+        while True:
+            turn = self.timeline.turn
+            why = self.back_over()
+            look = self.timeline.look()
+            if why is Why.INTERRUPTED or why is Why.BEGIN and not self._is_elsewhere(look, here, depth):
+                return why
+            if self._is_elsewhere(look, here, depth):
+                return self.timeline.seek(turn)
+
+    def back_over(self) -> Why:
+        """Takes a turn back; of a call that has returned all its turns, to where the call is next."""
+        if self.timeline.interrupted.is_set():
+            return Why.INTERRUPTED
+        depth = self.timeline.look().depth
+        why = self.step_back()
+        frames = self.frames()
+        if why is not Why.FOUND or depth == 0 or len(frames) <= depth:
+            return why
+        call = self.symbols.call_of(frames[len(frames) - depth])
+        return self.timeline.backward(Search(lambda look: look.depth == depth, frozenset({call})))

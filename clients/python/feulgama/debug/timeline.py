@@ -221,7 +221,7 @@ class Timeline:
             self.turn = track.turn
             self.progress()
             looked += repeats
-            repeats = 1 if is_dense and looked < PATIENT_LOOKS else min(2 * repeats, MOST_REPEATS)
+            repeats = 1 if looked < PATIENT_LOOKS else min(2 * repeats, MOST_REPEATS)
         return Why.ENDED if track.exit is not None else Why.LIMIT
 
     def _run_on(self, goal: int) -> Why:

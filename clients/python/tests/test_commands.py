@@ -1,0 +1,103 @@
+"""The words of the terminal: commands, places, expressions and formats."""
+from __future__ import annotations
+
+import unittest
+
+import feulgama
+from feulgama.debug import dwarf
+from feulgama.debug.commands import COMMANDS, Commands, Quit
+from feulgama.debug.memory import BadFormat, Format, format_of
+from feulgama.debug.terminal import words_for
+from feulgama.errors import FeulgamaError
+from feulgama.opening import open_debugger
+from tests.support import CLIENT, SHIM
+
+MODULE = CLIENT / "examples/words.wasm"
+
+
+class Terminal(unittest.TestCase):
+    def setUp(self) -> None:
+        shim = self.enterContext(feulgama.Shim(SHIM))
+        self.commands = Commands(open_debugger(shim, MODULE, MODULE.read_bytes(), [], {}, None))
+
+    def answer(self, line: str) -> list[str]:
+        return list(self.commands.answer(line))
+
+    def fault(self, line: str) -> str:
+        with self.assertRaises(FeulgamaError) as found:
+            self.answer(line)
+        return str(found.exception)
+
+    def test_names_of_commands(self) -> None:
+        names = [word for command in COMMANDS for word in (command.name, *command.short)]
+        self.assertEqual(len(names), len(set(names)))
+        self.assertEqual(self.answer("backt"), self.answer("bt"))
+        self.assertEqual(self.fault("re"), "re is no command; is it reverse-step or reverse-line or reverse-continue?")
+        self.assertEqual(self.fault("dance"), "dance is no command; see help")
+        self.assertEqual(len(self.answer("help")), len(COMMANDS))
+        with self.assertRaises(Quit):
+            self.answer("q")
+
+    def test_places(self) -> None:
+        self.assertEqual(self.answer("break count:3")[0].split(" <")[0], "breakpoint 1 at 3:3")
+        self.assertEqual(self.answer("break 7")[0].split(" <")[0], "breakpoint 2 at 7:0")
+        self.assertEqual(self.answer("b")[0].split(" <")[0], "breakpoint 3 at 2:0")
+        self.assertEqual(self.fault("break nothing"), "there is no function and no source file named nothing")
+        self.assertEqual(self.fault("break 3:999"), "there is no instruction 3:999")
+        self.assertEqual(self.fault("break proc_exit"), "function 0 is an import, and has no instructions")
+        self.answer("delete 2")
+        self.assertEqual(len(self.answer("info breakpoints")), 2)
+        self.assertEqual(self.fault("delete 2"), "there is no breakpoint 2")
+        self.answer("delete")
+        self.assertEqual(self.answer("info breakpoints"), ["no breakpoints"])
+
+    @unittest.skipUnless(dwarf.IS_THERE, "needs python3-pyelftools")
+    def test_lines(self) -> None:
+        self.assertEqual(self.answer("break words.c:48")[-1], "breakpoint 1 at 3:95 <count> words.c:48")
+        self.assertEqual(self.answer("break words.c:52")[0], "line 52 has no statement; the next one is at line 53")
+        self.assertEqual(self.fault("break words.c:999"), "there is no statement from line 999 on in words.c")
+
+    def test_expressions(self) -> None:
+        self.answer("goto 20")
+        shown = {"1 + 2 * 3": "7", "(1 + 2) * 3": "9", "0x10 - 1": "15", "-(2)": "-2", "turn": "20",
+                 "local 0": "i32:1024 (0x400)", "local 0 + 1": "1025", "*1024": "i32:543516788 (0x20656874)"}
+        for text, wanted in shown.items():
+            self.assertEqual(self.answer(f"print {text}"), [wanted], text)
+        for text in ("", "1 +", "(1", "1 2", "local", "local x", "local 99", "operand 99", "nothing", "?", "*70000"):
+            self.assertTrue(self.fault(f"print {text}"), text)
+
+    def test_memory(self) -> None:
+        self.assertEqual(self.answer("x/4xw 1024"), ["0x00000400: 0x20656874 0x63697571 0x7262206b 0x206e776f"])
+        self.assertEqual(self.answer("x/2dh 1024"), ["0x00000400: 26740 8293"])
+        self.assertEqual(self.answer("x/3c 1024"), ["0x00000400: 't' 'h' 'e'"])
+        self.assertEqual(self.answer("x/gx 1024"), ["0x00000400: 0x6369757120656874"])
+        self.assertEqual(self.answer("x/s 1024")[0][:30], "0x00000400: 'the quick brown f")
+        self.assertEqual(self.answer("x/2xw 65532"), ["0x0000fffc: 0x00000000", "0x00010000: no memory"])
+        self.assertEqual(format_of(""), Format())
+        with self.assertRaises(BadFormat):
+            format_of("4q")
+        self.assertEqual(self.fault("x"), "x takes an address: x/4xw 1024")
+
+    def test_the_end(self) -> None:
+        self.assertEqual(self.answer("continue"), ["stdout: 35", "ended after 8069 turns: exit, exit 9"])
+        self.assertEqual(self.answer("backtrace"), ["no frames"])
+        for line in ("frame", "info locals", "list", "finish", "print local 0", "break"):
+            self.assertTrue(self.fault(line), line)
+        self.assertEqual(self.answer("step"), ["ended after 8069 turns: exit, exit 9"])
+        self.assertIn("turn 8068", self.answer("rs")[0])
+        self.assertEqual(self.answer("continue"), ["ended after 8069 turns: exit, exit 9"])
+
+    def test_a_breakpoint_at_the_first_turn(self) -> None:
+        self.answer("break start")
+        self.assertIn("turn 0", self.answer("run")[1])
+        self.assertIn("ended", self.answer("continue")[-1])
+
+    def test_completion(self) -> None:
+        self.assertIn("reverse-step", words_for(self.commands, "rev"))
+        self.assertIn("count", words_for(self.commands, "break c"))
+        self.assertIn("locals", words_for(self.commands, "info "))
+        self.assertEqual(words_for(self.commands, "step "), [])
+
+
+if __name__ == "__main__":
+    unittest.main()
