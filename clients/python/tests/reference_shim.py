@@ -3,20 +3,47 @@
 
     reference_shim.py serve
     reference_shim.py asm FILE      (a file of bytes alone)
+
+With the environment variable EAGER a task runs as soon as it is started or resumed, and not only while a `wait` for it is
+answered, as if there were a worker that is faster than all requests.
 """
+import os
 import sys
 from pathlib import Path
+from typing import Any
 
 sys.path.insert(0, str(Path(__file__).resolve().parents[3] / "tools"))
 
 from reference.board import Board  # noqa: E402
+
+MOST_TURNS = 10_000_000
+
+
+class EagerBoard(Board):  # type: ignore[misc]
+    """A board whose tasks run at once."""
+
+    def start_(self, id: str) -> Any:
+        super().start_(id)
+        return self.run_on(id)
+
+    def resume_(self, id: str) -> Any:
+        super().resume_(id)
+        return self.run_on(id)
+
+    def run_on(self, id: str) -> Any:
+        """Runs a task up to a breakpoint or its end; its status is the one that was just answered."""
+        task = self.task(id)
+        before = task.status
+        if before == "running":
+            task.run(MOST_TURNS)
+        return {"id": id, "ok": True, "status": before}
 
 
 def main(words: list[str]) -> int:
     if words[:1] == ["asm"]:
         print(Path(words[1]).read_bytes().hex())
         return 0
-    board = Board(False)
+    board = EagerBoard(False) if os.environ.get("EAGER") else Board(False)
     for line in sys.stdin.buffer:
         sys.stdout.buffer.write(board.answer(line.removesuffix(b"\n")) + b"\n")
         sys.stdout.buffer.flush()

@@ -2,6 +2,7 @@
 from __future__ import annotations
 
 import random
+import os
 import re
 import threading
 import time
@@ -9,6 +10,7 @@ import unittest
 from collections.abc import Callable
 from pathlib import Path
 from typing import Any
+from unittest import mock
 
 import feulgama
 from feulgama.debug.commands import Commands
@@ -19,7 +21,7 @@ from feulgama.model import Frame
 from feulgama.opening import open_debugger
 from feulgama.program import assemble
 from feulgama.wasm.module import decode
-from tests.support import FOREVER, IS_REFERENCE, SHIM, machine_of, some_programs
+from tests.support import CLIENT, FOREVER, IS_REFERENCE, SHIM, machine_of, some_programs
 
 FRAME = re.compile(r"#(\d+) (\d+):(\d+|end) <[^>]*> \| labels (.*) \| locals (.*) \| operands (.*)")
 PROGRAMS, STOPS, TURNS = 10, 20, 3000
@@ -68,15 +70,24 @@ class RandomStops(unittest.TestCase):
     """200 random stops of ten programs, forward and back."""
 
     def test_frames(self) -> None:
+        self.assertEqual(self.stop(7, PROGRAMS, SHIM), 200)
+
+    def test_frames_where_tasks_run_at_once(self) -> None:
+        """The same over a shim that runs a task as soon as it is started or resumed."""
+        with mock.patch.dict(os.environ, EAGER="1"):
+            self.assertEqual(self.stop(8, 3, CLIENT / "tests/reference_shim.py"), 60)
+
+    def stop(self, seed: int, programs: int, program: str | Path) -> int:
+        """Stops 20 times in each of some programs; how many stops there were."""
         stops = 0
-        for data, turns in some_programs(7, PROGRAMS, TURNS):
+        for data, turns in some_programs(seed, programs, TURNS):
             oracle = Oracle(data, turns)
-            with feulgama.Shim(SHIM) as shim:
+            with feulgama.Shim(program) as shim:
                 debugger = open_debugger(shim, Path("module"), data, [], {}, None)
                 for _ in range(STOPS):
                     self.move(Commands(debugger), oracle)
                     stops += 1
-        self.assertEqual(stops, PROGRAMS * STOPS)
+        return stops
 
     def test_more_breakpoints_than_a_task_may_have(self) -> None:
         for data, turns in some_programs(17, 3, TURNS):
