@@ -2,6 +2,7 @@
 from __future__ import annotations
 
 import argparse
+import contextlib
 import sys
 from collections.abc import Sequence
 from pathlib import Path
@@ -47,7 +48,8 @@ def main(words: Sequence[str] | None = None) -> int:
         data = module_bytes(found.module, found.shim)
         with Shim(found.shim) as shim:
             opened = open_debugger(shim, found.module, data, found.args, dict(found.env), found.memory)
-            return debug(Commands(opened), sys.stdin)
+            with contextlib.closing(opened.timeline):
+                return debug(Commands(opened), sys.stdin)
     except (FeulgamaError, OSError) as error:
         print(f"feulgama: {error}", file=sys.stderr)
         return 1

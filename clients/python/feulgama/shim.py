@@ -26,6 +26,7 @@ class Shim:
     ShimEnded if the shim ends, and BadReply if it writes what is no reply."""
 
     def __init__(self, program_file: str | os.PathLike[str] | None = None) -> None:
+        self._program_file = program_file
         self._pipe = Pipe(program(program_file))
         self._lock = threading.Lock()
         self._ids = (f"py-{count}" for count in itertools.count())
@@ -45,6 +46,10 @@ class Shim:
     def close(self) -> None:
         """Ends the shim. Its board is lost."""
         self._pipe.close()
+
+    def another(self) -> Shim:
+        """A new shim of the same program."""
+        return Shim(self._program_file)
 
     def kill_shim(self) -> None:
         """Ends the shim at once, also while another thread waits for a reply."""

@@ -37,6 +37,18 @@ FOREVER = b"""(module (type $v (func))
   (export "_start" (func $main)))"""
 
 
+# The same, with a call of function 0 each 65,536 rounds.
+OFTEN = b"""(module (type $v (func))
+  (func $often (type $v) nop)
+  (func $main (type $v) (local $i i32)
+    loop
+      local.get $i  i32.const 1  i32.add  local.tee $i  i32.const 65535  i32.and  i32.eqz
+      if  call $often  end
+      br 0
+    end)
+  (export "_start" (func $main)))"""
+
+
 def machine_of(data: bytes) -> Any:
     """A task of the second reading before its first turn."""
     return Machine(wasm.Decoder(data).module())

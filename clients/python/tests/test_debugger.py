@@ -13,7 +13,9 @@ from typing import Any
 from unittest import mock
 
 import feulgama
+from feulgama.debug import timeline as timelines
 from feulgama.debug.commands import Commands
+from feulgama.debug.debugger import Debugger
 from feulgama.debug.look import Place
 from feulgama.debug.symbols import Symbols
 from feulgama.debug.timeline import Search, Why
@@ -21,7 +23,7 @@ from feulgama.model import Frame
 from feulgama.opening import open_debugger
 from feulgama.program import assemble
 from feulgama.wasm.module import decode
-from tests.support import CLIENT, FOREVER, IS_REFERENCE, SHIM, machine_of, some_programs
+from tests.support import CLIENT, FOREVER, IS_REFERENCE, OFTEN, SHIM, machine_of, some_programs
 
 FRAME = re.compile(r"#(\d+) (\d+):(\d+|end) <[^>]*> \| labels (.*) \| locals (.*) \| operands (.*)")
 PROGRAMS, STOPS, TURNS = 10, 20, 3000
@@ -201,6 +203,53 @@ class Forever(unittest.TestCase):
         only_first = Search(lambda look: look.turn < 10, frozenset({Place(0, 1)}))
         self.timeline.backward(only_first)
         self.assert_exact(7)
+
+
+@unittest.skipIf(IS_REFERENCE, "the second reading is too slow, and reads no texts")
+class Scouts(unittest.TestCase):
+    """A search with a second shim beside it finds what one without it finds."""
+
+    def opened(self) -> Debugger:
+        shim = self.enterContext(feulgama.Shim(SHIM))
+        debugger = open_debugger(shim, Path("module"), assemble(OFTEN, [SHIM]), [], {}, None)
+        self.addCleanup(debugger.timeline.close)
+        return debugger
+
+    def test_breakpoints(self) -> None:
+        found: list[list[int]] = []
+        for after in (0, 10**18):
+            with mock.patch.object(timelines, "SCOUT_AFTER", after):
+                debugger = self.opened()
+                debugger.add_breakpoint("often", [Place(0, 0)])
+                turns = []
+                for _ in range(12):
+                    self.assertIs(debugger.go_on(), Why.FOUND)
+                    turns.append(debugger.timeline.turn)
+                    self.assertEqual(debugger.timeline.look().place, Place(0, 0))
+                    self.assertEqual(debugger.frames()[1].locals[0].number, 65_536 * len(turns))
+                debugger.go_back()
+                self.assertEqual(debugger.timeline.turn, turns[-2])
+                found.append(turns)
+        self.assertEqual(*found)
+
+    def test_a_search_that_accepts_little(self) -> None:
+        with mock.patch.object(timelines, "SCOUT_AFTER", 0):
+            timeline = self.opened().timeline
+            third = Search(lambda look: b'"i32:196608"' in look.line, frozenset({Place(0, 0)}))
+            self.assertIs(timeline.forward(third), Why.FOUND)
+            self.assertIn("i32:196608", map(str, timeline.inspection().frames[1].locals))
+
+    def test_it_can_be_broken_off(self) -> None:
+        with mock.patch.object(timelines, "SCOUT_AFTER", 0):
+            timeline = self.opened().timeline
+            for _ in range(3):
+                timer = threading.Timer(0.5, timeline.interrupted.set)
+                timer.start()
+                begin = time.monotonic()
+                self.assertIs(timeline.forward(Search(lambda _: False, frozenset({Place(0, 0)}))), Why.INTERRUPTED)
+                self.assertLess(time.monotonic() - begin, 2.5)
+                timeline.interrupted.clear()
+                self.assertEqual(timeline.look().turn, timeline.turn)
 
 
 class Calls(unittest.TestCase):

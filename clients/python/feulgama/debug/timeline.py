@@ -13,6 +13,7 @@ from dataclasses import dataclass
 from feulgama import requests
 from feulgama.config import Config
 from feulgama.debug.look import Look, Place, look_of
+from feulgama.debug.scout import Scout
 from feulgama.debug.track import STRIDE, Track
 from feulgama.debug.trail import Trail, leave_trail
 from feulgama.errors import FeulgamaError
@@ -28,6 +29,7 @@ PATIENT_LOOKS = 64
 TRAIL = 128
 LONG_WAY = 1_000_000
 RUN_ON = 50_000_000
+SCOUT_AFTER = 10_000_000
 NEAR, NEAR_TURNS, MANY_LOOKS = 50_000, 4096, 20_000
 PAGE, MOST_PAGES = 65_536, 256
 LAST_TURN = 10**15
@@ -105,11 +107,12 @@ class Timeline:
 
     def memory(self, address: int, length: int) -> bytes:
         """Bytes of memory from an address on; fewer where memory ends."""
-        id, trail = self._with_memory()
-        length = max(0, min(length, self._size(id) - address))
-        asked = [requests.peek(id, address + at, min(MOST_PEEK, length - at)) for at in range(0, length, MOST_PEEK)]
+        track, trail = self._with_memory()
+        length = max(0, min(length, size_of(track) - address))
+        asked = [requests.peek(track.id, address + at, min(MOST_PEEK, length - at))
+                 for at in range(0, length, MOST_PEEK)]
         found = b""
-        for part in self._shim.call_all(asked):
+        for part in track.shim.call_all(asked):
             if isinstance(part, FeulgamaError):
                 raise part
             found += part
@@ -117,29 +120,19 @@ class Timeline:
 
     def memory_size(self) -> int:
         """How many bytes of memory there are."""
-        return self._size(self._with_memory()[0])
+        return size_of(self._with_memory()[0])
 
-    def _with_memory(self) -> tuple[str, Trail | None]:
+    def _with_memory(self) -> tuple[Track, Trail | None]:
         """A task whose memory is that of this turn, or together with a trail tells it."""
         trail = self._trail
         if trail is not None and trail.end == self._track.turn and trail.knows_memory(self.turn):
-            return self._track.id, trail
-        return self._here().id, None
-
-    def _size(self, id: str) -> int:
-        least, most = 0, MOST_PAGES
-        while least < most:
-            middle = (least + most + 1) // 2
-            asked = requests.peek(id, middle * PAGE, 0)
-            if isinstance(self._shim.call_all([asked])[0], bytes):
-                least = middle
-            else:
-                most = middle - 1
-        return least * PAGE
+            return self._track, trail
+        return self._here(), None
 
     def output(self, stream: int) -> bytes:
         """What was written to a stream up to this turn."""
-        return self._shim.output(self._here().id, stream)
+        track = self._here()
+        return track.shim.output(track.id, stream)
 
     def new_output(self) -> dict[Stream, bytes]:
         """What was written to the streams up to this turn, but for what this method has answered before. At a turn
@@ -164,7 +157,7 @@ class Timeline:
         way_back = turn < self.turn and turn > LONG_WAY
         reached = self._take(max(0, turn - TRAIL) if way_back else turn, self.interrupted)
         if way_back and reached is Why.FOUND:
-            self._trail = leave_trail(self._shim, self._track, self._module, turn)
+            self._trail = leave_trail(self._track, self._module, turn)
             self._seen = dict(self._trail.lines)
         if reached is not Why.INTERRUPTED or self._track.turn <= turn:
             self.turn = self._track.turn
@@ -207,10 +200,23 @@ class Timeline:
         goal = LAST_TURN if limit is None else limit
         if not search.breaks and not search.each_turn:
             return self._run_on(goal)
+        scout = Scout(self._shim, self._module.data, self._config)
+        try:
+            return self._search_on(search, goal, scout)
+        finally:
+            scout.stop()
+
+    def _search_on(self, search: Search, goal: int, scout: Scout) -> Why:
+        """Goes on by steps, and after a while with a scout beside it."""
         track, is_dense, looked, repeats = self._here(), search.is_dense(), 0, 1
+        far = self.turn + SCOUT_AFTER
         while track.exit is None and track.turn < goal:
             if self.interrupted.is_set():
                 return Why.INTERRUPTED
+            if scout.found is not None and scout.found.turn <= goal:
+                return self._follow(scout)
+            if not is_dense and track.turn > far and not scout.is_out:
+                scout.start(track.turn, search.breaks, search.accept)
             count, repeats = self._pace(goal - track.turn, is_dense, repeats)
             breaks = frozenset() if is_dense else search.breaks
             for look in track.looks(count, repeats, breaks):
@@ -223,6 +229,21 @@ class Timeline:
             looked += repeats
             repeats = 1 if looked < PATIENT_LOOKS else min(2 * repeats, MOST_REPEATS)
         return Why.ENDED if track.exit is not None else Why.LIMIT
+
+    def _follow(self, scout: Scout) -> Why:
+        """Takes the task that a scout has found as the one that is shown."""
+        found = scout.take()
+        assert found is not None
+        self._park(self._track, found)
+        self._track, self.turn = found, found.turn
+        self._note_end(found)
+        return Why.ENDED if found.exit is not None else Why.FOUND
+
+    def close(self) -> None:
+        """Ends the shims that scouts have left."""
+        for track in (self._track, *self._parked):
+            if track.owns_shim:
+                track.drop()
 
     def _run_on(self, goal: int) -> Why:
         """Goes on to a turn or to the task's end."""
@@ -275,3 +296,16 @@ class Timeline:
             found = max((look.turn for look in looks if look.turn < end and search.takes(look)), default=found)
         self._note_end(track)
         return found
+
+
+def size_of(track: Track) -> int:
+    """How many bytes of memory a task has: no bytes may be asked for up to there."""
+    least, most = 0, MOST_PAGES
+    while least < most:
+        middle = (least + most + 1) // 2
+        asked = requests.peek(track.id, middle * PAGE, 0)
+        if isinstance(track.shim.call_all([asked])[0], bytes):
+            least = middle
+        else:
+            most = middle - 1
+    return least * PAGE

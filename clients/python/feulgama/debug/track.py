@@ -17,10 +17,11 @@ PAUSED = b'"status":"paused"'
 
 class Track:
     """A task that is paused after `turn` turns, or has ended after them by `exit`. It makes no turn that it is not
-    asked for, also in a shim that runs tasks once they are started: a breakpoint at its first instruction holds it."""
+    asked for, also in a shim that runs tasks once they are started: a breakpoint at its first instruction holds it.
+    With `owns_shim` the shim is ended with the task."""
 
-    def __init__(self, shim: Shim, config: Config) -> None:
-        self._shim = shim
+    def __init__(self, shim: Shim, config: Config, owns_shim: bool = False) -> None:
+        self.shim, self.owns_shim = shim, owns_shim
         self.id = shim.create(config).id
         self.turn = 0
         self.exit: Exit | None = None
@@ -35,24 +36,27 @@ class Track:
             self._read_state()
 
     def _read_state(self) -> None:
-        state = self._shim.state(self.id)
+        state = self.shim.state(self.id)
         self.turn = state.turns
         self.exit = state.exit
 
     def drop(self) -> None:
         """Ends the task and removes it."""
+        if self.owns_shim:
+            self.shim.close()
+            return
         if self.exit is None:
-            self._shim.kill(self.id)
-        self._shim.delete(self.id)
+            self.shim.kill(self.id)
+        self.shim.delete(self.id)
 
     def set_breaks(self, wanted: frozenset[Place]) -> None:
         """Lets the task have these breakpoints and no others."""
         if self.exit is not None:
             return
         for place in self._breaks - wanted:
-            self._shim.unbreak(self.id, *place)
+            self.shim.unbreak(self.id, *place)
         for place in wanted - self._breaks:
-            self._shim.break_(self.id, *place)
+            self.shim.break_(self.id, *place)
         self._breaks = wanted
 
     def advance(self, turn: int, interrupted: threading.Event) -> None:
@@ -67,20 +71,28 @@ class Track:
                 lines += requests.step(self.id, rest).line
                 steps += 1
             asked = requests.state(self.id)
-            replies = self._shim.raw(lines + asked.line, steps + 1)
+            replies = self.shim.raw(lines + asked.line, steps + 1)
             state = asked.result(replies[replies.rindex(b"\n", 0, -1) + 1:-1])
             self.turn, self.exit = state.turns, state.exit
 
+    def run_to(self, breaks: frozenset[Place]) -> Exit | None:
+        """Runs to the next of these breakpoints or to the end, and nothing interrupts it; how it ended, if it has."""
+        self.set_breaks(breaks)
+        self.shim.resume(self.id)
+        state = self.shim.wait(self.id)
+        self.turn, self.exit = state.turns, state.exit
+        return self.exit
+
     def look(self) -> Look:
         """Where the task is."""
-        return look_of(self._shim.raw(requests.inspect(self.id).line, 1)[:-1])
+        return look_of(self.shim.raw(requests.inspect(self.id).line, 1)[:-1])
 
     def looks(self, count: int, repeats: int, breaks: frozenset[Place]) -> list[Look]:
         """Makes this many turns, this many times, each time up to a breakpoint or the task's end; where it is after
         each time, but not of its end. With breakpoints there are looks at these alone."""
         self.set_breaks(breaks)
         step, inspect = requests.step(self.id, count), requests.inspect(self.id)
-        replies = self._shim.raw((step.line + inspect.line) * repeats, 2 * repeats)
+        replies = self.shim.raw((step.line + inspect.line) * repeats, 2 * repeats)
         lines = replies.split(b"\n")
         self.turn = look_of(lines[-2]).turn
         made = repeats

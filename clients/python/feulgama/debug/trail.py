@@ -13,7 +13,6 @@ from feulgama import requests
 from feulgama.debug.look import Look
 from feulgama.debug.track import Track
 from feulgama.model import Frame
-from feulgama.shim import Shim
 from feulgama.wasm import opcodes as op
 from feulgama.wasm.body import Instruction
 from feulgama.wasm.module import Module
@@ -57,7 +56,7 @@ class Trail:
         return bytes(found)
 
 
-def leave_trail(shim: Shim, track: Track, module: Module, turn: int) -> Trail:
+def leave_trail(track: Track, module: Module, turn: int) -> Trail:
     """Lets a task go on to a turn, one turn at a time, and keeps what is seen on the way."""
     trail = Trail(turn, track.turn)
     look = track.look()
@@ -65,7 +64,7 @@ def leave_trail(shim: Shim, track: Track, module: Module, turn: int) -> Trail:
     while track.exit is None and track.turn < turn:
         addresses = written_by(module, look)
         for address, size in addresses or ():
-            before = shim.call_all([requests.peek(track.id, address, size)])[0]
+            before = track.shim.call_all([requests.peek(track.id, address, size)])[0]
             if isinstance(before, bytes):
                 trail.writes.append(Write(look.turn, address, before))
         depth, found = look.depth, track.looks(1, 1, frozenset())
