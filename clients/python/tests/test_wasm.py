@@ -7,6 +7,10 @@ import subprocess
 import tempfile
 import unittest
 
+from feulgama.debug import dwarf
+from feulgama.debug.look import Place
+from feulgama.debug.symbols import Symbols
+from feulgama.model import Frame, Value, ValueType
 from feulgama.wasm.module import Module, decode
 from feulgama.wasm.names import names_of
 from feulgama.wasm.reader import NotAModule
@@ -67,6 +71,33 @@ class Faults(unittest.TestCase):
                 names_of(decode(bytes(bent)))
             except NotAModule:
                 pass
+
+
+@unittest.skipUnless(dwarf.IS_THERE, "needs python3-pyelftools")
+class BentDescriptions(unittest.TestCase):
+    """Custom sections of `clang -g` with faults: nothing is raised, at most lines and variables are missing."""
+
+    def test_random_bytes(self) -> None:
+        random.seed(6)
+        data = (CLIENT / "examples/words.wasm").read_bytes()
+        frame = Frame(3, (), (Value(ValueType.I32, 17),) * 4, 0, ())
+        for _ in range(300):
+            module = decode(data)
+            for name in module.customs:
+                if name.startswith(".debug") and random.random() < 0.6:
+                    module.customs[name] = self.bent(module.customs[name])
+            symbols = Symbols(module, [])
+            symbols.variables(frame, Place(3, 60), lambda _address, length: bytes(length))
+            if symbols.lines is not None:
+                for file in symbols.lines.files:
+                    symbols.lines.breakable(file, 1)
+
+    def bent(self, data: bytes) -> bytes:
+        found = bytearray(data if random.random() < 0.8 else data[:random.randrange(len(data))])
+        for _ in range(random.randint(1, 4)):
+            if found:
+                found[random.randrange(len(found))] = random.randrange(256)
+        return bytes(found)
 
 
 if __name__ == "__main__":

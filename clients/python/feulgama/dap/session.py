@@ -69,7 +69,8 @@ class Session:
             self._writer.refuse(request, f"there is no request {request.get('command')}")
             return
         try:
-            method(self, request, request.get("arguments") or {})
+            given = request.get("arguments")
+            method(self, request, given if isinstance(given, dict) else {})
         except ShimEnded as error:
             self._failed(request, str(error))
             self._writer.event("terminated")
@@ -269,7 +270,7 @@ class Session:
 
     def evaluate(self, request: Message, given: Body) -> None:
         """The value of an expression; in the console also what a command of the terminal shows."""
-        text = given["expression"].strip()
+        text = str(given["expression"]).strip()
         scope = self.debugger.scope(given.get("frameId") or 0)
         variable = scope.variable(text)
         if variable is not None:

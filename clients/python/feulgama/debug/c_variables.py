@@ -30,6 +30,10 @@ class Location:
     offset: int = 0
     is_value: bool = False
 
+    def is_in(self, frame: Frame) -> bool:
+        """Whether a frame has the local."""
+        return self.base is None or self.base < len(frame.locals)
+
 
 @dataclass(frozen=True, slots=True)
 class Variable:
@@ -66,7 +70,7 @@ class Variables:
     def found(self, frame: Frame, offset: int, memory: Callable[[int, int], bytes]) -> list[Found]:
         """The variables of a frame at an offset of the code; of two with one name the inner one."""
         there = [variable for variable in self._all if variable.func in (None, frame.func)
-                 and variable.begin <= offset < variable.end]
+                 and variable.begin <= offset < variable.end and variable.location.is_in(frame)]
         inner = sorted(there, key=lambda variable: variable.end - variable.begin)
         by_name = {variable.name: variable for variable in reversed(inner)}
         return [value_of(by_name[name], frame, memory) for name in sorted(by_name)]
@@ -136,7 +140,7 @@ def value_of(variable: Variable, frame: Frame, memory: Callable[[int, int], byte
     if location.is_value:
         data, address = base.to_bytes(8, "little")[:kind.size], None
     else:
-        address = base + location.offset
+        address = (base + location.offset) % 2**32
         data = memory(address, min(kind.size, LONGEST_VALUE))
     if len(data) < min(kind.size, LONGEST_VALUE):
         return Found(variable.name, kind.name, "(not in memory)", None, address)

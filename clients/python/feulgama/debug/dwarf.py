@@ -17,8 +17,12 @@ try:
     from elftools.dwarf.dwarfinfo import DebugSectionDescriptor, DwarfConfig, DWARFInfo
 except ImportError:
     IS_THERE = False
+    FAULTS: tuple[type[Exception], ...] = ()
 else:
     IS_THERE = True
+    # What pyelftools raises over bytes that are no DWARF: it looks for few faults itself.
+    FAULTS = (DWARFError, ELFParseError, ConstructError, ArithmeticError, AssertionError, AttributeError, LookupError,
+              RecursionError, TypeError, ValueError)
 
 SECTIONS = ("info", "aranges", "abbrev", "frame", "str", "loc", "ranges", "line", "pubtypes", "pubnames", "addr",
             "str_offsets", "line_str", "loclists", "rnglists", "sup")
@@ -26,23 +30,24 @@ OTHERS = ("eh_frame_sec", "gnu_debugaltlink_sec", "debug_types_sec")
 
 
 def lines_of(module: Module) -> Lines | None:
-    """The line table of a module; None if it has none, or if pyelftools is not there."""
+    """The line table of a module; None if it has none, or one with a fault, or if pyelftools is not there."""
     if not IS_THERE or ".debug_line" not in module.customs or ".debug_info" not in module.customs:
         return None
     try:
         rows = list(rows_of(module))
-    except (DWARFError, ELFParseError, ConstructError):
+    except FAULTS:
         return None
     return Lines(module, rows) if rows else None
 
 
 def variables_of(module: Module) -> Variables | None:
-    """The variables of C of a module; None if it has none, or if pyelftools is not there."""
+    """The variables of C of a module; None if there are none, or their descriptions have a fault, or if pyelftools is not
+    there."""
     if not IS_THERE or ".debug_info" not in module.customs or ".debug_abbrev" not in module.customs:
         return None
     try:
         return Variables(module, dwarf_of(module))
-    except (DWARFError, ELFParseError, ConstructError, KeyError):
+    except FAULTS:
         return None
 
 

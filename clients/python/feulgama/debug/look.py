@@ -9,6 +9,7 @@ import functools
 import re
 from typing import NamedTuple
 
+from feulgama import requests
 from feulgama.errors import BadReply
 
 INNERMOST = re.compile(rb'\{"frames":\[(?:\{"func":(\d+),"labels":\[[\d,]*\],"locals":\[[^\]]*\],"next":(\d+))?')
@@ -34,10 +35,11 @@ class Look(NamedTuple):
 
 
 def look_of(line: bytes) -> Look:
-    """The look of a reply to `inspect` that was accepted. Raises BadReply of any other line."""
+    """The look of a reply to `inspect` that was accepted. Raises the Refusal that it is, or BadReply."""
     innermost = INNERMOST.match(line)
     count = COUNT.search(line, len(line) - 40)
     if innermost is None or count is None:
+        requests.inspect("").result(line)
         raise BadReply(line)
     func, next_ = innermost.groups()
     place = None if func is None else Place(int(func), int(next_))
