@@ -167,8 +167,8 @@ class Commands:
     def info(self, rest: str) -> Lines:
         shows: dict[str, Callable[[], Lines]] = {
             "breakpoints": self._info_breakpoints, "locals": lambda: render.local_lines(self.symbols, self._frame()),
-            "variables": self._info_variables, "stack": lambda: render.operand_lines(self._frame()), "memory": self._info_memory,
-            "output": self._info_output, "functions": self._info_functions}
+            "variables": self._info_variables, "stack": lambda: render.operand_lines(self._frame()),
+            "memory": self._info_memory, "output": self._info_output, "functions": self._info_functions}
         found = [name for name in shows if rest and name.startswith(rest)]
         if len(found) != 1:
             raise BadCommand(f"info takes one of {', '.join(shows)}")
@@ -290,7 +290,7 @@ COMMANDS = [
     Command("goto", ("g",), "TURN", "goes to a turn, forward or back", Commands.goto),
     Command("break", ("b",), "[PLACE]", "sets a breakpoint: FUNC, FUNC:PLACE or FILE:LINE", Commands.break_),
     Command("delete", ("d",), "[NUMBER]", "takes a breakpoint away, or all", Commands.delete),
-    Command("info", ("i",), "WHAT", "breakpoints, locals, variables, stack, memory, output or functions", Commands.info),
+    Command("info", ("i",), "WHAT", "breakpoints, locals, variables, stack, memory, output, functions", Commands.info),
     Command("backtrace", ("bt", "where"), "[COUNT]", "the frames, the innermost first", Commands.backtrace),
     Command("frame", ("f",), "[NUMBER]", "looks at a frame", Commands.frame),
     Command("x", (), "[/FORMAT] ADDRESS", "memory: x/4xw 1024, x/s local 0", Commands.examine),
