@@ -124,9 +124,16 @@ class Killed(unittest.IsolatedAsyncioTestCase):
         asyncio.get_running_loop().set_debug(False)
         for _ in range(KILLS):
             async with asyncio.timeout(5), feulgama.AsyncShim(SHIM) as shim:
-                asyncio.get_running_loop().call_later(random.uniform(0, 0.05), os.kill, shim.pid, signal.SIGKILL)
+                moment: list[float] = []
+
+                def kill(pid: int = shim.pid, moment: list[float] = moment) -> None:
+                    moment.append(time.monotonic())
+                    os.kill(pid, signal.SIGKILL)
+
+                asyncio.get_running_loop().call_later(random.uniform(0, 0.05), kill)
                 asked: list[Coroutine[Any, Any, None]] = [self.states(shim) for _ in range(20)]
                 found = await asyncio.gather(*asked, return_exceptions=True)
+                self.assertLess(time.monotonic() - moment[0], 1)
                 self.assertEqual({type(error) for error in found}, {feulgama.ShimEnded})
 
     async def states(self, shim: feulgama.AsyncShim) -> None:
