@@ -112,3 +112,9 @@ ends_with_line old now next was kept g step s is some =
 pub kept_nothing : (kept : Option (List ℕ)) (text : List ℕ) → IsKept kept text → text ≡ [] → kept ≡ Some []
 kept_nothing None text k e = let long = subst (λ t. max_line_bytes < length t) e k in absurd (omega (arith, long))
 kept_nothing (Some bytes) text k e = ap Some (k ∙ e)
+
+-- at the end none of the known bytes are left
+pub end_of : (old now next : Option (List ℕ)) (was : Option (List ℕ)) (kept : Option (List ℕ))
+    → Gathers old now was → (step : Progress) → ReadsPiece step now next was kept → step ≡ End
+    → IsAtEnd next
+end_of old now next was kept g step s is = (subst (λ x. IsProgress x now next s.piece) is s.bytes).1

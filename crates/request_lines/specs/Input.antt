@@ -1,5 +1,5 @@
 -- Lines as they are read, in pieces.
-use Rattle.std.specs.Prelude.{◌≡◌, ◌≢◌, ◌<◌, ℕ, List, [], ◌∷◌, ◌++◌, Bool, Option, None, Some, length, MatchBool}
+use Rattle.std.specs.Prelude.{◌≡◌, ◌≢◌, ◌<◌, ℕ, List, [], ◌∷◌, ◌++◌, Bool, true, Option, None, Some, length, MatchBool}
 use Rattle.std.specs.Io.KnownBytes.{Consumes, IsAtEnd}
 use Rattle.request_lines.specs.declared.line_reader.Progress.{Progress}
 use Rattle.request_lines.specs.declared.line_reader.Progress.TheVariants.{Found, More, End}
@@ -27,6 +27,10 @@ abbrev pub TakesLine : Option (List ℕ) → Option (List ℕ) → List ℕ → 
 TakesLine None new line = Unit {0}
 TakesLine (Some xs) None line = ⊥
 TakesLine (Some xs) (Some ys) line = lines_of xs ≡ line ∷ lines_of ys
+
+-- where it says that the reader has answered its end, none of the known bytes are left
+abbrev pub KnowsEnd : (at_end : Bool) → Option (List ℕ) → Type 0
+KnowsEnd at_end known = at_end ≡ true → IsAtEnd known
 
 -- what is consumed of the known bytes: a piece of a line, and the line feed after it if that was found; at
 -- the end none are left

@@ -13,7 +13,7 @@ mod reply_line;
 mod reply_value;
 
 pub use line_error::LineError;
-pub use line_reader::{Chunk, Line, Stop, next_line};
+pub use line_reader::{LineReader, Stop};
 pub use parse_event::{event_of, read_event_line};
 pub use parse_request::{read_request_line, request_of};
 pub use reply_line::{

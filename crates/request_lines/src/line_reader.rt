@@ -3,7 +3,7 @@
 ghost use Rattle.std.specs.Prelude.{◌≡◌, ◌≢◌, ◌↔◌, ◌<◌, ◌≤◌, ◌++◌, [], List, ℕ, Some, None, Ok, Err, false, true, IfOk, OnOk, OnErr, IsTrue, length, drop, take, vec_len, option_map};
 ghost use Rattle.std.specs.Io.KnownBytes.{Consumes, Keeps, IsAtEnd, prepend_known};
 ghost use Rattle.std.specs.IoError.{error_kind};
-ghost use Rattle.request_lines.specs.Input.{IsKept, TakesPiece, TakesLine, ReadsPiece};
+ghost use Rattle.request_lines.specs.Input.{IsKept, KnowsEnd, TakesPiece, TakesLine, ReadsPiece};
 
 use crate::members::MAX_LINE_BYTES;
 use std::alloc::{AllocError, Global};
@@ -145,14 +145,14 @@ impl Model for Line {
 }
 
 impl Line {
-    /// An empty line.
-    pub fn new(alloc: Global) -> Line
-        ensures { result ≡ Some [] }
+    /// An empty line, with room for the longest.
+    pub fn new(alloc: Global) -> Result<Line, AllocError>
+        ensures { IfOk result (λ l. l ≡ Some []) }
     {
-        Line {
-            kept: Vec::new(alloc),
+        Ok(Line {
+            kept: Vec::with_capacity(alloc, MAX_LINE_BYTES)?,
             is_long: false,
-        }
+        })
     }
 
     /// The bytes, or none if the line is too long.
@@ -256,20 +256,77 @@ fn read_piece<R: Read>(chunk: &mut Chunk, line: &mut Line, reader: &mut R) -> Re
     }
 }
 
-/// Reads the next line; false if there is none.
-pub fn next_line<R: Read>(chunk: &mut Chunk, line: &mut Line, reader: &mut R) -> Result<bool, Stop>
-    ensures line { result ≡ Ok true → (text : List ℕ) × IsKept line.new text
+/// Reads the next line, and says whether its line feed was found. If not, the reader is at its end, and what
+/// there is of a line is the last one.
+fn next_line<R: Read>(chunk: &mut Chunk, line: &mut Line, reader: &mut R) -> Result<bool, Stop>
+    ensures found { result ≡ Ok true → (text : List ℕ) × IsKept line.new text
         × TakesLine (prepend_known chunk.old (R.remaining reader.old))
         (prepend_known chunk.new (R.remaining reader.new)) text }
-    ensures end { result ≡ Ok false → IsAtEnd (prepend_known chunk.old (R.remaining reader.old)) }
+    ensures last { result ≡ Ok false → line.new ≢ Some []
+        → (text : List ℕ) × IsKept line.new text
+        × TakesLine (prepend_known chunk.old (R.remaining reader.old))
+        (prepend_known chunk.new (R.remaining reader.new)) text }
+    ensures none { result ≡ Ok false → line.new ≡ Some []
+        → IsAtEnd (prepend_known chunk.old (R.remaining reader.old)) }
+    ensures end { result ≡ Ok false → IsAtEnd (prepend_known chunk.new (R.remaining reader.new)) }
 {
     line.clear();
     for _ in 0..u64::MAX {
         match read_piece(chunk, line, reader)? {
             Progress::Found => return Ok(true),
             Progress::More => {}
-            Progress::End => return Ok(!line.is_empty()),
+            Progress::End => return Ok(false),
         }
     }
     Err(Stop::Stream)
+}
+
+/// Reads lines, one after another. Once its reader has answered its end, that is asked for nothing more.
+#[derive(Drop)]
+pub struct LineReader {
+    chunk: Chunk,
+    line: Line,
+    at_end: bool,
+}
+
+impl LineReader {
+    /// It has read nothing. All memory that lines need is taken here.
+    pub fn new(alloc: Global) -> Result<LineReader, AllocError>
+        ensures { IfOk result (λ r. (r.chunk ≡ []) × (r.at_end ≡ false)) }
+    {
+        Ok(LineReader {
+            chunk: Chunk::new(alloc)?,
+            line: Line::new(alloc)?,
+            at_end: false,
+        })
+    }
+
+    /// The bytes of the line that was read last. None if it is too long.
+    pub fn bytes(&self) -> Option<&[u8]>
+        ensures { option_map (λ b. b.now) result ≡ self.now.line }
+    {
+        self.line.bytes()
+    }
+
+    /// Reads the next line; false if there is none.
+    pub fn next<R: Read>(&mut self, reader: &mut R) -> Result<bool, Stop>
+        requires { KnowsEnd self.old.at_end
+            (prepend_known self.old.chunk (R.remaining reader.old)) }
+        ensures line { result ≡ Ok true → (text : List ℕ) × IsKept self.new.line text
+            × TakesLine (prepend_known self.old.chunk (R.remaining reader.old))
+            (prepend_known self.new.chunk (R.remaining reader.new)) text }
+        ensures end { result ≡ Ok false
+            → IsAtEnd (prepend_known self.old.chunk (R.remaining reader.old)) }
+        ensures ends { OnOk result (KnowsEnd self.new.at_end
+            (prepend_known self.new.chunk (R.remaining reader.new))) }
+    {
+        if self.at_end {
+            return Ok(false);
+        }
+        if next_line(&mut self.chunk, &mut self.line, reader)? {
+            return Ok(true);
+        }
+        self.at_end = true;
+        Ok(!self.line.is_empty())
+    }
 }

@@ -9,7 +9,7 @@ use Rattle.request_lines.specs.Lines.{lines_of, joined}
 use Rattle.shim_service.specs.Inside.Script.{AreMarked, Adds, replay_text}
 use Rattle.request_lines.specs.Reply.{event_data, refusal_data, line_text}
 use Rattle.shim_service.specs.Replay.{IsReplied}
-use Rattle.shim_service.specs.Session.{Session}
+use Rattle.request_lines.specs.Session.{Session}
 use Rattle.wasm_ast.specs.declared.refusal.Refusal.TheVariants.{BadRequest}
 use Rattle.task_requests.specs.declared.event.EventReply.{EventReply}
 use Rattle.task_requests.specs.declared.event.EventReply.TheVariants.{Called}

@@ -15,7 +15,7 @@ use Rattle.request_lines.specs.Request.{IsRequest}
 use Rattle.request_lines.specs.Inside.Parse.{refusal_of}
 use Rattle.request_lines.specs.Input.{IsKept, TakesLine}
 use Rattle.request_lines.specs.Lines.{lines_of, joined}
-use Rattle.shim_service.specs.Session.{Session}
+use Rattle.request_lines.specs.Session.{Session}
 use Rattle.shim_service.specs.Serving.{IsAnswered, IsServed, BeginWithLines, Stops}
 
 -- the bytes of a line that is kept are the line

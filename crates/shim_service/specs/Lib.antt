@@ -1,4 +1,3 @@
-pub mod Session
 pub mod Replay
 pub mod Serving
 pub mod Inside

@@ -9,7 +9,7 @@ use Rattle.task_board.specs.Run.{Happens}
 use Rattle.request_lines.specs.Lines.{lines_of, joined}
 use Rattle.request_lines.specs.Request.{IsEvent}
 use Rattle.request_lines.specs.Reply.{event_data, line_text}
-use Rattle.shim_service.specs.Session.{Session}
+use Rattle.request_lines.specs.Session.{Session}
 
 -- the line is this event, which happens with this reply
 pub record IsPlayed (s : BoardState) (line : List ℕ) (reply : EventReply) (s' : BoardState) :

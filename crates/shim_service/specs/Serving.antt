@@ -13,7 +13,7 @@ use Rattle.request_lines.specs.Shape.{max_line_bytes}
 use Rattle.request_lines.specs.Lines.{lines_of, joined}
 use Rattle.request_lines.specs.Request.{IsRequest}
 use Rattle.request_lines.specs.Reply.{json_of, line_text}
-use Rattle.shim_service.specs.Session.{Session}
+use Rattle.request_lines.specs.Session.{Session}
 
 -- ---- a wait runs its task
 

@@ -1,6 +1,6 @@
 //! Answers lines as they come.
 
-ghost use Rattle.std.specs.Prelude.{◌≡◌, ◌<◌, List, ℕ, IsTrue, MatchBool, true, false};
+ghost use Rattle.std.specs.Prelude.{◌≡◌, ◌<◌, List, ℕ, IsTrue, MatchBool, option_map, true, false};
 ghost use Rattle.std.specs.Io.KnownBytes.{Appends};
 ghost use Rattle.task_requests.specs.declared.event.Event.TheVariants as Happening;
 ghost use Rattle.task_requests.specs.declared.event.EventReply.TheVariants as Answered;
@@ -12,7 +12,7 @@ ghost use Rattle.request_lines.specs.Input.{IsKept};
 ghost use Rattle.shim_service.specs.Inside.Calls.{Calls};
 ghost use Rattle.shim_service.specs.Inside.Turns.{turns_left_to};
 
-use request_lines::{Chunk, Line, answer_line, next_line, no_memory_line, read_request_line};
+use request_lines::{LineReader, answer_line, no_memory_line, read_request_line};
 use std::alloc::Global;
 use std::io::{Read, Write};
 use step_machine::laws::turns_are_limited;
@@ -67,12 +67,12 @@ fn call(board: &mut Board, request: Request) -> Result<Reply, Refusal>
     }
 }
 
-/// Answers a line.
-fn answer(alloc: Global, board: &mut Board, line: &Line) -> Result<Reply, Refusal>
-    ensures { (text : List ℕ) → IsKept line.now text
+/// Answers a line, of which nothing is there if it is too long.
+fn answer(alloc: Global, board: &mut Board, line: Option<&[u8]>) -> Result<Reply, Refusal>
+    ensures { (text : List ℕ) → IsKept (option_map (λ b. b.now) line.entry) text
         → IsAnswered board.old.state text result board.new.state }
 {
-    let Some(bytes) = line.bytes() else {
+    let Some(bytes) = line else {
         return Err(Refusal::BadRequest);
     };
     let request = read_request_line(alloc, bytes)?;
@@ -117,17 +117,16 @@ pub fn serve_lines<R: Read, W: Write>(
     ensures stopped { result ≡ false
         → Stops board.old.state (R.remaining reader.old) board.new.state }
 {
-    let Ok(mut chunk) = Chunk::new(alloc) else {
+    let Ok(mut lines) = LineReader::new(alloc) else {
         return false;
     };
-    let mut line = Line::new(alloc);
     for _ in 0..u64::MAX {
-        match next_line(&mut chunk, &mut line, reader) {
+        match lines.next(reader) {
             Ok(true) => {}
             Ok(false) => return true,
             Err(_) => return false,
         }
-        let answer = answer(alloc, board, &line);
+        let answer = answer(alloc, board, lines.bytes());
         if !write_answer(alloc, &answer, writer) {
             return false;
         }

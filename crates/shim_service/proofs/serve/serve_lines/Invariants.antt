@@ -1,8 +1,11 @@
 use Rattle.std.specs.Io.KnownBytes.{prepend_known}
+use Rattle.request_lines.specs.Input.{KnowsEnd}
 use Rattle.shim_service.proofs.ServeLemmas.{Serving}
 use Rattle.shim_service.proofs.serve.serve_lines.Given as goal
 
 abbrev pub invariant-loop : goal.invariant-loop
 invariant-loop g l =
-    Serving l.fn.board.state (g.R.Read.remaining l.fn.reader) (prepend_known l.chunk (g.R.Read.remaining l.reader))
-    (g.W.Write.contents l.fn.writer) (g.W.Write.contents l.writer) l.board.state
+    KnowsEnd l.lines.at_end (prepend_known l.lines.chunk (g.R.Read.remaining l.reader))
+    × Serving l.fn.board.state (g.R.Read.remaining l.fn.reader)
+    (prepend_known l.lines.chunk (g.R.Read.remaining l.reader)) (g.W.Write.contents l.fn.writer)
+    (g.W.Write.contents l.writer) l.board.state
