@@ -17,7 +17,7 @@ ghost use Rattle.task_board.specs.Run.{takes_memory};
 ghost use Rattle.task_board.specs.Sound.{IsBoard};
 ghost use Rattle.task_board.specs.Settled.{is_settled};
 ghost use Rattle.task_board.specs.Step.{Answers, Step};
-ghost use Rattle.task_board.specs.Tickets.{ticket_of, CanLend, Lends, ticket_in};
+ghost use Rattle.task_board.specs.Tickets.{ticket_of, CanLend, Lends, ticket_in, first_ready};
 ghost use Rattle.task_board.specs.Waiting.{enter_again, waiting_after, AreWaiting};
 ghost use Rattle.task_board.specs.Inside.Machines.{IsMachine};
 ghost use Rattle.task_board.specs.Inside.Plans.{Plans, PlansTask};
@@ -412,6 +412,13 @@ impl Board {
         ensures waiting { self.new.waiting ≡ self.old.waiting }
     {
         self.tables.receive(loan)
+    }
+
+    /// A ticket of the first task, by slots, that `take` lends. None if there is none. No memory is taken.
+    pub fn ready(&self) -> Option<Ticket>
+        ensures { result ≡ first_ready self.now.state.tasks }
+    {
+        self.tables.ready()
     }
 
     /// The task that has waited longest for a worker, which waits no more. None if none waits. No memory is

@@ -25,6 +25,9 @@ impl Prepared {
     {
         self.plan.refusal()
     }
+
+    /// Gives up what was prepared: its memory is freed, and the board that prepared it stays as it was.
+    pub fn discard(self) {}
 }
 
 /// What is to be done.

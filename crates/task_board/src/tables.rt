@@ -21,7 +21,7 @@ ghost use Rattle.task_board.specs.Inside.OpenedModules.{IsOpen};
 ghost use Rattle.task_board.specs.Sound.{IsBoard};
 ghost use Rattle.task_board.specs.Settled.{is_settled};
 ghost use Rattle.task_board.specs.Step.{Answers, Step};
-ghost use Rattle.task_board.specs.Tickets.{ticket_of, CanLend, Lends, ticket_in};
+ghost use Rattle.task_board.specs.Tickets.{ticket_of, CanLend, Lends, ticket_in, first_ready};
 ghost use Rattle.task_board.specs.Waiting.{enter_if, enter_again, running_ticket, waiting_after_call, waiting_after, AreWaiting};
 ghost use Rattle.task_board.specs.Inside.Plans.{id_refusals, IsAllowed, RefusesTask, RefusesKill, RefusesOutput, TellsOutput, CreatePrepared, CallPrepared, MarkPrepared, Plans};
 ghost use Rattle.task_board.specs.Inside.Changes.{change_request, change_refusals};
@@ -35,7 +35,7 @@ use crate::open::module_of;
 use crate::opened::Opened;
 use crate::prepared::{Plan, Prepared};
 use crate::store_change::StoreChange;
-use crate::task::{Task, find_task, is_present, is_used, used_digests};
+use crate::task::{Task, find_task, first_ready, is_present, is_used, used_digests};
 use crate::ticket::Ticket;
 use crate::waiting::Waiting;
 use content_leases::Store;
@@ -525,6 +525,13 @@ impl Tables {
             } => Ok(self.mark(mark, slot, id, breaks)),
             Plan::Step { slot, count, id } => Ok(self.step(slot, count, id)),
         }
+    }
+
+    /// A ticket of the first task whose machine can be lent.
+    pub fn ready(&self) -> Option<Ticket>
+        ensures { result ≡ first_ready self.now.state.tasks }
+    {
+        first_ready(&self.tasks)
     }
 
     /// Takes the oldest of the tasks that wait out of the list.
