@@ -21,18 +21,20 @@ ends_with s number r p seen is prepares =
     is.ends ∙ ap (λ (e : Entry). s.journal ++ e ∷ []) same
 
 pub has_called :
-    (old new : JournalValue) (seats : ℕ) (was now : Known) (r : Request) (a : Answer) (p : PreparedCall)
+    (old new : JournalValue) (seats total total' : ℕ) (was now : Known) (r : Request) (a : Answer) (p : PreparedCall)
     (seen : List Entry)
     → IsEntered old was.number p seen → PreparesCall old was.number r p → Makes old new was.number r a
     → MayAnswer old.journal (entry_on old.board was.number r) a → GoesOn was.number was.history old.journal
-    → now ≡ record { number = was.number; history = seen; share = was.share + 1 }
-    → HasCalled (record { journalled = old; seats = seats }) (record { journalled = new; seats = seats }) was now r a
-has_called old new seats was now r a p seen is prepares makes may on now-is =
+    → now ≡ record { number = was.number; history = seen; share = was.share + 1 } → total' ≡ total + 1
+    → HasCalled (record { journalled = old; seats = seats; total = total })
+    (record { journalled = new; seats = seats; total = total' }) was now r a
+has_called old new seats total total' was now r a p seen is prepares makes may on now-is more =
     let ends = ends_with old was.number r p seen is prepares in
     let history = ap (λ (k : Known). k.history) now-is in
     record {
       makes = makes;
       seats = refl;
+      total = more;
       seen = history ∙ (ends ∙ sym makes.journal);
       seat = record {
         number = ap (λ (k : Known). k.number) now-is;

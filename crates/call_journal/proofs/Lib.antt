@@ -3,6 +3,7 @@ pub mod HistoryLemmas
 pub mod SinceLemmas
 pub mod CallLemmas
 pub mod RefusalLemmas
+pub mod AnswerLemmas
 pub mod JournalLemmas
 pub mod SliceLemmas
 pub mod LegalLemmas
@@ -16,3 +17,4 @@ pub mod SeatLemmas
 pub mod Sent
 pub mod JournalledLemmas
 pub mod BookLemmas
+pub mod DueLemmas

@@ -1,18 +1,21 @@
 -- What contracts see of a book, and what a call does to it.
-use Rattle.std.specs.Prelude.{◌≡◌, ◌||◌, ℕ, List, Ok, Err, Bool, true, false, not}
+use Rattle.std.specs.Prelude.{◌≡◌, ◌||◌, ◌&&◌, ◌+◌, ℕ, is_none, List, [], ◌∷◌, Option, Some, None, Ok, Err, Bool, true, false, not, if◌then◌else◌}
 use Rattle.wasm_ast.specs.declared.refusal.Refusal.{Refusal}
 use Rattle.wasm_ast.specs.declared.refusal.Refusal.TheVariants as refusal
 use Rattle.task_requests.specs.declared.request.Request.{Request}
 use Rattle.task_board.specs.BoardState.{task_of}
 use Rattle.task_board.specs.Settled.{is_settled}
 use Rattle.task_board.specs.Step.{Answer}
+use Rattle.task_board.specs.declared.ticket.Ticket.{Ticket}
+use Rattle.task_board.specs.Tickets.{first_ready}
 use Rattle.call_journal.specs.Journalled.{JournalValue, IsSame, Makes}
 use Rattle.call_journal.specs.Seats.{Known, Extends}
 
--- the board with its journal, and how many seats there are
+-- the board with its journal, how many seats there are, and the ledger's total: the sum of the seats' shares
 pub record BookValue : Type 0 where
   pub journalled : JournalValue
   pub seats : ℕ
+  pub total : ℕ
 
 -- the refusals that change nothing and are not journalled
 abbrev pub is_refused : Refusal → Bool
@@ -33,6 +36,7 @@ pub record HasCalled (old new : BookValue) (was now : Known) (r : Request) (a : 
     Type 0 where
   pub makes : Makes old.journalled new.journalled was.number r a
   pub seats : new.seats ≡ old.seats
+  pub total : new.total ≡ old.total + 1
   pub seen : now.history ≡ new.journalled.journal
   pub seat : Extends was now r a
 
@@ -40,7 +44,21 @@ pub record HasCalled (old new : BookValue) (was now : Known) (r : Request) (a : 
 pub record IsUnchanged (old new : BookValue) : Type 0 where
   pub board : IsSame old.journalled new.journalled
   pub seats : new.seats ≡ old.seats
+  pub total : new.total ≡ old.total
 
 -- a wait for the task with an id is not answered Busy
 abbrev pub is_due : JournalValue → List ℕ → Bool
 is_due s id = s.closed || is_settled (task_of id s.board.tasks)
+
+-- a worker has nothing to do: the board is not closed, and no task can be lent
+abbrev pub is_idle : JournalValue → Bool
+is_idle s = not s.closed && is_none (first_ready s.board.tasks)
+
+abbrev pub head_or : {A : Type 0} → Option A → List A → Option A
+head_or other [] = other
+head_or other (x ∷ xs) = Some x
+
+-- a ticket of the task that has waited longest, or else of the first that can be lent
+abbrev pub next_ticket : JournalValue → Option Ticket
+next_ticket s =
+    if s.closed then None else head_or (first_ready s.board.tasks) s.waiting

@@ -1,6 +1,8 @@
 //! The book: the board with its journal, the row's cells as far as they hold it, and the ledger.
-ghost use Rattle.std.specs.Prelude.{◌≡◌, ◌↔◌, ◌≢◌, ◌+◌, ◌<◌, ◌≤◌, [], ◌∷◌, length, true, false, Err, None, IfOk, IfSome, IfNone, IsSome, IsOk, IfErr, OnErr};
-ghost use Rattle.call_journal.specs.Books.{is_due, is_refused, HasCalled};
+ghost use Rattle.std.specs.Prelude.{◌≡◌, ◌↔◌, ◌≢◌, ◌⊎◌, ◌+◌, ◌<◌, ◌≤◌, [], ◌∷◌, ◌++◌, length, true, false, Err, None, IfOk, IfSome, IfNone, IsSome, IsOk, IfErr, OnErr};
+ghost use Rattle.call_journal.specs.Books.{is_due, is_idle, next_ticket, is_refused, is_journalled, HasCalled, IsUnchanged};
+ghost use Rattle.call_journal.specs.Replay.{IsReplay};
+ghost use Rattle.task_requests.specs.declared.request.Request.TheVariants as request;
 ghost use Rattle.task_requests.specs.declared.event.Event.TheVariants as event;
 ghost use Rattle.task_requests.specs.declared.event.EventReply.TheVariants as answer;
 ghost use Rattle.task_board.specs.BoardState.{Task as TaskValue, empty};
@@ -15,6 +17,7 @@ ghost use Rattle.call_journal.specs.Inside.Calls.{PreparesCall, IsEntered};
 ghost use Rattle.task_requests.specs.declared.request.Request.{Request as RequestValue};
 
 use crate::cells::Cells;
+use crate::entry::Entry;
 use crate::journalled::{JournalledBoard, PreparedCall};
 use crate::row::Row;
 use crate::seat::Seat;
@@ -23,7 +26,7 @@ use std::alloc::Global;
 use std::marker::Model;
 use std::sync::ledger;
 use std::sync::ledger::{Blank, Share};
-use task_board::{Loan, Reply, Ticket};
+use task_board::{Loan, Reply, Request, Ticket};
 use wasm_ast::{Refusal, Text};
 
 /// How many seats there are at most.
@@ -52,7 +55,7 @@ impl<R: Row> Model for Book<R> {
 
     ghost coded = { Prim.hlevel (codes, ops_code) };
 
-    ghost view = { λ b. record { journalled = b.board; seats = b.seats } };
+    ghost view = { λ b. record { journalled = b.board; seats = b.seats; total = b.count.total } };
 
     ghost invariant = { λ b. (b.seen ≡ b.board.journal) × (b.count.total ≡ length b.board.journal)
         × (b.rest.parts + b.seats ≡ most_seats + 1) × (b.seats ≤ most_seats)
@@ -60,16 +63,106 @@ impl<R: Row> Model for Book<R> {
 }
 
 impl<R: Row> Book<R> {
-    /// Whether a seat may make a call: `Closed`, `JournalFull`, or `JournalFault` where the journal
-    /// does not go on from what it has seen with calls of others.
-    pub fn may_go(&self, cells: &Cells, seat: &Seat<R>) -> Result<(), Refusal>
+    /// What holds of every book: its board is a replay of its journal, whose length is the ledger's total. It does
+    /// nothing.
+    pub fn sound(&self)
+        ensures replay { IsReplay self.now.journalled.journal self.now.journalled.board }
+        ensures total { self.now.total ≡ length self.now.journalled.journal }
+        ensures few { length self.now.journalled.journal ≤ most_entries }
+    {
+        self.board.sound();
+    }
+
+    /// Makes the call of a seat of these cells. The answers JournalFull, NoMemory, Closed and JournalFault change
+    /// nothing. Every other answer is journalled, and the seat has then seen the whole journal, which ends with
+    /// the call's entry.
+    pub fn call(
+        &mut self,
+        cells: &Cells,
+        seat: &mut Seat<R>,
+        request: Request,
+    ) -> Result<Reply, Refusal>
+        requires { cells.now ≡ R.cells }
+        ensures called { is_journalled result ≡ true
+            → HasCalled self.old self.new seat.old seat.new request result }
+        ensures same { is_journalled result ≡ false
+            → IsUnchanged self.old self.new × (seat.new ≡ seat.old) }
+        ensures closed { (result ≡ Err Refusal.Closed) ↔ (self.old.journalled.closed ≡ true) }
+        ensures full { (result ≡ Err Refusal.JournalFull) ↔ ((self.old.journalled.closed ≡ false)
+            × (length self.old.journalled.journal ≡ most_entries)) }
+    {
+        self.may_go(cells, seat)?;
+        let (seen, call) = self.announce(cells, seat.number(), request)?;
+        self.enter(seat, seen, call)
+    }
+
+    /// Makes the call `wait` of a seat, for a task for which it is due. It is not answered Busy.
+    pub fn call_due(
+        &mut self,
+        cells: &Cells,
+        seat: &mut Seat<R>,
+        id: Text,
+    ) -> Result<Reply, Refusal>
+        requires row { cells.now ≡ R.cells }
+        requires due { is_due self.old.journalled id ≡ true }
+        ensures called { is_journalled result ≡ true
+            → HasCalled self.old self.new seat.old seat.new (request.Wait id) result }
+        ensures same { is_journalled result ≡ false
+            → IsUnchanged self.old self.new × (seat.new ≡ seat.old) }
+        ensures answered { result ≢ Err Refusal.Busy }
+    {
+        self.call(cells, seat, Request::Wait { id })
+    }
+
+    // Takes all memory that a seat's call needs, and puts its entry into the next cell.
+    fn announce(
+        &mut self,
+        cells: &Cells,
+        number: u64,
+        request: Request,
+    ) -> Result<(Seen<R>, PreparedCall), Refusal>
+        requires row { cells.now ≡ R.cells }
+        requires room { length self.old.journalled.journal < most_entries }
+        ensures same { IsUnchanged self.old self.new }
+        ensures call { IfOk result (λ p. PreparesCall self.new.journalled number request p.1) }
+        ensures entered { IfOk result (λ p. IsEntered self.new.journalled number p.1 p.0) }
+        ensures err { OnErr result
+            ((result ≡ Err Refusal.NoMemory) ⊎ (result ≡ Err Refusal.JournalFault)) }
+    {
+        let (entry, call) = self.board.prepare(number, request)?;
+        match self.add(cells, entry) {
+            Ok(seen) => Ok((seen, call)),
+            Err(refusal) => {
+                call.discard();
+                Err(refusal)
+            }
+        }
+    }
+
+    // Puts an entry into the next cell.
+    fn add(&self, cells: &Cells, entry: Entry) -> Result<Seen<R>, Refusal>
+        requires row { cells.now ≡ R.cells }
+        requires room { length self.now.journalled.journal < most_entries }
+        ensures ok { IfOk result (λ seen. seen ≡ self.now.journalled.journal ++ entry ∷ []) }
+        ensures err { OnErr result
+            ((result ≡ Err Refusal.NoMemory) ⊎ (result ≡ Err Refusal.JournalFault)) }
+    {
+        let Ok(entry) = Box::new(self.alloc, entry) else {
+            return Err(Refusal::NoMemory);
+        };
+        self.seen.add(cells, entry).ok_or(Refusal::JournalFault)
+    }
+
+    // Whether a seat may make a call: `Closed`, `JournalFull`, or `JournalFault` where the journal
+    // does not go on from what it has seen with calls of others.
+    fn may_go(&self, cells: &Cells, seat: &Seat<R>) -> Result<(), Refusal>
         requires { cells.now ≡ R.cells }
         ensures room { IsOk result → length self.now.journalled.journal < most_entries }
         ensures on { IsOk result
             → GoesOn seat.now.number seat.now.history self.now.journalled.journal }
         ensures closed { (result ≡ Err Refusal.Closed) ↔ (self.now.journalled.closed ≡ true) }
-        ensures full { result ≡ Err Refusal.JournalFull
-            → length self.now.journalled.journal ≡ most_entries }
+        ensures full { (result ≡ Err Refusal.JournalFull) ↔ ((self.now.journalled.closed ≡ false)
+            × (length self.now.journalled.journal ≡ most_entries)) }
         ensures err { IfErr result (λ e. is_refused e ≡ true) }
     {
         self.board.may_call()?;
@@ -79,9 +172,9 @@ impl<R: Row> Book<R> {
         Ok(())
     }
 
-    /// Makes the call that was prepared for a seat, of which the entry is in its cell: the board
-    /// has made it, with one entry more, and the seat has seen the whole journal.
-    pub fn enter(
+    // Makes the call that was prepared for a seat, of which the entry is in its cell: the board
+    // has made it, with one entry more, and the seat has seen the whole journal.
+    fn enter(
         &mut self,
         seat: &mut Seat<R>,
         seen: Seen<R>,
@@ -93,7 +186,7 @@ impl<R: Row> Book<R> {
         ensures called { (r : RequestValue)
             → PreparesCall self.old.journalled seat.old.number r call
             → HasCalled self.old self.new seat.old seat.new r result }
-        ensures number { seat.new.number ≡ seat.old.number }
+        ensures journalled { is_journalled result ≡ true }
     {
         let answer = self.board.apply(call);
         self.board.sound();
@@ -122,7 +215,7 @@ impl<R: Row> Book<R> {
             → (t : TaskValue) → CanLend ticket self.old.journalled.board.tasks t → ⊥) }
         ensures same { IfNone result (self.new ≡ self.old) }
         ensures kept { IsSlice self.old.journalled self.new.journalled
-            × (self.new.seats ≡ self.old.seats) }
+            × (self.new.seats ≡ self.old.seats) × (self.new.total ≡ self.old.total) }
     {
         self.board.take(ticket, budget)
     }
@@ -138,9 +231,34 @@ impl<R: Row> Book<R> {
         ensures unfit { (Fits loan self.old.journalled.board.tasks → ⊥)
             → (self.new ≡ self.old) × (result ≡ None) }
         ensures kept { IsSlice self.old.journalled self.new.journalled
-            × (self.new.seats ≡ self.old.seats) }
+            × (self.new.seats ≡ self.old.seats) × (self.new.total ≡ self.old.total) }
     {
         self.board.give_back(loan)
+    }
+
+    /// Whether a worker has nothing to do: the book is not closed, and no task can be lent.
+    pub fn is_idle(&self) -> bool
+        ensures { result ≡ is_idle self.now.journalled }
+    {
+        !self.board.is_closed() && self.board.ready().is_none()
+    }
+
+    /// A ticket of a task for a worker, the one that has waited longest before all others. None if the book is
+    /// closed, or no task waits and none can be lent.
+    pub fn next(&mut self) -> Option<Ticket>
+        ensures ticket { result ≡ next_ticket self.old.journalled }
+        ensures rest { self.new ≡ record self.old {
+          journalled
+              = record self.old.journalled { waiting = self.new.journalled.waiting };
+        } }
+    {
+        if self.board.is_closed() {
+            return None;
+        }
+        match self.board.next_waiting() {
+            Some(ticket) => Some(ticket),
+            None => self.board.ready(),
+        }
     }
 
     /// The task that has waited longest for a worker, which waits no more. None if none waits.
@@ -182,7 +300,7 @@ impl<R: Row> Book<R> {
         requires name { blank.name ≡ R.name }
         requires parts { (blank.parts ≡ R.parts) × (blank.parts ≡ most_seats + 1) }
         ensures empty { IfOk result (λ b. (b.journalled.board ≡ empty) × (b.journalled.journal ≡ [])
-            × (b.journalled.closed ≡ false) × (b.seats ≡ 0)) }
+            × (b.journalled.closed ≡ false) × (b.seats ≡ 0) × (b.total ≡ 0)) }
         ensures err { OnErr result (result ≡ Err Refusal.NoMemory) }
     {
         let board = JournalledBoard::new(alloc)?;

@@ -8,9 +8,9 @@ ghost use Rattle.task_board.specs.BoardState.{Task as TaskValue, empty};
 ghost use Rattle.task_requests.specs.Limits.{max_budget};
 ghost use Rattle.task_board.specs.Loans.{Fits};
 ghost use Rattle.task_board.specs.Step.{Step};
-ghost use Rattle.task_board.specs.Tickets.{CanLend, Lends, ticket_in};
+ghost use Rattle.task_board.specs.Tickets.{CanLend, Lends, ticket_in, first_ready};
 ghost use Rattle.task_board.specs.Waiting.{enter_again};
-ghost use Rattle.call_journal.specs.Books.{is_due};
+ghost use Rattle.call_journal.specs.Books.{is_due, is_journalled};
 ghost use Rattle.call_journal.specs.Journalled.{IsSame, Makes, IsSlice};
 ghost use Rattle.call_journal.specs.Records.{entry_on};
 ghost use Rattle.call_journal.specs.Replay.{IsReplay, IsLegal, MayAnswer};
@@ -20,7 +20,7 @@ ghost use Rattle.call_journal.specs.Inside.Calls.{PreparesCall, IsPrepared};
 use crate::cells::MOST_ENTRIES;
 use crate::entry::Entry;
 use crate::finding::{copy, found};
-use crate::laws::replays_go_on;
+use crate::laws::{answers_are_journalled, replays_go_on};
 use std::alloc::Global;
 use std::marker::Model;
 use std::snapshot::Snapshot;
@@ -32,6 +32,13 @@ use wasm_ast::{Refusal, Text};
 pub struct PreparedCall {
     pub(crate) prepared: Prepared,
     pub(crate) entry: Snapshot<Entry>,
+}
+
+impl PreparedCall {
+    /// Gives up what was prepared: its memory is freed, and the board that prepared it stays as it was.
+    pub fn discard(self) {
+        self.prepared.discard();
+    }
 }
 
 /// The board with its journal. The board is a replay of the journal.
@@ -99,7 +106,8 @@ impl JournalledBoard {
     pub fn may_call(&self) -> Result<(), Refusal>
         ensures room { IsOk result → length self.now.journal < most_entries }
         ensures closed { (result ≡ Err Refusal.Closed) ↔ (self.now.closed ≡ true) }
-        ensures full { result ≡ Err Refusal.JournalFull → length self.now.journal ≡ most_entries }
+        ensures full { (result ≡ Err Refusal.JournalFull)
+            ↔ ((self.now.closed ≡ false) × (length self.now.journal ≡ most_entries)) }
         ensures err { OnErr result
             ((result ≡ Err Refusal.Closed) ⊎ (result ≡ Err Refusal.JournalFull)) }
     {
@@ -164,8 +172,10 @@ impl JournalledBoard {
         ensures allowed { (seat : ℕ) → (r : RequestValue) → PreparesCall self.old seat r call
             → MayAnswer self.old.journal (entry_on self.old.board seat r) result }
         ensures memory { result ≢ Err Refusal.NoMemory }
+        ensures journalled { is_journalled result ≡ true }
     {
         replays_go_on();
+        answers_are_journalled();
         let PreparedCall { prepared, entry } = call;
         let answer = self.board.apply(prepared);
         self.journal.push_reserved(entry);
@@ -208,6 +218,20 @@ impl JournalledBoard {
         let ticket = self.board.give_back(loan);
         let _ = fits;
         ticket
+    }
+
+    /// A ticket of the first task, by slots, that `take` lends. None if there is none.
+    pub fn ready(&self) -> Option<Ticket>
+        ensures { result ≡ first_ready self.now.board.tasks }
+    {
+        self.board.ready()
+    }
+
+    /// Whether the board is closed.
+    pub fn is_closed(&self) -> bool
+        ensures { result ≡ self.now.closed }
+    {
+        self.closed
     }
 
     /// The task that has waited longest for a worker, which waits no more. None if none waits.

@@ -1,6 +1,6 @@
 //! Laws of histories. Each function is nothing but its contract.
 
-ghost use Rattle.std.specs.Prelude.{◌≡◌, ◌++◌, ℕ, List, [], ◌∷◌, Option, Some, option_map, true};
+ghost use Rattle.std.specs.Prelude.{◌≡◌, ◌<◌, ◌++◌, ℕ, List, [], ◌∷◌, Option, Some, option_map, true};
 ghost use Rattle.task_requests.specs.declared.request.Request.{Request};
 ghost use Rattle.task_requests.specs.declared.event.Event.{Event};
 ghost use Rattle.task_requests.specs.declared.event.EventReply.{EventReply};
@@ -10,6 +10,7 @@ ghost use Rattle.task_board.specs.Step.{Answer, Answers, Step, is_budget};
 ghost use Rattle.task_board.specs.Tasks.{can_lend, lent, HasReturned};
 ghost use Rattle.call_journal.specs.declared.entry.Entry.{Entry as EntryValue};
 ghost use Rattle.call_journal.specs.declared.entry.Found.{Found as FoundValue};
+ghost use Rattle.call_journal.specs.Books.{is_journalled};
 ghost use Rattle.call_journal.specs.Finding.{named, found_in};
 ghost use Rattle.call_journal.specs.Records.{entry_on, IsOfSlice, Records};
 ghost use Rattle.call_journal.specs.Replay.{ComesTo, Finds, Replays, IsLegal, MayAnswer, IsSince, IsReplay, IsAlike};
@@ -48,6 +49,13 @@ pub fn entries_fix_the_count()
         → Finds s r found mid → Finds s r found mid' → mid ≡ mid' }
 {}
 
+/// Whatever a board may answer is journalled: a full or closed journal, one at fault, and memory that runs out
+/// are no answers of a board.
+pub fn answers_are_journalled()
+    ensures { (s : BoardState) (r : Request) (a : Answer) (s' : BoardState) → Answers s r a s'
+        → is_journalled a ≡ true }
+{}
+
 /// A call changes no task but the one that it names.
 pub fn calls_change_the_task_they_name()
     ensures { (s : BoardState) (r : Request) (a : Answer) (s' : BoardState) (id : List ℕ)
@@ -60,6 +68,11 @@ pub fn slices_come_together()
         → ComesTo t (lent t budget) }
     ensures give_back { (t t' : Task) → HasReturned t t' → ComesTo t t' }
     ensures again { (t t' t'' : Task) → ComesTo t t' → ComesTo t' t'' → ComesTo t t'' }
+{}
+
+/// A slice that returns has made at least one turn.
+pub fn returns_make_turns()
+    ensures { (t t' : Task) → HasReturned t t' → t.turns < t'.turns }
 {}
 
 /// Slices of tasks commute with the calls that do not name them: a call before such slices is answered as it

@@ -1,5 +1,5 @@
 //! The journal of the calls to a board: its entries, what replays them, and when a history is legal; the
-//! cells that hold the entries, the seats of the callers that see them, and the book that they share.
+//! cells that hold the entries, the seats of the callers that see them, and the shim that they share.
 #![tactic(auto)]
 
 mod book;
@@ -12,6 +12,7 @@ pub mod laws;
 mod row;
 mod seat;
 mod seen;
+mod shim;
 
 pub use book::{Book, MOST_SEATS};
 pub use cells::{Cells, MOST_ENTRIES};
@@ -21,3 +22,4 @@ pub use journalled::{JournalledBoard, PreparedCall};
 pub use row::Row;
 pub use seat::Seat;
 pub use seen::Seen;
+pub use shim::Shim;

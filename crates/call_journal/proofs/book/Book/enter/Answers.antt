@@ -20,9 +20,11 @@ returns-clause-called g c r prepares =
     c.made.ensures.seat
     ∙ ap (λ h. record { number = was.number; history = h; share = was.share + 1 }) c.again.ensures in
     subst
-    (λ (b : BookValue). HasCalled b (record { journalled = c.apply-answer.new.self; seats = c.self.inside.seats })
+    (λ (b : BookValue). HasCalled b
+    (record { journalled = c.apply-answer.new.self; seats = c.self.inside.seats; total = c.made.new.count.total })
     was c.made.new.self r c.apply-answer.result)
     c.self.view_is
-    (has_called c.self.inside.board c.apply-answer.new.self c.self.inside.seats was c.made.new.self r
+    (has_called c.self.inside.board c.apply-answer.new.self c.self.inside.seats
+    c.self.inside.count.total c.made.new.count.total was c.made.new.self r
     c.apply-answer.result call c.args.seen is q (c.apply-answer.ensures.makes was.number r q)
-    (c.apply-answer.ensures.allowed was.number r q) on made)
+    (c.apply-answer.ensures.allowed was.number r q) on made c.made.ensures.total)

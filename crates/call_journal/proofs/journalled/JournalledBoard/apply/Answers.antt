@@ -48,3 +48,11 @@ returns-clause-allowed c seat r prepares =
     subst (λ (s : JournalValue). MayAnswer s.journal (entry_on s.board seat r) c.apply-answer.result) c.self.view_is
     (c.replays_go_on.ensures.answer (map (λ s. s.value) items) c.self.inside.board.state seat r
     c.apply-answer.result c.apply-answer.new.self.state c.self.invariant.0 (c.apply-answer.ensures.answers r q.board))
+
+pub returns-clause-journalled : goal.returns-clause-journalled
+returns-clause-journalled c =
+    let p = c.requires.prepared in
+    let q =
+    subst (λ (s : JournalValue). PreparesCall s p.by_seat p.request c.args.call) (sym c.self.view_is) p.prepares in
+    c.answers_are_journalled.ensures c.self.inside.board.state p.request c.apply-answer.result
+    c.apply-answer.new.self.state (c.apply-answer.ensures.answers p.request q.board)

@@ -1,0 +1,47 @@
+-- A wait that is due is not answered Busy.
+use Rattle.std.proofs.Common.{◌≡◌, ℕ, List, Bool, true, false, Option, Some, None, Ok, Err, sym, ap, subst, refl, ◌∙◌}
+use Rattle.std.specs.Prelude.{◌↔◌, ◌||◌, not, if◌then◌else◌}
+use Rattle.wasm_ast.specs.Identifiers.{is_id}
+use Rattle.wasm_ast.specs.declared.refusal.Refusal.TheVariants as refusal
+use Rattle.task_lifecycle.specs.declared.lifecycle.TaskCall.TheVariants as call
+use Rattle.task_lifecycle.specs.Lifecycle.{allowed}
+use Rattle.task_requests.specs.declared.request.Request.TheVariants as request
+use Rattle.task_board.specs.BoardState.{Task, BoardState, task_of}
+use Rattle.task_board.specs.Refusals.{unless_allowed}
+use Rattle.task_board.specs.Settled.{is_settled}
+use Rattle.task_board.specs.Step.{Answer, DecidedBy, OnFound, on_wait}
+use Rattle.call_journal.specs.Books.{BookValue, HasCalled, is_due, is_journalled}
+use Rattle.call_journal.specs.Seats.{Known}
+
+module _ (s s' : BoardState) (a : Answer) (busy : a ≡ Err refusal.Busy) where
+  no_task : (b : Bool) → DecidedBy (if not b then Some refusal.BadId else Some refusal.NotFound) ⊥ s a s' → ⊥
+  no_task true d = let is = d.0 in cc
+  no_task false d = let is = d.0 in cc
+
+  allowed_task : (b w : Bool) (E : Type 0) → w ≡ true → (E → ⊥)
+      → DecidedBy (if not b then Some refusal.BadId else if not w then Some refusal.Busy else None) E s a s' → ⊥
+  allowed_task false w E may none d = let is = d.0 in cc
+  allowed_task true true E may none d = none d
+  allowed_task true false E may none d = cc
+
+  settled : (id : List ℕ) (o : Option Task) → is_settled o ≡ true
+      → OnFound id (unless_allowed call.Wait refusal.Busy) on_wait o s a s' → ⊥
+  settled id None due d = no_task (is_id id) d
+  settled id (Some t) due d =
+      allowed_task (is_id id) (allowed call.Wait t.status) _ due (λ both. let is = both.0 in cc) d
+
+due_or_closed :
+    (old new : BookValue) (was now : Known) (id : List ℕ) (a : Answer) (b : Bool)
+    → (b || is_settled (task_of id old.journalled.board.tasks)) ≡ true → (b ≡ true → a ≡ Err refusal.Closed)
+    → HasCalled old new was now (request.Wait id) a → a ≡ Err refusal.Busy → ⊥
+due_or_closed old new was now id a true due closed called busy = let shut = closed refl in cc
+due_or_closed old new was now id a false due closed called busy =
+    settled old.journalled.board new.journalled.board a busy id (task_of id old.journalled.board.tasks) due
+    called.makes.answers
+
+pub never_busy :
+    (old new : BookValue) (was now : Known) (id : List ℕ) (a : Answer) → is_due old.journalled id ≡ true
+    → ((a ≡ Err refusal.Closed) ↔ (old.journalled.closed ≡ true))
+    → (is_journalled a ≡ true → HasCalled old new was now (request.Wait id) a) → a ≡ Err refusal.Busy → ⊥
+never_busy old new was now id a due closed called busy =
+    due_or_closed old new was now id a old.journalled.closed due closed.1 (called (ap is_journalled busy)) busy
