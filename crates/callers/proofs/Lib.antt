@@ -1,0 +1,2 @@
+pub mod DriveLemmas
+pub mod WriteLemmas

@@ -1,0 +1,50 @@
+-- What is answered to the lines of a stream.
+use Rattle.std.specs.Prelude.{◌≡◌, ◌≤◌, ◌++◌, ℕ, List, length, Option, None, Some}
+use Rattle.std.specs.Io.KnownBytes.{Appends}
+use Rattle.request_lines.specs.Lines.{lines_of, joined}
+use Rattle.request_lines.specs.Session.{Session}
+use Rattle.call_journal.specs.Fronts.{Begins}
+use Rattle.call_journal.specs.Seats.{Known}
+use Rattle.callers.specs.declared.caller.Driven.{Driven}
+use Rattle.callers.specs.declared.caller.Driven.TheVariants as driven
+use Rattle.callers.specs.Answered.{IsServed}
+
+-- the known bytes have these lines
+abbrev pub HaveLines : Option (List ℕ) → List (List ℕ) → Type 0
+HaveLines None lines = Unit {0}
+HaveLines (Some bytes) lines = lines_of bytes ≡ lines
+
+-- the known bytes begin with these lines
+abbrev pub BeginWithLines : Option (List ℕ) → List (List ℕ) → Type 0
+BeginWithLines None lines = Unit {0}
+BeginWithLines (Some bytes) lines = Begins lines (lines_of bytes)
+
+-- the lines that were answered: all that there are if the input is at its end, else the first ones
+abbrev pub AreRead : Driven → (input : Option (List ℕ)) → (lines : List (List ℕ)) → Type 0
+AreRead driven.End input lines = HaveLines input lines
+AreRead other input lines = BeginWithLines input lines
+
+-- all texts but perhaps the last
+pub record AllButLast (texts written : List (List ℕ)) : Type 0 where
+  pub last : List (List ℕ)
+  pub one : length last ≤ 1
+  pub joins : written ++ last ≡ texts
+
+-- What was written of the texts of the answers: all of them. If the writer failed, a beginning; if memory ran
+-- out for a text, those before it
+abbrev pub AreWritten :
+    Driven → (before after : Option (List ℕ)) → (texts : List (List ℕ)) → Type 0
+AreWritten driven.WriteFault before after texts =
+    (bytes : List ℕ) × Begins bytes (joined texts) × Appends before after bytes
+AreWritten driven.NoMemory before after texts =
+    (written : List (List ℕ)) × AllButLast texts written × Appends before after (joined written)
+AreWritten other before after texts = Appends before after (joined texts)
+
+-- the lines of a stream are answered in their order, each by one line, and the seat has seen this then
+pub record Drives (how : Driven) (was now : Known) (input before after : Option (List ℕ)) :
+    Type 0 where
+  pub lines : List (List ℕ)
+  pub texts : List (List ℕ)
+  pub read : AreRead how input lines
+  pub session : Session IsServed was lines texts now
+  pub written : AreWritten how before after texts

@@ -1,0 +1,3 @@
+-- What only private clauses name.
+pub mod Writing
+pub mod Ends

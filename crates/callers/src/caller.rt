@@ -1,0 +1,212 @@
+//! Answers the lines of one caller as they come.
+
+ghost use Rattle.std.specs.Prelude.{◌≡◌, ◌≤◌, List, ℕ, IsTrue, option_map};
+ghost use Rattle.std.specs.Io.KnownBytes.{Appends};
+ghost use Rattle.task_requests.specs.declared.request.Request.TheVariants as Asked;
+ghost use Rattle.request_lines.specs.Input.{IsKept};
+ghost use Rattle.request_lines.specs.Reply.{json_of, line_text};
+ghost use Rattle.call_journal.specs.Fronts.{Begins};
+ghost use Rattle.callers.specs.Answered.{IsAnswered, IsCall, IsServed};
+ghost use Rattle.callers.specs.Driving.{Drives};
+ghost use Rattle.callers.specs.Inside.Writing.{Writes};
+
+use call_journal::{Row, Seat, Shim};
+use request_lines::{LineReader, Stop, answer_line, no_memory_line, read_request_line};
+use std::alloc::Global;
+use std::io::{Error, ErrorKind, Read, Write};
+use std::sync::Wait;
+use task_requests::{Reply, Request};
+use wasm_ast::Refusal;
+
+/// How the lines of a caller ended.
+#[derive(Clone, Copy, PartialEq, Eq, Debug)]
+pub enum Driven {
+    /// The reader was at its end.
+    End,
+    /// The reader failed.
+    ReadFault,
+    /// The writer failed, or took no more.
+    WriteFault,
+    /// Memory ran out for the lines that are read, or for a reply.
+    NoMemory,
+}
+
+/// Why a reply was not written.
+#[derive(Clone, Copy, PartialEq, Eq, Debug)]
+pub(crate) enum WriteError {
+    /// The writer failed, or took no more.
+    Stream,
+    /// Memory ran out for the reply's line.
+    OutOfMemory,
+}
+
+impl From<WriteError> for Driven {
+    ghost use Rattle.callers.specs.Inside.Ends.{of_write};
+
+    ghost from_gives = { λ error driven. driven ≡ of_write error };
+
+    fn from(error: WriteError) -> Driven {
+        match error {
+            WriteError::Stream => Driven::WriteFault,
+            WriteError::OutOfMemory => Driven::NoMemory,
+        }
+    }
+}
+
+impl From<Stop> for Driven {
+    ghost use Rattle.callers.specs.Inside.Ends.{of_read};
+
+    ghost from_gives = { λ stop driven. driven ≡ of_read stop };
+
+    fn from(stop: Stop) -> Driven {
+        match stop {
+            Stop::Stream => Driven::ReadFault,
+            Stop::OutOfMemory => Driven::NoMemory,
+        }
+    }
+}
+
+// Makes a call. A wait is made once it is due.
+fn call<J: Row, H: Wait>(
+    rt: &H,
+    shim: &Shim<J>,
+    seat: Seat<J>,
+    request: Request,
+) -> (Seat<J>, Result<Reply, Refusal>)
+    ensures { IsCall seat result.0 request result.1 }
+{
+    match request {
+        Request::Wait { id } => shim.wait(rt, seat, id),
+        other => shim.call(rt, seat, other),
+    }
+}
+
+// Answers a line, of which nothing is there if it is too long.
+fn answer<J: Row, H: Wait>(
+    rt: &H,
+    alloc: Global,
+    shim: &Shim<J>,
+    seat: Seat<J>,
+    line: Option<&[u8]>,
+) -> (Seat<J>, Result<Reply, Refusal>)
+    ensures { (text : List ℕ) → IsKept (option_map (λ b. b.now) line.entry) text
+        → IsAnswered seat text result.1 result.0 }
+{
+    let Some(bytes) = line else {
+        return (seat, Err(Refusal::BadRequest));
+    };
+    match read_request_line(alloc, bytes) {
+        Ok(request) => call(rt, shim, seat, request),
+        Err(error) => (seat, Err(Refusal::from(error))),
+    }
+}
+
+// Whether the writer is to be called again: only if it was interrupted.
+fn is_interrupted(error: &Error) -> bool {
+    error.kind() == ErrorKind::Interrupted
+}
+
+// Writes bytes as far as the writer takes them; false if it takes no more.
+fn write_bytes<W: Write>(writer: &mut W, bytes: &[u8]) -> bool
+    ensures all { IsTrue result → Appends (W.contents writer.old) (W.contents writer.new) bytes.now }
+    ensures some { (front : List ℕ) × Begins front bytes.now
+        × Appends (W.contents writer.old) (W.contents writer.new) front }
+{
+    let mut at = 0;
+    for _ in 0..u64::MAX {
+        if at == bytes.len() {
+            return true;
+        }
+        match writer.write(&bytes[at..]) {
+            Ok(0) => return false,
+            Ok(count) => at += count,
+            Err(error) => {
+                if !is_interrupted(&error) {
+                    return false;
+                }
+            }
+        }
+    }
+    false
+}
+
+// Writes a text and flushes.
+fn write_text<W: Write>(writer: &mut W, text: &str) -> Result<(), WriteError>
+    ensures { Writes result text.now (W.contents writer.old) (W.contents writer.new) }
+{
+    if write_bytes(writer, text.as_bytes()) && writer.flush().is_ok() {
+        Ok(())
+    } else {
+        Err(WriteError::Stream)
+    }
+}
+
+// Writes the line of an answer. That of `NoMemory` needs no memory; any other is not written if memory runs
+// out, since its request has been made.
+fn write_answer<W: Write>(
+    alloc: Global,
+    answer: &Result<Reply, Refusal>,
+    writer: &mut W,
+) -> Result<(), WriteError>
+    ensures { Writes result (line_text (json_of answer.now)) (W.contents writer.old)
+        (W.contents writer.new) }
+{
+    if let Err(Refusal::NoMemory) = answer {
+        return write_text(writer, no_memory_line());
+    }
+    match answer_line(alloc, answer) {
+        Ok(line) => write_text(writer, line.as_str()),
+        Err(_) => Err(WriteError::OutOfMemory),
+    }
+}
+
+// Answers a line, and writes the line of the answer.
+fn serve_line<J: Row, W: Write, H: Wait>(
+    rt: &H,
+    alloc: Global,
+    shim: &Shim<J>,
+    seat: Seat<J>,
+    line: Option<&[u8]>,
+    writer: &mut W,
+) -> (Seat<J>, Result<(), WriteError>)
+    ensures { (text : List ℕ) → IsKept (option_map (λ b. b.now) line.entry) text
+        → (reply : List ℕ) × IsServed seat text reply result.0
+        × Writes result.1 reply (W.contents writer.old) (W.contents writer.new) }
+{
+    let (seat, answer) = answer(rt, alloc, shim, seat, line);
+    let written = write_answer(alloc, &answer, writer);
+    (seat, written)
+}
+
+/// Answers each line of a caller's reader by one line, written and flushed before the next line is waited for,
+/// until the reader is at its end. A line that is no request is answered `BadRequest`. The seat is that of the
+/// caller, and is given back.
+pub fn drive<J: Row, R: Read, W: Write, H: Wait>(
+    rt: &H,
+    alloc: Global,
+    shim: &Shim<J>,
+    seat: Seat<J>,
+    reader: &mut R,
+    writer: &mut W,
+) -> (Seat<J>, Driven)
+    ensures { Drives result.1 seat result.0 (R.remaining reader.old) (W.contents writer.old)
+        (W.contents writer.new) }
+{
+    let Ok(mut lines) = LineReader::new(alloc) else {
+        return (seat, Driven::NoMemory);
+    };
+    let mut seat = seat;
+    for _ in 0..u64::MAX {
+        match lines.next(reader) {
+            Ok(true) => {}
+            Ok(false) => return (seat, Driven::End),
+            Err(stop) => return (seat, Driven::from(stop)),
+        }
+        let (next, written) = serve_line(rt, alloc, shim, seat, lines.bytes(), writer);
+        seat = next;
+        if let Err(error) = written {
+            return (seat, Driven::from(error));
+        }
+    }
+    (seat, Driven::ReadFault)
+}
