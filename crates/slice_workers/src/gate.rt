@@ -1,0 +1,23 @@
+//! What runs the slices of a worker.
+
+ghost use Rattle.std.specs.Prelude.{◌≡◌, true, false};
+
+use task_board::Loan;
+
+/// Runs the slices of a worker, which holds no lock meanwhile. A test's gate may wait before it does so.
+pub trait Gate {
+    /// Runs the slice of a loan, of the task with this id, as `Loan::run` does.
+    fn slice(&self, id: &str, loan: &mut Loan)
+        requires { loan.old.ran ≡ false }
+        ensures { loan.new ≡ record loan.old { ran = true } };
+}
+
+/// The gate that does nothing else.
+#[derive(Clone, Copy)]
+pub struct OpenGate;
+
+impl Gate for OpenGate {
+    fn slice(&self, _id: &str, loan: &mut Loan) {
+        loan.run();
+    }
+}

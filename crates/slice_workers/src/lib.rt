@@ -1,0 +1,16 @@
+//! Workers that run slices of tasks, and the queue of tickets that they share.
+#![tactic(auto)]
+
+mod gate;
+pub mod laws;
+mod lender;
+mod serving;
+mod tickets;
+
+pub use gate::{Gate, OpenGate};
+pub use lender::Lender;
+pub use serving::worker;
+pub use tickets::{
+    Another, Hand, MOST_TICKETS, Puts, Queue, Takes, Tickets, another_pass, next_ticket,
+    put_ticket, ticket_queue,
+};

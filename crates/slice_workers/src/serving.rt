@@ -1,0 +1,129 @@
+//! A worker.
+
+ghost use Rattle.std.specs.Prelude.{◌≡◌, ◌≤◌, length, true};
+ghost use Rattle.crossbeam_queue.specs.Passes.{IsPassOf};
+ghost use Rattle.task_requests.specs.Limits.{max_budget};
+
+use crate::gate::Gate;
+use crate::lender::Lender;
+use crate::tickets::{Hand, Queue, next_ticket, put_ticket};
+use arrayvec::ArrayString;
+use crossbeam_queue::Pass;
+use std::sync::Wait;
+use task_board::{Loan, Ticket};
+
+/// The most bytes of the id of a task.
+const MOST_ID_BYTES: usize = 64;
+
+/// The id of a loan's task, in memory of its own, since the loan is changed while the id is read. No id is
+/// longer than there is room for.
+fn id_of(loan: &Loan) -> ArrayString<MOST_ID_BYTES>
+    ensures { length loan.now.id ≤ 64 → result.bytes ≡ loan.now.id }
+{
+    let mut id = ArrayString::new();
+    let _whole = id.try_push_str(loan.id().as_str());
+    id
+}
+
+/// Runs a slice of the ticket's task, with no lock held. The ticket of the task, if it is running afterwards.
+fn run_slice<L: Lender, G: Gate, W: Wait>(
+    rt: &W,
+    lender: &L,
+    gate: &G,
+    ticket: Ticket,
+    budget: u64,
+) -> Option<Ticket>
+    requires { (1 ≤ budget) × (budget ≤ max_budget) }
+{
+    let mut loan = lender.take(rt, ticket, budget)?;
+    let id = id_of(&loan);
+    gate.slice(id.as_str(), &mut loan);
+    lender.give_back(rt, loan)
+}
+
+/// A ticket that is there: that at the front of the queue or that of the task that has waited longest, the
+/// one or the other first.
+fn find<L: Lender, W: Wait>(
+    rt: &W,
+    lender: &L,
+    queue: &Queue,
+    pass: &mut Pass<Ticket, Hand>,
+    queue_first: bool,
+) -> Option<Ticket>
+    requires { IsPassOf queue.now pass.old }
+    ensures { IsPassOf queue.now pass.new }
+{
+    if queue_first {
+        match next_ticket(queue, pass) {
+            Some(ticket) => Some(ticket),
+            None => lender.next_waiting(rt),
+        }
+    } else {
+        match lender.next_waiting(rt) {
+            Some(ticket) => Some(ticket),
+            None => next_ticket(queue, pass),
+        }
+    }
+}
+
+/// A ticket to be served. If there is none, sleeps until a machine can be lent; None after the end.
+fn find_or_sleep<L: Lender, W: Wait>(
+    rt: &W,
+    lender: &L,
+    queue: &Queue,
+    pass: &mut Pass<Ticket, Hand>,
+    queue_first: bool,
+) -> Option<Ticket>
+    requires { IsPassOf queue.now pass.old }
+    ensures { IsPassOf queue.now pass.new }
+{
+    match find(rt, lender, queue, pass, queue_first) {
+        Some(ticket) => Some(ticket),
+        None => lender.next(rt),
+    }
+}
+
+/// Puts a ticket into the queue, or lets its task wait for a worker if that does not take it.
+fn put_back<L: Lender, W: Wait>(
+    rt: &W,
+    lender: &L,
+    queue: &Queue,
+    pass: &mut Pass<Ticket, Hand>,
+    ticket: Ticket,
+)
+    requires { IsPassOf queue.now pass.old }
+    ensures { IsPassOf queue.now pass.new }
+{
+    if !put_ticket(queue, pass, ticket) {
+        lender.wait_again(rt, ticket);
+    }
+}
+
+/// Runs slices of tasks that wait for a worker or are in the queue, in turn, until the end; sleeps while there
+/// is none. Each machine that it takes it runs once by the gate, with no lock held, and gives back; a task
+/// that is running afterwards goes to the back of the queue, or waits if that is full. It returns, if it does,
+/// with no machine in its hands.
+pub fn worker<L: Lender, G: Gate, W: Wait>(
+    rt: &W,
+    lender: &L,
+    queue: &Queue,
+    pass: &mut Pass<Ticket, Hand>,
+    gate: &G,
+    budget: u64,
+)
+    requires budget { (1 ≤ budget) × (budget ≤ max_budget) }
+    requires pass { IsPassOf queue.now pass.old }
+    ensures pass { IsPassOf queue.now pass.new }
+{
+    let mut queue_first = false;
+    for _ in rt.forever() {
+        queue_first = !queue_first;
+        let Some(ticket) = find_or_sleep(rt, lender, queue, pass, queue_first) else {
+            return;
+        };
+        if let Some(next) = run_slice(rt, lender, gate, ticket, budget) {
+            put_back(rt, lender, queue, pass, next);
+        }
+    }
+    unreachable!()
+}
