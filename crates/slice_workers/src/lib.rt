@@ -5,6 +5,7 @@ mod gate;
 pub mod laws;
 mod lender;
 mod serving;
+mod shims;
 mod tickets;
 
 pub use gate::{Gate, OpenGate};
