@@ -11,5 +11,6 @@ pub mod NextCells
 pub mod Standing
 pub mod Going
 pub mod Ran
+pub mod UnderWay
 pub mod SharedCode
 pub mod Marks
