@@ -3,7 +3,7 @@
 ghost use Rattle.std.specs.Prelude.{IsTrue, ◌↔◌, ◌≡◌, ◌≤◌, ◌<◌, IfOk, [], true, false, length, vec_len};
 ghost use Rattle.step_machine.specs.Limits.{max_breakpoints};
 ghost use Rattle.step_machine.specs.Slices.{is_among};
-ghost use Rattle.step_machine.specs.Inside.Marks.{mark_of, AreMarked};
+ghost use Rattle.step_machine.specs.Inside.Marks.{mark_of, AreMarked, row_of, AreInRows};
 
 use std::alloc::{AllocError, Global};
 use std::marker::Model;
@@ -108,24 +108,37 @@ fn mark_of(place: Place) -> usize
     (mixed / 4096 % 2048) as usize
 }
 
-/// Breakpoints, and which marks theirs are: a look at its mark tells of most places that they are none.
-/// Contracts see the breakpoints' places.
+/// How many rows there are. Each takes a byte.
+const ROWS: usize = 256;
+
+/// The number of a place's row: the lowest byte of its instruction's number, which is one load.
+#[inline(always)]
+fn row_of(place: Place) -> usize
+    ensures is { result ≡ row_of place.func place.instr }
+    ensures inside { result < 256 }
+{
+    (place.instr % 256) as usize
+}
+
+/// Breakpoints, and which rows and marks theirs are: a look at its row tells of most places that they are
+/// none, and one at its mark of most others. Contracts see the breakpoints' places.
 #[derive(Drop)]
 pub struct MarkedBreaks<'a> {
     breaks: &'a Breaks,
+    rows: [bool; ROWS],
     marks: [bool; MARKS],
 }
 
 impl<'a> Model for MarkedBreaks<'a> {
     ghost use Rattle.std.specs.Prelude.{List};
-    ghost use Rattle.step_machine.specs.Inside.Marks.{AreMarked};
+    ghost use Rattle.step_machine.specs.Inside.Marks.{AreMarked, AreInRows};
     ghost use Rattle.wasm_ast.specs.declared.place.Place.{Place};
 
     ghost Value = { List Place };
 
     ghost view = { λ b. b.breaks.now };
 
-    ghost invariant = { λ b. AreMarked b.breaks.now b.marks };
+    ghost invariant = { λ b. AreInRows b.breaks.now b.rows × AreMarked b.breaks.now b.marks };
 }
 
 impl<'a> MarkedBreaks<'a> {
@@ -133,8 +146,13 @@ impl<'a> MarkedBreaks<'a> {
     pub fn new(breaks: &'a Breaks) -> MarkedBreaks<'a>
         ensures { result ≡ breaks.now }
     {
+        let rows = rows_of(breaks.as_slice());
         let marks = marks_of(breaks.as_slice());
-        MarkedBreaks { breaks, marks }
+        MarkedBreaks {
+            breaks,
+            rows,
+            marks,
+        }
     }
 
     /// Whether one of them is this place.
@@ -142,20 +160,35 @@ impl<'a> MarkedBreaks<'a> {
     pub fn has(&self, place: Place) -> bool
         ensures { result ≡ is_among self.now place.func place.instr }
     {
-        if self.marks[mark_of(place)] {
+        if self.rows[row_of(place)] {
             self.is_listed(place)
         } else {
             false
         }
     }
 
-    // The way through the list stays out of the loop that makes the turns.
+    // The marks and the way through the list stay out of the loop that makes the turns.
     #[inline(never)]
     fn is_listed(&self, place: Place) -> bool
         ensures { result ≡ is_among self.now place.func place.instr }
     {
-        self.breaks.has(place.func, u64::from(place.instr))
+        if self.marks[mark_of(place)] {
+            self.breaks.has(place.func, u64::from(place.instr))
+        } else {
+            false
+        }
     }
+}
+
+// The rows of these places.
+fn rows_of(places: &[Place]) -> [bool; ROWS]
+    ensures { AreInRows places.now result }
+{
+    let mut rows = [false; ROWS];
+    for place in places {
+        rows[row_of(*place)] = true;
+    }
+    rows
 }
 
 // The marks of these places.

@@ -1,6 +1,7 @@
 use Rattle.std.proofs.Common.{true, ◌∙◌, arith}
 use Rattle.std.proofs.lemmas.List.{length-set}
 use Rattle.wasm_ast.specs.declared.place.Place.{Place}
+use Rattle.step_machine.specs.Inside.Marks.{mark_of}
 use Rattle.step_machine.proofs.MarkLemmas.{next_marked}
 use Rattle.step_machine.proofs.breaks.marks_of.Goals as goal
 
@@ -13,7 +14,7 @@ loop-place-preserved c = record {
   marked = λ func place is.
       let all = c.loop-place.invariant.all in
       let inside = c.mark_of.ensures.inside in
-      next_marked c.args.places.now c.loop-place.place-index none c.loop-place.marks c.mark_of.result
+      next_marked mark_of c.args.places.now c.loop-place.place-index none c.loop-place.marks c.mark_of.result
       c.mark_of.ensures.is c.loop-place-test.true (omega (arith, all, inside)) func place
       (c.loop-place.invariant.marked func place is);
 }
