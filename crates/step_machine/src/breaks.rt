@@ -167,7 +167,9 @@ impl<'a> MarkedBreaks<'a> {
         }
     }
 
-    // The marks and the way through the list stay out of the loop that makes the turns.
+    // The marks and the way through the list stay out of the loop that makes the turns. It is cold, so that a
+    // turn goes straight on where its row is not set.
+    #[cold]
     #[inline(never)]
     fn is_listed(&self, place: Place) -> bool
         ensures { result ≡ is_among self.now place.func place.instr }
