@@ -161,24 +161,31 @@ impl<'a> MarkedBreaks<'a> {
         ensures { result ≡ is_among self.now place.func place.instr }
     {
         if self.rows[row_of(place)] {
+            self.is_marked(place)
+        } else {
+            false
+        }
+    }
+
+    // No call: many breakpoints set the rows of many instructions that are elsewhere.
+    #[inline(always)]
+    fn is_marked(&self, place: Place) -> bool
+        ensures { result ≡ is_among self.now place.func place.instr }
+    {
+        if self.marks[mark_of(place)] {
             self.is_listed(place)
         } else {
             false
         }
     }
 
-    // The marks and the way through the list stay out of the loop that makes the turns. It is cold, so that a
-    // turn goes straight on where its row is not set.
+    // The way through the list stays out of the loop that makes the turns.
     #[cold]
     #[inline(never)]
     fn is_listed(&self, place: Place) -> bool
         ensures { result ≡ is_among self.now place.func place.instr }
     {
-        if self.marks[mark_of(place)] {
-            self.breaks.has(place.func, u64::from(place.instr))
-        } else {
-            false
-        }
+        self.breaks.has(place.func, u64::from(place.instr))
     }
 }
 
