@@ -55,7 +55,7 @@ empty_more : (xss : List (List Ticket)) → AreEmpty xss → AreEmpty (xss ++ []
 empty_more [] e = (refl, tt)
 empty_more (xs ∷ xss) e = (e.0, empty_more xss e.1)
 
--- one item more, behind one of the lists and behind their merge
+-- one item more, after one of the lists and after their merge
 pub merge_snoc : (xss : List (List Ticket)) (ys : List Ticket) (k : ℕ) (vs : List Ticket) (x : Ticket) → get_elem? xss k ≡ some vs → IsMergeOf xss ys → IsMergeOf (set xss k (vs ++ x ∷ [])) (ys ++ x ∷ [])
 merge_snoc xss [] k vs x at m =
     let none : vs ≡ [] = empty_at xss k vs m at in
