@@ -2,3 +2,4 @@
 pub mod Known
 pub mod Requests
 pub mod Calls
+pub mod Code

@@ -46,14 +46,13 @@ pub struct Book<R: Row> {
 
 impl<R: Row> Model for Book<R> {
     ghost use Rattle.std.specs.Prelude.{◌≡◌, ◌≤◌, ◌+◌, length};
-    ghost use Rattle.std.specs.Coded.{codes};
-    ghost use Rattle.wasm_ast.specs.Inside.Code.{ops_code};
+    ghost use Rattle.call_journal.specs.Inside.Code.{book_code};
     ghost use Rattle.call_journal.specs.Books.{BookValue};
     ghost use Rattle.call_journal.specs.Seats.{most_seats};
 
     ghost Value = { BookValue };
 
-    ghost coded = { Prim.hlevel (codes, ops_code) };
+    ghost coded = { book_code };
 
     ghost view = { λ b. record { journalled = b.board; seats = b.seats; total = b.count.total } };
 

@@ -53,15 +53,14 @@ pub struct JournalledBoard {
 impl Model for JournalledBoard {
     ghost use Rattle.std.specs.Prelude.{map, vec_len, ◌≤◌};
     ghost use Rattle.std.specs.Vec.{vec_capacity};
-    ghost use Rattle.std.specs.Coded.{codes};
-    ghost use Rattle.wasm_ast.specs.Inside.Code.{ops_code};
+    ghost use Rattle.call_journal.specs.Inside.Code.{journal_code};
     ghost use Rattle.call_journal.specs.Journalled.{JournalValue};
     ghost use Rattle.call_journal.specs.Replay.{IsReplay};
     ghost use Rattle.call_journal.specs.Seats.{most_entries};
 
     ghost Value = { JournalValue };
 
-    ghost coded = { Prim.hlevel (codes, ops_code) };
+    ghost coded = { journal_code };
 
     ghost view = { λ b. record {
       board = b.board.state;

@@ -48,10 +48,9 @@ impl<'m> Model for LabelMachine<'m> {
 
     ghost Value = { MachineView };
 
-    ghost use Rattle.std.specs.Coded.{codes};
-    ghost use Rattle.wasm_ast.specs.Inside.Code.{ops_code};
+    ghost use Rattle.step_machine.specs.Inside.Code.{machine_code};
 
-    ghost coded = { Prim.hlevel (codes, ops_code) };
+    ghost coded = { machine_code };
 
     ghost use Rattle.label_machine.specs.Inside.Reached.{process_of, Reached};
 

@@ -14,3 +14,4 @@ pub mod Ran
 pub mod UnderWay
 pub mod SharedCode
 pub mod Marks
+pub mod Code

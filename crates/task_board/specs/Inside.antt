@@ -8,3 +8,4 @@ pub mod StoreChanges
 pub mod OpenedModules
 pub mod Plans
 pub mod Covers
+pub mod Code

@@ -52,13 +52,12 @@ pub struct Board {
 }
 
 impl Model for Board {
-    ghost use Rattle.std.specs.Coded.{codes};
-    ghost use Rattle.wasm_ast.specs.Inside.Code.{ops_code};
+    ghost use Rattle.task_board.specs.Inside.Code.{board_code};
     ghost use Rattle.task_board.specs.BoardValue.{BoardValue};
 
     ghost Value = { BoardValue };
 
-    ghost coded = { Prim.hlevel (codes, ops_code) };
+    ghost coded = { board_code };
 
     ghost view = { λ b. b.tables };
 }

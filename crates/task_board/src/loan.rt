@@ -29,10 +29,9 @@ impl Model for Loan {
 
     ghost Value = { Lent };
 
-    ghost use Rattle.std.specs.Coded.{codes};
-    ghost use Rattle.wasm_ast.specs.Inside.Code.{ops_code};
+    ghost use Rattle.task_board.specs.Inside.Code.{lent_code};
 
-    ghost coded = { Prim.hlevel (codes, ops_code) };
+    ghost coded = { lent_code };
 
     ghost use Rattle.task_board.specs.Inside.Kept.{IsLoan};
     ghost use Rattle.task_board.specs.Inside.Shown.{lent_of};

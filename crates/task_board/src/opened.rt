@@ -18,13 +18,12 @@ pub struct Opened {
 
 impl Model for Opened {
     ghost use Rattle.std.specs.Prelude.{List};
-    ghost use Rattle.std.specs.Coded.{codes};
-    ghost use Rattle.wasm_ast.specs.Inside.Code.{ops_code};
+    ghost use Rattle.task_board.specs.Inside.Code.{opened_code};
     ghost use Rattle.task_board.specs.Inside.OpenedModules.{OpenedModule, opened_of};
 
     ghost Value = { List OpenedModule };
 
-    ghost coded = { Prim.hlevel (codes, ops_code) };
+    ghost coded = { opened_code };
 
     ghost view = { λ o. opened_of o.map.entries };
 }

@@ -69,8 +69,7 @@ pub struct Tables {
 
 impl Model for Tables {
     ghost use Rattle.std.specs.Prelude.{◌≤◌};
-    ghost use Rattle.std.specs.Coded.{codes};
-    ghost use Rattle.wasm_ast.specs.Inside.Code.{ops_code};
+    ghost use Rattle.task_board.specs.Inside.Code.{board_code};
     ghost use Rattle.task_board.specs.BoardValue.{BoardValue};
     ghost use Rattle.task_board.specs.Sound.{Each, IsBoard};
     ghost use Rattle.task_board.specs.Waiting.{AreWaiting};
@@ -79,7 +78,7 @@ impl Model for Tables {
 
     ghost Value = { BoardValue };
 
-    ghost coded = { Prim.hlevel (codes, ops_code) };
+    ghost coded = { board_code };
 
     ghost view = { board_of };
 

@@ -52,10 +52,9 @@ impl Model for Task {
 
     ghost Value = { TaskValue };
 
-    ghost use Rattle.std.specs.Coded.{codes};
-    ghost use Rattle.wasm_ast.specs.Inside.Code.{ops_code};
+    ghost use Rattle.task_board.specs.Inside.Code.{task_code};
 
-    ghost coded = { Prim.hlevel (codes, ops_code) };
+    ghost coded = { task_code };
 
     ghost use Rattle.task_board.specs.Inside.Kept.{IsKept};
     ghost use Rattle.task_board.specs.Inside.Shown.{task_of};

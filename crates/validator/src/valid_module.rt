@@ -29,10 +29,9 @@ impl Model for Valid {
 
     ghost Value = { Module };
 
-    ghost use Rattle.std.specs.Coded.{codes};
-    ghost use Rattle.wasm_ast.specs.Inside.Code.{ops_code};
+    ghost use Rattle.wasm_ast.specs.Inside.ModuleCode.{module_code};
 
-    ghost coded = { Prim.hlevel (codes, ops_code) };
+    ghost coded = { module_code };
 
     ghost use Rattle.validator.specs.Typing.{ValidModule};
     ghost use Rattle.std.specs.Arc.{arc_value};

@@ -1,3 +1,4 @@
--- What only the logic needs: how sequences of instructions are stored, and why recursion over them ends.
+-- What only the logic needs: how instructions and modules are stored, and why recursion over them ends.
 pub mod Code
+pub mod ModuleCode
 pub mod Falls
