@@ -23,6 +23,7 @@ pub mod laws;
 mod numbers;
 mod opcodes;
 mod read_opcodes;
+pub mod readers;
 mod sections;
 mod types;
 mod vectors;
