@@ -25,7 +25,8 @@ program_is_free = refl
 pub named_from_chosen :
     (arguments : List Text) (found : Option (Text × List Row)) → found ≡ command_in arguments → faults_in arguments ≡ []
     → (c : Command) → IsCommand found c → Name arguments c
-named_from_chosen arguments found e none Serve h = (none, subst (λ f. IsCommand f Serve) e h)
+named_from_chosen arguments found e none (Serve workers scripts) h =
+    (none, subst (λ f. IsCommand f (Serve workers scripts)) e h)
 named_from_chosen arguments found e none (Replay file) h = (none, subst (λ f. IsCommand f (Replay file)) e h)
 named_from_chosen arguments found e none (Asm file) h = (none, subst (λ f. IsCommand f (Asm file)) e h)
 named_from_chosen arguments found e none (Check file list) h = (none, subst (λ f. IsCommand f (Check file list)) e h)
@@ -35,7 +36,7 @@ named_from_chosen arguments found e none (Show text) h = absurd h
 pub named_from_shown :
     (arguments : List Text) (kind : ErrorKind) → (kind ≡ OutOfMemory) ⊎ IsAmong kind (faults_in arguments)
     → (c : Command) → IsShown kind c → Name arguments c
-named_from_shown arguments kind h Serve shown = absurd shown
+named_from_shown arguments kind h (Serve workers scripts) shown = absurd shown
 named_from_shown arguments kind h (Replay file) shown = absurd shown
 named_from_shown arguments kind h (Asm file) shown = absurd shown
 named_from_shown arguments kind h (Check file list) shown = absurd shown

@@ -1,11 +1,13 @@
 -- How the program's command line is read, by `clap`'s own reading of its arguments.
-use Rattle.std.specs.Prelude.{◌≡◌, ◌≢◌, ◌⊎◌, List, [], ◌∷◌, map, Bool, true, false, bytes_eq, Option, Some, None, option_map, codes, string_bytes}
+use Rattle.std.specs.Prelude.{ℕ, ◌≡◌, ◌≢◌, ◌⊎◌, List, [], ◌∷◌, map, Bool, true, false, bytes_eq, Option, Some, None, option_map, codes, string_bytes}
+use Rattle.std.specs.Str.Parse.{digits_value, without_leading_plus}
 use Rattle.clap.specs.Faults.{fault_of}
 use Rattle.clap.specs.Kinds.{Kinds, IsAmong}
 use Rattle.clap.specs.Simple.{App, Shape, new_shape, new_rule, subcommand_of, with_subcommand}
 use Rattle.clap.specs.Lexer.{usize_max}
 use Rattle.clap.specs.Walk.{Row, Rule, Text, first_of, all_of}
 use Rattle.clap.specs.declared.builder.action.ArgAction.TheVariants.{SetTrue}
+use Rattle.clap.specs.declared.builder.value_parser.ValueParser.TheVariants.{Unsigned}
 use Rattle.clap.specs.declared.error.kind.ErrorKind.{ErrorKind}
 use Rattle.clap.specs.declared.error.kind.ErrorKind.TheVariants.{DisplayHelp, DisplayVersion}
 use Rattle.file_commands.specs.declared.command.Command.{Command}
@@ -19,6 +21,20 @@ file_rule = record (new_rule (codes "FILE")) { required = true }
 -- the flag `--list`
 abbrev pub list_rule : Rule
 list_rule = record (new_rule (codes "list")) { long = Some (codes "list"); action = Some SetTrue }
+
+-- the option `--workers`, whose value is a number from 1 to 16
+abbrev pub workers_rule : Rule
+workers_rule = record (new_rule (codes "workers")) {
+  long = Some (codes "workers");
+  value_names = 1;
+  parser = Some (Unsigned 1 16);
+}
+
+-- the files of callers, of which there may be several
+abbrev pub script_rule : Rule
+script_rule = record (new_rule (codes "SCRIPT")) {
+  range = Some (record { start_inclusive = 1; end_inclusive = usize_max });
+}
 
 -- the file of a module and all words that follow it, those that begin with a dash too
 abbrev pub module_rule : Rule
@@ -42,9 +58,10 @@ bare_program =
       subs = [];
     }
 
--- `serve`, `replay FILE`, `asm FILE`, `check [--list] FILE` and `run MODULE [ARG..]`
+-- `serve [--workers N] [SCRIPT..]`, `replay FILE`, `asm FILE`, `check [--list] FILE` and
+-- `run MODULE [ARG..]`
 abbrev pub serve_shape : Shape
-serve_shape = command_shape (codes "serve") []
+serve_shape = command_shape (codes "serve") (workers_rule ∷ script_rule ∷ [])
 
 abbrev pub replay_shape : Shape
 replay_shape = command_shape (codes "replay") (file_rule ∷ [])
@@ -79,6 +96,22 @@ is_set (Some value) = bytes_eq value (codes "true")
 abbrev pub has_list : List Row → Bool
 has_list rows = is_set (first_of (codes "list") rows)
 
+-- how many workers there are: the number given, or else 2
+abbrev pub workers_from : Option Text → ℕ
+workers_from None = 2
+workers_from (Some text) = digits_value 10 (without_leading_plus text)
+
+abbrev pub workers_in : List Row → ℕ
+workers_in rows = workers_from (first_of (codes "workers") rows)
+
+-- the files of the callers
+abbrev pub texts_from : Option (List Text) → List Text
+texts_from None = []
+texts_from (Some texts) = texts
+
+abbrev pub scripts_in : List Row → List Text
+scripts_in rows = texts_from (all_of (codes "SCRIPT") rows)
+
 -- the file of a module and the words after it
 abbrev pub module_in : List Row → Option (List Text)
 module_in = all_of (codes "MODULE")
@@ -87,7 +120,11 @@ module_in = all_of (codes "MODULE")
 abbrev pub command_in : List Text → Option (Text × List Row)
 command_in = subcommand_of program
 
--- its name with its FILE, with its FILE and whether `--list` is there, and with its MODULE and ARGs
+-- its name with its workers and SCRIPTs, with its FILE, with its FILE and whether `--list` is there, and with
+-- its MODULE and ARGs
+abbrev pub with_scripts : Text × List Row → Text × ℕ × List Text
+with_scripts p = (p.0, workers_in p.1, scripts_in p.1)
+
 abbrev pub with_file : Text × List Row → Text × Option Text
 with_file p = (p.0, file_in p.1)
 
@@ -99,7 +136,8 @@ with_module p = (p.0, module_in p.1)
 
 -- this is the command
 abbrev pub IsCommand : Option (Text × List Row) → Command → Type 0
-IsCommand found Serve = option_map (λ p. p.0) found ≡ Some (codes "serve")
+IsCommand found (Serve workers scripts) =
+    option_map with_scripts found ≡ Some (codes "serve", workers, map string_bytes scripts.items)
 IsCommand found (Replay file) =
     option_map with_file found ≡ Some (codes "replay", Some (string_bytes file))
 IsCommand found (Asm file) =
@@ -123,7 +161,8 @@ AskToShow arguments =
 -- the arguments name this command
 abbrev pub Name : List Text → Command → Type 0
 Name arguments (Show text) = AskToShow arguments
-Name arguments Serve = (faults_in arguments ≡ []) × IsCommand (command_in arguments) Serve
+Name arguments (Serve workers scripts) =
+    (faults_in arguments ≡ []) × IsCommand (command_in arguments) (Serve workers scripts)
 Name arguments (Replay file) =
     (faults_in arguments ≡ []) × IsCommand (command_in arguments) (Replay file)
 Name arguments (Asm file) = (faults_in arguments ≡ []) × IsCommand (command_in arguments) (Asm file)

@@ -6,9 +6,10 @@ ghost use Rattle.clap.specs.Simple.{app_of, shape_of, subcommand_rows_of};
 ghost use Rattle.clap.specs.Values.{kind_of};
 ghost use Rattle.clap.specs.Walk.{Row, rows_of, rule_of};
 ghost use Rattle.clap.specs.declared.builder.command.Command.TheViews.{out-Command as fields_of};
-ghost use Rattle.file_commands.specs.Command.{file_rule, list_rule, module_rule, command_shape, bare_program, line_program, program, file_in, has_list, module_in, IsCommand, Name, AreFaulty};
+ghost use Rattle.file_commands.specs.Command.{file_rule, list_rule, workers_rule, script_rule, module_rule, command_shape, serve_shape, workers_in, scripts_in, bare_program, line_program, program, file_in, has_list, module_in, IsCommand, Name, AreFaulty};
 ghost use Rattle.file_commands.specs.Inside.Chosen.{IsShown, IsOfArguments};
 
+use clap::builder::ValueParser;
 use clap::error::ErrorKind;
 use clap::{Arg, ArgAction, ArgMatches, Command as Parser};
 use std::alloc::{AllocError, Global};
@@ -17,8 +18,9 @@ use thiserror::Error;
 /// What the program is to do.
 #[derive(Drop)]
 pub enum Command {
-    /// Answers the lines of standard input on standard output.
-    Serve,
+    /// Answers the lines of the files of these names, each a caller of its own, or else those of standard
+    /// input; this many workers run the tasks.
+    Serve { workers: u64, scripts: Vec<String> },
     /// Runs the lines of the file of this name, and writes their answers to standard output.
     Replay { file: String },
     /// Writes the encoding of the module in the file of this name.
@@ -44,6 +46,12 @@ pub enum CommandError {
 
 const VERSION: &str = "0.1.0";
 
+/// How many workers there are at most.
+const MOST_WORKERS: u64 = 16;
+
+/// How many workers there are if no number is given.
+const USUAL_WORKERS: u64 = 2;
+
 // What FILE is in the commands that read a module.
 const MODULE_FILE: &str = "The file of the module, in the binary or the text format";
 
@@ -64,6 +72,43 @@ fn list_arg<'a>(alloc: Global) -> Arg<'a>
         .long("list")
         .action(ArgAction::SetTrue)
         .help("Also list the instructions, a line each: function, place, instruction")
+}
+
+// The option `--workers`.
+fn workers_arg<'a>(alloc: Global) -> Arg<'a>
+    ensures rule { rule_of result ≡ workers_rule }
+    ensures local { result.global ≡ false }
+{
+    Arg::new(alloc, "workers")
+        .long("workers")
+        .value_name("N")
+        .value_parser(ValueParser::Unsigned(1, MOST_WORKERS))
+        .help("How many workers run the tasks, 1 to 16; 2 without this option")
+}
+
+// The argument SCRIPT, of which there may be several.
+fn script_arg<'a>(alloc: Global) -> Arg<'a>
+    ensures rule { rule_of result ≡ script_rule }
+    ensures local { result.global ≡ false }
+{
+    Arg::new(alloc, "SCRIPT").num_args(1..).help(
+        "The file of a caller's requests, a line each; without one, standard input is the one caller",
+    )
+}
+
+// `serve [--workers N] [SCRIPT..]`
+fn serve_command<'a>(alloc: Global) -> Result<Parser<'a>, AllocError>
+    ensures shape { IfOk result (λ p. shape_of p ≡ serve_shape) }
+    ensures local { IfOk result (λ p. (fields_of p).has_globals ≡ false) }
+{
+    let command = bare_command(
+        alloc,
+        "serve",
+        "Answer the requests of standard input, or of files, on standard output",
+        "Example: wasm-shim serve < examples/first_run.jsonl",
+    );
+    let counted = command.arg(workers_arg(alloc))?;
+    counted.arg(script_arg(alloc))
 }
 
 // The arguments MODULE and ARG. They are one argument with several values, so that after the name of the
@@ -150,12 +195,7 @@ fn bare_parser<'a>(alloc: Global) -> Parser<'a>
 fn line_parser<'a>(alloc: Global) -> Result<Parser<'a>, AllocError>
     ensures { IfOk result (λ p. app_of p ≡ line_program) }
 {
-    let serve = bare_command(
-        alloc,
-        "serve",
-        "Answer the requests of standard input, a line each, on standard output",
-        "Example: wasm-shim serve < examples/first_run.jsonl",
-    );
+    let serve = serve_command(alloc)?;
     let replay = file_command(
         alloc,
         "replay",
@@ -236,6 +276,45 @@ fn copies(alloc: Global, words: &[&str]) -> Result<Vec<String>, AllocError>
     Ok(copies)
 }
 
+// The number of workers that was found.
+fn workers_of(found: &ArgMatches<'_>) -> Result<u64, CommandError>
+    ensures ok { IfOk result (λ n. n ≡ workers_in (rows_of (found_of found.now))) }
+    ensures err { IfErr result (λ f. f ≡ CommandError.OutOfMemory) }
+{
+    let Some(text) = found.get_str("workers") else {
+        return Ok(USUAL_WORKERS);
+    };
+    match text.parse::<u64>() {
+        Ok(count) => Ok(count),
+        Err(_) => Err(CommandError::OutOfMemory),
+    }
+}
+
+// The scripts that were found.
+fn scripts_of(alloc: Global, found: &ArgMatches<'_>) -> Result<Vec<String>, CommandError>
+    ensures ok { IfOk result (λ v. map string_bytes v.items ≡ scripts_in (rows_of (found_of found.now))) }
+    ensures err { IfErr result (λ f. f ≡ CommandError.OutOfMemory) }
+{
+    let Some(names) = found.get_strs("SCRIPT") else {
+        return Ok(Vec::new(alloc));
+    };
+    match copies(alloc, names) {
+        Ok(scripts) => Ok(scripts),
+        Err(_) => Err(CommandError::OutOfMemory),
+    }
+}
+
+// The command `serve` with the arguments that were found.
+fn serve_of(alloc: Global, found: &ArgMatches<'_>) -> Result<Command, CommandError>
+    ensures ok { IfOk result
+        (IsCommand (Some (codes "serve", rows_of (found_of found.now)))) }
+    ensures err { IfErr result (λ f. f ≡ CommandError.OutOfMemory) }
+{
+    let workers = workers_of(found)?;
+    let scripts = scripts_of(alloc, found)?;
+    Ok(Command::Serve { workers, scripts })
+}
+
 // The command `run` with these words as MODULE and ARGs.
 fn run_with(alloc: Global, words: &[&str]) -> Result<Command, CommandError>
     ensures ok { (rows : List Row) → module_in rows ≡ Some (map (λ w. w.now) words.now)
@@ -272,7 +351,7 @@ fn chosen(alloc: Global, matches: &ArgMatches<'_>) -> Result<Command, CommandErr
     ensures err { IfErr result (λ f. f ≡ CommandError.OutOfMemory) }
 {
     match matches.subcommand() {
-        Some(("serve", _)) => Ok(Command::Serve),
+        Some(("serve", found)) => serve_of(alloc, found),
         Some(("replay", found)) => {
             let file = file_of(alloc, found)?;
             Ok(Command::Replay { file })
@@ -295,8 +374,8 @@ fn chosen(alloc: Global, matches: &ArgMatches<'_>) -> Result<Command, CommandErr
 
 /// The command that the arguments name. The first word is the program's own name.
 ///
-/// `serve`, `replay FILE`, `asm FILE`, `check [--list] FILE` and `run MODULE [ARG..]` are the
-/// commands. Every word after MODULE is an ARG, one that begins with a dash too. `--help` and
+/// `serve [--workers N] [SCRIPT..]`, with N from 1 to 16, `replay FILE`, `asm FILE`, `check [--list] FILE`
+/// and `run MODULE [ARG..]` are the commands. Every word after MODULE is an ARG, one that begins with a dash too. `--help` and
 /// `--version`, alone or after a command, and `help` are shown. All else is
 /// `CommandError::Arguments`, and `CommandError::OutOfMemory` comes if memory ran out.
 pub fn command_of(alloc: Global, arguments: &[String]) -> Result<Command, CommandError>
