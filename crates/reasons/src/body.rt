@@ -27,7 +27,10 @@ fn after_simple<'a>(alloc: Global, opcode: u8, bytes: &'a [u8], rest: &'a [u8]) 
         Ok((_, next)) => Ok(next),
         Err(ReadError::Memory) => Err(Stop::at(bytes, Why::Memory)),
         Err(_) if is_simple(alloc, opcode) => {
-            Err(Stop::at(rest, Why::Wanted("what follows the opcode before it")))
+            Err(Stop::at(
+                rest,
+                Why::Wanted("what follows the opcode that is before it"),
+            ))
         }
         Err(_) => Err(Stop::at(bytes, Why::Opcode)),
     }
@@ -72,7 +75,7 @@ fn after_else<'a>(open: &mut Vec<bool>, bytes: &'a [u8], rest: &'a [u8]) -> Afte
         }
         _ => Err(Stop::at(
             bytes,
-            Why::Wanted("no else (05): no if is open, or it has one"),
+            Why::Fact("an else, and no if is open that has none yet"),
         )),
     }
 }

@@ -47,7 +47,7 @@ fn after_import(bytes: &[u8]) -> After<'_> {
     let from_kind = after_name(from_name)?;
     let rest = after_byte(
         FUNC_KIND,
-        "00, a function: the profile imports no tables, memories and globals",
+        "00, a function; the profile imports no tables, memories and globals",
         from_kind,
     )?;
     after_number("the index of a type", rest)

@@ -12,7 +12,7 @@ pub type After<'a> = Result<&'a [u8], Stop>;
 pub fn number<'a>(what: &'static str, bytes: &'a [u8]) -> Result<(u32, &'a [u8]), Stop> {
     match read_u32(bytes) {
         Ok(found) => Ok(found),
-        Err(_) => Err(Stop::at(bytes, Why::Wanted(what))),
+        Err(_) => Err(Stop::at(bytes, Why::Number(what))),
     }
 }
 

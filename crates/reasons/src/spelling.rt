@@ -8,16 +8,26 @@ use std::alloc::{AllocError, Global};
 use wasm_ast::MAX_MODULE_BYTES;
 use wasm_binary::readers::PREAMBLE;
 
-// Where a fault is: its byte, or the end of what is read there.
-fn place(alloc: Global, bytes: &[u8], offset: usize, ended: bool) -> Result<String, AllocError> {
+// A byte of the file.
+fn byte_place(alloc: Global, bytes: &[u8], offset: usize) -> Result<String, AllocError> {
     match bytes.get(offset) {
-        Some(byte) if !ended => {
+        Some(byte) => {
             let byte = *byte;
             format!(in alloc; "byte 0x{byte:02x} at offset {offset}")
         }
-        Some(_) => format!(in alloc; "the end of what is read, at offset {offset}"),
         None => format!(in alloc; "the end of the file, at offset {offset}"),
     }
+}
+
+// Where a fault is: its byte, or the end of what is read there.
+fn place(alloc: Global, bytes: &[u8], offset: usize, stop: Stop) -> Result<String, AllocError> {
+    if let Why::Cut { .. } | Why::Longer { .. } = stop.why {
+        return format!(in alloc; "offset {offset}");
+    }
+    if stop.ended && offset < bytes.len() {
+        return format!(in alloc; "the end of what is read, at offset {offset}");
+    }
+    byte_place(alloc, bytes, offset)
 }
 
 // In which section and function a fault is.
@@ -72,6 +82,9 @@ fn section_text(alloc: Global, last: u8, bytes: &[u8]) -> Result<String, AllocEr
 // What is said of sizes, counts and limits.
 fn count_text(alloc: Global, why: Why) -> Result<String, AllocError> {
     match why {
+        Why::Longer { what, by: 1 } => {
+            format!(in alloc; "{what} is 1 byte longer than what is in it")
+        }
         Why::Longer { what, by } => {
             format!(in alloc; "{what} is {by} bytes longer than what is in it")
         }
@@ -80,7 +93,7 @@ fn count_text(alloc: Global, why: Why) -> Result<String, AllocError> {
         }
         Why::Counts { funcs, bodies } => {
             format!(in alloc;
-                "{funcs} functions have types (section 3) and {bodies} have bodies (section 10)"
+                "of functions, {funcs} have a type (section 3) and {bodies} a body (section 10)"
             )
         }
         Why::Over { what, most, found } => {
@@ -95,6 +108,8 @@ fn why_text(alloc: Global, why: Why, bytes: &[u8]) -> Result<String, AllocError>
     match why {
         Why::Memory => Err(AllocError),
         Why::Wanted(what) => format!(in alloc; "to be here: {what}"),
+        Why::Number(what) => format!(in alloc; "to be here: {what}, a number of 32 bits"),
+        Why::Fact(what) => String::from_str(alloc, what),
         Why::ValType => val_type_text(alloc, bytes),
         Why::Opcode => opcode_text(alloc, bytes),
         Why::Section { last } => section_text(alloc, last, bytes),
@@ -109,7 +124,7 @@ fn stop_text(alloc: Global, bytes: &[u8], stop: Stop) -> Result<String, AllocErr
         Some(here) => here,
         None => &[],
     };
-    let place = place(alloc, bytes, offset, stop.ended)?;
+    let place = place(alloc, bytes, offset, stop)?;
     let part = part(alloc, stop)?;
     let why = why_text(alloc, stop.why, here)?;
     format!(in alloc; "{place}{part}: {why}")
@@ -122,7 +137,7 @@ fn preamble_text(alloc: Global, bytes: &[u8]) -> Result<String, AllocError> {
         .zip(PREAMBLE.iter())
         .take_while(|pair| pair.0 == pair.1)
         .count();
-    let place = place(alloc, bytes, offset, false)?;
+    let place = byte_place(alloc, bytes, offset)?;
     format!(in alloc; "{place}: a module begins with 00 61 73 6d 01 00 00 00")
 }
 

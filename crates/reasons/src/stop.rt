@@ -7,6 +7,10 @@ pub enum Why {
     Memory,
     /// This is to be there.
     Wanted(&'static str),
+    /// A number of 32 bits is to be there, which is this.
+    Number(&'static str),
+    /// This is so.
+    Fact(&'static str),
     /// The byte is none of a value type.
     ValType,
     /// The byte is none of an instruction.

@@ -45,6 +45,7 @@ mod phrases;
 mod place;
 mod places;
 mod plain;
+pub mod readers;
 mod scopes;
 mod strings;
 mod token;

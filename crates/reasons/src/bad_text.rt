@@ -1,0 +1,108 @@
+//! Why a text denotes no module.
+
+use crate::first_bytes::kind_of;
+use crate::hints::{group_hint, word_hint};
+use crate::place::offset_at;
+use crate::shown::shown;
+use crate::token::{Token, token_at};
+use std::alloc::{AllocError, Global};
+use std::str::from_utf8;
+
+const END: &str = "the end of the text: a group or a block is not closed";
+
+// What is said of a word that the place names.
+fn word_reason(before: &str, word: &str) -> &'static str {
+    if let Some(outside) = before.trim_end().strip_suffix('(') {
+        if let Some(hint) = group_hint(outside, word) {
+            return hint;
+        }
+    }
+    match word_hint(word) {
+        Some(hint) => hint,
+        None => lone_reason(word),
+    }
+}
+
+// What is said of a word that is written nowhere otherwise.
+fn lone_reason(word: &str) -> &'static str {
+    match word.as_bytes().first() {
+        Some(b'$') => "an id that is declared nowhere, is declared twice, or cannot be here",
+        Some(b'0'..=b'9' | b'+' | b'-') => "a number that is out of its range, or cannot be here",
+        _ => "a word that cannot be here",
+    }
+}
+
+// What is said of a group that the place names.
+fn group_reason(before: &str, word: &str) -> &'static str {
+    match group_hint(before, word) {
+        Some(hint) => hint,
+        None => "a group that cannot be here",
+    }
+}
+
+// The token at the end of `before`, and what is said of it.
+fn token_text(alloc: Global, before: &str, token: Token<'_>) -> Result<String, AllocError> {
+    match token {
+        Token::End => String::from_str(alloc, END),
+        Token::Open(word) => {
+            let reason = group_reason(before, word);
+            let word = shown(alloc, word)?;
+            format!(in alloc; "`({word}`: {reason}")
+        }
+        Token::Word(word) => {
+            let reason = word_reason(before, word);
+            let word = shown(alloc, word)?;
+            format!(in alloc; "`{word}`: {reason}")
+        }
+        Token::Text(string) => {
+            let string = shown(alloc, string)?;
+            format!(in alloc;
+                "`{string}`: a string that cannot be here, has a wrong character or escape, no end or no UTF-8, or touches a word"
+            )
+        }
+        Token::Comment => String::from_str(alloc, "`(;`: a comment without an end"),
+        Token::Close => String::from_str(
+            alloc,
+            "`)`: something is missing before it, or nothing is open",
+        ),
+        Token::Other => String::from_str(
+            alloc,
+            "a character that no word, string or comment begins with",
+        ),
+    }
+}
+
+// Why a text has its fault at this line and column.
+fn why_utf8(alloc: Global, text: &str, line: u64, column: u64) -> Result<String, AllocError> {
+    let Some(at) = offset_at(text, line, column) else {
+        return String::from_str(alloc, END);
+    };
+    let before = text.get(..at).unwrap_or("");
+    let here = text.get(at..).unwrap_or("");
+    token_text(alloc, before, token_at(here))
+}
+
+// The first byte that is no UTF-8.
+fn why_no_utf8(alloc: Global, bytes: &[u8], offset: usize) -> Result<String, AllocError> {
+    match bytes.get(offset) {
+        Some(byte) => {
+            let byte = *byte;
+            format!(in alloc;
+                "byte 0x{byte:02x} at offset {offset} is no UTF-8; a binary module begins with 00"
+            )
+        }
+        None => Ok(String::new(alloc)),
+    }
+}
+
+/// Why a file that is not in the binary format denotes no module, with this place of its fault. An error only
+/// if memory runs out.
+pub fn why_text(alloc: Global, bytes: &[u8], line: u64, column: u64) -> Result<String, AllocError> {
+    if let Some(kind) = kind_of(bytes) {
+        return String::from_str(alloc, kind);
+    }
+    match from_utf8(bytes) {
+        Ok(text) => why_utf8(alloc, text, line, column),
+        Err(error) => why_no_utf8(alloc, bytes, error.valid_up_to()),
+    }
+}
