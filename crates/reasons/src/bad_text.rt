@@ -1,7 +1,7 @@
 //! Why a text denotes no module.
 
 use crate::first_bytes::kind_of;
-use crate::hints::{group_hint, word_hint};
+use crate::hints::{field_hint, group_hint, word_hint};
 use crate::place::offset_at;
 use crate::shown::shown;
 use crate::token::{Token, token_at};
@@ -17,7 +17,10 @@ fn word_reason(before: &str, word: &str) -> &'static str {
             return hint;
         }
     }
-    match word_hint(word) {
+    if let Some(hint) = word_hint(word) {
+        return hint;
+    }
+    match field_hint(before) {
         Some(hint) => hint,
         None => lone_reason(word),
     }
@@ -40,6 +43,23 @@ fn group_reason(before: &str, word: &str) -> &'static str {
     }
 }
 
+// What is said of a parenthesis that closes a group.
+fn close_reason(before: &str) -> &'static str {
+    match field_hint(before) {
+        Some(hint) => hint,
+        None => "something is missing before it, or nothing is open",
+    }
+}
+
+// What is said of a string that the place names.
+fn string_reason(before: &str) -> &'static str {
+    match field_hint(before) {
+        Some(hint) => hint,
+        None =>
+            "a string that cannot be here, has a wrong character or escape, no end or no UTF-8, or touches a word",
+    }
+}
+
 // The token at the end of `before`, and what is said of it.
 fn token_text(alloc: Global, before: &str, token: Token<'_>) -> Result<String, AllocError> {
     match token {
@@ -54,17 +74,20 @@ fn token_text(alloc: Global, before: &str, token: Token<'_>) -> Result<String, A
             let word = shown(alloc, word)?;
             format!(in alloc; "`{word}`: {reason}")
         }
+        Token::Touching(word) => {
+            let word = shown(alloc, word)?;
+            format!(in alloc; "`{word}`: it touches the string after it")
+        }
         Token::Text(string) => {
+            let reason = string_reason(before);
             let string = shown(alloc, string)?;
-            format!(in alloc;
-                "`{string}`: a string that cannot be here, has a wrong character or escape, no end or no UTF-8, or touches a word"
-            )
+            format!(in alloc; "`{string}`: {reason}")
         }
         Token::Comment => String::from_str(alloc, "`(;`: a comment without an end"),
-        Token::Close => String::from_str(
-            alloc,
-            "`)`: something is missing before it, or nothing is open",
-        ),
+        Token::Close => {
+            let reason = close_reason(before);
+            format!(in alloc; "`)`: {reason}")
+        }
         Token::Other => String::from_str(
             alloc,
             "a character that no word, string or comment begins with",

@@ -160,6 +160,9 @@ const FOLDED: &str =
 
 const OFFSET: &str = "an offset is written (offset i32.const 0)";
 
+const NO_TYPE: &str =
+    "a function names its type first: (type $t (func (param i32))) and (func (type $t) ..)";
+
 const NO_MODULE: &str = "fields are inside (module ..)";
 
 fn find(hints: &'static [Hint], word: &str) -> Option<&'static str> {
@@ -190,10 +193,46 @@ fn is_control(word: &str) -> bool {
     false
 }
 
-// Whether the words before a group end with the name of a field that has an offset.
-fn has_offset(before: &str) -> bool {
-    let before = before.trim_end();
-    before.ends_with("(data") || before.ends_with("(elem")
+// What is after the last parenthesis that is open at the end of a text; empty if one was closed after it.
+fn open_group(text: &str) -> &str {
+    let group = match text.rfind('(') {
+        Some(at) => text.get(at.saturating_add(1)..).unwrap_or(""),
+        None => "",
+    };
+    if group.contains(')') { "" } else { group }
+}
+
+// What is before the last parenthesis of a text.
+fn before_group(text: &str) -> &str {
+    match text.rfind('(') {
+        Some(at) => text.get(..at).unwrap_or(""),
+        None => "",
+    }
+}
+
+// The word of a group that has no more than ids after it.
+fn word_of_group(group: &str) -> &str {
+    let mut words = group.split_whitespace();
+    let first = words.next().unwrap_or("");
+    for word in words {
+        if !word.starts_with('$') {
+            return "";
+        }
+    }
+    first
+}
+
+/// What has to be next, if this text ends where a field has to go on in one way.
+pub fn field_hint(text: &str) -> Option<&'static str> {
+    let outer = open_group(before_group(text)).trim_start();
+    if outer.starts_with("type") || outer.starts_with("export") {
+        return None;
+    }
+    match word_of_group(open_group(text)) {
+        "func" => Some(NO_TYPE),
+        "data" | "elem" => Some(OFFSET),
+        _ => None,
+    }
 }
 
 /// How a word is written that is none of the profile.
@@ -209,10 +248,10 @@ pub fn group_hint(before: &str, word: &str) -> Option<&'static str> {
     if !before.contains("(module") {
         return Some(NO_MODULE);
     }
-    if has_offset(before) {
-        return Some(OFFSET);
-    }
     if let Some(text) = find(GROUPS, word) {
+        return Some(text);
+    }
+    if let Some(text) = field_hint(before) {
         return Some(text);
     }
     if let Some(text) = word_hint(word) {

@@ -15,6 +15,8 @@ pub enum Token<'a> {
     /// A string, with its quotes if both are there.
     Text(&'a str),
     Word(&'a str),
+    /// A word that a string follows without a space.
+    Touching(&'a str),
     /// A character that no token begins with.
     Other,
 }
@@ -50,6 +52,19 @@ fn opened(rest: &str) -> Token<'_> {
     }
 }
 
+// The token that begins with a character of a word, if it is one.
+fn word_token(text: &str) -> Token<'_> {
+    let word = word_at(text);
+    let rest = text.get(word.len()..).unwrap_or("");
+    if word.is_empty() {
+        Token::Other
+    } else if rest.starts_with('"') {
+        Token::Touching(word)
+    } else {
+        Token::Word(word)
+    }
+}
+
 /// The token at the front of a text.
 pub fn token_at(text: &str) -> Token<'_> {
     let Some(first) = text.chars().next() else {
@@ -59,13 +74,6 @@ pub fn token_at(text: &str) -> Token<'_> {
         '(' => opened(text.get(1..).unwrap_or("")),
         ')' => Token::Close,
         '"' => Token::Text(string_at(text)),
-        _ => {
-            let word = word_at(text);
-            if word.is_empty() {
-                Token::Other
-            } else {
-                Token::Word(word)
-            }
-        }
+        _ => word_token(text),
     }
 }
