@@ -28,9 +28,12 @@ pub named_from_chosen :
 named_from_chosen arguments found e none (Serve workers scripts) h =
     (none, subst (λ f. IsCommand f (Serve workers scripts)) e h)
 named_from_chosen arguments found e none (Replay file) h = (none, subst (λ f. IsCommand f (Replay file)) e h)
-named_from_chosen arguments found e none (Asm file) h = (none, subst (λ f. IsCommand f (Asm file)) e h)
-named_from_chosen arguments found e none (Check file list) h = (none, subst (λ f. IsCommand f (Check file list)) e h)
-named_from_chosen arguments found e none (Run name args) h = (none, subst (λ f. IsCommand f (Run name args)) e h)
+named_from_chosen arguments found e none (Asm file explain) h =
+    (none, subst (λ f. IsCommand f (Asm file explain)) e h)
+named_from_chosen arguments found e none (Check file list explain) h =
+    (none, subst (λ f. IsCommand f (Check file list explain)) e h)
+named_from_chosen arguments found e none (Run name args explain) h =
+    (none, subst (λ f. IsCommand f (Run name args explain)) e h)
 named_from_chosen arguments found e none (Show text) h = absurd h
 
 pub named_from_shown :
@@ -38,9 +41,9 @@ pub named_from_shown :
     → (c : Command) → IsShown kind c → Name arguments c
 named_from_shown arguments kind h (Serve workers scripts) shown = absurd shown
 named_from_shown arguments kind h (Replay file) shown = absurd shown
-named_from_shown arguments kind h (Asm file) shown = absurd shown
-named_from_shown arguments kind h (Check file list) shown = absurd shown
-named_from_shown arguments kind h (Run name args) shown = absurd shown
+named_from_shown arguments kind h (Asm file explain) shown = absurd shown
+named_from_shown arguments kind h (Check file list explain) shown = absurd shown
+named_from_shown arguments kind h (Run name args explain) shown = absurd shown
 named_from_shown arguments kind (inl memory) (Show text) (inl help) = cc
 named_from_shown arguments kind (inl memory) (Show text) (inr version) = cc
 named_from_shown arguments kind (inr among) (Show text) (inl help) =

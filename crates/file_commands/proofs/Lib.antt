@@ -5,3 +5,4 @@ pub mod ListLemmas
 pub mod RanLemmas
 pub mod RunLemmas
 pub mod FileLaws
+pub mod ExplainedLemmas

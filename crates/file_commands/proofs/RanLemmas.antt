@@ -1,5 +1,5 @@
 -- What a command answers where one of its parts was refused.
-use Rattle.std.proofs.Common.{◌≡◌, ◌≢◌, ◌⊎◌, inl, inr, ℕ, List, Bool, Option, Result, Ok, Err, sym, subst}
+use Rattle.std.proofs.Common.{◌≡◌, ◌≢◌, ◌⊎◌, inl, inr, ℕ, List, Bool, Option, Result, Ok, Err, refl, sym, subst}
 use Rattle.std.specs.Prelude.{IfOk, IfErr, OnOk, OnErr}
 use Rattle.wasm_ast.specs.declared.module.Module.{Module}
 use Rattle.wasm_ast.specs.declared.place.Place.{Place}
@@ -9,6 +9,7 @@ use Rattle.wasm_binary.specs.Canonical.{FitsLimits}
 use Rattle.file_commands.specs.declared.ran.Ran.{Ran}
 use Rattle.file_commands.specs.Source.{IsSource, IsNoSource}
 use Rattle.file_commands.specs.Ran.{refused}
+use Rattle.file_commands.specs.Explained.{IsToldWhy, IsExplained}
 use Rattle.file_commands.specs.Assembled.{IsAssembled}
 use Rattle.file_commands.specs.Assembled as assembled
 use Rattle.file_commands.specs.Checked.{IsChecked}
@@ -78,3 +79,19 @@ pub check_answer :
     → OnOk r (e ≢ refusal.NoMemory) → Told (CannotCheck bytes) e → IfOk r (IsChecked bytes list)
 check_answer bytes list e (Ok x) is told h = checked_refused bytes list e x is told h
 check_answer bytes list e (Err x) is told h = tt
+
+-- ---- with the line of a reason
+
+pub asm_why :
+    (bytes : List ℕ) (e : Refusal) (r : Result Ran Refusal) → IfOk r (IsToldWhy (refused e))
+    → OnOk r (e ≢ refusal.NoMemory) → Told (CannotAssemble bytes) e
+    → IfOk r (IsExplained refused (IsAssembled bytes))
+asm_why bytes e (Ok x) is told h = inr (e, assembled_refused bytes e (refused e) refl told h, is)
+asm_why bytes e (Err x) is told h = tt
+
+pub check_why :
+    (bytes : List ℕ) (list : Bool) (e : Refusal) (r : Result Ran Refusal) → IfOk r (IsToldWhy (refused e))
+    → OnOk r (e ≢ refusal.NoMemory) → Told (CannotCheck bytes) e
+    → IfOk r (IsExplained refused (IsChecked bytes list))
+check_why bytes list e (Ok x) is told h = inr (e, checked_refused bytes list e (refused e) refl told h, is)
+check_why bytes list e (Err x) is told h = tt

@@ -22,6 +22,11 @@ file_rule = record (new_rule (codes "FILE")) { required = true }
 abbrev pub list_rule : Rule
 list_rule = record (new_rule (codes "list")) { long = Some (codes "list"); action = Some SetTrue }
 
+-- the flag `--explain`
+abbrev pub explain_rule : Rule
+explain_rule =
+    record (new_rule (codes "explain")) { long = Some (codes "explain"); action = Some SetTrue }
+
 -- the option `--workers`, whose value is a number from 1 to 16
 abbrev pub workers_rule : Rule
 workers_rule = record (new_rule (codes "workers")) {
@@ -58,8 +63,8 @@ bare_program =
       subs = [];
     }
 
--- `serve [--workers N] [SCRIPT..]`, `replay FILE`, `asm FILE`, `check [--list] FILE` and
--- `run MODULE [ARG..]`
+-- `serve [--workers N] [SCRIPT..]`, `replay FILE`, `asm [--explain] FILE`,
+-- `check [--list] [--explain] FILE` and `run [--explain] MODULE [ARG..]`
 abbrev pub serve_shape : Shape
 serve_shape = command_shape (codes "serve") (workers_rule ∷ script_rule ∷ [])
 
@@ -67,13 +72,13 @@ abbrev pub replay_shape : Shape
 replay_shape = command_shape (codes "replay") (file_rule ∷ [])
 
 abbrev pub asm_shape : Shape
-asm_shape = command_shape (codes "asm") (file_rule ∷ [])
+asm_shape = command_shape (codes "asm") (explain_rule ∷ file_rule ∷ [])
 
 abbrev pub check_shape : Shape
-check_shape = command_shape (codes "check") (list_rule ∷ file_rule ∷ [])
+check_shape = command_shape (codes "check") (list_rule ∷ explain_rule ∷ file_rule ∷ [])
 
 abbrev pub run_shape : Shape
-run_shape = command_shape (codes "run") (module_rule ∷ [])
+run_shape = command_shape (codes "run") (explain_rule ∷ module_rule ∷ [])
 
 -- the program with the commands for lines, and with all
 abbrev pub line_program : App
@@ -95,6 +100,10 @@ is_set (Some value) = bytes_eq value (codes "true")
 -- `--list` is among them
 abbrev pub has_list : List Row → Bool
 has_list rows = is_set (first_of (codes "list") rows)
+
+-- `--explain` is among them
+abbrev pub has_explain : List Row → Bool
+has_explain rows = is_set (first_of (codes "explain") rows)
 
 -- how many workers there are: the number given, or else 2
 abbrev pub workers_from : Option Text → ℕ
@@ -120,19 +129,22 @@ module_in = all_of (codes "MODULE")
 abbrev pub command_in : List Text → Option (Text × List Row)
 command_in = subcommand_of program
 
--- its name with its workers and SCRIPTs, with its FILE, with its FILE and whether `--list` is there, and with
--- its MODULE and ARGs
+-- its name with its workers and SCRIPTs, with its FILE, with its FILE and which flags are there, and with its
+-- MODULE and ARGs and whether `--explain` is there
 abbrev pub with_scripts : Text × List Row → Text × ℕ × List Text
 with_scripts p = (p.0, workers_in p.1, scripts_in p.1)
 
 abbrev pub with_file : Text × List Row → Text × Option Text
 with_file p = (p.0, file_in p.1)
 
-abbrev pub with_list : Text × List Row → Text × Option Text × Bool
-with_list p = (p.0, file_in p.1, has_list p.1)
+abbrev pub with_explain : Text × List Row → Text × Option Text × Bool
+with_explain p = (p.0, file_in p.1, has_explain p.1)
 
-abbrev pub with_module : Text × List Row → Text × Option (List Text)
-with_module p = (p.0, module_in p.1)
+abbrev pub with_flags : Text × List Row → Text × Option Text × Bool × Bool
+with_flags p = (p.0, file_in p.1, has_list p.1, has_explain p.1)
+
+abbrev pub with_module : Text × List Row → Text × Option (List Text) × Bool
+with_module p = (p.0, module_in p.1, has_explain p.1)
 
 -- this is the command
 abbrev pub IsCommand : Option (Text × List Row) → Command → Type 0
@@ -140,13 +152,13 @@ IsCommand found (Serve workers scripts) =
     option_map with_scripts found ≡ Some (codes "serve", workers, map string_bytes scripts.items)
 IsCommand found (Replay file) =
     option_map with_file found ≡ Some (codes "replay", Some (string_bytes file))
-IsCommand found (Asm file) =
-    option_map with_file found ≡ Some (codes "asm", Some (string_bytes file))
-IsCommand found (Check file list) =
-    option_map with_list found ≡ Some (codes "check", Some (string_bytes file), list)
-IsCommand found (Run name args) =
+IsCommand found (Asm file explain) =
+    option_map with_explain found ≡ Some (codes "asm", Some (string_bytes file), explain)
+IsCommand found (Check file list explain) =
+    option_map with_flags found ≡ Some (codes "check", Some (string_bytes file), list, explain)
+IsCommand found (Run name args explain) =
     option_map with_module found
-    ≡ Some (codes "run", Some (string_bytes name ∷ map string_bytes args.items))
+    ≡ Some (codes "run", Some (string_bytes name ∷ map string_bytes args.items), explain)
 IsCommand found (Show text) = ⊥
 
 -- what is wrong with the arguments, help and version included; empty where nothing is
@@ -165,11 +177,12 @@ Name arguments (Serve workers scripts) =
     (faults_in arguments ≡ []) × IsCommand (command_in arguments) (Serve workers scripts)
 Name arguments (Replay file) =
     (faults_in arguments ≡ []) × IsCommand (command_in arguments) (Replay file)
-Name arguments (Asm file) = (faults_in arguments ≡ []) × IsCommand (command_in arguments) (Asm file)
-Name arguments (Check file list) =
-    (faults_in arguments ≡ []) × IsCommand (command_in arguments) (Check file list)
-Name arguments (Run name args) =
-    (faults_in arguments ≡ []) × IsCommand (command_in arguments) (Run name args)
+Name arguments (Asm file explain) =
+    (faults_in arguments ≡ []) × IsCommand (command_in arguments) (Asm file explain)
+Name arguments (Check file list explain) =
+    (faults_in arguments ≡ []) × IsCommand (command_in arguments) (Check file list explain)
+Name arguments (Run name args explain) =
+    (faults_in arguments ≡ []) × IsCommand (command_in arguments) (Run name args explain)
 
 -- one of the faults of the arguments is no wish for help or the version
 pub record HasFault (arguments : List Text) : Type 0 where

@@ -6,10 +6,12 @@ ghost use Rattle.wasm_ast.specs.declared.module.Module.{Module as ModuleValue};
 ghost use Rattle.wasm_ast.specs.declared.refusal.Refusal.TheVariants as refusal;
 ghost use Rattle.wasm_binary.specs.Canonical.{canon, FitsLimits};
 ghost use Rattle.file_commands.specs.Source.{IsSource, IsNoSource};
-ghost use Rattle.file_commands.specs.Ran.{line};
+ghost use Rattle.file_commands.specs.Ran.{line, refused};
+ghost use Rattle.file_commands.specs.Explained.{IsExplained};
 ghost use Rattle.file_commands.specs.Assembled.{IsAssembled};
 ghost use Rattle.file_commands.specs.Inside.Written.{CannotAssemble};
 
+use crate::explain::refused_why;
 use crate::ran::Ran;
 use crate::source::module_of;
 use std::alloc::{AllocError, Global};
@@ -46,5 +48,16 @@ pub fn asm_file(alloc: Global, bytes: &[u8]) -> Result<Ran, Refusal>
     match encoding_line(alloc, bytes) {
         Ok(line) => Ok(Ran::succeeded(alloc, line)),
         Err(refusal) => Ran::refused(alloc, refusal),
+    }
+}
+
+/// The same, and after a refusal that has a reason a line with it on standard error: `asm --explain`.
+pub fn explain_asm(alloc: Global, bytes: &[u8]) -> Result<Ran, Refusal>
+    ensures ran { IfOk result (IsExplained refused (IsAssembled bytes.now)) }
+    ensures errors { IfErr result (λ e. e ≡ refusal.NoMemory) }
+{
+    match encoding_line(alloc, bytes) {
+        Ok(line) => Ok(Ran::succeeded(alloc, line)),
+        Err(refusal) => refused_why(alloc, bytes, refusal),
     }
 }

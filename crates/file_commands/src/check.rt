@@ -8,10 +8,12 @@ ghost use Rattle.wasm_ast.specs.View.{op_of};
 ghost use Rattle.text_assembler.specs.Lines.{IsAligned, line_of};
 ghost use Rattle.validator.specs.Typing.{ValidModule};
 ghost use Rattle.file_commands.specs.Source.{IsSource};
-ghost use Rattle.file_commands.specs.Ran.{line};
+ghost use Rattle.file_commands.specs.Ran.{line, refused};
+ghost use Rattle.file_commands.specs.Explained.{IsExplained};
 ghost use Rattle.file_commands.specs.Checked.{instr_line, op_lines, ops_lines, func_lines, listing, list_if, IsChecked};
 ghost use Rattle.file_commands.specs.Inside.Written.{CannotCheck, OpAligned, OpsAligned};
 
+use crate::explain::refused_why;
 use crate::ran::Ran;
 use crate::source::module_of;
 use std::alloc::{AllocError, Global};
@@ -167,5 +169,16 @@ pub fn check_file(alloc: Global, bytes: &[u8], list: bool) -> Result<Ran, Refusa
     match checked(alloc, bytes, list) {
         Ok(text) => Ok(Ran::succeeded(alloc, text)),
         Err(refusal) => Ran::refused(alloc, refusal),
+    }
+}
+
+/// The same, and after a refusal that has a reason a line with it on standard error: `check --explain`.
+pub fn explain_check(alloc: Global, bytes: &[u8], list: bool) -> Result<Ran, Refusal>
+    ensures ran { IfOk result (IsExplained refused (IsChecked bytes.now list)) }
+    ensures errors { IfErr result (λ e. e ≡ refusal.NoMemory) }
+{
+    match checked(alloc, bytes, list) {
+        Ok(text) => Ok(Ran::succeeded(alloc, text)),
+        Err(refusal) => refused_why(alloc, bytes, refusal),
     }
 }

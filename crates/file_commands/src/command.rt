@@ -4,9 +4,9 @@ ghost use Rattle.std.specs.Prelude.{◌≡◌, ◌∷◌, List, [], IfOk, IfErr,
 ghost use Rattle.clap.specs.Matches.{found_of};
 ghost use Rattle.clap.specs.Simple.{app_of, shape_of, subcommand_rows_of};
 ghost use Rattle.clap.specs.Values.{kind_of};
-ghost use Rattle.clap.specs.Walk.{Row, rows_of, rule_of};
+ghost use Rattle.clap.specs.Walk.{Row, first_of, rows_of, rule_of};
 ghost use Rattle.clap.specs.declared.builder.command.Command.TheViews.{out-Command as fields_of};
-ghost use Rattle.file_commands.specs.Command.{file_rule, list_rule, workers_rule, script_rule, module_rule, command_shape, serve_shape, workers_in, scripts_in, bare_program, line_program, program, file_in, has_list, module_in, IsCommand, Name, AreFaulty};
+ghost use Rattle.file_commands.specs.Command.{file_rule, list_rule, explain_rule, workers_rule, script_rule, module_rule, command_shape, serve_shape, asm_shape, check_shape, run_shape, workers_in, scripts_in, bare_program, line_program, program, file_in, is_set, has_explain, module_in, IsCommand, Name, AreFaulty};
 ghost use Rattle.file_commands.specs.Inside.Chosen.{IsShown, IsOfArguments};
 
 use clap::builder::ValueParser;
@@ -20,18 +20,37 @@ use thiserror::Error;
 pub enum Command {
     /// Answers the lines of the files of these names, each a caller of its own, or else those of standard
     /// input; this many workers run the tasks.
-    Serve { workers: u64, scripts: Vec<String> },
+    Serve {
+        workers: u64,
+        scripts: Vec<String>,
+    },
     /// Runs the lines of the file of this name, and writes their answers to standard output.
-    Replay { file: String },
-    /// Writes the encoding of the module in the file of this name.
-    Asm { file: String },
+    Replay {
+        file: String,
+    },
+    /// Writes the encoding of the module in the file of this name. A refusal is explained if that is wanted.
+    Asm {
+        file: String,
+        explain: bool,
+    },
     /// Says whether the module in the file of this name is valid, and lists its instructions if that is
-    /// wanted.
-    Check { file: String, list: bool },
-    /// Runs the module in the file of this name as one task, with these arguments.
-    Run { module: String, args: Vec<String> },
+    /// wanted. A refusal is explained if that is wanted.
+    Check {
+        file: String,
+        list: bool,
+        explain: bool,
+    },
+    /// Runs the module in the file of this name as one task, with these arguments. A refusal is explained if
+    /// that is wanted.
+    Run {
+        module: String,
+        args: Vec<String>,
+        explain: bool,
+    },
     /// Writes this text, which is help or a version, to standard output.
-    Show { text: String },
+    Show {
+        text: String,
+    },
 }
 
 /// Why a command line names no command.
@@ -72,6 +91,17 @@ fn list_arg<'a>(alloc: Global) -> Arg<'a>
         .long("list")
         .action(ArgAction::SetTrue)
         .help("Also list the instructions, a line each: function, place, instruction")
+}
+
+// The flag `--explain`.
+fn explain_arg<'a>(alloc: Global) -> Arg<'a>
+    ensures rule { rule_of result ≡ explain_rule }
+    ensures local { result.global ≡ false }
+{
+    Arg::new(alloc, "explain")
+        .long("explain")
+        .action(ArgAction::SetTrue)
+        .help("After a refusal, also say why, in a line on standard error")
 }
 
 // The option `--workers`.
@@ -151,10 +181,24 @@ fn file_command<'a>(
     command.arg(file_arg(alloc, file))
 }
 
-// `check [--list] FILE`
+// `asm [--explain] FILE`
+fn asm_command<'a>(alloc: Global) -> Result<Parser<'a>, AllocError>
+    ensures shape { IfOk result (λ p. shape_of p ≡ asm_shape) }
+    ensures local { IfOk result (λ p. (fields_of p).has_globals ≡ false) }
+{
+    let command = bare_command(
+        alloc,
+        "asm",
+        "Write the binary format of the module of a file, in hexadecimal",
+        "Example: wasm-shim asm examples/hello.wat",
+    );
+    let explained = command.arg(explain_arg(alloc))?;
+    explained.arg(file_arg(alloc, MODULE_FILE))
+}
+
+// `check [--list] [--explain] FILE`
 fn check_command<'a>(alloc: Global) -> Result<Parser<'a>, AllocError>
-    ensures shape { IfOk result
-        (λ p. shape_of p ≡ command_shape (codes "check") (list_rule ∷ file_rule ∷ [])) }
+    ensures shape { IfOk result (λ p. shape_of p ≡ check_shape) }
     ensures local { IfOk result (λ p. (fields_of p).has_globals ≡ false) }
 {
     let command = bare_command(
@@ -164,12 +208,13 @@ fn check_command<'a>(alloc: Global) -> Result<Parser<'a>, AllocError>
         "Example: wasm-shim check --list examples/sum.wat",
     );
     let listed = command.arg(list_arg(alloc))?;
-    listed.arg(file_arg(alloc, MODULE_FILE))
+    let explained = listed.arg(explain_arg(alloc))?;
+    explained.arg(file_arg(alloc, MODULE_FILE))
 }
 
-// `run MODULE [ARG..]`
+// `run [--explain] MODULE [ARG..]`
 fn run_command<'a>(alloc: Global) -> Result<Parser<'a>, AllocError>
-    ensures shape { IfOk result (λ p. shape_of p ≡ command_shape (codes "run") (module_rule ∷ [])) }
+    ensures shape { IfOk result (λ p. shape_of p ≡ run_shape) }
     ensures local { IfOk result (λ p. (fields_of p).has_globals ≡ false) }
 {
     let command = bare_command(
@@ -178,7 +223,8 @@ fn run_command<'a>(alloc: Global) -> Result<Parser<'a>, AllocError>
         "Run the module of a file as one task, and end with its status",
         "Example: wasm-shim run examples/hello.wat --any words",
     );
-    command.arg(module_arg(alloc))
+    let explained = command.arg(explain_arg(alloc))?;
+    explained.arg(module_arg(alloc))
 }
 
 // The program's name and options, without its commands.
@@ -211,14 +257,7 @@ fn line_parser<'a>(alloc: Global) -> Result<Parser<'a>, AllocError>
 fn parser<'a>(alloc: Global) -> Result<Parser<'a>, AllocError>
     ensures { IfOk result (λ p. app_of p ≡ program) }
 {
-    let asm = file_command(
-        alloc,
-        "asm",
-        "Write the binary format of the module of a file, in hexadecimal",
-        MODULE_FILE,
-        "Example: wasm-shim asm examples/hello.wat",
-    )?;
-    let with_asm = line_parser(alloc)?.subcommand(asm)?;
+    let with_asm = line_parser(alloc)?.subcommand(asm_command(alloc)?)?;
     let with_check = with_asm.subcommand(check_command(alloc)?)?;
     with_check.subcommand(run_command(alloc)?)
 }
@@ -255,11 +294,11 @@ fn file_of(alloc: Global, found: &ArgMatches<'_>) -> Result<String, CommandError
     Ok(file)
 }
 
-// Whether `--list` was found.
-fn has_list(found: &ArgMatches<'_>) -> bool
-    ensures { result ≡ has_list (rows_of (found_of found.now)) }
+// Whether the flag of this name was found.
+fn has_flag(found: &ArgMatches<'_>, name: &str) -> bool
+    ensures { result ≡ is_set (first_of name.now (rows_of (found_of found.now))) }
 {
-    match found.get_str("list") {
+    match found.get_str(name) {
         Some(value) => value == "true",
         None => false,
     }
@@ -316,9 +355,9 @@ fn serve_of(alloc: Global, found: &ArgMatches<'_>) -> Result<Command, CommandErr
 }
 
 // The command `run` with these words as MODULE and ARGs.
-fn run_with(alloc: Global, words: &[&str]) -> Result<Command, CommandError>
+fn run_with(alloc: Global, words: &[&str], explain: bool) -> Result<Command, CommandError>
     ensures ok { (rows : List Row) → module_in rows ≡ Some (map (λ w. w.now) words.now)
-        → IfOk result (IsCommand (Some (codes "run", rows))) }
+        → has_explain rows ≡ explain → IfOk result (IsCommand (Some (codes "run", rows))) }
     ensures err { IfErr result (λ f. f ≡ CommandError.OutOfMemory) }
 {
     let Some((name, rest)) = words.split_first() else {
@@ -330,7 +369,11 @@ fn run_with(alloc: Global, words: &[&str]) -> Result<Command, CommandError>
     let Ok(args) = copies(alloc, rest) else {
         return Err(CommandError::OutOfMemory);
     };
-    Ok(Command::Run { module, args })
+    Ok(Command::Run {
+        module,
+        args,
+        explain,
+    })
 }
 
 // The command `run` with the arguments that were found.
@@ -340,7 +383,7 @@ fn run_of(alloc: Global, found: &ArgMatches<'_>) -> Result<Command, CommandError
     ensures err { IfErr result (λ f. f ≡ CommandError.OutOfMemory) }
 {
     match found.get_strs("MODULE") {
-        Some(words) => run_with(alloc, words),
+        Some(words) => run_with(alloc, words, has_flag(found, "explain")),
         None => Err(CommandError::OutOfMemory),
     }
 }
@@ -358,13 +401,17 @@ fn chosen(alloc: Global, matches: &ArgMatches<'_>) -> Result<Command, CommandErr
         }
         Some(("asm", found)) => {
             let file = file_of(alloc, found)?;
-            Ok(Command::Asm { file })
+            Ok(Command::Asm {
+                file,
+                explain: has_flag(found, "explain"),
+            })
         }
         Some(("check", found)) => {
             let file = file_of(alloc, found)?;
             Ok(Command::Check {
                 file,
-                list: has_list(found),
+                list: has_flag(found, "list"),
+                explain: has_flag(found, "explain"),
             })
         }
         Some(("run", found)) => run_of(alloc, found),
@@ -374,8 +421,9 @@ fn chosen(alloc: Global, matches: &ArgMatches<'_>) -> Result<Command, CommandErr
 
 /// The command that the arguments name. The first word is the program's own name.
 ///
-/// `serve [--workers N] [SCRIPT..]`, with N from 1 to 16, `replay FILE`, `asm FILE`, `check [--list] FILE`
-/// and `run MODULE [ARG..]` are the commands. Every word after MODULE is an ARG, one that begins with a dash too. `--help` and
+/// `serve [--workers N] [SCRIPT..]`, with N from 1 to 16, `replay FILE`, `asm [--explain] FILE`,
+/// `check [--list] [--explain] FILE` and `run [--explain] MODULE [ARG..]` are the commands. Every word after
+/// MODULE is an ARG, one that begins with a dash too. `--help` and
 /// `--version`, alone or after a command, and `help` are shown. All else is
 /// `CommandError::Arguments`, and `CommandError::OutOfMemory` comes if memory ran out.
 pub fn command_of(alloc: Global, arguments: &[String]) -> Result<Command, CommandError>

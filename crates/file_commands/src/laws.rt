@@ -7,7 +7,9 @@ ghost use Rattle.file_commands.specs.declared.ran.Ran.{Ran};
 ghost use Rattle.file_commands.specs.Source.{IsSource, IsNoSource};
 ghost use Rattle.file_commands.specs.Assembled.{IsAssembled};
 ghost use Rattle.file_commands.specs.Checked.{IsChecked};
+ghost use Rattle.file_commands.specs.Ran.{refused, refused_run};
 ghost use Rattle.file_commands.specs.TaskRun.{IsRun};
+ghost use Rattle.file_commands.specs.Explained.{IsExplained, AnswersAs};
 
 use step_machine::laws::{cuts_commute, halted_stays};
 use text_assembler::laws::denotes_one;
@@ -50,3 +52,14 @@ pub fn runs_are_determined()
     halted_stays();
     cuts_commute();
 }
+
+/// With `--explain` each command has a standard output and a status that it may have without, and its standard
+/// error begins with what it writes there without.
+pub fn reasons_change_nothing()
+    ensures asm { (bytes : List ℕ) (r : Ran) → IsExplained refused (IsAssembled bytes) r
+        → AnswersAs (IsAssembled bytes) r }
+    ensures check { (bytes : List ℕ) (list : Bool) (r : Ran)
+        → IsExplained refused (IsChecked bytes list) r → AnswersAs (IsChecked bytes list) r }
+    ensures run { (name bytes : List ℕ) (args : List (List ℕ)) (r : Ran)
+        → IsExplained refused_run (IsRun name bytes args) r → AnswersAs (IsRun name bytes args) r }
+{}

@@ -4,15 +4,16 @@
 mod asm;
 mod check;
 mod command;
+mod explain;
 pub mod laws;
 mod ran;
 mod run;
 mod run_error;
 mod source;
 
-pub use asm::asm_file;
-pub use check::check_file;
+pub use asm::{asm_file, explain_asm};
+pub use check::{check_file, explain_check};
 pub use command::{Command, CommandError, command_of};
 pub use ran::Ran;
-pub use run::{run_file, run_streams};
+pub use run::{explain_run, run_file, run_streams};
 pub use run_error::RunError;

@@ -11,9 +11,12 @@ ghost use Rattle.step_machine.specs.Instantiation.{instantiation_refusal, ended}
 ghost use Rattle.step_machine.specs.Limits.{last_turn};
 ghost use Rattle.step_machine.specs.MachineView.{state_of, output_of};
 ghost use Rattle.file_commands.specs.Ran.{refused_run};
+ghost use Rattle.file_commands.specs.Explained.{IsToldWhy, IsExplained};
+ghost use Rattle.file_commands.specs.declared.ran.Ran.{Ran};
 ghost use Rattle.file_commands.specs.TaskRun.{trap_line, CannotRun, IsRun, IsWritten, status_of};
 ghost use Rattle.file_commands.specs.Inside.Written.{CannotStart, IsOpened, HasEnded};
 
+use crate::explain::refused_run_why;
 use crate::ran::Ran;
 use crate::run_error::RunError;
 use crate::source::module_of;
@@ -217,6 +220,25 @@ fn write_refusal<W: Write>(alloc: Global, cause: Refusal, err: &mut W) -> Result
     Ok(ran.status)
 }
 
+// Writes the line of a refusal of a file with these bytes, and that of its reason, and answers its status.
+// `NoMemory` has no line.
+fn write_refusal_why<W: Write>(
+    alloc: Global,
+    bytes: &[u8],
+    cause: Refusal,
+    err: &mut W,
+) -> Result<u8, RunError>
+    ensures written { IfOk result (λ s. (ran : Ran) × IsToldWhy (refused_run cause) ran
+        × Appends (W.contents err.old) (W.contents err.new) ran.err × (s ≡ ran.status)) }
+    ensures told { OnOk result (cause ≢ refusal.NoMemory) }
+{
+    let Ok(ran) = refused_run_why(alloc, bytes, cause) else {
+        return Err(RunError::OutOfMemory);
+    };
+    write_some(ran.err.as_slice(), err).map_err(RunError::StandardError)?;
+    Ok(ran.status)
+}
+
 // Runs a task to its end, and writes what it writes.
 fn run_task<O: Write, E: Write>(
     alloc: Global,
@@ -253,6 +275,25 @@ pub fn run_streams<O: Write, E: Write>(
     match task_of(alloc, name, bytes, args) {
         Ok(mut machine) => run_task(alloc, &mut machine, out, err),
         Err(refusal) => write_refusal(alloc, refusal, err),
+    }
+}
+
+/// The same, and after a refusal that has a reason a line with it on standard error: `run --explain`.
+pub fn explain_run<O: Write, E: Write>(
+    alloc: Global,
+    name: &str,
+    bytes: &[u8],
+    args: &[String],
+    out: &mut O,
+    err: &mut E,
+) -> Result<u8, RunError>
+    ensures { IfOk result (IsWritten
+        (IsExplained refused_run (IsRun name.now bytes.now (map string_bytes args.now)))
+        (O.contents out.old) (O.contents out.new) (E.contents err.old) (E.contents err.new)) }
+{
+    match task_of(alloc, name, bytes, args) {
+        Ok(mut machine) => run_task(alloc, &mut machine, out, err),
+        Err(refusal) => write_refusal_why(alloc, bytes, refusal, err),
     }
 }
 

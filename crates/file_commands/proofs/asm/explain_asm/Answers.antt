@@ -1,0 +1,16 @@
+use Rattle.std.proofs.Common.{sym, ap, ◌∙◌, inl, subst}
+use Rattle.file_commands.specs.Ran.{succeeded}
+use Rattle.file_commands.specs.Assembled.{IsAssembled, assembled}
+use Rattle.file_commands.proofs.RanLemmas.{asm_why}
+use Rattle.file_commands.proofs.asm.explain_asm.Goals as goal
+
+pub returns-in-Ok-clause-ran : goal.returns-in-Ok-clause-ran
+returns-in-Ok-clause-ran c =
+    let told = c.in-Ok.ensures.ok in
+    inl (subst (IsAssembled c.args.bytes.now) (sym (c.succeeded.ensures ∙ ap succeeded told.3))
+    (assembled told.0 told.1 told.2))
+
+pub returns-in-Err-clause-ran : goal.returns-in-Err-clause-ran
+returns-in-Err-clause-ran c =
+    asm_why c.args.bytes.now c.in-Err.refusal c.refused_why.result c.refused_why.ensures.ran c.refused_why.ensures.told
+    c.in-Err.ensures.err

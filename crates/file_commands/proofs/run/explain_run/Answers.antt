@@ -1,0 +1,19 @@
+use Rattle.std.proofs.Common.{map, string_bytes}
+use Rattle.file_commands.proofs.StreamLemmas.{run_why, refusal_why}
+use Rattle.file_commands.proofs.run.explain_run.Goals as goal
+
+pub returns-in-Ok : goal.returns-in-Ok
+returns-in-Ok g c =
+    run_why c.args.name.now c.args.bytes.now (map string_bytes c.args.args.now) c.in-Ok.machine
+    c.run_task.result
+    (g.O.Write.contents c.args.out.now) (g.O.Write.contents c.run_task.new.out)
+    (g.E.Write.contents c.args.err.now) (g.E.Write.contents c.run_task.new.err)
+    c.in-Ok.ensures.ok c.run_task.ensures
+
+pub returns-in-Err : goal.returns-in-Err
+returns-in-Err g c =
+    refusal_why c.args.name.now c.args.bytes.now (map string_bytes c.args.args.now) c.in-Err.refusal
+    c.write_refusal_why.result
+    (g.O.Write.contents c.args.out.now) (g.E.Write.contents c.args.err.now)
+    (g.E.Write.contents c.write_refusal_why.new.err)
+    c.in-Err.ensures.err c.write_refusal_why.ensures.written c.write_refusal_why.ensures.told

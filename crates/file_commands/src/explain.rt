@@ -1,0 +1,95 @@
+//! The line that says why a file was refused.
+
+ghost use Rattle.std.specs.Prelude.{◌≡◌, ◌≢◌, ◌++◌, List, ℕ, IsTrue, IfOk, IfErr, IfSome, OnOk, codes, string_bytes};
+ghost use Rattle.wasm_ast.specs.declared.refusal.Refusal.TheVariants as refusals;
+ghost use Rattle.file_commands.specs.Ran.{line, refused, refused_run};
+ghost use Rattle.file_commands.specs.Explained.{IsOneLine, IsToldWhy};
+
+use crate::ran::Ran;
+use reasons::why_file;
+use std::alloc::{AllocError, Global};
+use wasm_ast::{Refusal, Sequence};
+
+// `why: REASON`, as a line.
+fn why_line(alloc: Global, reason: &str) -> Result<String, AllocError>
+    ensures { IfOk result (λ s. string_bytes s ≡ line (codes "why: " ++ reason.now)) }
+{
+    let mut text = String::from_str(alloc, "why: ")?;
+    text.push_str(reason)?;
+    text.push_str("\n")?;
+    Ok(text)
+}
+
+// Whether a text has no line feed.
+fn is_one_line(text: &str) -> bool
+    ensures { IsTrue result → IsOneLine text.now }
+{
+    !text.as_bytes().contains(&b'\n')
+}
+
+// The line of a reason, if there is one and memory for it.
+fn reason_line(alloc: Global, bytes: &[u8], refusal: Refusal) -> Option<String>
+    ensures { IfSome result (λ s. (reason : List ℕ) × IsOneLine reason
+        × (string_bytes s ≡ line (codes "why: " ++ reason))) }
+{
+    let Ok(reason) = why_file(alloc, bytes, refusal) else {
+        return None;
+    };
+    if reason.is_empty() || !is_one_line(reason.as_str()) {
+        return None;
+    }
+    match why_line(alloc, reason.as_str()) {
+        Ok(text) => Some(text),
+        Err(_) => None,
+    }
+}
+
+// What a command writes, with this line after it if there is memory for it.
+fn with_line(plain: Ran, text: &str) -> Ran
+    ensures { (reason : List ℕ) → IsOneLine reason → text.now ≡ line (codes "why: " ++ reason)
+        → IsToldWhy plain result }
+{
+    let Ran { out, err, status } = plain;
+    let mut err = err.into_vec();
+    let _added = err.extend_from_slice(text.as_bytes());
+    Ran {
+        out,
+        err: Sequence::new(err),
+        status,
+    }
+}
+
+// What a refused command writes, with the line of a reason if there is one and memory for it.
+fn explained(alloc: Global, plain: Ran, bytes: &[u8], refusal: Refusal) -> Ran
+    ensures { IsToldWhy plain result }
+{
+    match reason_line(alloc, bytes, refusal) {
+        Some(line) => with_line(plain, line.as_str()),
+        None => plain,
+    }
+}
+
+/// Of `asm` or `check` of a file with these bytes, with the line of a reason. `NoMemory` is handed on.
+pub(crate) fn refused_why(alloc: Global, bytes: &[u8], refusal: Refusal) -> Result<Ran, Refusal>
+    ensures ran { IfOk result (IsToldWhy (refused refusal)) }
+    ensures told { OnOk result (refusal ≢ refusals.NoMemory) }
+    ensures errors { IfErr result (λ e. e ≡ refusals.NoMemory) }
+{
+    match Ran::refused(alloc, refusal) {
+        Ok(plain) => Ok(explained(alloc, plain, bytes, refusal)),
+        Err(error) => Err(error),
+    }
+}
+
+/// Of `run` of a file with these bytes, if there is no task, with the line of a reason. `NoMemory` is handed
+/// on.
+pub(crate) fn refused_run_why(alloc: Global, bytes: &[u8], refusal: Refusal) -> Result<Ran, Refusal>
+    ensures ran { IfOk result (IsToldWhy (refused_run refusal)) }
+    ensures told { OnOk result (refusal ≢ refusals.NoMemory) }
+    ensures errors { IfErr result (λ e. e ≡ refusals.NoMemory) }
+{
+    match Ran::refused_run(alloc, refusal) {
+        Ok(plain) => Ok(explained(alloc, plain, bytes, refusal)),
+        Err(error) => Err(error),
+    }
+}
