@@ -7,7 +7,8 @@ mod replay;
 mod serve;
 
 pub use file_commands::{
-    Command, CommandError, Ran, RunError, asm_file, check_file, command_of, run_file, run_streams,
+    Command, CommandError, Ran, RunError, asm_file, check_file, command_of, explain_asm,
+    explain_check, explain_run, run_file, run_streams,
 };
 pub use replay::replay_lines;
 pub use request_lines::{

@@ -11,7 +11,7 @@ const HELP: &str = "Run WebAssembly modules as container tasks
 Usage: wasm-shim <COMMAND>
 
 Commands:
-  serve   Answer the requests of standard input, a line each, on standard output
+  serve   Answer the requests of standard input, or of files, on standard output
   replay  Answer the requests, takes and returns of a file
   asm     Write the binary format of the module of a file, in hexadecimal
   check   Check whether the module of a file is valid
@@ -40,12 +40,13 @@ For more information, try '--help'.
 
 const ASM_HELP: &str = "Write the binary format of the module of a file, in hexadecimal
 
-Usage: wasm-shim asm <FILE>
+Usage: wasm-shim asm [OPTIONS] <FILE>
 
 Arguments:
   <FILE>  The file of the module, in the binary or the text format
 
 Options:
+      --explain  After a refusal, also say why, in a line on standard error
   -h, --help     Print help
   -V, --version  Print version
 
@@ -111,6 +112,31 @@ const ROWS: &[Row] = &[
         arguments: "check a --list",
         does: "lists",
         text: "a",
+    },
+    Row {
+        arguments: "asm --explain a",
+        does: "explains asm",
+        text: "a",
+    },
+    Row {
+        arguments: "check a --explain",
+        does: "explains check",
+        text: "a",
+    },
+    Row {
+        arguments: "check --explain --list a",
+        does: "explains list",
+        text: "a",
+    },
+    Row {
+        arguments: "run --explain m -x",
+        does: "explains run",
+        text: "m -x",
+    },
+    Row {
+        arguments: "run m --explain",
+        does: "runs",
+        text: "m --explain",
     },
     Row {
         arguments: "run m",
@@ -192,15 +218,46 @@ fn joined(mut text: String, args: &[String]) -> Result<String, AllocError> {
     Ok(text)
 }
 
+// One word for a command without `--explain`, and one for it with that.
+fn which(explain: bool, plain: &'static str, explained: &'static str) -> &'static str {
+    if explain { explained } else { plain }
+}
+
+// The word for a check.
+fn check_word(list: bool, explain: bool) -> &'static str {
+    if list {
+        which(explain, "lists", "explains list")
+    } else {
+        which(explain, "checks", "explains check")
+    }
+}
+
 // What a command line does, and the file or the text with it.
 fn found(alloc: Global, line: &str) -> Result<(&'static str, String), Fail> {
     match command_of(alloc, arguments(alloc, line)?.as_slice()) {
-        Ok(Command::Serve) => Ok(("serves", String::new(alloc))),
+        Ok(Command::Serve { .. }) => Ok(("serves", String::new(alloc))),
         Ok(Command::Replay { file }) => Ok(("replays", file)),
-        Ok(Command::Asm { file }) => Ok(("assembles", file)),
-        Ok(Command::Check { file, list: false }) => Ok(("checks", file)),
-        Ok(Command::Check { file, list: true }) => Ok(("lists", file)),
-        Ok(Command::Run { module, args }) => Ok(("runs", joined(module, args.as_slice())?)),
+        Ok(Command::Asm { file, explain }) => Ok((
+            which(explain, "assembles", "explains asm"),
+            file,
+        )),
+        Ok(
+            Command::Check {
+                file,
+                list,
+                explain,
+            },
+        ) => Ok((check_word(list, explain), file)),
+        Ok(
+            Command::Run {
+                module,
+                args,
+                explain,
+            },
+        ) => {
+            let does = which(explain, "runs", "explains run");
+            Ok((does, joined(module, args.as_slice())?))
+        }
         Ok(Command::Show { text }) => Ok(("shows", text)),
         Err(error) => Ok(("refuses", error.to_string(alloc)?)),
     }

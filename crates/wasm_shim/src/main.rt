@@ -2,8 +2,8 @@
 #![tactic(auto)]
 
 use shim_service::{
-    Command, CommandError, Ran, RunError, asm_file, check_file, command_of, replay_lines,
-    run_streams, serve_lines,
+    Command, CommandError, Ran, RunError, asm_file, check_file, command_of, explain_asm,
+    explain_check, explain_run, replay_lines, run_streams, serve_lines,
 };
 use std::io::Write;
 use std::process::ExitCode;
@@ -92,19 +92,31 @@ fn finish(rt: &HostRuntime, ran: Result<Ran, Refusal>) -> ExitCode {
 }
 
 // Writes the encoding of the module in a file.
-fn asm(rt: &HostRuntime, file: &str) -> ExitCode {
-    match read(rt, file) {
-        Ok(bytes) => finish(rt, asm_file(rt.alloc(), bytes.as_slice())),
-        Err(status) => status,
-    }
+fn asm(rt: &HostRuntime, file: &str, explain: bool) -> ExitCode {
+    let bytes = match read(rt, file) {
+        Ok(bytes) => bytes,
+        Err(status) => return status,
+    };
+    let ran = if explain {
+        explain_asm(rt.alloc(), bytes.as_slice())
+    } else {
+        asm_file(rt.alloc(), bytes.as_slice())
+    };
+    finish(rt, ran)
 }
 
 // Says whether the module in a file is valid.
-fn check(rt: &HostRuntime, file: &str, list: bool) -> ExitCode {
-    match read(rt, file) {
-        Ok(bytes) => finish(rt, check_file(rt.alloc(), bytes.as_slice(), list)),
-        Err(status) => status,
-    }
+fn check(rt: &HostRuntime, file: &str, list: bool, explain: bool) -> ExitCode {
+    let bytes = match read(rt, file) {
+        Ok(bytes) => bytes,
+        Err(status) => return status,
+    };
+    let ran = if explain {
+        explain_check(rt.alloc(), bytes.as_slice(), list)
+    } else {
+        check_file(rt.alloc(), bytes.as_slice(), list)
+    };
+    finish(rt, ran)
 }
 
 // Ends with what a run came to. If standard error failed, there is nowhere to say so.
@@ -118,14 +130,20 @@ fn finish_run(rt: &HostRuntime, ran: Result<u8, RunError>) -> ExitCode {
 }
 
 // Runs the module in a file, and writes what it writes as it comes.
-fn run(rt: &HostRuntime, file: &str, args: &[String]) -> ExitCode {
+fn run(rt: &HostRuntime, file: &str, args: &[String], explain: bool) -> ExitCode {
     let bytes = match read(rt, file) {
         Ok(bytes) => bytes,
         Err(status) => return status,
     };
     let mut out = rt.stdout();
     let mut err = rt.stderr();
-    let ran = run_streams(rt.alloc(), file, bytes.as_slice(), args, &mut out, &mut err);
+    let alloc = rt.alloc();
+    let bytes = bytes.as_slice();
+    let ran = if explain {
+        explain_run(alloc, file, bytes, args, &mut out, &mut err)
+    } else {
+        run_streams(alloc, file, bytes, args, &mut out, &mut err)
+    };
     finish_run(rt, ran)
 }
 
@@ -150,11 +168,23 @@ fn main(rt: HostRuntime) -> ExitCode {
         Err(error) => return stream_failed(&rt, "the command line", &error),
     };
     match command_of(rt.alloc(), given.as_slice()) {
-        Ok(Command::Serve) => serve(&rt),
+        Ok(Command::Serve { .. }) => serve(&rt),
         Ok(Command::Replay { file }) => replay(&rt, file.as_str()),
-        Ok(Command::Asm { file }) => asm(&rt, file.as_str()),
-        Ok(Command::Check { file, list }) => check(&rt, file.as_str(), list),
-        Ok(Command::Run { module, args }) => run(&rt, module.as_str(), args.as_slice()),
+        Ok(Command::Asm { file, explain }) => asm(&rt, file.as_str(), explain),
+        Ok(
+            Command::Check {
+                file,
+                list,
+                explain,
+            },
+        ) => check(&rt, file.as_str(), list, explain),
+        Ok(
+            Command::Run {
+                module,
+                args,
+                explain,
+            },
+        ) => run(&rt, module.as_str(), args.as_slice(), explain),
         Ok(Command::Show { text }) => write_out(&rt, text.as_bytes()),
         Err(error) => refuse(&rt, &error),
     }
