@@ -53,8 +53,8 @@ pub fn runs_are_determined()
     cuts_commute();
 }
 
-/// With `--explain` each command has a standard output and a status that it may have without, and its standard
-/// error begins with what it writes there without.
+/// With `--explain` each command has a standard output and a status that it may have without, and
+/// its standard error begins with what it writes there without.
 pub fn reasons_change_nothing()
     ensures asm { (bytes : List ℕ) (r : Ran) → IsExplained refused (IsAssembled bytes) r
         → AnswersAs (IsAssembled bytes) r }

@@ -1,10 +1,11 @@
 //! Files that are refused, and the reasons that are told with them.
 //!
-//! A line of standard input is a command (`asm`, `check` or `run`), a file, and the reason that is wanted, with
-//! ` => ` between. The file is in hexadecimal digits or, after `text `, as it is, with `\n` for a line feed. A line
-//! that is empty or begins with `#` says something of the others. `ok COUNT` is printed at the end: of how many
-//! lines the command with `--explain` writes what it writes without, and then the line of that reason. Each other
-//! line is printed with what was found. Of a line without a reason the refusal and its reason are printed.
+//! A line of standard input is a command (`asm`, `check` or `run`), a file, and the reason that is
+//! wanted, with ` => ` between. The file is in hexadecimal digits or, after `text `, as it is, with
+//! `\n` for a line feed. A line that is empty or begins with `#` says something of the others. `ok
+//! COUNT` is printed at the end: of how many lines the command with `--explain` writes what it
+//! writes without, and then the line of that reason. Each other line is printed with what was
+//! found. Of a line without a reason the refusal and its reason are printed.
 #![tactic(auto)]
 
 use anyhow::{Context, Result, bail};

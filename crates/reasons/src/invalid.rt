@@ -182,8 +182,8 @@ fn outside_text(alloc: Global, of: &Module) -> Result<String, AllocError> {
 /// Why the module of a file is not valid, given the place of its fault, if it is in a body. An error only if
 /// memory runs out.
 pub fn why_invalid(alloc: Global, bytes: &[u8], at: Option<Place>) -> Result<String, AllocError> {
-    let Some(of) = module_of(alloc, bytes) else {
-        return Err(AllocError);
+    let Some(of) = module_of(alloc, bytes)? else {
+        return Ok(String::new(alloc));
     };
     match at {
         Some(at) => place_text(alloc, &of, at),

@@ -167,10 +167,10 @@ fn why_task(alloc: Global, of: &Module) -> Result<String, AllocError> {
     }
 }
 
-/// Why a file is refused for a limit: that of the bytes or the text, or else that of a task which `run` makes.
-/// An error only if memory runs out.
+/// Why a file is refused for a limit: that of the bytes or the text, or else that of a task which
+/// `run` makes. An error only if memory runs out.
 pub fn why_limit(alloc: Global, bytes: &[u8]) -> Result<String, AllocError> {
-    if let Some(of) = module_of(alloc, bytes) {
+    if let Some(of) = module_of(alloc, bytes)? {
         return why_task(alloc, &of);
     }
     match bytes.first() {

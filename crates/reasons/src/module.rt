@@ -1,22 +1,35 @@
 //! The module of a file whose refusal is not one of its format.
 
-use std::alloc::Global;
+use std::alloc::{AllocError, Global};
 use std::str::from_utf8;
 use text_assembler::assemble;
-use wasm_ast::Module;
+use wasm_ast::{Module, Refusal};
 use wasm_binary::decode;
 
-// The module of a text.
-fn text_module(alloc: Global, bytes: &[u8]) -> Option<Module> {
-    let text = from_utf8(bytes).ok()?;
-    let encoded = assemble(alloc, text).ok()?;
-    decode(alloc, encoded.as_slice()).ok()
+// What was read, if it was not refused. An error only if memory ran out.
+fn unless_refused<T: Drop>(read: Result<T, Refusal>) -> Result<Option<T>, AllocError> {
+    match read {
+        Ok(found) => Ok(Some(found)),
+        Err(Refusal::NoMemory) => Err(AllocError),
+        Err(_) => Ok(None),
+    }
 }
 
-/// The module of a file; None if it has none, or memory runs out.
-pub fn module_of(alloc: Global, bytes: &[u8]) -> Option<Module> {
+// The module of a text.
+fn text_module(alloc: Global, bytes: &[u8]) -> Result<Option<Module>, AllocError> {
+    let Ok(text) = from_utf8(bytes) else {
+        return Ok(None);
+    };
+    match unless_refused(assemble(alloc, text))? {
+        Some(encoded) => unless_refused(decode(alloc, encoded.as_slice())),
+        None => Ok(None),
+    }
+}
+
+/// The module of a file, if it has one. An error only if memory runs out.
+pub fn module_of(alloc: Global, bytes: &[u8]) -> Result<Option<Module>, AllocError> {
     match bytes.first() {
-        Some(0) => decode(alloc, bytes).ok(),
+        Some(0) => unless_refused(decode(alloc, bytes)),
         _ => text_module(alloc, bytes),
     }
 }

@@ -233,8 +233,8 @@ pub enum Cause {
 
 /// Why the module of a file cannot be instantiated as a task. An error only if memory runs out.
 pub fn why_task(alloc: Global, bytes: &[u8], cause: Cause) -> Result<String, AllocError> {
-    let Some(of) = module_of(alloc, bytes) else {
-        return Err(AllocError);
+    let Some(of) = module_of(alloc, bytes)? else {
+        return Ok(String::new(alloc));
     };
     match cause {
         Cause::Entry => why_entry(alloc, &of),
