@@ -1,125 +1,49 @@
-//! Requests and events on a board.
+//! What no line can show of a board: its loans and tickets, who waits for a worker, and takes that no line asks for.
 
 use crate::checks::check_text;
-use crate::fixtures::{
-    BUSY_LINE, CREATED_LINE, EXIT_SEVEN_CONFIG, EXIT_SEVEN_HEX, EXITED_LINE, LOOP_CONFIG,
-    LOOP_TEXT, NO_OUTPUT_LINE, NOT_RETURNED_LINE, NOT_TAKEN_LINE, ONE_TURN_LINE, OUT_OF_RANGE_LINE,
-    PUT_LINE, RETURNED_LINE, STARTED_LINE, TAKEN_LINE,
-};
-use shim_service::{event_line_of, line_of};
-use std::alloc::{AllocError, Global};
+use shim_service::{event_line_of, event_of, request_of};
+use std::alloc::Global;
 use std::process::Abort;
 use std::test::Fail;
-use task_board::{Board, Event, EventReply, Loan, Reply, Request, Ticket, run_events};
-use wasm_ast::{Refusal, Sequence, Text};
+use task_board::{Board, Event, EventReply, Loan, Ticket, run_events};
+use wasm_ast::Text;
 
-fn put(alloc: Global) -> Result<Request, Fail> {
-    let bytes = Sequence::new(hex::decode(alloc, EXIT_SEVEN_HEX)?);
-    Ok(Request::Put { bytes })
-}
+/// Stores a module whose entry calls `proc_exit` with 7.
+const PUT_EXIT_SEVEN: &str =
+    r#"{"op":"put","hex":"0061736d0100000001080260017f0060000002240116776173695f736e617073686f745f70726576696577310970726f635f65786974000003020101070a01065f737461727400010a08010600410710000b"}"#;
 
-fn id(alloc: Global) -> Result<Text, AllocError> {
-    Text::from_str(alloc, "a")
-}
+const CREATE_EXIT_SEVEN: &str =
+    r#"{"op":"create","id":"a","config":"{\"ociVersion\":\"1.0.2\",\"process\":{\"args\":[\"a\"],\"cwd\":\"/\"},\"annotations\":{\"dev.shim.module\":\"sha256:2194f0d23626e6104d4a7a891350fbd0e82a54a29dd596a672d41474e9b6ee0a\"}}"}"#;
 
-fn create_by(alloc: Global, config: &str) -> Result<Request, AllocError> {
-    let config = Text::from_str(alloc, config)?;
-    let id = id(alloc)?;
-    Ok(Request::Create { config, id })
-}
+/// Stores a module whose entry never ends.
+const PUT_LOOP: &str =
+    r#"{"op":"put_text","text":"(module (type $p (func (param i32))) (type $v (func)) (import \"wasi_snapshot_preview1\" \"proc_exit\" (func $exit (type $p))) (func $s (type $v) loop br 0 end) (export \"_start\" (func $s)))"}"#;
 
-fn create(alloc: Global) -> Result<Request, AllocError> {
-    create_by(alloc, EXIT_SEVEN_CONFIG)
-}
+const CREATE_LOOP: &str =
+    r#"{"op":"create","id":"a","config":"{\"ociVersion\":\"1.0.2\",\"process\":{\"args\":[\"a\"],\"cwd\":\"/\"},\"annotations\":{\"dev.shim.module\":\"sha256:6562dc6051eacfa9e16454a65e6442a418b51e1faf0d637f3a9623de4037491c\"}}"}"#;
 
-fn start(alloc: Global) -> Result<Request, AllocError> {
-    let id = id(alloc)?;
-    Ok(Request::Start { id })
-}
+const START: &str = r#"{"op":"start","id":"a"}"#;
 
-fn state(alloc: Global) -> Result<Request, AllocError> {
-    let id = id(alloc)?;
-    Ok(Request::State { id })
-}
+const KILL: &str = r#"{"op":"kill","id":"a","signal":9}"#;
 
-fn wait(alloc: Global) -> Result<Request, AllocError> {
-    let id = id(alloc)?;
-    Ok(Request::Wait { id })
-}
-
-fn output(alloc: Global, stream: u64) -> Result<Request, AllocError> {
-    let id = id(alloc)?;
-    Ok(Request::Output { id, stream })
-}
+const DELETE: &str = r#"{"op":"delete","id":"a"}"#;
 
 fn new_board(alloc: Global) -> Result<Box<Board>, Fail> {
     let board = Board::new(alloc)?;
     Ok(Box::new(alloc, board)?)
 }
 
-// Whether a request was answered by this line.
-fn check_answer(
-    rt: &impl Abort,
-    alloc: Global,
-    answer: &Result<Reply, Refusal>,
-    line: &str,
-) -> Result<(), Fail> {
-    let found = line_of(alloc, answer)?;
-    check_text(rt, "the line of an answer", found.as_str(), line);
+fn call(alloc: Global, board: &mut Board, line: &str) -> Result<(), Fail> {
+    board.call(request_of(alloc, line.as_bytes())?)?;
     Ok(())
 }
 
-fn put_is_applied(rt: &impl Abort, alloc: Global, board: &mut Board) -> Result<(), Fail> {
-    let prepared = board.prepare(put(alloc)?)?;
-    let answer = board.apply(prepared);
-    check_answer(rt, alloc, &answer, PUT_LINE)
-}
-
-fn create_is_applied(rt: &impl Abort, alloc: Global, board: &mut Board) -> Result<(), Fail> {
-    let prepared = board.prepare(create(alloc)?)?;
-    let answer = board.apply(prepared);
-    check_answer(rt, alloc, &answer, CREATED_LINE)
-}
-
-fn start_is_called(rt: &impl Abort, alloc: Global, board: &mut Board) -> Result<(), Fail> {
-    let answer = board.call(start(alloc)?);
-    check_answer(rt, alloc, &answer, STARTED_LINE)
-}
-
-// A valid module is accepted, by prepare and apply as by call.
-#[test]
-fn requests_are_prepared_and_applied(rt: HostRuntime) -> Result<(), Fail> {
-    let alloc = rt.alloc();
-    let mut board = new_board(alloc)?;
-    put_is_applied(&rt, alloc, &mut board)?;
-    create_is_applied(&rt, alloc, &mut board)?;
-    start_is_called(&rt, alloc, &mut board)
-}
-
-fn put_text(alloc: Global, text: &str) -> Result<Request, AllocError> {
-    let text = Text::from_str(alloc, text)?;
-    Ok(Request::PutText { text })
-}
-
-fn ended(alloc: Global, board: &mut Board) -> Result<(), Fail> {
-    let kill = Request::Kill {
-        id: id(alloc)?,
-        signal: 9,
-    };
-    board.call(kill)?;
-    let delete = Request::Delete { id: id(alloc)? };
-    board.call(delete)?;
-    Ok(())
-}
-
-fn started_by(alloc: Global, board: &mut Board, config: &str) -> Result<Option<Ticket>, Fail> {
-    board.call(create_by(alloc, config)?)?;
-    board.call(start(alloc)?)?;
+// Makes the calls, each of which is accepted, and gives a ticket of the task.
+fn called(alloc: Global, board: &mut Board, lines: &[&str]) -> Result<Option<Ticket>, Fail> {
+    for line in lines {
+        call(alloc, board, line)?;
+    }
     Ok(board.ticket("a"))
-}
-
-fn started(alloc: Global, board: &mut Board) -> Result<Option<Ticket>, Fail> {
-    started_by(alloc, board, EXIT_SEVEN_CONFIG)
 }
 
 fn lend(board: &mut Board, ticket: Option<Ticket>) -> Option<Loan> {
@@ -143,11 +67,13 @@ fn is_fitting(board: &mut Board, loan: Option<Loan>) -> bool {
 fn loans_of_other_modules_do_not_fit(rt: HostRuntime) -> Result<(), Fail> {
     let alloc = rt.alloc();
     let mut board = new_board(alloc)?;
-    board.call(put(alloc)?)?;
-    let ticket = started(alloc, &mut board)?;
+    let ticket = called(
+        alloc,
+        &mut board,
+        &[PUT_EXIT_SEVEN, CREATE_EXIT_SEVEN, START],
+    )?;
     let mut other = new_board(alloc)?;
-    other.call(put_text(alloc, LOOP_TEXT)?)?;
-    let same = started_by(alloc, &mut other, LOOP_CONFIG)?;
+    let same = called(alloc, &mut other, &[PUT_LOOP, CREATE_LOOP, START])?;
     assert!(rt; ticket == same);
     let own = lend(&mut board, ticket);
     let foreign = lend(&mut other, same);
@@ -160,10 +86,7 @@ fn loans_of_other_modules_do_not_fit(rt: HostRuntime) -> Result<(), Fail> {
 
 // Whether a slice is taken by the ticket.
 fn is_served(board: &mut Board, ticket: Option<Ticket>) -> bool {
-    let Some(ticket) = ticket else {
-        return false;
-    };
-    let Some(mut loan) = board.take(ticket, 1) else {
+    let Some(mut loan) = lend(board, ticket) else {
         return false;
     };
     loan.run();
@@ -176,10 +99,12 @@ fn is_served(board: &mut Board, ticket: Option<Ticket>) -> bool {
 fn tickets_of_deleted_tasks_are_not_served(rt: HostRuntime) -> Result<(), Fail> {
     let alloc = rt.alloc();
     let mut board = new_board(alloc)?;
-    board.call(put(alloc)?)?;
-    let earlier = started(alloc, &mut board)?;
-    ended(alloc, &mut board)?;
-    let later = started(alloc, &mut board)?;
+    let earlier = called(
+        alloc,
+        &mut board,
+        &[PUT_EXIT_SEVEN, CREATE_EXIT_SEVEN, START],
+    )?;
+    let later = called(alloc, &mut board, &[KILL, DELETE, CREATE_EXIT_SEVEN, START])?;
     assert!(rt; !is_served(&mut board, earlier));
     assert!(rt; is_served(&mut board, later));
     Ok(())
@@ -195,8 +120,11 @@ fn is_next(board: &mut Board, ticket: Option<Ticket>) -> bool {
 fn started_tasks_wait_once(rt: HostRuntime) -> Result<(), Fail> {
     let alloc = rt.alloc();
     let mut board = new_board(alloc)?;
-    board.call(put(alloc)?)?;
-    let ticket = started(alloc, &mut board)?;
+    let ticket = called(
+        alloc,
+        &mut board,
+        &[PUT_EXIT_SEVEN, CREATE_EXIT_SEVEN, START],
+    )?;
     if let Some(again) = ticket {
         board.wait_again(again);
     }
@@ -204,142 +132,57 @@ fn started_tasks_wait_once(rt: HostRuntime) -> Result<(), Fail> {
     assert!(rt; is_next(&mut board, None));
     if let Some(again) = ticket {
         board.wait_again(again);
-        ended(alloc, &mut board)?;
+        called(alloc, &mut board, &[KILL, DELETE])?;
         board.wait_again(again);
     }
     assert!(rt; is_next(&mut board, None));
     Ok(())
 }
 
-/// An event of a run, of the one task.
-#[derive(Clone, Copy)]
-enum Action {
-    Put,
-    Create,
-    Start,
-    State,
-    Wait,
-    Output(u64),
-    Take(u64),
-    Return,
-}
-
-fn event(alloc: Global, action: Action) -> Result<Event, Fail> {
-    match action {
-        Action::Put => Ok(Event::Call(put(alloc)?)),
-        Action::Create => Ok(Event::Call(create(alloc)?)),
-        Action::Start => Ok(Event::Call(start(alloc)?)),
-        Action::State => Ok(Event::Call(state(alloc)?)),
-        Action::Wait => Ok(Event::Call(wait(alloc)?)),
-        Action::Output(stream) => Ok(Event::Call(output(alloc, stream)?)),
-        Action::Take(budget) => Ok(Event::Take(id(alloc)?, budget)),
-        Action::Return => Ok(Event::Return(id(alloc)?)),
-    }
-}
-
-/// An event and the line of its reply.
-struct Row {
-    action: Action,
-    line: &'static str,
-}
-
-/// A whole run.
-const ROWS: &[Row] = &[
-    Row {
-        action: Action::Put,
-        line: PUT_LINE,
-    },
-    Row {
-        action: Action::Create,
-        line: CREATED_LINE,
-    },
-    Row {
-        action: Action::Start,
-        line: STARTED_LINE,
-    },
-    Row {
-        action: Action::Take(1),
-        line: TAKEN_LINE,
-    },
-    Row {
-        action: Action::Return,
-        line: RETURNED_LINE,
-    },
-    Row {
-        action: Action::State,
-        line: ONE_TURN_LINE,
-    },
-    Row {
-        action: Action::Output(1),
-        line: NO_OUTPUT_LINE,
-    },
-    Row {
-        action: Action::Take(0),
-        line: NOT_TAKEN_LINE,
-    },
-    Row {
-        action: Action::Take(1_000_001),
-        line: NOT_TAKEN_LINE,
-    },
-    Row {
-        action: Action::Take(1_000_000),
-        line: TAKEN_LINE,
-    },
-    Row {
-        action: Action::Take(1),
-        line: NOT_TAKEN_LINE,
-    },
-    Row {
-        action: Action::Output(2),
-        line: BUSY_LINE,
-    },
-    Row {
-        action: Action::Output(3),
-        line: OUT_OF_RANGE_LINE,
-    },
-    Row {
-        action: Action::Return,
-        line: RETURNED_LINE,
-    },
-    Row {
-        action: Action::Return,
-        line: NOT_RETURNED_LINE,
-    },
-    Row {
-        action: Action::Wait,
-        line: EXITED_LINE,
-    },
-    Row {
-        action: Action::Output(2),
-        line: NO_OUTPUT_LINE,
-    },
+/// Budgets, and what a take of that many turns is answered.
+const TAKES: &[(u64, &str)] = &[
+    (0, "{\"ok\":true,\"taken\":false}\n"),
+    (1_000_001, "{\"ok\":true,\"taken\":false}\n"),
+    (1_000_000, "{\"ok\":true,\"taken\":true}\n"),
 ];
 
-fn events(alloc: Global) -> Result<Vec<Event>, Fail> {
-    let mut events = Vec::new(alloc);
-    for row in ROWS {
-        events.push(event(alloc, row.action)?)?;
+// Adds the calls that start a task.
+fn add_calls(alloc: Global, events: &mut Vec<Event>) -> Result<(), Fail> {
+    for line in [PUT_EXIT_SEVEN, CREATE_EXIT_SEVEN, START] {
+        events.push(event_of(alloc, line.as_bytes())?)?;
     }
-    Ok(events)
+    Ok(())
+}
+
+fn add_takes(alloc: Global, events: &mut Vec<Event>) -> Result<(), Fail> {
+    for &(budget, _) in TAKES {
+        events.push(Event::Take(Text::from_str(alloc, "a")?, budget))?;
+    }
+    Ok(())
 }
 
 fn check_reply(rt: &impl Abort, alloc: Global, reply: &EventReply, line: &str) -> Result<(), Fail> {
     let found = event_line_of(alloc, reply)?;
-    check_text(rt, "the line of an event", found.as_str(), line);
+    check_text(rt, "the line of a take", found.as_str(), line);
     Ok(())
 }
 
-fn check_replies(rt: &impl Abort, alloc: Global, replies: &[EventReply]) -> Result<(), Fail> {
-    for (reply, row) in replies.iter().zip(ROWS) {
-        check_reply(rt, alloc, reply, row.line)?;
+// Asserts that the takes, the last of the events, are answered so.
+fn check_takes(rt: &impl Abort, alloc: Global, replies: &[EventReply]) -> Result<(), Fail> {
+    for (reply, &(_, line)) in replies.iter().rev().zip(TAKES.iter().rev()) {
+        check_reply(rt, alloc, reply, line)?;
     }
     Ok(())
 }
 
+// A budget that is too small or too large lends nothing, and a line with one is no event.
 #[test]
-fn events_are_run(rt: HostRuntime) -> Result<(), Fail> {
+fn budgets_out_of_range_lend_nothing(rt: HostRuntime) -> Result<(), Fail> {
     let alloc = rt.alloc();
-    let replies = run_events(alloc, events(alloc)?)?;
-    assert_eq!(rt; replies.len(), ROWS.len());
-    check_replies(&rt, alloc, replies.as_slice())
+    let mut events = Vec::new(alloc);
+    add_calls(alloc, &mut events)?;
+    add_takes(alloc, &mut events)?;
+    let replies = run_events(alloc, events)?;
+    assert_eq!(rt; replies.len(), 6);
+    check_takes(&rt, alloc, replies.as_slice())
 }

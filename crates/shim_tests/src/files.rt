@@ -32,6 +32,14 @@ const WRITE_AND_TRAP: &str =
 const COUNT_ARGUMENTS: &str =
     "(module (type $g (func (param i32 i32) (result i32))) (type $p (func (param i32))) (type $v (func)) (import \"wasi_snapshot_preview1\" \"args_sizes_get\" (func $sizes (type $g))) (import \"wasi_snapshot_preview1\" \"proc_exit\" (func $exit (type $p))) (memory 1) (func $s (type $v) i32.const 0 i32.const 4 call $sizes drop i32.const 0 i32.load i32.const 10 i32.mul i32.const 4 i32.load i32.add call $exit) (export \"_start\" (func $s)) (export \"memory\" (memory 0)))";
 
+/// A module with a constant above half of its range, and a load with half of its natural alignment.
+const SIGN_AND_ALIGNMENT: &str =
+    "(module (type (func)) (memory 1) (func (type 0) i32.const 4294967294 drop i32.const 0 i64.load32_u offset=40 align=2 drop))";
+
+/// The first module, with the number 7 in five bytes.
+const SEVEN_IN_FIVE: &str =
+    "0061736d0100000001080260017f0060000002240116776173695f736e617073686f745f70726576696577310970726f635f65786974000003020101070a01065f737461727400010a0c010a0041878080800010000b";
+
 /// A file, a command, and what it writes.
 struct Row {
     command: &'static str,
@@ -179,6 +187,14 @@ const FILES: &[Row] = &[
         err: "xtrap: unreachable\n",
         status: 134,
     },
+    // a constant has its sign, and an alignment is written in bytes where it is not natural
+    Row {
+        command: "list",
+        file: SIGN_AND_ALIGNMENT,
+        out: "ok\n0 0 i32.const -2\n0 1 drop\n0 2 i32.const 0\n0 3 i64.load32_u offset=40 align=2\n0 4 drop\n",
+        err: "",
+        status: 0,
+    },
     // the arguments m, a and bc: 30, and 7 bytes
     Row {
         command: "run with a bc",
@@ -263,5 +279,21 @@ fn bytes_are_no_text(rt: HostRuntime) -> Result<(), Fail> {
         found.err.as_slice(),
         b"refused 18 BadText line 1 column 1\n",
     );
+    Ok(())
+}
+
+// Asserts that a module with this encoding is written in its shortest form, as the first module.
+fn check_shortest(rt: &impl Abort, alloc: Global, spelling: &str) -> Result<(), Fail> {
+    let bytes = hex::decode(alloc, spelling.trim_end())?;
+    let found = asm_file(alloc, bytes.as_slice())?;
+    check_bytes(rt, 0, found.out.as_slice(), EXIT_SEVEN.as_bytes());
+    Ok(())
+}
+
+#[test]
+fn modules_are_written_in_their_shortest_form(rt: HostRuntime) -> Result<(), Fail> {
+    for spelling in [EXIT_SEVEN, SEVEN_IN_FIVE] {
+        check_shortest(&rt, rt.alloc(), spelling)?;
+    }
     Ok(())
 }

@@ -1,15 +1,17 @@
 //! Tests over the public calls of all crates: that each can succeed, with answers that were worked out by
-//! hand, and what no contract says.
+//! hand, and what no contract says. What a line can show is a row of `worked_rows`.
 #![tactic(auto)]
 
 #[cfg(test)]
 mod boards;
 #[cfg(test)]
+mod bytes;
+#[cfg(test)]
 mod checks;
 #[cfg(test)]
 mod commands;
 #[cfg(test)]
-mod configs;
+mod copies;
 #[cfg(test)]
 mod files;
 #[cfg(test)]
@@ -17,12 +19,6 @@ mod fixtures;
 #[cfg(test)]
 mod lines;
 #[cfg(test)]
-mod modules;
-#[cfg(test)]
 mod runs;
 #[cfg(test)]
-mod stores;
-#[cfg(test)]
 mod streams;
-#[cfg(test)]
-mod texts;

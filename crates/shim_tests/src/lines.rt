@@ -1,84 +1,14 @@
-//! Lines that no client should send: each has its answer, and the line after it is answered as ever.
+//! Long lines as they come from a stream: each has its answer, and the line after it is answered as ever.
 
 use crate::checks::check_text;
-use crate::fixtures::{BAD_ID_LINE, BAD_REQUEST_LINE, NOT_FOUND_LINE, NOT_TAKEN_LINE};
+use crate::fixtures::{BAD_ID_LINE, BAD_REQUEST_LINE, NOT_FOUND_LINE};
 use crate::streams::{ChunkedReader, FailingWriter, serves};
-use shim_service::replay_lines;
 use std::alloc::{AllocError, Global};
 use std::process::Abort;
 use std::test::Fail;
 
 /// A request for a task that is not there.
 const STATE: &str = "{\"op\":\"state\",\"id\":\"zz\"}";
-
-/// Lines, and what they are answered.
-const LINES: &[(&[u8], &str)] = &[
-    // Nothing, spaces, bytes that are no text.
-    (b"", BAD_REQUEST_LINE),
-    (b"  ", BAD_REQUEST_LINE),
-    (b"\0", BAD_REQUEST_LINE),
-    (b"\0{\"op\":\"state\",\"id\":\"zz\"}", BAD_REQUEST_LINE),
-    (b"\xff\xfe", BAD_REQUEST_LINE),
-    (
-        b"\xef\xbb\xbf{\"op\":\"state\",\"id\":\"zz\"}",
-        BAD_REQUEST_LINE,
-    ),
-    (b"{\"op\":\"state\",\"id\":\"\xff\"}", BAD_REQUEST_LINE),
-    (
-        b"{\"op\":\"state\",\"id\":\"\xed\xa0\x80\"}",
-        BAD_REQUEST_LINE,
-    ),
-    (b"{\"op\":\"state\",\"id\":\"\xc0\x80\"}", BAD_REQUEST_LINE),
-    // A carriage return is white space, and a NUL is none.
-    (b"{\"op\":\"state\",\"id\":\"zz\"}\r", NOT_FOUND_LINE),
-    (
-        b"\t{ \"op\" : \"state\",\r\"id\" : \"zz\" } ",
-        NOT_FOUND_LINE,
-    ),
-    (b"{\"op\":\"state\",\"id\":\"zz\"}\0", BAD_REQUEST_LINE),
-    (b"{\"op\":\"state\",\"id\":\"z\0z\"}", BAD_REQUEST_LINE),
-    (b"{\"op\":\"state\",\"id\":\"z\\u0000z\"}", BAD_ID_LINE),
-    (b"{\"op\":\"state\",\"id\":\"\\u007az\"}", NOT_FOUND_LINE),
-    (b"{\"op\":\"state\",\"id\":\"\\ud800\"}", BAD_REQUEST_LINE),
-    // If a key appears twice, the last value wins.
-    (
-        b"{\"op\":\"put\",\"op\":\"state\",\"id\":\"zz\"}",
-        NOT_FOUND_LINE,
-    ),
-    (b"{\"id\":1,\"op\":\"state\",\"id\":\"zz\"}", NOT_FOUND_LINE),
-    (
-        b"{\"id\":\"zz\",\"op\":\"state\",\"id\":1}",
-        BAD_REQUEST_LINE,
-    ),
-    // Keys and kinds.
-    (b"{}", BAD_REQUEST_LINE),
-    (b"[]", BAD_REQUEST_LINE),
-    (b"null", BAD_REQUEST_LINE),
-    (b"\"state\"", BAD_REQUEST_LINE),
-    (b"{\"id\":\"zz\"}", BAD_REQUEST_LINE),
-    (b"{\"op\":\"state\"}", BAD_REQUEST_LINE),
-    (b"{\"op\":\"State\",\"id\":\"zz\"}", BAD_REQUEST_LINE),
-    (
-        b"{\"op\":\"state\",\"id\":\"zz\",\"n\":0}",
-        BAD_REQUEST_LINE,
-    ),
-    (
-        b"{\"op\":\"state\",\"id\":18446744073709551616}",
-        BAD_REQUEST_LINE,
-    ),
-    (b"{\"op\":\"state\",\"id\":1e400}", BAD_REQUEST_LINE),
-    (b"{\"op\":\"put\",\"hex\":\"0\"}", BAD_REQUEST_LINE),
-    (b"{\"op\":\"put\",\"hex\":\"0g\"}", BAD_REQUEST_LINE),
-    (b"{\"op\":\"put\",\"hex\":\" 00\"}", BAD_REQUEST_LINE),
-    (b"{\"op\":\"put\",\"hex\":0}", BAD_REQUEST_LINE),
-    (b"{\"op\":\"put_text\",\"text\":0}", BAD_REQUEST_LINE),
-    (b"{\"op\":\"put_text\",\"hex\":\"\"}", BAD_REQUEST_LINE),
-    // No JSON.
-    (b"{\"op\":\"state\",\"id\":\"zz\",}", BAD_REQUEST_LINE),
-    (b"{\"op\":\"state\",\"id\":\"zz\"}{}", BAD_REQUEST_LINE),
-    (b"{\"op\":\"state\",\"id\":\"zz\"", BAD_REQUEST_LINE),
-    (b"{'op':'state','id':'zz'}", BAD_REQUEST_LINE),
-];
 
 /// A long line and its answer.
 struct LongLine {
@@ -181,24 +111,6 @@ const LONG_LINES: &[LongLine] = &[
     },
 ];
 
-/// The budgets of takes from a task that is not there.
-const BUDGETS: &[(&str, &str)] = &[
-    ("1", NOT_TAKEN_LINE),
-    ("1000000", NOT_TAKEN_LINE),
-    ("0", BAD_REQUEST_LINE),
-    ("1000001", BAD_REQUEST_LINE),
-    ("18446744073709551615", BAD_REQUEST_LINE),
-    ("18446744073709551616", BAD_REQUEST_LINE),
-    ("18446744073709551617", BAD_REQUEST_LINE),
-    ("1e3", BAD_REQUEST_LINE),
-    ("1.0", BAD_REQUEST_LINE),
-    ("-0", BAD_REQUEST_LINE),
-    ("-1", BAD_REQUEST_LINE),
-    ("01", BAD_REQUEST_LINE),
-    ("\"1\"", BAD_REQUEST_LINE),
-    ("null", BAD_REQUEST_LINE),
-];
-
 // A script, and what it is to be answered.
 #[derive(Drop)]
 struct Script {
@@ -253,48 +165,6 @@ fn check_served(rt: &impl Abort, of: &str, bytes: &[u8], wanted: &str) -> Result
     Ok(())
 }
 
-// Asserts that a replay of the lines is answered so.
-fn check_replay(
-    rt: &impl Abort,
-    alloc: Global,
-    of: &str,
-    lines: &[u8],
-    wanted: &str,
-) -> Result<(), Fail> {
-    let replayed = replay_lines(alloc, lines)?;
-    check_text(rt, of, str::from_utf8(replayed.as_slice())?, wanted);
-    Ok(())
-}
-
-// Serves and replays a script. The two answer alike.
-fn answers(rt: &impl Abort, alloc: Global, script: &Script) -> Result<(), Fail> {
-    let lines = script.lines.as_slice();
-    let writer = served(rt, alloc, lines)?;
-    check_served(rt, "the script", writer.as_slice(), script.answers.as_str())?;
-    check_replay(
-        rt,
-        alloc,
-        "the script, replayed",
-        lines,
-        script.answers.as_str(),
-    )
-}
-
-// Adds the lines that are no requests.
-fn add_lines(script: &mut Script) -> Result<(), AllocError> {
-    for &(line, answer) in LINES {
-        script.add(line, answer)?;
-    }
-    Ok(())
-}
-
-#[test]
-fn lines_that_are_no_requests(rt: HostRuntime) -> Result<(), Fail> {
-    let mut script = Script::new(rt.alloc());
-    add_lines(&mut script)?;
-    answers(&rt, rt.alloc(), &script)
-}
-
 fn long_line(alloc: Global, row: &LongLine) -> Result<String, Fail> {
     let head = row.head;
     let tail = row.tail;
@@ -315,26 +185,11 @@ fn add_long(alloc: Global, script: &mut Script) -> Result<(), Fail> {
 fn long_lines(rt: HostRuntime) -> Result<(), Fail> {
     let mut script = Script::new(rt.alloc());
     add_long(rt.alloc(), &mut script)?;
-    answers(&rt, rt.alloc(), &script)
-}
-
-// A take with this budget, from a task that is not there.
-fn take(alloc: Global, budget: &str) -> Result<String, Fail> {
-    Ok(format!(in alloc; "{{\"op\":\"take\",\"id\":\"zz\",\"budget\":{budget}}}")?)
-}
-
-fn check_take(rt: &impl Abort, alloc: Global, budget: &str, answer: &str) -> Result<(), Fail> {
-    let line = take(alloc, budget)?;
-    check_replay(rt, alloc, budget, line.as_bytes(), answer)?;
-    let writer = served(rt, alloc, line.as_bytes())?;
-    check_served(rt, budget, writer.as_slice(), BAD_REQUEST_LINE)
-}
-
-// A slice is taken in a replay only.
-#[test]
-fn budgets(rt: HostRuntime) -> Result<(), Fail> {
-    for &(budget, answer) in BUDGETS {
-        check_take(&rt, rt.alloc(), budget, answer)?;
-    }
-    Ok(())
+    let writer = served(&rt, rt.alloc(), script.lines.as_slice())?;
+    check_served(
+        &rt,
+        "long lines",
+        writer.as_slice(),
+        script.answers.as_str(),
+    )
 }
