@@ -1,0 +1,7 @@
+use Rattle.caller_tests.proofs.stories.drives.Given as goal
+
+abbrev pub ghosts-driven-J-Row : goal.ghosts-driven-J-Row
+ghosts-driven-J-Row g a = record { cells = a.cells }
+
+abbrev pub ghosts-driven-J-Ledger : goal.ghosts-driven-J-Ledger
+ghosts-driven-J-Ledger g a = record { name = a.blank.name; parts = a.blank.parts }

@@ -1,0 +1,7 @@
+use Rattle.caller_tests.proofs.stories.tell.Given as goal
+
+abbrev pub ghosts-told_of-R-Row : goal.ghosts-told_of-R-Row
+ghosts-told_of-R-Row g a = record { cells = a.cells }
+
+abbrev pub ghosts-told_of-R-Ledger : goal.ghosts-told_of-R-Ledger
+ghosts-told_of-R-Ledger g a = record { name = a.blank.name; parts = a.blank.parts }

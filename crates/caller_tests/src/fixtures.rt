@@ -1,0 +1,31 @@
+//! Lines and their answers, which many tests share.
+
+/// Stores a module whose entry calls `proc_exit` with 7; creates a task, waits for it, ends and deletes it
+/// before it has run; and a line that is no request.
+pub const SIX_LINES: &str =
+    r#"{"op":"put","hex":"0061736d0100000001080260017f0060000002240116776173695f736e617073686f745f70726576696577310970726f635f65786974000003020101070a01065f737461727400010a08010600410710000b"}
+{"op":"create","id":"a","config":"{\"ociVersion\":\"1.0.2\",\"process\":{\"args\":[\"a\"],\"cwd\":\"/\"},\"annotations\":{\"dev.shim.module\":\"sha256:2194f0d23626e6104d4a7a891350fbd0e82a54a29dd596a672d41474e9b6ee0a\"}}"}
+{"op":"wait","id":"a"}
+{}
+{"op":"kill","id":"a","signal":9}
+{"op":"delete","id":"a"}
+"#;
+
+/// What they are answered.
+pub const SIX_ANSWERS: &str =
+    r#"{"digest":"sha256:2194f0d23626e6104d4a7a891350fbd0e82a54a29dd596a672d41474e9b6ee0a","ok":true,"size":82}
+{"id":"a","ok":true,"status":"created"}
+{"id":"a","n":0,"ok":true,"status":"created"}
+{"error":"BadRequest","number":1,"ok":false}
+{"id":"a","ok":true,"status":"stopped"}
+{"cause":"kill","exit":137,"id":"a","n":0,"ok":true,"signal":9,"status":"stopped"}
+"#;
+
+/// A request for a task that is not there.
+pub const STATE: &str = r#"{"op":"state","id":"zz"}"#;
+
+pub const BAD_REQUEST_LINE: &str = "{\"error\":\"BadRequest\",\"number\":1,\"ok\":false}\n";
+
+pub const BAD_ID_LINE: &str = "{\"error\":\"BadId\",\"number\":2,\"ok\":false}\n";
+
+pub const NOT_FOUND_LINE: &str = "{\"error\":\"NotFound\",\"number\":4,\"ok\":false}\n";
