@@ -1,5 +1,6 @@
 //! Tests over the public calls of all crates: that each can succeed, with answers that were worked out by
-//! hand, and what no contract says. What a line can show is a row of `worked_rows`.
+//! hand, and what no contract says. What a line can show is a row of `worked_rows`; callers and workers are
+//! those of `caller_tests`.
 #![tactic(auto)]
 
 #[cfg(test)]
@@ -15,10 +16,6 @@ mod copies;
 #[cfg(test)]
 mod files;
 #[cfg(test)]
-mod fixtures;
-#[cfg(test)]
-mod lines;
-#[cfg(test)]
 mod runs;
 #[cfg(test)]
-mod streams;
+mod writers;

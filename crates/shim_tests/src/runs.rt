@@ -1,7 +1,7 @@
 //! What `run` writes to two streams as it comes, and streams that fail.
 
 use crate::checks::{check_bytes, check_text};
-use crate::streams::FailingWriter;
+use crate::writers::FailingWriter;
 use shim_service::{Ran, RunError, run_file, run_streams};
 use std::alloc::{AllocError, Global};
 use std::process::Abort;

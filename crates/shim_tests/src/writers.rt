@@ -1,0 +1,45 @@
+//! A writer over memory that fails.
+
+use std::alloc::Global;
+use std::io;
+use std::io::{ErrorKind, Write};
+
+/// A writer that fails after a number of bytes.
+#[derive(Drop)]
+pub struct FailingWriter {
+    written: Vec<u8>,
+    /// Bytes that it still takes.
+    room: usize,
+}
+
+impl FailingWriter {
+    /// A writer that takes this number of bytes.
+    pub fn new(alloc: Global, room: usize) -> FailingWriter {
+        FailingWriter {
+            written: Vec::new(alloc),
+            room,
+        }
+    }
+
+    /// What was written.
+    pub fn as_slice(&self) -> &[u8] {
+        self.written.as_slice()
+    }
+}
+
+impl Write for FailingWriter {
+    fn write(&mut self, buf: &[u8]) -> io::Result<usize> {
+        let n = buf.len().min(self.room);
+        if n == 0 && !buf.is_empty() {
+            return Err(io::Error::from(ErrorKind::BrokenPipe));
+        }
+        let (now, _) = buf.split_at(n);
+        self.written.extend_from_slice(now)?;
+        self.room -= n;
+        Ok(n)
+    }
+
+    fn flush(&mut self) -> io::Result<()> {
+        Ok(())
+    }
+}
