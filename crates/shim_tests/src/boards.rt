@@ -1,4 +1,5 @@
-//! What no line can show of a board: its loans and tickets, who waits for a worker, and takes that no line asks for.
+//! What no line can show of a board: its loans and tickets, who waits for a worker, and takes that no line
+//! asks for.
 
 use crate::checks::check_text;
 use shim_service::{event_line_of, event_of, request_of};
@@ -167,9 +168,9 @@ fn check_reply(rt: &impl Abort, alloc: Global, reply: &EventReply, line: &str) -
     Ok(())
 }
 
-// Asserts that the takes, the last of the events, are answered so.
+// Asserts that the takes are answered so.
 fn check_takes(rt: &impl Abort, alloc: Global, replies: &[EventReply]) -> Result<(), Fail> {
-    for (reply, &(_, line)) in replies.iter().rev().zip(TAKES.iter().rev()) {
+    for (reply, &(_, line)) in replies.iter().zip(TAKES) {
         check_reply(rt, alloc, reply, line)?;
     }
     Ok(())
@@ -184,5 +185,6 @@ fn budgets_out_of_range_lend_nothing(rt: HostRuntime) -> Result<(), Fail> {
     add_takes(alloc, &mut events)?;
     let replies = run_events(alloc, events)?;
     assert_eq!(rt; replies.len(), 6);
-    check_takes(&rt, alloc, replies.as_slice())
+    let (_, taken) = replies.as_slice().split_at(3);
+    check_takes(&rt, alloc, taken)
 }
