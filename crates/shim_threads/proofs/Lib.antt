@@ -1,0 +1,4 @@
+pub mod PairLemmas
+pub mod SentModule
+pub mod SentBoard
+pub mod Sent

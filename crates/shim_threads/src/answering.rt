@@ -1,0 +1,122 @@
+//! Callers in threads of their own.
+
+ghost use Rattle.std.specs.Prelude.{◌≡◌, ◌++◌, [], option_map, Some, IfSome, IfOk};
+ghost use Rattle.std.specs.Thread.{IsSend, IsSync};
+ghost use Rattle.callers.specs.Driving.{Drives};
+ghost use Rattle.shim_threads.specs.Pairs.{Each};
+
+use call_journal::{Row, Seat, Shim};
+use callers::{Driven, drive};
+use std::alloc::{AllocError, Global};
+use std::io::Read;
+use std::snapshot::Snapshot;
+use std::sync::Wait;
+use std::thread;
+use std::thread::{Promise, PromisedHandle, Threads};
+
+/// A caller: its seat, and what it reads its lines from.
+#[derive(Drop)]
+pub struct Caller<J: Row, R> {
+    pub seat: Seat<J>,
+    pub reader: R,
+}
+
+/// What a caller was answered.
+#[derive(Drop)]
+pub struct Answered<J: Row, R> {
+    /// The caller afterwards.
+    pub caller: Caller<J, R>,
+    /// The lines of the replies.
+    pub replies: Vec<u8>,
+    /// How its lines ended.
+    pub driven: Driven,
+}
+
+// What a thread is to answer.
+#[derive(Drop)]
+struct Asked<J: Row, R: Read> {
+    caller: Snapshot<Caller<J, R>>,
+}
+
+impl<J: Row, R: Read> Promise<Answered<J, R>> for Asked<J, R> {
+    ghost kept_by = { λ p a. Drives a.driven p.caller.value.seat a.caller.seat
+        (R.remaining p.caller.value.reader) (Some []) (Some a.replies.items) };
+}
+
+// Answers the lines of a caller.
+fn answer<J: Row, H: Wait, R: Read + Drop>(
+    rt: &H,
+    alloc: Global,
+    shim: &Shim<J>,
+    caller: Caller<J, R>,
+) -> Answered<J, R>
+    ensures { Drives result.driven caller.seat result.caller.seat
+        (R.remaining caller.reader) (Some []) (Some result.replies.items) }
+{
+    let Caller { seat, mut reader } = caller;
+    let mut replies = Vec::new(alloc);
+    let (seat, driven) = drive(rt, alloc, shim, seat, &mut reader, &mut replies);
+    Answered {
+        caller: Caller { seat, reader },
+        replies,
+        driven,
+    }
+}
+
+// Waits for the thread of a caller, if it was started.
+fn finish<J: Row, H: Threads, R: Read>(
+    rt: &H,
+    thread: Option<PromisedHandle<Answered<J, R>, Asked<J, R>>>,
+) -> Option<Answered<J, R>>
+    ensures { IfSome result (λ a. (p : _) × (option_map (λ t. t.promise) thread ≡ Some p)
+        × Drives a.driven p.caller.value.seat a.caller.seat
+        (R.remaining p.caller.value.reader) (Some []) (Some a.replies.items)) }
+{
+    match thread {
+        Some(thread) => Some(thread.join(rt)),
+        None => None,
+    }
+}
+
+/// Answers the lines of all callers, each in a thread of its own, as `callers::drive` does. None for one whose
+/// thread could not be started. An error if memory runs out for the lists of threads and answers.
+pub fn answer_all<J: Row + Send + Sync, H: Threads + Wait + Sync, R: Read + Send + Drop>(
+    rt: &H,
+    alloc: Global,
+    shim: &Shim<J>,
+    callers: Vec<Caller<J, R>>,
+) -> Result<Vec<Option<Answered<J, R>>>, AllocError>
+    ensures { IfOk result (λ all. Each
+        (λ c a. IfSome a (λ a. Drives a.driven c.seat a.caller.seat (R.remaining c.reader) (Some [])
+        (Some a.replies.items)))
+        callers.items all.items) }
+{
+    thread::scope(
+        thread::scope_env(),
+        rt,
+        move |scope| -> Result<Vec<Option<Answered<J, R>>>, AllocError>
+            requires { IsSend J.row × IsSync J.row × IsSync H.row × IsSend R.row }
+            ensures { IfOk result (λ all. Each
+                (λ c a. IfSome a (λ a. Drives a.driven c.seat a.caller.seat (R.remaining c.reader)
+                (Some []) (Some a.replies.items)))
+                callers.items all.items) }
+        {
+            let mut threads = Vec::with_capacity(alloc, callers.len())?;
+            for caller in callers {
+                let asked = Asked {
+                    caller: Snapshot::of(&caller),
+                };
+                threads.push(
+                    scope
+                        .spawn_with(asked, move || answer(rt, alloc, shim, caller))
+                        .ok(),
+                )?;
+            }
+            let mut all = Vec::with_capacity(alloc, threads.len())?;
+            for thread in threads {
+                all.push(finish(rt, thread))?;
+            }
+            Ok(all)
+        },
+    )
+}

@@ -1,0 +1,89 @@
+//! Workers in threads of their own.
+
+ghost use Rattle.std.specs.Prelude.{◌≡◌, IfOk};
+ghost use Rattle.crossbeam_queue.specs.Passes.{IsPassOf};
+
+use crate::shared::Closing;
+use call_journal::{Row, Shim};
+use crossbeam_queue::Pass;
+use slice_workers::{Hand, Lender, OpenGate, Queue, another_pass, ticket_queue, worker};
+use std::alloc::{AllocError, Global};
+use std::sync::Wait;
+use std::thread;
+use std::thread::Threads;
+use task_board::Ticket;
+
+/// How many turns a slice has at most.
+pub const SLICE_TURNS: u64 = 10_000;
+
+/// Why workers were not started.
+#[derive(Clone, Copy, PartialEq, Eq, Debug)]
+pub enum StartError {
+    /// The queue of tickets cannot be allocated.
+    OutOfMemory,
+    /// A thread cannot be started.
+    NoThread,
+}
+
+impl From<AllocError> for StartError {
+    fn from(_error: AllocError) -> StartError {
+        StartError::OutOfMemory
+    }
+}
+
+// Works until the lender is closed.
+fn work<L: Lender, H: Wait>(rt: &H, lender: &L, queue: &Queue, pass: Pass<Ticket, Hand>)
+    requires { IsPassOf queue.now pass }
+{
+    let mut pass = pass;
+    worker(rt, lender, queue, &mut pass, &OpenGate, SLICE_TURNS);
+}
+
+// As `with_workers`, over any lender.
+fn with_workers_of<L: Closing + Sync, H: Threads + Wait + Sync, T: Drop, F: FnOnce() -> T + Drop>(
+    rt: &H,
+    alloc: Global,
+    lender: &L,
+    count: u64,
+    run: F,
+) -> Result<T, StartError>
+    requires { F.pre run }
+    ensures { IfOk result (F.post run) }
+{
+    let (queue, mut pass) = ticket_queue(alloc)?;
+    let queue = &queue;
+    thread::scope(
+        thread::scope_env(),
+        rt,
+        move |scope| -> Result<T, StartError>
+            requires { F.pre run × IsPassOf queue.now pass }
+            ensures { IfOk result (F.post run) }
+        {
+            let mut pass = pass;
+            for _ in 0..count {
+                let next = another_pass(queue, &mut pass);
+                if scope.spawn(move || work(rt, lender, queue, next)).is_err() {
+                    lender.close(rt);
+                    return Err(StartError::NoThread);
+                }
+            }
+            let done = run();
+            lender.close(rt);
+            Ok(done)
+        },
+    )
+}
+
+/// Calls `run` while this many workers, each in a thread of its own, run the tasks of the shim; then closes
+/// the shim and waits until each worker has given back the slice that it holds.
+pub fn with_workers<
+    J: Row + Send + Sync,
+    H: Threads + Wait + Sync,
+    T: Drop,
+    F: FnOnce() -> T + Drop,
+>(rt: &H, alloc: Global, shim: &Shim<J>, count: u64, run: F) -> Result<T, StartError>
+    requires { F.pre run }
+    ensures { IfOk result (F.post run) }
+{
+    with_workers_of(rt, alloc, shim, count, run)
+}
