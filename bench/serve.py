@@ -3,7 +3,7 @@
 
     bench/serve.py [PROGRAM]
 
-Scripts: 64 tasks, each created, started, waited for and asked for its state, over one content; 10,000 tasks one after
+Scripts: 64 tasks, each created, started, waited for and asked for its state, over one content; 4,000 tasks one after
 another, each created, started, waited for and deleted; 64 creates over one content of 82 bytes and over one of 196 KB;
 200 puts of 262,144 bytes; and 5,000 times a put and its removal, with no other content and with 255 others. Each runs
 seven times in turn with its comparison; the best time counts. For the tasks one after another there is also what it costs to
@@ -20,6 +20,8 @@ import time
 from shared import TOP, arguments, sized
 
 PROGRAM, _ = arguments(7)
+# Four requests for each task, and a board answers 16,384.
+CYCLES = 4000
 FIRST = [json.loads(line) for line in open(os.path.join(TOP, "examples/first_run.jsonl"))]
 READ = "import json,sys\nfor line in sys.stdin.buffer: json.loads(line)"
 
@@ -49,7 +51,7 @@ def with_config(data):
 
 def cycles():
     lines = [FIRST[0]]
-    for _ in range(10000):
+    for _ in range(CYCLES):
         lines.append(FIRST[1])
         lines += [{"op": op, "id": FIRST[1]["id"]} for op in ("start", "wait", "delete")]
     return lines
@@ -81,7 +83,7 @@ def best(command, data):
 
 SCRIPTS = (
     ("64 tasks, 257 lines", tasks()),
-    ("10,000 tasks, 40,001 lines", cycles()),
+    ("4,000 tasks, 16,001 lines", cycles()),
     ("64 creates over 82 bytes", creates(0)),
     ("64 creates over 196 KB", creates(65533)),
     ("200 puts of 262,144 bytes", puts()),
