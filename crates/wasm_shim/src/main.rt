@@ -1,54 +1,29 @@
 //! The program `wasm-shim`: WebAssembly modules, run as container tasks.
 #![tactic(auto)]
 
+mod report;
+mod serve;
+mod watched;
+
+use crate::report::{failed, stream_failed};
+use crate::serve::serve;
 use shim_service::{
     Command, CommandError, Ran, RunError, asm_file, check_file, command_of, explain_asm,
-    explain_check, explain_run, replay_lines, run_streams, serve_lines,
+    explain_check, explain_run, replay_lines, run_streams,
 };
 use std::io::Write;
 use std::process::ExitCode;
 use std::{env, fs, io};
-use task_board::Board;
 use wasm_ast::Refusal;
 
 // The exit status if the arguments are those of no command.
 const EXIT_USAGE: u8 = 2;
-
-// Says on standard error why the program failed.
-fn failed(rt: &HostRuntime, cause: &str) -> ExitCode {
-    let _told = eprintln!(rt; "wasm-shim: {cause}");
-    ExitCode::FAILURE
-}
-
-// Says on standard error why a file or a stream failed.
-fn stream_failed(rt: &HostRuntime, name: &str, error: &io::Error) -> ExitCode {
-    let _told = eprintln!(rt; "wasm-shim: {name}: {error}");
-    ExitCode::FAILURE
-}
 
 // Writes to standard output.
 fn write_out(rt: &HostRuntime, bytes: &[u8]) -> ExitCode {
     match rt.stdout().write_all(bytes) {
         Ok(()) => ExitCode::SUCCESS,
         Err(error) => stream_failed(rt, "standard output", &error),
-    }
-}
-
-// Answers the lines of standard input.
-fn serve(rt: &HostRuntime) -> ExitCode {
-    let alloc = rt.alloc();
-    let Ok(mut board) = Board::new(alloc) else {
-        return failed(rt, "out of memory");
-    };
-    let mut input = rt.stdin();
-    let mut output = rt.stdout();
-    if serve_lines(alloc, &mut board, &mut input, &mut output) {
-        ExitCode::SUCCESS
-    } else {
-        failed(
-            rt,
-            "standard input or output failed, or memory ran out for a line",
-        )
     }
 }
 
@@ -168,7 +143,7 @@ fn main(rt: HostRuntime) -> ExitCode {
         Err(error) => return stream_failed(&rt, "the command line", &error),
     };
     match command_of(rt.alloc(), given.as_slice()) {
-        Ok(Command::Serve { .. }) => serve(&rt),
+        Ok(Command::Serve { workers, scripts }) => serve(&rt, &rt, workers, scripts.as_slice()),
         Ok(Command::Replay { file }) => replay(&rt, file.as_str()),
         Ok(Command::Asm { file, explain }) => asm(&rt, file.as_str(), explain),
         Ok(

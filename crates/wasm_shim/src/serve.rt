@@ -1,0 +1,226 @@
+//! `serve`: callers and workers that share a shim.
+
+ghost use Rattle.std.specs.Prelude.{◌≡◌, ◌+◌};
+ghost use Rattle.call_journal.specs.Seats.{most_seats};
+
+use crate::report::{failed, stream_failed};
+use crate::watched::Watched;
+use call_journal::{Cells, MOST_SEATS, Row, Shim};
+use callers::{Driven, drive};
+use shim_threads::{Answered, Caller, StartError, answer_all, with_workers};
+use std::fs::File;
+use std::io;
+use std::io::{Read, Write};
+use std::marker::Brand;
+use std::process::ExitCode;
+use std::sync::Wait;
+use std::sync::ledger::Blank;
+use std::thread::Threads;
+
+const OUT_OF_MEMORY: &str = "out of memory";
+
+// Opens the file of each script, in order.
+fn open_all(rt: &HostRuntime, scripts: &[String]) -> Result<Vec<File>, ExitCode> {
+    let mut files = Vec::new(rt.alloc());
+    for script in scripts {
+        let file = match File::open(rt, script.as_str()) {
+            Ok(file) => file,
+            Err(error) => return Err(stream_failed(rt, script.as_str(), &error)),
+        };
+        if files.push(file).is_err() {
+            return Err(failed(rt, OUT_OF_MEMORY));
+        }
+    }
+    Ok(files)
+}
+
+// Says why a stream ended that failed.
+fn broken(rt: &HostRuntime, name: &str, error: Option<&io::Error>) -> ExitCode {
+    match error {
+        Some(error) => stream_failed(rt, name, error),
+        None => {
+            let closed = io::Error::from(io::ErrorKind::WriteZero);
+            stream_failed(rt, name, &closed)
+        }
+    }
+}
+
+// The status of a caller whose lines ended so.
+fn ended(
+    rt: &HostRuntime,
+    driven: Driven,
+    name: &str,
+    read: Option<&io::Error>,
+    written: Option<&io::Error>,
+) -> ExitCode {
+    match driven {
+        Driven::End => ExitCode::SUCCESS,
+        Driven::ReadFault => broken(rt, name, read),
+        Driven::WriteFault => broken(rt, "standard output", written),
+        Driven::NoMemory => failed(rt, OUT_OF_MEMORY),
+    }
+}
+
+// Says why workers were not started.
+fn not_started(rt: &HostRuntime, error: StartError) -> ExitCode {
+    match error {
+        StartError::OutOfMemory => failed(rt, OUT_OF_MEMORY),
+        StartError::NoThread => failed(rt, "the thread of a worker cannot be started"),
+    }
+}
+
+// Answers the lines of one caller as they come.
+fn serve_stream<J: Row + Send + Sync, H: Threads + Wait + Sync, R: Read + Drop>(
+    rt: &HostRuntime,
+    threads: &H,
+    shim: &Shim<J>,
+    workers: u64,
+    name: &str,
+    reader: R,
+) -> ExitCode {
+    let alloc = rt.alloc();
+    let Some(seat) = shim.seat(threads) else {
+        return failed(rt, "no seat is left");
+    };
+    let mut input = Watched::new(reader);
+    let mut output = Watched::new(rt.stdout());
+    let (from, to) = (&mut input, &mut output);
+    let driven = with_workers(threads, alloc, shim, workers, move || {
+        let (_seat, driven) = drive(threads, alloc, shim, seat, from, to);
+        driven
+    });
+    match driven {
+        Ok(driven) => ended(rt, driven, name, input.error(), output.error()),
+        Err(error) => not_started(rt, error),
+    }
+}
+
+// A caller for each file.
+fn callers_of<J: Row, H: Wait>(
+    rt: &HostRuntime,
+    threads: &H,
+    shim: &Shim<J>,
+    files: Vec<File>,
+) -> Result<Vec<Caller<J, Watched<File>>>, ExitCode> {
+    let mut callers = Vec::new(rt.alloc());
+    for file in files {
+        let Some(seat) = shim.seat(threads) else {
+            return Err(failed(rt, "no seat is left"));
+        };
+        let reader = Watched::new(file);
+        if callers.push(Caller { seat, reader }).is_err() {
+            return Err(failed(rt, OUT_OF_MEMORY));
+        }
+    }
+    Ok(callers)
+}
+
+// Writes the replies of a caller, and says how it ended if not at the end of its file. Whether that and the
+// writing went well.
+fn tell<J: Row>(
+    rt: &HostRuntime,
+    name: &str,
+    answered: Option<Answered<J, Watched<File>>>,
+) -> bool {
+    let Some(answered) = answered else {
+        failed(rt, "the thread of a caller cannot be started");
+        return false;
+    };
+    if let Err(error) = rt.stdout().write_all(answered.replies.as_slice()) {
+        stream_failed(rt, "standard output", &error);
+        return false;
+    }
+    let driven = answered.driven;
+    if driven == Driven::End {
+        return true;
+    }
+    ended(rt, driven, name, answered.caller.reader.error(), None);
+    false
+}
+
+// Writes what all callers were answered, in the order of the scripts.
+fn tell_all<J: Row>(
+    rt: &HostRuntime,
+    scripts: &[String],
+    all: Vec<Option<Answered<J, Watched<File>>>>,
+) -> ExitCode {
+    let mut well = true;
+    for (script, answered) in scripts.iter().zip(all) {
+        well = tell(rt, script.as_str(), answered) && well;
+    }
+    if well {
+        ExitCode::SUCCESS
+    } else {
+        ExitCode::FAILURE
+    }
+}
+
+// Answers the lines of several callers, and writes their replies when all have ended.
+fn serve_scripts<J: Row + Send + Sync, H: Threads + Wait + Sync>(
+    rt: &HostRuntime,
+    threads: &H,
+    shim: &Shim<J>,
+    workers: u64,
+    scripts: &[String],
+    files: Vec<File>,
+) -> ExitCode {
+    let alloc = rt.alloc();
+    let callers = match callers_of(rt, threads, shim, files) {
+        Ok(callers) => callers,
+        Err(status) => return status,
+    };
+    let done = with_workers(threads, alloc, shim, workers, move || {
+        answer_all(threads, alloc, shim, callers)
+    });
+    match done {
+        Ok(Ok(all)) => tell_all(rt, scripts, all),
+        Ok(Err(_)) => failed(rt, OUT_OF_MEMORY),
+        Err(error) => not_started(rt, error),
+    }
+}
+
+// Answers the lines of all callers over these cells.
+fn serve_callers<J: Row + Send + Sync, H: Threads + Wait + Sync>(
+    rt: &HostRuntime,
+    threads: &H,
+    workers: u64,
+    scripts: &[String],
+    files: Vec<File>,
+    cells: Cells,
+    blank: Blank,
+) -> ExitCode
+    requires row { cells ≡ J.cells }
+    requires name { blank.name ≡ J.name }
+    requires parts { (blank.parts ≡ J.parts) × (blank.parts ≡ most_seats + 1) }
+{
+    let Ok(shim) = Shim::<J>::new(rt.alloc(), cells, blank) else {
+        return failed(rt, OUT_OF_MEMORY);
+    };
+    let mut files = files;
+    if scripts.len() > 1 {
+        return serve_scripts(rt, threads, &shim, workers, scripts, files);
+    }
+    match (scripts.first(), files.pop()) {
+        (Some(name), Some(file)) => serve_stream(rt, threads, &shim, workers, name.as_str(), file),
+        _ => serve_stream(rt, threads, &shim, workers, "standard input", rt.stdin()),
+    }
+}
+
+/// Answers the lines of the files of these names, each a caller of its own, or else those of standard input,
+/// while this many workers run the tasks. Then the shim is closed, and running tasks are left.
+pub fn serve<H: Threads + Wait + Sync>(
+    rt: &HostRuntime,
+    threads: &H,
+    workers: u64,
+    scripts: &[String],
+) -> ExitCode {
+    let files = match open_all(rt, scripts) {
+        Ok(files) => files,
+        Err(status) => return status,
+    };
+    let Some(cells) = Cells::new(rt.alloc()) else {
+        return failed(rt, OUT_OF_MEMORY);
+    };
+    let blank = Blank::new(MOST_SEATS + 1);
+    serve_callers::<Brand, _>(rt, threads, workers, scripts, files, cells, blank)
+}
