@@ -19,10 +19,10 @@ import time
 from shared import arguments
 
 PROGRAM, ROUNDS = arguments(5)
-ENDLESS = '(module (func $s loop $l br $l end) (export "_start" (func $s)))'
-COUNT = ('(module (func $s (local $n i32) i32.const 20000000 local.set $n loop $l local.get $n i32.const 1 i32.sub '
+ENDLESS = '(module (type $e (func)) (func $s (type $e) loop $l br $l end) (export "_start" (func $s)))'
+COUNT = ('(module (type $e (func)) (func $s (type $e) (local $n i32) i32.const 20000000 local.set $n loop $l local.get $n i32.const 1 i32.sub '
          'local.tee $n br_if $l end) (export "_start" (func $s)))')
-NOTHING = '(module (func $s nop) (export "_start" (func $s)))'
+NOTHING = '(module (type $e (func)) (func $s (type $e) nop) (export "_start" (func $s)))'
 CALLS = 4000
 
 
