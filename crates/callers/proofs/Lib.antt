@@ -1,2 +1,3 @@
 pub mod DriveLemmas
+pub mod LawLemmas
 pub mod WriteLemmas

@@ -2,5 +2,6 @@
 #![tactic(auto)]
 
 mod caller;
+pub mod laws;
 
 pub use caller::{Driven, drive};

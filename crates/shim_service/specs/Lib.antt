@@ -1,3 +1,2 @@
 pub mod Replay
-pub mod Serving
 pub mod Inside

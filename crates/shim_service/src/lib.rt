@@ -1,10 +1,9 @@
-//! Lines to a board and back: scripts of lines, and streams of lines. The lines themselves are those of
-//! `request_lines`, and the commands for files those of `file_commands`.
+//! Scripts of lines, run on a board of their own. The lines themselves are those of `request_lines`, and the
+//! commands for files those of `file_commands`; callers of a shared board are those of `callers`.
 #![tactic(auto)]
 
 pub mod laws;
 mod replay;
-mod serve;
 
 pub use file_commands::{
     Command, CommandError, Ran, RunError, asm_file, check_file, command_of, explain_asm,
@@ -14,4 +13,3 @@ pub use replay::replay_lines;
 pub use request_lines::{
     bad_request_line, event_line_of, event_of, line_of, no_memory_line, request_of,
 };
-pub use serve::serve_lines;

@@ -1,0 +1,44 @@
+-- What the definitions of a caller's lines say, case by case.
+use Rattle.std.proofs.Common.{◌≡◌, ◌<◌, ◌≤◌, ◌⊎◌, ◌++◌, ℕ, List, [], ◌∷◌, Option, Some, length, Err, inl, inr, refl, sym, ap, ◌∙◌, arith}
+use Rattle.std.proofs.lemmas.List.{append-nil}
+use Rattle.wasm_ast.specs.declared.refusal.Refusal.TheVariants as refusal
+use Rattle.task_board.specs.Step.{Answer}
+use Rattle.request_lines.specs.Lines.{joined}
+use Rattle.request_lines.specs.Session.{Session}
+use Rattle.request_lines.specs.Shape.{max_line_bytes}
+use Rattle.call_journal.specs.Seats.{Known}
+use Rattle.callers.specs.Answered.{IsAnswered, IsServed}
+use Rattle.callers.specs.Driving.{AllButLast}
+
+pub long_refused :
+    (was : Known) (line : List ℕ) (a : Answer) (now : Known) → max_line_bytes < length line
+    → IsAnswered was line a now
+    → (a ≡ Err refusal.BadRequest) × (now ≡ was)
+long_refused was line a now long (inl p) = let short = p.is.reads.short in absurd (omega arith)
+long_refused was line a now long (inr (inl p)) = (p.refused, p.same)
+long_refused was line a now long (inr (inr p)) = let short = p.short in absurd (omega arith)
+
+pub no_lines : (was : Known) (texts : List (List ℕ)) (now : Known)
+    → Session IsServed was [] texts now → (texts ≡ []) × (now ≡ was)
+no_lines was [] now s = (refl, s)
+no_lines was (text ∷ texts) now s = absurd s
+
+pub some_lines : (was : Known) (line : List ℕ) (lines texts : List (List ℕ)) (now : Known)
+    → Session IsServed was (line ∷ lines) texts now
+    → (text : List ℕ) × (rest : List (List ℕ)) × (mid : Known) × (texts ≡ text ∷ rest)
+    × IsServed was line text mid × Session IsServed mid lines rest now
+some_lines was line lines [] now s = absurd s
+some_lines was line lines (text ∷ rest) now s = (text, rest, s.0, refl, s.1, s.2)
+
+pub all_or_but_one : (before after : List ℕ) (texts written : List (List ℕ)) → AllButLast texts written
+    → after ≡ before ++ joined written
+    → (after ≡ before ++ joined texts)
+    ⊎ ((all : List (List ℕ)) × (last : List ℕ) × (texts ≡ all ++ last ∷ []) × (after ≡ before ++ joined all))
+all_or_but_one before after texts written b is = but_one b.last b.one b.joins
+  where
+  but_one : (last : List (List ℕ)) → length last ≤ 1 → written ++ last ≡ texts
+      → (after ≡ before ++ joined texts)
+      ⊎ ((all : List (List ℕ)) × (last : List ℕ) × (texts ≡ all ++ last ∷ []) × (after ≡ before ++ joined all))
+  but_one [] few joins = inl (is ∙ ap (λ ts. before ++ joined ts) (sym (append-nil written) ∙ joins))
+  but_one (x ∷ []) few joins = inr (written, x, sym joins, is)
+  but_one (x ∷ y ∷ rest) few joins = absurd (omega (arith, few))
