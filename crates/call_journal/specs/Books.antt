@@ -1,13 +1,11 @@
 -- What contracts see of a book, and what a call does to it.
-use Rattle.std.specs.Prelude.{◌≡◌, ◌||◌, ◌&&◌, ◌+◌, ℕ, is_none, List, [], ◌∷◌, Option, Some, None, Ok, Err, Bool, true, false, not, if◌then◌else◌}
+use Rattle.std.specs.Prelude.{◌≡◌, ◌||◌, ◌&&◌, ◌+◌, ◌==◌, ℕ, length, List, Ok, Err, Bool, true, false, not}
 use Rattle.wasm_ast.specs.declared.refusal.Refusal.{Refusal}
 use Rattle.wasm_ast.specs.declared.refusal.Refusal.TheVariants as refusal
 use Rattle.task_requests.specs.declared.request.Request.{Request}
 use Rattle.task_board.specs.BoardState.{task_of}
 use Rattle.task_board.specs.Settled.{is_settled}
 use Rattle.task_board.specs.Step.{Answer}
-use Rattle.task_board.specs.declared.ticket.Ticket.{Ticket}
-use Rattle.task_board.specs.Tickets.{first_ready}
 use Rattle.call_journal.specs.Journalled.{JournalValue, IsSame, Makes}
 use Rattle.call_journal.specs.Seats.{Known, Extends}
 
@@ -50,15 +48,6 @@ pub record IsUnchanged (old new : BookValue) : Type 0 where
 abbrev pub is_due : JournalValue → List ℕ → Bool
 is_due s id = s.closed || is_settled (task_of id s.board.tasks)
 
--- a worker has nothing to do: the board is not closed, and no task can be lent
+-- a worker has nothing to do: the board is not closed, and no task waits for a worker
 abbrev pub is_idle : JournalValue → Bool
-is_idle s = not s.closed && is_none (first_ready s.board.tasks)
-
-abbrev pub head_or : {A : Type 0} → Option A → List A → Option A
-head_or other [] = other
-head_or other (x ∷ xs) = Some x
-
--- a ticket of the task that has waited longest, or else of the first that can be lent
-abbrev pub next_ticket : JournalValue → Option Ticket
-next_ticket s =
-    if s.closed then None else head_or (first_ready s.board.tasks) s.waiting
+is_idle s = not s.closed && (length s.waiting == 0)

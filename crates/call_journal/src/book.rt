@@ -1,6 +1,6 @@
 //! The book: the board with its journal, the row's cells as far as they hold it, and the ledger.
-ghost use Rattle.std.specs.Prelude.{◌≡◌, ◌↔◌, ◌≢◌, ◌⊎◌, ◌+◌, ◌<◌, ◌≤◌, [], ◌∷◌, ◌++◌, length, true, false, Err, None, IfOk, IfSome, IfNone, IsSome, IsOk, IfErr, OnErr};
-ghost use Rattle.call_journal.specs.Books.{is_due, is_idle, next_ticket, is_refused, is_journalled, HasCalled, IsUnchanged};
+ghost use Rattle.std.specs.Prelude.{◌≡◌, ◌↔◌, ◌≢◌, ◌⊎◌, ◌+◌, ◌<◌, ◌≤◌, ◌==◌, [], ◌∷◌, ◌++◌, length, true, false, not, Err, None, IfOk, IfSome, IfNone, IsSome, IsOk, IfErr, OnErr};
+ghost use Rattle.call_journal.specs.Books.{is_due, is_idle, is_refused, is_journalled, HasCalled, IsUnchanged};
 ghost use Rattle.call_journal.specs.Replay.{IsReplay};
 ghost use Rattle.task_requests.specs.declared.request.Request.TheVariants as request;
 ghost use Rattle.task_requests.specs.declared.event.Event.TheVariants as event;
@@ -235,17 +235,27 @@ impl<R: Row> Book<R> {
         self.board.give_back(loan)
     }
 
-    /// Whether a worker has nothing to do: the book is not closed, and no task can be lent.
+    /// Whether a worker has nothing to do: the book is not closed, and no task waits for a worker.
     pub fn is_idle(&self) -> bool
         ensures { result ≡ is_idle self.now.journalled }
     {
-        !self.board.is_closed() && self.board.ready().is_none()
+        !self.board.is_closed() && !self.board.has_waiting()
     }
 
-    /// A ticket of a task for a worker, the one that has waited longest before all others. None if the book is
-    /// closed, or no task waits and none can be lent.
+    /// Whether a task waits for a worker.
+    pub fn has_waiting(&self) -> bool
+        ensures { result ≡ not (length self.now.journalled.waiting == 0) }
+    {
+        self.board.has_waiting()
+    }
+
+    /// The task that has waited longest for a worker, which waits no more. None, and nothing has changed, if the
+    /// book is closed; and None if none waits.
     pub fn next(&mut self) -> Option<Ticket>
-        ensures ticket { result ≡ next_ticket self.old.journalled }
+        ensures some { IfSome result (λ ticket. (self.old.journalled.closed ≡ false)
+            × (self.old.journalled.waiting ≡ ticket ∷ self.new.journalled.waiting)) }
+        ensures none { IfNone result ((self.new ≡ self.old)
+            × ((self.old.journalled.closed ≡ true) ⊎ (self.old.journalled.waiting ≡ []))) }
         ensures rest { self.new ≡ record self.old {
           journalled
               = record self.old.journalled { waiting = self.new.journalled.waiting };
@@ -254,10 +264,7 @@ impl<R: Row> Book<R> {
         if self.board.is_closed() {
             return None;
         }
-        match self.board.next_waiting() {
-            Some(ticket) => Some(ticket),
-            None => self.board.ready(),
-        }
+        self.board.next_waiting()
     }
 
     /// The task that has waited longest for a worker, which waits no more. None if none waits.

@@ -1,6 +1,6 @@
 //! The board with its journal. The journal's entries are in the cells; here the proofs alone know them.
 
-ghost use Rattle.std.specs.Prelude.{◌≡◌, ◌≢◌, ◌↔◌, ◌⊎◌, ◌≤◌, ◌<◌, ℕ, length, [], ◌∷◌, IfOk, IsOk, OnErr, IfSome, IfNone, Err, IsTrue, true, false, map, None};
+ghost use Rattle.std.specs.Prelude.{◌≡◌, ◌≢◌, ◌↔◌, ◌⊎◌, ◌≤◌, ◌<◌, ◌==◌, ℕ, length, [], ◌∷◌, IfOk, IsOk, OnErr, IfSome, IfNone, Err, IsTrue, true, false, not, map, None};
 ghost use Rattle.task_requests.specs.declared.request.Request.{Request as RequestValue};
 ghost use Rattle.task_requests.specs.declared.event.Event.TheVariants as event;
 ghost use Rattle.task_requests.specs.declared.event.EventReply.TheVariants as answer;
@@ -8,7 +8,7 @@ ghost use Rattle.task_board.specs.BoardState.{Task as TaskValue, empty};
 ghost use Rattle.task_requests.specs.Limits.{max_budget};
 ghost use Rattle.task_board.specs.Loans.{Fits};
 ghost use Rattle.task_board.specs.Step.{Step};
-ghost use Rattle.task_board.specs.Tickets.{CanLend, Lends, ticket_in, first_ready};
+ghost use Rattle.task_board.specs.Tickets.{CanLend, Lends, ticket_in};
 ghost use Rattle.task_board.specs.Waiting.{enter_again};
 ghost use Rattle.call_journal.specs.Books.{is_due, is_journalled};
 ghost use Rattle.call_journal.specs.Journalled.{IsSame, Makes, IsSlice};
@@ -219,11 +219,11 @@ impl JournalledBoard {
         ticket
     }
 
-    /// A ticket of the first task, by slots, that `take` lends. None if there is none.
-    pub fn ready(&self) -> Option<Ticket>
-        ensures { result ≡ first_ready self.now.board.tasks }
+    /// Whether a task waits for a worker.
+    pub fn has_waiting(&self) -> bool
+        ensures { result ≡ not (length self.now.waiting == 0) }
     {
-        self.board.ready()
+        self.board.has_waiting()
     }
 
     /// Whether the board is closed.

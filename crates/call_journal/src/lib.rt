@@ -12,6 +12,7 @@ pub mod laws;
 mod row;
 mod seat;
 mod seen;
+mod shared;
 mod shim;
 
 pub use book::{Book, MOST_SEATS};

@@ -12,6 +12,7 @@ use crate::cells::Cells;
 use crate::entry::Entry;
 use crate::row::Row;
 use crate::seat::Seat;
+use crate::shared::Shared;
 use std::alloc::Global;
 use std::cmp::Ordering;
 use std::sync::ledger::Blank;
@@ -23,8 +24,11 @@ use wasm_ast::{Refusal, Text};
 #[derive(Drop)]
 pub struct Shim<R: Row> {
     cells: Cells,
-    book: Mutex<Book<R>>,
-    moved: Condvar,
+    shared: Mutex<Shared<R>>,
+    // Told when a task that a caller may wait for has changed, and when the shim is closed.
+    settled: Condvar,
+    // Told when a task waits for a worker, and when the shim is closed.
+    waiting: Condvar,
     ghost row: { cells ≡ R.cells },
 }
 
@@ -39,8 +43,9 @@ impl<R: Row> Shim<R> {
         let book = Book::new(alloc, blank)?;
         Ok(Shim {
             cells,
-            book: Mutex::new(book),
-            moved: Condvar::new(),
+            shared: Mutex::new(Shared::new(book)),
+            settled: Condvar::new(),
+            waiting: Condvar::new(),
         })
     }
 
@@ -48,7 +53,7 @@ impl<R: Row> Shim<R> {
     pub fn seat<W: Wait>(&self, rt: &W) -> Option<Seat<R>>
         ensures { IfSome result (λ s. (s.history ≡ []) × (s.share ≡ 0)) }
     {
-        self.book.lock(rt).seat()
+        self.shared.lock(rt).book.seat()
     }
 
     /// Makes a call, and gives the seat back. The answers JournalFull, NoMemory, Closed and JournalFault
@@ -62,8 +67,17 @@ impl<R: Row> Shim<R> {
         ensures called { is_journalled result.1 ≡ true → Extends seat result.0 request result.1 }
         ensures same { is_journalled result.1 ≡ false → result.0 ≡ seat }
     {
-        let answer = self.book.lock(rt).call(&self.cells, &mut seat, request);
-        self.moved.notify_all();
+        let mut shared = self.shared.lock(rt);
+        let answer = shared.book.call(&self.cells, &mut seat, request);
+        let callers_wait = shared.callers > 0;
+        let worker_wanted = shared.workers > 0 && shared.book.has_waiting();
+        drop(shared);
+        if callers_wait {
+            self.settled.notify_all();
+        }
+        if worker_wanted {
+            self.waiting.notify_one();
+        }
         (seat, answer)
     }
 
@@ -80,10 +94,13 @@ impl<R: Row> Shim<R> {
         ensures same { is_journalled result.1 ≡ false → result.0 ≡ seat }
         ensures answered { result.1 ≢ Err Refusal.Busy }
     {
-        let mut book = self
-            .moved
-            .wait_while(rt, self.book.lock(rt), |b| !b.is_due(&id));
-        let answer = book.call_due(&self.cells, &mut seat, id);
+        let mut shared = self.shared.lock(rt);
+        shared.callers = shared.callers.wrapping_add(1);
+        let mut shared = self
+            .settled
+            .wait_while(rt, shared, |s| !s.book.is_due(&id));
+        shared.callers = shared.callers.wrapping_sub(1);
+        let answer = shared.book.call_due(&self.cells, &mut seat, id);
         (seat, answer)
     }
 
@@ -111,43 +128,60 @@ impl<R: Row> Shim<R> {
         requires { (1 ≤ budget) × (budget ≤ max_budget) }
         ensures { IfSome result (λ l. (l.ran ≡ false) × (l.budget ≡ budget)) }
     {
-        self.book.lock(rt).take(ticket, budget)
+        self.shared.lock(rt).book.take(ticket, budget)
     }
 
     /// Takes back the machine of a loan that has been run, as `Book::give_back` does.
     pub fn give_back<W: Wait>(&self, rt: &W, loan: Loan) -> Option<Ticket>
         requires { loan.ran ≡ true }
     {
-        let ticket = self.book.lock(rt).give_back(loan);
-        if ticket.is_none() {
-            self.moved.notify_all();
+        let mut shared = self.shared.lock(rt);
+        let ticket = shared.book.give_back(loan);
+        if ticket.is_none() && shared.callers > 0 {
+            self.settled.notify_all();
         }
         ticket
     }
 
-    /// A ticket of a task for a worker: waits until a task can be lent, or the shim is closed. None once it is
-    /// closed.
+    /// Lets the ticket's task wait for a worker if a worker sleeps, and wakes it; else gives the ticket back.
+    pub fn offer<W: Wait>(&self, rt: &W, ticket: Ticket) -> Option<Ticket> {
+        let mut shared = self.shared.lock(rt);
+        if shared.workers == 0 {
+            return Some(ticket);
+        }
+        shared.book.wait_again(ticket);
+        self.waiting.notify_one();
+        None
+    }
+
+    /// The task that has waited longest for a worker, which waits no more: sleeps until one waits, or the shim
+    /// is closed. None once it is closed.
     pub fn next<W: Wait>(&self, rt: &W) -> Option<Ticket> {
-        let mut book = self
-            .moved
-            .wait_while(rt, self.book.lock(rt), |b| b.is_idle());
-        book.next()
+        let mut shared = self.shared.lock(rt);
+        shared.workers = shared.workers.wrapping_add(1);
+        let mut shared = self.waiting.wait_while(rt, shared, |s| s.book.is_idle());
+        shared.workers = shared.workers.wrapping_sub(1);
+        shared.book.next()
     }
 
     /// The task that has waited longest for a worker, which waits no more. None if none waits.
     pub fn next_waiting<W: Wait>(&self, rt: &W) -> Option<Ticket> {
-        self.book.lock(rt).next_waiting()
+        self.shared.lock(rt).book.next_waiting()
     }
 
     /// Lets the ticket's task wait for a worker, as `Book::wait_again` does.
     pub fn wait_again<W: Wait>(&self, rt: &W, ticket: Ticket) {
-        self.book.lock(rt).wait_again(ticket);
-        self.moved.notify_all();
+        let mut shared = self.shared.lock(rt);
+        shared.book.wait_again(ticket);
+        if shared.workers > 0 {
+            self.waiting.notify_one();
+        }
     }
 
     /// Closes the shim: each call after it answers Closed.
     pub fn close<W: Wait>(&self, rt: &W) {
-        self.book.lock(rt).close();
-        self.moved.notify_all();
+        self.shared.lock(rt).book.close();
+        self.settled.notify_all();
+        self.waiting.notify_all();
     }
 }

@@ -9,6 +9,7 @@ use Rattle.call_journal.proofs.cells.Cells.TheSendSync as cells
 use Rattle.call_journal.proofs.seen.Seen.TheSendSync as seen
 use Rattle.call_journal.specs.contracts.journalled.JournalledBoard as journals
 use Rattle.call_journal.specs.contracts.book.Book as books
+use Rattle.call_journal.specs.contracts.shared.Shared as shareds
 use Rattle.call_journal.specs.contracts.shim.Shim as shims
 use Rattle.shim_threads.proofs.SentBoard.{board_send}
 
@@ -19,5 +20,8 @@ book_send : (R : RattleType) (a : _) (b : _) → IsSend R → IsSend (books.the_
 book_send R a b s =
     search (sendable, std_sent.crosses, journal_send, seen.the_send, ledger_book.the_send, ledger_share.the_send) depth 40
 
+shared_send : (R : RattleType) (a : _) (b : _) → IsSend R → IsSend (shareds.the_row R a b)
+shared_send R a b s = search (sendable, std_sent.crosses, book_send) depth 40
+
 pub shim_sync : (R : RattleType) (a : _) (b : _) → IsSend R → IsSync (shims.the_row R a b)
-shim_sync R a b s = search (sendable, std_sent.crosses, book_send, cells.the_sync) depth 40
+shim_sync R a b s = search (sendable, std_sent.crosses, shared_send, cells.the_sync) depth 40

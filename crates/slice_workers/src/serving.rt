@@ -99,10 +99,32 @@ fn put_back<L: Lender, W: Wait>(
     }
 }
 
+/// The ticket to be served after a slice of a task that is running on: another one, if there is one, and then
+/// the task's own goes to a worker that sleeps, or else to the back of the queue.
+fn after_slice<L: Lender, W: Wait>(
+    rt: &W,
+    lender: &L,
+    queue: &Queue,
+    pass: &mut Pass<Ticket, Hand>,
+    again: Ticket,
+    queue_first: bool,
+) -> Ticket
+    requires { IsPassOf queue.now pass.old }
+    ensures { IsPassOf queue.now pass.new }
+{
+    let Some(other) = find(rt, lender, queue, pass, queue_first) else {
+        return again;
+    };
+    if let Some(again) = lender.offer(rt, again) {
+        put_back(rt, lender, queue, pass, again);
+    }
+    other
+}
+
 /// Runs slices of tasks that wait for a worker or are in the queue, in turn, until the end; sleeps while there
 /// is none. Each machine that it takes it runs once by the gate, with no lock held, and gives back; a task
-/// that is running afterwards goes to the back of the queue, or waits if that is full. It returns, if it does,
-/// with no machine in its hands.
+/// that is running afterwards goes to a worker that sleeps if there is other work, or else to the back of the
+/// queue, or waits if that is full. It returns, if it does, with no machine in its hands.
 pub fn worker<L: Lender, G: Gate, W: Wait>(
     rt: &W,
     lender: &L,
@@ -116,14 +138,19 @@ pub fn worker<L: Lender, G: Gate, W: Wait>(
     ensures pass { IsPassOf queue.now pass.new }
 {
     let mut queue_first = false;
+    let mut known = None;
     for _ in rt.forever() {
         queue_first = !queue_first;
-        let Some(ticket) = find_or_sleep(rt, lender, queue, pass, queue_first) else {
+        if known.is_none() {
+            known = find_or_sleep(rt, lender, queue, pass, queue_first);
+        }
+        let Some(ticket) = known else {
             return;
         };
-        if let Some(next) = run_slice(rt, lender, gate, ticket, budget) {
-            put_back(rt, lender, queue, pass, next);
-        }
+        known = match run_slice(rt, lender, gate, ticket, budget) {
+            Some(again) => Some(after_slice(rt, lender, queue, pass, again, queue_first)),
+            None => None,
+        };
     }
     unreachable!()
 }

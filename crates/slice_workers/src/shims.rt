@@ -18,6 +18,10 @@ impl<R: Row> Lender for Shim<R> {
         Shim::give_back(self, rt, loan)
     }
 
+    fn offer<W: Wait>(&self, rt: &W, ticket: Ticket) -> Option<Ticket> {
+        Shim::offer(self, rt, ticket)
+    }
+
     fn next_waiting<W: Wait>(&self, rt: &W) -> Option<Ticket> {
         Shim::next_waiting(self, rt)
     }

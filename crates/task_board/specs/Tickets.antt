@@ -1,5 +1,5 @@
 -- Tickets, and the slices that are taken by them.
-use Rattle.std.specs.Prelude.{◌≡◌, ℕ, List, [], ◌∷◌, true, if◌then◌else◌, Option, Some, None, option_map, option_and_then}
+use Rattle.std.specs.Prelude.{◌≡◌, ℕ, List, true, if◌then◌else◌, Option, Some, None, option_map, option_and_then}
 use Rattle.task_board.specs.declared.ticket.Ticket.{Ticket}
 use Rattle.task_board.specs.BoardState.{Task, Entries, BoardState, task_in, entry_of, with_task}
 use Rattle.task_lifecycle.specs.Lifecycle.{is_running}
@@ -33,8 +33,3 @@ ticket_if_running slot t = if is_running t.status then Some (ticket_to (slot, t)
 
 abbrev pub ticket_in : ℕ → Entries → Option Ticket
 ticket_in slot ts = option_and_then (ticket_if_running slot) (task_in slot ts)
-
--- a ticket of the first task that can be lent
-abbrev pub first_ready : Entries → Option Ticket
-first_ready [] = None
-first_ready (e ∷ es) = if can_lend e.1 then Some (ticket_to e) else first_ready es

@@ -1,6 +1,6 @@
 //! The board: the store and the tasks, and what each request does to them.
 
-ghost use Rattle.std.specs.Prelude.{◌≡◌, ◌≢◌, ◌≤◌, ◌↔◌, IsTrue, ◌∷◌, [], Some, None, Ok, Err, IfOk, IsOk, IfSome, IfNone, OnErr, option_map, true, false};
+ghost use Rattle.std.specs.Prelude.{◌≡◌, ◌≢◌, ◌≤◌, ◌↔◌, ◌==◌, IsTrue, ◌∷◌, [], Some, None, Ok, Err, IfOk, IsOk, IfSome, IfNone, OnErr, option_map, true, false, not, length};
 ghost use Rattle.std.specs.Arc.{arc_value};
 ghost use Rattle.oci_config.specs.Processes.{config_of};
 ghost use Rattle.oci_config.specs.declared.process.ProcessConfig.{ProcessConfig as ProcessValue};
@@ -17,7 +17,7 @@ ghost use Rattle.task_board.specs.Run.{takes_memory};
 ghost use Rattle.task_board.specs.Sound.{IsBoard};
 ghost use Rattle.task_board.specs.Settled.{is_settled};
 ghost use Rattle.task_board.specs.Step.{Answers, Step};
-ghost use Rattle.task_board.specs.Tickets.{ticket_of, CanLend, Lends, ticket_in, first_ready};
+ghost use Rattle.task_board.specs.Tickets.{ticket_of, CanLend, Lends, ticket_in};
 ghost use Rattle.task_board.specs.Waiting.{enter_again, waiting_after, AreWaiting};
 ghost use Rattle.task_board.specs.Inside.Machines.{IsMachine};
 ghost use Rattle.task_board.specs.Inside.Plans.{Plans, PlansTask};
@@ -413,11 +413,11 @@ impl Board {
         self.tables.receive(loan)
     }
 
-    /// A ticket of the first task, by slots, that `take` lends. None if there is none. No memory is taken.
-    pub fn ready(&self) -> Option<Ticket>
-        ensures { result ≡ first_ready self.now.state.tasks }
+    /// Whether a task waits for a worker. No memory is taken.
+    pub fn has_waiting(&self) -> bool
+        ensures { result ≡ not (length self.now.waiting == 0) }
     {
-        self.tables.ready()
+        self.tables.has_waiting()
     }
 
     /// The task that has waited longest for a worker, which waits no more. None if none waits. No memory is

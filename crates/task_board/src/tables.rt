@@ -1,6 +1,6 @@
 //! The tables of a board: the store and the tasks.
 
-ghost use Rattle.std.specs.Prelude.{ℕ, ◌≡◌, ◌≢◌, ◌≤◌, ◌<◌, ◌+◌, ◌↔◌, IsTrue, ◌++◌, ◌∷◌, [], Some, None, Ok, Err, IfOk, IsOk, OnOk, OnErr, IfErr, IfSome, IfNone, true, false, option_map, is_some};
+ghost use Rattle.std.specs.Prelude.{ℕ, ◌≡◌, ◌≢◌, ◌≤◌, ◌<◌, ◌+◌, ◌↔◌, ◌==◌, IsTrue, ◌++◌, ◌∷◌, [], Some, None, Ok, Err, IfOk, IsOk, OnOk, OnErr, IfErr, IfSome, IfNone, true, false, not, length, option_map, is_some};
 ghost use Rattle.std.specs.Arc.{arc_value};
 ghost use Rattle.task_requests.specs.declared.request.Request.{Request as RequestValue};
 ghost use Rattle.task_requests.specs.declared.request.Request.TheVariants as request;
@@ -21,7 +21,7 @@ ghost use Rattle.task_board.specs.Inside.OpenedModules.{IsOpen};
 ghost use Rattle.task_board.specs.Sound.{IsBoard};
 ghost use Rattle.task_board.specs.Settled.{is_settled};
 ghost use Rattle.task_board.specs.Step.{Answers, Step};
-ghost use Rattle.task_board.specs.Tickets.{ticket_of, CanLend, Lends, ticket_in, first_ready};
+ghost use Rattle.task_board.specs.Tickets.{ticket_of, CanLend, Lends, ticket_in};
 ghost use Rattle.task_board.specs.Waiting.{enter_if, enter_again, running_ticket, waiting_after_call, waiting_after, AreWaiting};
 ghost use Rattle.task_board.specs.Inside.Plans.{id_refusals, IsAllowed, RefusesTask, RefusesKill, RefusesOutput, TellsOutput, CreatePrepared, CallPrepared, MarkPrepared, Plans};
 ghost use Rattle.task_board.specs.Inside.Changes.{change_request, change_refusals};
@@ -35,7 +35,7 @@ use crate::open::module_of;
 use crate::opened::Opened;
 use crate::prepared::{Plan, Prepared};
 use crate::store_change::StoreChange;
-use crate::task::{Task, find_task, first_ready, is_present, is_used, used_digests};
+use crate::task::{Task, find_task, is_present, is_used, used_digests};
 use crate::ticket::Ticket;
 use crate::waiting::Waiting;
 use content_leases::Store;
@@ -526,11 +526,11 @@ impl Tables {
         }
     }
 
-    /// A ticket of the first task whose machine can be lent.
-    pub fn ready(&self) -> Option<Ticket>
-        ensures { result ≡ first_ready self.now.state.tasks }
+    /// Whether a task waits.
+    pub fn has_waiting(&self) -> bool
+        ensures { result ≡ not (length self.now.waiting == 0) }
     {
-        first_ready(&self.tasks)
+        !self.waiting.is_empty()
     }
 
     /// Takes the oldest of the tasks that wait out of the list.

@@ -12,7 +12,7 @@ ghost use Rattle.task_board.specs.BoardState.{created_task, entry_of, used_by};
 ghost use Rattle.task_board.specs.Loans.{Lent, loan_of, FitsTask};
 ghost use Rattle.task_board.specs.Refusals.{Openable};
 ghost use Rattle.task_board.specs.Tasks.{started, paused, resumed, first_signal, killed, place_of, advanced, slice_turns, can_lend, lent, stepped, state_of, output_of};
-ghost use Rattle.task_board.specs.Tickets.{ticket_if_running, first_ready};
+ghost use Rattle.task_board.specs.Tickets.{ticket_if_running};
 ghost use Rattle.task_board.specs.Waiting.{is_present};
 ghost use Rattle.task_board.specs.Inside.Machines.{IsMachine};
 ghost use Rattle.task_board.specs.Inside.Changes.{change_call, changed};
@@ -126,13 +126,6 @@ impl Task {
         ensures { result ≡ self.now.incarnation }
     {
         self.incarnation
-    }
-
-    /// Whether its machine can be lent.
-    fn is_ready(&self) -> bool
-        ensures { result ≡ can_lend self.now }
-    {
-        self.status == Status::Running && self.out.is_none()
     }
 
     /// A ticket of it, in its slot, if it is running.
@@ -347,19 +340,6 @@ pub fn find_task<'a>(tasks: &'a Slab<Task>, id: &str) -> Option<(usize, &'a Task
     for (slot, task) in tasks.iter() {
         if task.id().as_str() == id {
             return Some((slot, task));
-        }
-    }
-    None
-}
-
-/// A ticket of the first task whose machine can be lent.
-pub fn first_ready(tasks: &Slab<Task>) -> Option<Ticket>
-    ensures { result ≡ first_ready (entries tasks.now) }
-{
-    for (slot, task) in tasks.iter() {
-        if task.is_ready() {
-            let incarnation = task.incarnation();
-            return Some(Ticket { slot, incarnation });
         }
     }
     None

@@ -1,6 +1,6 @@
 //! The tasks that wait for a worker.
 
-ghost use Rattle.std.specs.Prelude.{◌≡◌, ◌<◌, ◌∷◌, [], IfOk, IfSome, IfNone, length, filter, false};
+ghost use Rattle.std.specs.Prelude.{◌≡◌, ◌<◌, ◌∷◌, ◌==◌, [], IfOk, IfSome, IfNone, length, filter, false};
 ghost use Rattle.slab.specs.Slab.{entries};
 ghost use Rattle.task_board.specs.Limits.{max_tasks};
 ghost use Rattle.task_board.specs.Waiting.{is_waiting, is_present, enter};
@@ -36,6 +36,13 @@ impl Waiting {
         Ok(Waiting {
             tickets: Vec::with_capacity(alloc, 64)?,
         })
+    }
+
+    /// Whether none waits.
+    pub fn is_empty(&self) -> bool
+        ensures { result ≡ (length self.now == 0) }
+    {
+        self.tickets.is_empty()
     }
 
     // Whether a ticket is among them.
