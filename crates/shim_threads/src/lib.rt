@@ -6,4 +6,4 @@ mod shared;
 mod working;
 
 pub use answering::{Answered, Caller, answer_all};
-pub use working::{SLICE_TURNS, StartError, with_workers};
+pub use working::{SLICE_TURNS, StartError, with_gated_workers, with_workers};

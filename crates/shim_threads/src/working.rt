@@ -6,7 +6,7 @@ ghost use Rattle.crossbeam_queue.specs.Passes.{IsPassOf};
 use crate::shared::Closing;
 use call_journal::{Row, Shim};
 use crossbeam_queue::Pass;
-use slice_workers::{Hand, Lender, OpenGate, Queue, another_pass, ticket_queue, worker};
+use slice_workers::{Gate, Hand, Lender, OpenGate, Queue, another_pass, ticket_queue, worker};
 use std::alloc::{AllocError, Global};
 use std::sync::Wait;
 use std::thread;
@@ -32,21 +32,27 @@ impl From<AllocError> for StartError {
 }
 
 // Works until the lender is closed.
-fn work<L: Lender, H: Wait>(rt: &H, lender: &L, queue: &Queue, pass: Pass<Ticket, Hand>)
+fn work<L: Lender, G: Gate, H: Wait>(
+    rt: &H,
+    lender: &L,
+    queue: &Queue,
+    pass: Pass<Ticket, Hand>,
+    gate: &G,
+)
     requires { IsPassOf queue.now pass }
 {
     let mut pass = pass;
-    worker(rt, lender, queue, &mut pass, &OpenGate, SLICE_TURNS);
+    worker(rt, lender, queue, &mut pass, gate, SLICE_TURNS);
 }
 
-// As `with_workers`, over any lender.
-fn with_workers_of<L: Closing + Sync, H: Threads + Wait + Sync, T: Drop, F: FnOnce() -> T + Drop>(
-    rt: &H,
-    alloc: Global,
-    lender: &L,
-    count: u64,
-    run: F,
-) -> Result<T, StartError>
+// As `with_gated_workers`, over any lender.
+fn with_workers_of<
+    L: Closing + Sync,
+    H: Threads + Wait + Sync,
+    G: Gate + Sync,
+    T: Drop,
+    F: FnOnce() -> T + Drop,
+>(rt: &H, alloc: Global, lender: &L, count: u64, gate: &G, run: F) -> Result<T, StartError>
     requires { F.pre run }
     ensures { IfOk result (F.post run) }
 {
@@ -62,7 +68,8 @@ fn with_workers_of<L: Closing + Sync, H: Threads + Wait + Sync, T: Drop, F: FnOn
             let mut pass = pass;
             for _ in 0..count {
                 let next = another_pass(queue, &mut pass);
-                if scope.spawn(move || work(rt, lender, queue, next)).is_err() {
+                let thread = scope.spawn(move || work(rt, lender, queue, next, gate));
+                if thread.is_err() {
                     lender.close(rt);
                     return Err(StartError::NoThread);
                 }
@@ -74,8 +81,22 @@ fn with_workers_of<L: Closing + Sync, H: Threads + Wait + Sync, T: Drop, F: FnOn
     )
 }
 
-/// Calls `run` while this many workers, each in a thread of its own, run the tasks of the shim; then closes
-/// the shim and waits until each worker has given back the slice that it holds.
+/// Calls `run` while this many workers, each in a thread of its own, run the tasks of the shim by a gate; then
+/// closes the shim and waits until each worker has given back the slice that it holds.
+pub fn with_gated_workers<
+    J: Row + Send + Sync,
+    H: Threads + Wait + Sync,
+    G: Gate + Sync,
+    T: Drop,
+    F: FnOnce() -> T + Drop,
+>(rt: &H, alloc: Global, shim: &Shim<J>, count: u64, gate: &G, run: F) -> Result<T, StartError>
+    requires { F.pre run }
+    ensures { IfOk result (F.post run) }
+{
+    with_workers_of(rt, alloc, shim, count, gate, run)
+}
+
+/// As `with_gated_workers`, by the gate that does nothing but run slices.
 pub fn with_workers<
     J: Row + Send + Sync,
     H: Threads + Wait + Sync,
@@ -85,5 +106,5 @@ pub fn with_workers<
     requires { F.pre run }
     ensures { IfOk result (F.post run) }
 {
-    with_workers_of(rt, alloc, shim, count, run)
+    with_gated_workers(rt, alloc, shim, count, &OpenGate, run)
 }
