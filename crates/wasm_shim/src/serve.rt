@@ -3,7 +3,7 @@
 ghost use Rattle.std.specs.Prelude.{◌≡◌, ◌+◌};
 ghost use Rattle.call_journal.specs.Seats.{most_seats};
 
-use crate::report::{failed, stream_failed};
+use crate::report::{failed, file_failed, stream_failed};
 use crate::watched::Watched;
 use call_journal::{Cells, MOST_SEATS, Row, Shim};
 use callers::{Driven, drive};
@@ -123,7 +123,7 @@ fn tell<J: Row>(
     answered: Option<Answered<J, Watched<File>>>,
 ) -> bool {
     let Some(answered) = answered else {
-        failed(rt, "the thread of a caller cannot be started");
+        file_failed(rt, name, "its thread cannot be started");
         return false;
     };
     if let Err(error) = rt.stdout().write_all(answered.replies.as_slice()) {
