@@ -1,0 +1,1 @@
+"""What tools/hostile tries: hostile modules, texts and lines, with little memory and with none."""

@@ -1,0 +1,156 @@
+"""How much processor time hostile inputs take, at sizes that double: it may grow as the input does, and no faster."""
+from __future__ import annotations
+
+import json
+import sys
+from dataclasses import dataclass
+from pathlib import Path
+
+from trials import shapes
+from trials.modules import digest_of
+from trials.program import Report, Session, config_of, line_of, number_of
+
+# More than these is flagged: the growth of the time by the growth of the input, and seconds for 262,144 bytes.
+MOST_GROWTH, MOST_SECONDS, BYTES = 1.5, 0.050, 262_144
+# Less time than this is not looked at for its growth.
+LEAST_SECONDS = 0.001
+# A trial is repeated up to this number of times, or until it took so long together; the least time counts.
+REPEATS, ENOUGH_SECONDS, TOO_LONG = 9, 0.5, 5.0
+# The bytes of the module that the second reading reads for the number that all sizes of a shape are answered.
+SMALL = 4_096
+
+
+@dataclass
+class Timing:
+    size: int
+    seconds: float
+
+
+@dataclass
+class Trial:
+    """Lines before the one that is timed, that one, lines after it, and the bytes by which its time is told."""
+
+    before: list[bytes]
+    line: bytes
+    after: list[bytes]
+    size: int
+
+
+def of_module(data: bytes) -> Trial:
+    digest = digest_of(data)
+    return Trial([line_of(op="put", hex=data.hex())], line_of(op="create", id="a", config=config_of(digest)),
+                 [line_of(op="kill", id="a", signal=9), line_of(op="delete", id="a"), line_of(op="gc")], len(data))
+
+
+def of_module_again(data: bytes) -> Trial:
+    """A second create over a module, which has been decoded by then."""
+    digest = digest_of(data)
+    first = of_module(data)
+    before = [*first.before, line_of(op="create", id="b", config=config_of(digest))]
+    after = [line_of(op="kill", id="b", signal=9), line_of(op="delete", id="b"), *first.after]
+    return Trial(before, first.line, after, len(data))
+
+
+def of_put(data: bytes) -> Trial:
+    return Trial([], line_of(op="put", hex=data.hex()), [line_of(op="gc")], len(data))
+
+
+def of_text(text: bytes) -> Trial:
+    line = json.dumps({"op": "put_text", "text": text.decode()}).encode()
+    return Trial([], line, [line_of(op="gc")], len(text))
+
+
+def of_line(line: bytes) -> Trial:
+    return Trial([], line, [line_of(op="gc")], len(line))
+
+
+def timed(program: Path, trial: Trial) -> tuple[float, bytes | None]:
+    """The least processor time of the timed line, over some repeats, and its reply."""
+    session, best, spent, reply = Session(program), float("inf"), 0.0, None
+    for _ in range(REPEATS):
+        if len(session.ask_all(trial.before)) < len(trial.before):
+            break
+        begun = session.used()
+        reply = session.ask(trial.line)
+        if reply is None:
+            break
+        seconds = session.used() - begun
+        best, spent = min(best, seconds), spent + seconds
+        if len(session.ask_all(trial.after)) < len(trial.after) or spent > ENOUGH_SECONDS:
+            break
+    session.close()
+    return best, reply
+
+
+def try_shape(program: Path, report: Report, name: str, trials: list[Trial], wanted: list[int]) -> None:
+    """Times a shape at its sizes, and says what is wrong with its replies, its times and their growth."""
+    timings: list[Timing] = []
+    for trial, number in zip(trials, wanted):
+        seconds, reply = timed(program, trial)
+        report.add("inputs timed")
+        if reply is None:
+            report.differ(f"{name}: no reply", trial.line, b"", None)
+            return
+        if number_of(reply) != number:
+            report.differ(f"{name}: number {number_of(reply)} in place of {number}", trial.line, b"", reply)
+        timings.append(Timing(trial.size, seconds))
+        if seconds > TOO_LONG:
+            break
+    growths = [second.seconds * first.size / first.seconds / second.size for first, second in zip(timings, timings[1:])]
+    told = "  ".join(f"{timing.size:>9,} {timing.seconds * 1e3:>9.2f} {timing.seconds * 1e9 / timing.size:>8.1f}"
+                     for timing in timings)
+    flags = flags_of(timings, growths)
+    print(f"{name:<52} {told}  {' '.join(f'{growth:.2f}' for growth in growths)}{flags}")
+    sys.stdout.flush()
+    if flags:
+        report.fault(f"{name}:{flags.lower()}: {timings[-1].seconds * 1e3:.1f} ms for {timings[-1].size:,} bytes, growth "
+                     + ", ".join(f"{growth:.2f}" for growth in growths))
+
+
+def flags_of(timings: list[Timing], growths: list[float]) -> str:
+    last = timings[-1]
+    is_slow = last.seconds > MOST_SECONDS * max(1, last.size / BYTES)
+    is_fast_growing = any(growth > MOST_GROWTH and timing.seconds > LEAST_SECONDS
+                          for growth, timing in zip(growths, timings[1:]))
+    return " SLOW" * is_slow + " GROWS" * is_fast_growing
+
+
+def sizes(most: int) -> list[int]:
+    return [most >> by for by in (2, 1, 0)]
+
+
+def try_modules(program: Path, report: Report) -> None:
+    for shape in shapes.MODULES:
+        number = shapes.number_of_module(shape.make(SMALL))
+        if number != shape.number:
+            report.fault(f"{shape.name}: the second reading has {number}")
+        made = [shape.make(size) for size in sizes(shapes.MODULE_BYTES)]
+        try_shape(program, report, shape.name, [of_module(data) for data in made], [number] * 3)
+        if number == 0 and ("segment" in shape.name or shape.name == "globals"):
+            again = f"{shape.name}, a second create"
+            try_shape(program, report, again, [of_module_again(data) for data in made], [0] * 3)
+    try_shape(program, report, "put of zeros", [of_put(bytes(size)) for size in sizes(shapes.MODULE_BYTES)], [0] * 3)
+
+
+def try_texts(program: Path, report: Report) -> None:
+    """A text that is taken has half of a line, so that its module is within the limit of bytes."""
+    for shape in shapes.TEXTS:
+        most = shapes.LINE_BYTES // 2 - 10_000 if shape.number == 0 else shapes.LINE_BYTES - 10_000
+        made = [shape.make(size) for size in sizes(most)]
+        try_shape(program, report, shape.name, [of_text(text) for text in made], [shape.number or 0] * 3)
+
+
+def try_lines(program: Path, report: Report) -> None:
+    for shape in shapes.LINES:
+        made = [shape.make(size) for size in sizes(shapes.LINE_BYTES - 200)]
+        wanted = [shapes.number_of_line(line) for line in made]
+        try_shape(program, report, shape.name, [of_line(line) for line in made], wanted)
+
+
+def try_growth(program: Path, report: Report) -> None:
+    """Prints, for each shape, bytes, milliseconds and nanoseconds a byte at each size, and then the growth of the
+    latter from size to size."""
+    print("shape, then for each size: bytes, milliseconds, nanoseconds a byte; and the growth of the last from size to size")
+    try_modules(program, report)
+    try_texts(program, report)
+    try_lines(program, report)

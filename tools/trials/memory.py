@@ -1,0 +1,126 @@
+"""Little memory: `serve` and `run` with a limit of address space."""
+from __future__ import annotations
+
+import subprocess
+import sys
+import tempfile
+from pathlib import Path
+
+from reference import wasm
+from reference.execute import Machine
+from trials import scripts
+from trials.modules import digest_of
+from trials.program import OUT_OF_MEMORY, Report, Session, config_of, line_of, told_once
+
+LIMITS_KIB = range(16 * 1024, 64 * 1024 + 1, 4 * 1024)
+MIB = 1024
+NO_THREAD = b"wasm-shim: the thread of a worker cannot be started\n"
+
+
+def try_least(program: Path, report: Report) -> None:
+    """The least limit with which a module is put and a task of it run to its end, for some numbers of workers. A limit below
+    that ends the program with one line on standard error."""
+    data = scripts.long_code(100)
+    lines = [line_of(op="put", hex=data.hex()), *scripts.task("a", digest_of(data))]
+    for workers in (1, 2, 4, 16):
+        for kib in range(MIB, 1024 * MIB, MIB):
+            session = Session(program, ("serve", "--workers", str(workers)), kib=kib)
+            replies = session.ask_all(lines)
+            status, told = session.close()
+            if len(replies) == len(lines) and b'"exit":7' in replies[3] and (status, told) == (0, b""):
+                print(f"{workers} workers: serves with {kib // MIB} MiB of address space")
+                report.add("numbers of workers with a least limit")
+                break
+            # With less the loader of the C library may not even come to the program, and says so in its own words.
+            if told.startswith(b"wasm-shim: ") and (status != 1 or not told_once(told)):
+                report.fault(f"{workers} workers with {kib} KiB: status {status}, {told[:200]!r}")
+
+
+def try_scripts(program: Path, report: Report) -> None:
+    """Runs the script of modules of several sizes at each limit, with one worker and with two."""
+    lines = scripts.large_script()
+    print("workers, limit of address space: lines asked, refused for memory, then taken, too large with nothing else there; end")
+    for workers in (1, 2):
+        for kib in LIMITS_KIB:
+            session = Session(program, ("serve", "--workers", str(workers)), kib=kib)
+            talk = scripts.talk_to(session, lines)
+            status, told = session.close()
+            end = end_of(report, f"serve with {workers} workers and {kib} KiB", lines, talk, status, told)
+            report.add("scripts with a limit")
+            report.add("lines asked", talk.asked)
+            report.add("lines refused for memory", talk.refused)
+            report.add("lines taken when others were deleted", talk.taken_after)
+            print(f"{workers} workers, {kib // MIB:>3} MiB: {talk.asked:>4} {talk.refused:>4} {talk.taken_after:>4} "
+                  f"{len(talk.too_large):>4}; {end}")
+            check_too_large(program, report, workers, kib, talk.too_large)
+            sys.stdout.flush()
+
+
+def end_of(report: Report, what: str, lines: list[bytes], talk: scripts.Talk, status: int, told: bytes) -> str:
+    """How a script ended, and whether that was as it should be."""
+    for line, wanted, reply in talk.differing:
+        report.differ(what, line, wanted, reply)
+    if talk.place is None:
+        if status or told:
+            report.fault(f"{what}: status {status}, {told!r} after all lines")
+        return "all lines were answered"
+    if status != 1 or not told_once(told):
+        report.fault(f"{what}: status {status}, and {told[:200]!r} on standard error")
+    if told == NO_THREAD:
+        report.add("scripts for which no worker could be started")
+        return "no thread for a worker"
+    report.add("scripts that ended for memory")
+    return f"ended at line {talk.place + 1} of {len(lines)}: {lines[talk.place][:60]!r}"
+
+
+def check_too_large(program: Path, report: Report, workers: int, kib: int, lines: list[bytes]) -> None:
+    """Whether a line that was refused when nothing else was there is refused by a program that has just begun, too."""
+    contents = {digest_of(data): data for data, _ in modules_of_runs()}
+    for line in lines:
+        session = Session(program, ("serve", "--workers", str(workers)), kib=kib)
+        for digest, data in contents.items():
+            if digest.encode() in line:
+                session.ask(line_of(op="put", hex=data.hex()))
+        reply = session.ask(line)
+        session.close()
+        if reply is not None and b'"ok":true' in reply:
+            report.add("lines that only a new program takes")
+            print(f"     {line[:70]!r} is taken by a program that has just begun")
+
+
+def modules_of_runs() -> list[tuple[bytes, int | None]]:
+    sizes = [(scripts.long_code(size), None) for size in (100, 4_000, 60_000, 200_000)]
+    return [*sizes, (scripts.writes(1_100, 64), None), (scripts.calls_itself(1_024), None), scripts.grows(16),
+            scripts.grows(scripts.PAGES)]
+
+
+def wanted_of_run(data: bytes) -> tuple[int, bytes, bytes]:
+    """The status and the two streams of `run`, by the second reading (docs/COMMANDS.md)."""
+    machine = Machine(wasm.Decoder(data).module(), args=["m"])
+    machine.run(10**9)
+    trap = f"trap: {machine.end['trap']}\n" if "trap" in machine.end else ""
+    return machine.end["exit"] % 256, bytes(machine.streams[1]), bytes(machine.streams[2]) + trap.encode()
+
+
+def try_runs(program: Path, report: Report) -> None:
+    """`run` of each module at each limit: it does what it does without a limit, or it is refused or ends for memory."""
+    with tempfile.TemporaryDirectory(prefix="hostile-") as folder:
+        for at, (data, _) in enumerate(modules_of_runs()):
+            file, wanted = Path(folder) / f"{at}.wasm", wanted_of_run(data)
+            file.write_bytes(data)
+            for kib in LIMITS_KIB:
+                command = ["sh", "-c", 'ulimit -v "$1"; shift; exec "$@"', "sh", str(kib), program, "run", file]
+                done = subprocess.run(command, stdin=subprocess.DEVNULL, capture_output=True, timeout=60, check=False)
+                found = done.returncode, done.stdout, done.stderr
+                is_refused = done.returncode == 1 and wanted[1].startswith(done.stdout) and done.stderr in (
+                    OUT_OF_MEMORY, f"wasm-shim: {file}: out of memory\n".encode())
+                if found != wanted and not is_refused:
+                    report.fault(f"run of module {at} of {len(data)} bytes with {kib} KiB: {done.returncode}, "
+                                 f"{done.stdout[:80]!r}, {done.stderr[:200]!r}")
+                report.add("runs that ended for memory" if is_refused else "runs that went as without a limit")
+
+
+def try_limits(program: Path, report: Report) -> None:
+    try_least(program, report)
+    try_scripts(program, report)
+    try_runs(program, report)
