@@ -2,6 +2,7 @@
 from __future__ import annotations
 
 import json
+import math
 import sys
 from dataclasses import dataclass
 from pathlib import Path
@@ -10,8 +11,9 @@ from trials import shapes
 from trials.modules import digest_of
 from trials.program import Report, Session, config_of, line_of, number_of
 
-# More than these is flagged: the growth of the time by the growth of the input, and seconds for 262,144 bytes.
-MOST_GROWTH, MOST_SECONDS, BYTES = 1.5, 0.050, 262_144
+# More than these is flagged: the growth of the time for a byte from the least size to one that is four times as large, which
+# is 1 if the time is linear and 4 if it is quadratic; and seconds for 262,144 bytes.
+MOST_GROWTH, MOST_SECONDS, BYTES = 2.5, 0.050, 262_144
 # Less time than this is not looked at for its growth.
 LEAST_SECONDS = 0.001
 # A trial is repeated up to this number of times, or until it took so long together; the least time counts.
@@ -110,8 +112,9 @@ def try_shape(program: Path, report: Report, name: str, trials: list[Trial], wan
 def flags_of(timings: list[Timing], growths: list[float]) -> str:
     last = timings[-1]
     is_slow = last.seconds > MOST_SECONDS * max(1, last.size / BYTES)
-    is_fast_growing = any(growth > MOST_GROWTH and timing.seconds > LEAST_SECONDS
-                          for growth, timing in zip(growths, timings[1:]))
+    # With two sizes alone, since a third took too long, the growth is that of one doubling.
+    most = MOST_GROWTH if len(timings) == 3 else MOST_GROWTH**0.5
+    is_fast_growing = len(timings) > 1 and math.prod(growths) > most and last.seconds > LEAST_SECONDS
     return " SLOW" * is_slow + " GROWS" * is_fast_growing
 
 

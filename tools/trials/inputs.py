@@ -47,7 +47,8 @@ def batches(items: Iterator[bytes], size: int = BATCH) -> Iterator[list[bytes]]:
 
 
 def refused(number: int, place: tuple[int, int] | None = None) -> bytes:
-    return reply_of(Refused(number, place).reply())
+    line: bytes = reply_of(Refused(number, place).reply())
+    return line
 
 
 def some_modules() -> list[bytes]:
@@ -100,10 +101,12 @@ def lines_of_module(data: bytes) -> list[bytes]:
 
 
 def try_modules(program: Path, report: Report, jobs: int) -> None:
-    session, modules = Session(program), some_modules()
+    modules = some_modules()
     report.add("modules", len(modules))
     inputs = list(batches(data for module in modules for data in [module, *bent(module)]))
+    # The processes of the second reading are there before the program, whose input they would else keep open.
     with multiprocessing.Pool(jobs) as pool:
+        session = Session(program)
         for batch, wanted in zip(inputs, pool.imap(wanted_of_modules, inputs)):
             lines = [line for data in batch for line in lines_of_module(data)]
             if not session.has_room(len(lines)):
@@ -116,7 +119,7 @@ def try_modules(program: Path, report: Report, jobs: int) -> None:
                 report.add(f"modules answered {number_of(reply)}" if number_of(reply) else "modules accepted")
             if len(replies) < len(lines) or len(report.faults) > 20:
                 break
-    finish(report, session)
+        finish(report, session)
 
 
 def compare(report: Report, what: str, lines: list[bytes], wanted: list[bytes], replies: list[bytes]) -> None:
@@ -353,7 +356,64 @@ def try_put_text_lines(program: Path, report: Report) -> None:
     finish(report, session)
 
 
+def padded(line: bytes, size: int) -> bytes:
+    """A line with white space after it, of this many bytes."""
+    return line + b" " * (size - len(line))
+
+
+def nested(depth: int) -> bytes:
+    """A line whose arrays and objects are this deep; the array is a value that a later one of the same key replaces."""
+    return b'{"op":' + b"[" * (depth - 1) + b"]" * (depth - 1) + b',"op":"gc"}'
+
+
+def edges(data: bytes) -> list[bytes]:
+    """Lines at limits and one beyond: of ids, digests, lines, depths, bytes and numbers."""
+    digest, ids = digest_of(data), ("a", "a" * 64, "a" * 65, "", "a\0", "a-._Z9", ".a", "\u00e9", "a" * 63 + "\u00e9", "0")
+    digests = (digest, digest[:-1], digest + "0", digest.upper(), digest[:7] + "A" * 64, "sha256:" + "0" * 64, "sha512:" + "0" * 64)
+    lines = [line_of(op="put", hex=data.hex())]
+    lines += [line_of(op="lease_create", id=name) for name in ids] + [line_of(op="state", id=name) for name in ids]
+    lines += [line_of(op="lease_add", id="a", digest=text) for text in digests]
+    lines += [line_of(op="lease_delete", id=name) for name in ids] + [line_of(op="remove", digest=text) for text in digests]
+    lines += [padded(line, size) for line in (b'{"op":"gc"}', b"x") for size in (1_048_575, 1_048_576, 1_048_577, 3_000_000)]
+    lines += [nested(depth) for depth in (126, 127, 128, 129)]
+    lines += [line_of(op="put", hex="00" * size) for size in (0, 1, 262_143, 262_144, 262_145)] + [line_of(op="gc")]
+    lines += [line_of(op="put", hex=data.hex()), line_of(op="create", id="a", config=config_of(digest, limit=65_536)),
+              line_of(op="break", id="a", func=1, place=0), line_of(op="start", id="a")]
+    numbers = (0, 1, 9, 15, 255, 256, 257, 1_000, 1_001, 2**31, 2**32, 2**63, 2**64 - 1, 2**64, -1)
+    lines += [line_of(op="peek", id="a", address=at, length=count) for at in numbers for count in numbers]
+    lines += [line_of(op="step", id="a", count=count) for count in (0, 1_001, 2**64 - 1, 2**64, -1, 1)]
+    lines += [line_of(op="output", id="a", stream=stream) for stream in (0, 1, 2, 3, 2**64 - 1, 2**64)]
+    lines += [line_of(op=op, id="a", func=at, place=place) for op in ("break", "unbreak") for at in numbers for place in numbers]
+    return [*lines, *(line_of(op="kill", id="a", signal=number) for number in numbers), DELETE, line_of(op="gc")]
+
+
+def try_edges(program: Path, report: Report) -> None:
+    """What is at a limit and beyond is answered as by the second board."""
+    session, board, lines = Session(program), Board(False), edges(first_module())
+    compare(report, "a line at a limit", lines, [board.answer(line) for line in lines], session.ask_all(lines))
+    report.add("lines at limits", len(lines))
+    finish(report, session)
+
+
+def try_full_tables(program: Path, report: Report) -> None:
+    """As many contents, leases, members, tasks and breakpoints as there may be, and one more of each."""
+    session, board, data = Session(program), Board(False), module_of(NOP * 40)
+    digest = digest_of(data)
+    lines = [line_of(op="put", hex=f"{at:04x}") for at in range(256)] + [line_of(op="put", hex=data.hex())]
+    lines += [line_of(op="lease_create", id=f"l{at}") for at in range(65)]
+    lines += [line_of(op="lease_add", id="l0", digest=digest_of(at.to_bytes(2, "big"))) for at in range(65)]
+    lines += [line_of(op="remove", digest=digest_of(b"\0\xff")), line_of(op="put", hex=data.hex())]
+    lines += [line_of(op="create", id=f"t{at}", config=config_of(digest)) for at in range(65)]
+    lines += [line_of(op="break", id="t0", func=0, place=at) for at in range(33)]
+    lines += [line_of(op="start", id="t0"), line_of(op="inspect", id="t0"), line_of(op="gc"), line_of(op="delete", id="t1")]
+    compare(report, "a full table", lines, [board.answer(line) for line in lines], session.ask_all(lines))
+    report.add("lines over full tables", len(lines))
+    finish(report, session)
+
+
 def try_inputs(program: Path, report: Report, jobs: int) -> None:
+    try_edges(program, report)
+    try_full_tables(program, report)
     try_lines(program, report)
     try_put_text_lines(program, report)
     try_configs(program, report)

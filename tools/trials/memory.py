@@ -5,6 +5,7 @@ import subprocess
 import sys
 import tempfile
 from pathlib import Path
+from typing import Any
 
 from reference import wasm
 from reference.execute import Machine
@@ -98,8 +99,9 @@ def wanted_of_run(data: bytes) -> tuple[int, bytes, bytes]:
     """The status and the two streams of `run`, by the second reading (docs/COMMANDS.md)."""
     machine = Machine(wasm.Decoder(data).module(), args=["m"])
     machine.run(10**9)
-    trap = f"trap: {machine.end['trap']}\n" if "trap" in machine.end else ""
-    return machine.end["exit"] % 256, bytes(machine.streams[1]), bytes(machine.streams[2]) + trap.encode()
+    end: dict[str, Any] = machine.end or {}
+    trap = f"trap: {end['trap']}\n" if "trap" in end else ""
+    return end["exit"] % 256, bytes(machine.streams[1]), bytes(machine.streams[2]) + trap.encode()
 
 
 def try_runs(program: Path, report: Report) -> None:
@@ -109,7 +111,7 @@ def try_runs(program: Path, report: Report) -> None:
             file, wanted = Path(folder) / f"{at}.wasm", wanted_of_run(data)
             file.write_bytes(data)
             for kib in LIMITS_KIB:
-                command = ["sh", "-c", 'ulimit -v "$1"; shift; exec "$@"', "sh", str(kib), program, "run", file]
+                command = ["sh", "-c", 'ulimit -v "$1"; shift; exec "$@"', "sh", str(kib), str(program), "run", str(file)]
                 done = subprocess.run(command, stdin=subprocess.DEVNULL, capture_output=True, timeout=60, check=False)
                 found = done.returncode, done.stdout, done.stderr
                 is_refused = done.returncode == 1 and wanted[1].startswith(done.stdout) and done.stderr in (

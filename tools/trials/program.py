@@ -91,7 +91,8 @@ def settled(reply: bytes) -> dict[str, Any]:
 
 def number_of(reply: bytes) -> int:
     """The number of a refusal; 0 of an accepted request."""
-    return json.loads(reply).get("number", 0)
+    number: int = json.loads(reply).get("number", 0)
+    return number
 
 
 class Session:

@@ -2,6 +2,7 @@
 is worked out here, by the counts of instructions, and by the second reading."""
 from __future__ import annotations
 
+import json
 import random
 import signal
 import sys
@@ -14,10 +15,11 @@ from typing import Any
 from reference import wasm
 from reference.board import Board, line_of as reply_of
 from reference.execute import Machine
-from trials import scripts
+from trials import scripts, waits
 from trials.modules import (DROP, END, EXIT, I32, I64, NOP, UNREACHABLE, WRITE, block, call, code, digest_of, func_type, i32,
                             i64, leb, limits, program, sized, vector)
-from trials.program import Report, Session, config_of, line_of, replay
+from trials.program import Report, Session, agree, config_of, line_of, replay
+from trials.scripts import LOOP
 
 PAGE, MOST_PAGES, MOST_TASKS = 65_536, 256, 64
 TRAP = {"cause": "trap", "exit": 134}
@@ -211,9 +213,6 @@ def try_slices(program_: Path, report: Report, case: Case, lines: list[bytes], e
 
 # --- loops on all slots ---
 
-LOOP = program(block(b"\x0c\0", opcode=3))
-
-
 def loops_in_replay() -> tuple[list[bytes], list[bytes]]:
     """Loops on all 64 slots, taken and returned in random order, some killed while they are out; others are created in
     their places, end and are deleted. The lines, and what they are answered by the counts of turns."""
@@ -270,19 +269,51 @@ def loops_in_serve() -> list[bytes]:
     """Loops on all slots that are started, paused, stepped, killed and deleted, while others come and go."""
     seven = scripts.long_code(100)
     lines = [line_of(op="put", hex=data.hex()) for data in (LOOP, seven)]
-    for at in range(MOST_TASKS):
-        lines += [line_of(op="create", id=f"t{at}", config=config_of(digest_of(LOOP))), line_of(op="start", id=f"t{at}")]
+    begun = [[line_of(op="create", id=f"loop{at}", config=config_of(digest_of(LOOP))), line_of(op="start", id=f"loop{at}")]
+             for at in range(MOST_TASKS)]
+    lines += [line for two in begun for line in two]
     for at in range(400):
-        name = f"t{random.randrange(MOST_TASKS)}"
+        number = random.randrange(MOST_TASKS)
+        name = f"loop{number}"
         lines += [line_of(op="create", id="more", config=config_of(digest_of(LOOP))), line_of(op="pause", id=name),
-                  line_of(op="step", id=name, count=random.randint(1, 1_000)), line_of(op="inspect", id=name)]
+                  line_of(op="wait", id=name), line_of(op="step", id=name, count=random.randint(1, 1_000)),
+                  line_of(op="inspect", id=name)]
         if at % 4:
             lines.append(line_of(op="resume", id=name))
             continue
-        lines += [line_of(op="kill", id=name, signal=9), line_of(op="delete", id=name),
-                  *scripts.task(name, digest_of(seven)), line_of(op="delete", id=name),
-                  line_of(op="create", id=name, config=config_of(digest_of(LOOP))), line_of(op="start", id=name)]
+        lines += [line_of(op="resume", id=name), line_of(op="kill", id=name, signal=9), line_of(op="wait", id=name),
+                  line_of(op="delete", id=name), *scripts.task("seven", digest_of(seven)), line_of(op="delete", id="seven"),
+                  *begun[number]]
     return lines
+
+
+def check_turns(report: Report, lines: list[bytes], answers: list[bytes]) -> None:
+    """Of loops that were paused: a step makes just its turns, a frame is at the place of its number of turns, and between
+    two pauses the turns grow."""
+    turns: dict[str, int] = {}
+    for line, answer in zip(lines, answers):
+        request, told = json.loads(line), json.loads(answer)
+        name, op = request.get("id", ""), request["op"]
+        if not name.startswith("loop") or not told["ok"]:
+            continue
+        if op == "create":
+            turns[name] = 0
+        if op == "step":
+            turns[name] += request["count"]
+        wanted = turns[name]
+        if op in ("wait", "delete"):
+            turns[name] = told["n"]
+            report.add("times that a loop was waited for")
+        if ("n" in told and told["n"] != wanted and op in ("step", "inspect")) or turns[name] < wanted:
+            report.differ("the turns of a loop", line, str(wanted).encode(), answer)
+        if op == "inspect" and told["frames"] != [frame_of_loop(wanted)]:
+            report.differ("the frame of a loop", line, json.dumps(frame_of_loop(wanted)).encode(), answer)
+
+
+def frame_of_loop(turns: int) -> dict[str, Any]:
+    """Where the loop is: before its `loop`, or in it before its branch."""
+    inside = turns % 2 == 1
+    return {"func": 0, "labels": [0] * inside, "locals": [], "next": int(inside), "operands": []}
 
 
 def try_loops(program_: Path, report: Report) -> None:
@@ -291,11 +322,16 @@ def try_loops(program_: Path, report: Report) -> None:
     report.add("lines of a replay with loops on all slots", len(lines))
     check_all(report, "loops in a replay", lines, wanted, answers)
     lines, board = loops_in_serve(), Board(False)
-    session = Session(program_)
-    answers = session.ask_all(lines)
-    report.add("lines of serve with loops on all slots", len(lines))
-    check_all(report, "loops in serve", lines, [board.answer(line) for line in lines], answers)
-    session.close()
+    for workers in (1, 2, 16):
+        session = Session(program_, ("serve", "--workers", str(workers)))
+        answers = session.ask_all(lines)
+        report.add("lines of serve with loops on all slots", len(lines))
+        check_all(report, f"loops in serve with {workers} workers", lines, [board.answer(line) for line in lines], answers)
+        check_turns(report, lines, answers)
+        status, told = session.close()
+        if status or told:
+            report.fault(f"serve with {workers} workers ended with status {status}, and {told!r}")
+        board = Board(False)
     for number in (signal.SIGTERM, signal.SIGINT, signal.SIGHUP):
         try_signal(program_, report, number)
 
@@ -304,7 +340,7 @@ def check_all(report: Report, what: str, lines: list[bytes], wanted: list[bytes]
     if len(answers) != len(lines):
         report.fault(f"{what}: {len(answers)} answers to {len(lines)} lines")
     for line, want, found in zip(lines, wanted, answers):
-        if want != found:
+        if not agree(line, want, found):
             report.differ(what, line, want, found)
             return
 
@@ -369,3 +405,4 @@ def try_runs(program_: Path, report: Report) -> None:
     try_cases(program_, report)
     try_loops(program_, report)
     try_long_turns(program_, report)
+    waits.try_waits(program_, report)

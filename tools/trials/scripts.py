@@ -125,11 +125,11 @@ class Model:
             request = json.loads(line)
         except ValueError:
             request = {}
-        if request.get("op") != "put_text":
-            return self.board.answer(line)
-        if request["text"] == TEXT:
-            return self.board.answer(line_of(op="put", hex=BYTES_OF_TEXT.hex()))
-        return b'{"column":8,"error":"BadText","line":1,"number":18,"ok":false}'
+        if request.get("op") == "put_text" and request["text"] != TEXT:
+            return b'{"column":8,"error":"BadText","line":1,"number":18,"ok":false}'
+        is_text = request.get("op") == "put_text"
+        reply: bytes = self.board.answer(line_of(op="put", hex=BYTES_OF_TEXT.hex()) if is_text else line)
+        return reply
 
 
 @dataclass

@@ -4,6 +4,7 @@ from __future__ import annotations
 import json
 from collections.abc import Callable
 from dataclasses import dataclass
+from typing import Any
 
 from reference import wasm
 from reference.board import process_of, request_of
@@ -27,7 +28,7 @@ class Shape:
 
 # --- modules ---
 
-def filled(unit: bytes, before: bytes = b"", after: bytes = b"", **parts) -> Make:
+def filled(unit: bytes, before: bytes = b"", after: bytes = b"", **parts: Any) -> Make:
     """An entry that has a unit as often as there is room."""
     return lambda size: program(before + repeated(unit, size - 80) + after, **parts)
 
@@ -113,7 +114,7 @@ def spread(number: int) -> int:
     return number & 0x7F | (number >> 7 & 0x7F) << 8 | number >> 14 << 16
 
 
-def with_sections(number: int, unit: bytes, **parts) -> Make:
+def with_sections(number: int, unit: bytes, **parts: Any) -> Make:
     """A section of a unit as often as there is room."""
     return lambda size: program(NOP, **parts, more={number: vector([unit] * ((size - 80) // len(unit)))})
 
@@ -243,7 +244,7 @@ def uses_with_types(size: int) -> bytes:
 
 
 def fault_at_the_end(size: int) -> bytes:
-    return b"(module (type (func))" + b"\n " * (size // 2 - 20) + b" x)"
+    return b"(module (type (func))" + (b"\n" + b" " * 199) * ((size - 40) // 200) + b" x)"
 
 
 TEXTS = [
