@@ -1,9 +1,9 @@
 /* Preloaded into a program: of its allocations, those from number REFUSE_FIRST on, REFUSE_COUNT of
    them, find no memory; the calls of all threads are counted together. Each that is refused writes a line on standard
    error. If REFUSE_ONLY is realloc, only the calls of realloc are counted and refused. If REFUSE_PLACES is a
-   file descriptor, a line for each that is refused goes there: the call, the bytes it asked for, and where it was made, as
-   the offsets of return addresses in the program's file, the innermost first. These are found by frame pointers, so they
-   are there only as far as the program keeps them. */
+   file descriptor, a line for each that is refused goes there: the call, the bytes it asked for, and where it was
+   made, as the offsets of return addresses in the file of the program or, with a `!`, of a library, the innermost
+   first. These are found by frame pointers, so they are there only as far as the program keeps them. */
 #define _GNU_SOURCE
 #include <dlfcn.h>
 #include <errno.h>

@@ -1,5 +1,5 @@
-"""Allocations that are refused one by one, or all from one on: what each comes to, and where those are made that end the
-program."""
+"""Allocations that are refused one by one, or all from one on: what each comes to, and where those are made that
+end the program."""
 from __future__ import annotations
 
 import bisect
@@ -25,7 +25,8 @@ MODES = {"one alone": (1, False, 1), "one of realloc alone": (1, True, 1), "ten 
          "all from one on": (ALL, False, 0)}
 # What the program is doing, by the functions that have called an allocation; the first that fits counts.
 PHASES = {
-    "the line of a reply is written": ("request_lines::reply_line", "request_lines::reply_value", "shim_service::replay::write"),
+    "the line of a reply is written": ("request_lines::reply_line", "request_lines::reply_value",
+                                       "shim_service::replay::write"),
     "a line is read as JSON": ("request_lines::members", "request_lines::parse_request", "request_lines::parse_event"),
     "lines are stored": ("request_lines::line_reader", "shim_service::replay::Script", "wasm_shim::read"),
     "the command line is taken": ("wasm_shim::arguments",),
@@ -44,8 +45,8 @@ OWN = frozenset(folder.name for folder in (TOP / "crates").iterdir() if folder.i
 def library(folder: str) -> Path:
     """The library that refuses allocations, which tools/refuse-allocations uses too."""
     built = Path(folder) / "refuse.so"
-    subprocess.run(["cc", "-O1", "-Wall", "-fno-builtin", "-fno-omit-frame-pointer", "-shared", "-fPIC", "-o", built, SOURCE],
-                   check=True)
+    words = ["cc", "-O1", "-Wall", "-fno-builtin", "-fno-omit-frame-pointer", "-shared", "-fPIC"]
+    subprocess.run([*words, "-o", built, SOURCE], check=True)
     return built
 
 
@@ -70,7 +71,8 @@ class Symbols:
         """What the program was doing."""
         call, chain = self.chain_of(told)
         names = ["the C library"] if call == "calloc" else chain
-        return next((phase for phase, marks in PHASES.items() if any(name.startswith(marks) for name in names)), "another")
+        found = (phase for phase, marks in PHASES.items() if any(name.startswith(marks) for name in names))
+        return next(found, "another")
 
     def place_of(self, told: str) -> str:
         """Where a refused allocation was made: the innermost function of this repository, with the kit's crate that it
@@ -88,8 +90,9 @@ class Symbols:
 
 @dataclass
 class Run:
-    """What came of a script of which allocations were refused. `replies`: those by line, None for a line that was left out
-    since it was refused for memory each time. `ended_at`: the number of the line at which the program ended."""
+    """What came of a script of which allocations were refused. `replies`: those by line, None for a line that was
+    left out since it was refused for memory each time. `ended_at`: the number of the line at which the program
+    ended."""
 
     replies: list[bytes | None] = field(default_factory=list)
     refused_lines: list[bytes] = field(default_factory=list)
@@ -199,7 +202,8 @@ class Table:
         """Prints the table: what ended the program by what it was doing, and the functions that took the memory."""
         for outcome, times in sorted(self.outcomes.items()):
             print(f"  {times:>5} {outcome}")
-        print("  answered by NoMemory, by request: " + ", ".join(f"{times} {op}" for op, times in self.refused.most_common()))
+        by_request = ", ".join(f"{times} {op}" for op, times in self.refused.most_common())
+        print(f"  answered by NoMemory, by request: {by_request or 'none'}")
         if self.unnoticed:
             print(f"  not noticed: {', '.join(sorted(set(self.unnoticed)))}")
         for phase, times in self.phases.most_common():
@@ -234,8 +238,8 @@ def try_mode(program: Path, report: Report, way: Way, mode: str, folder: str, sy
 
 
 def try_allocations(program: Path, report: Report) -> None:
-    """Asks the script of all requests with allocations refused, and says what came of each: how many were not noticed, were
-    answered by NoMemory, or ended the program, and where."""
+    """Asks the script of all requests with allocations refused, and says what came of each: how many were not
+    noticed, were answered by NoMemory, or ended the program, and where."""
     symbols = Symbols(program)
     with tempfile.TemporaryDirectory(prefix="hostile-") as folder:
         built = library(folder)

@@ -11,8 +11,8 @@ from trials import shapes
 from trials.modules import digest_of
 from trials.program import Report, Session, config_of, line_of, number_of
 
-# More than these is flagged: the growth of the time for a byte from the least size to one that is four times as large, which
-# is 1 if the time is linear and 4 if it is quadratic; and seconds for 262,144 bytes.
+# More than these is flagged: the growth of the time for a byte from the least size to one that is four times as
+# large, which is 1 if the time is linear and 4 if it is quadratic; and seconds for 262,144 bytes.
 MOST_GROWTH, MOST_SECONDS, BYTES = 2.5, 0.050, 262_144
 # Less time than this is not looked at for its growth.
 LEAST_SECONDS = 0.001
@@ -24,8 +24,12 @@ SMALL = 4_096
 
 @dataclass
 class Timing:
+    """Of an input: its bytes, the least processor time, the reply, and the most memory that the program had."""
+
     size: int
     seconds: float
+    reply: bytes | None
+    mib: float
 
 
 @dataclass
@@ -66,8 +70,8 @@ def of_line(line: bytes) -> Trial:
     return Trial([], line, [line_of(op="gc")], len(line))
 
 
-def timed(program: Path, trial: Trial) -> tuple[float, bytes | None]:
-    """The least processor time of the timed line, over some repeats, and its reply."""
+def timed(program: Path, trial: Trial) -> Timing:
+    """The least processor time of the timed line, over some repeats."""
     session, best, spent, reply = Session(program), float("inf"), 0.0, None
     for _ in range(REPEATS):
         if len(session.ask_all(trial.before)) < len(trial.before):
@@ -80,32 +84,35 @@ def timed(program: Path, trial: Trial) -> tuple[float, bytes | None]:
         best, spent = min(best, seconds), spent + seconds
         if len(session.ask_all(trial.after)) < len(trial.after) or spent > ENOUGH_SECONDS:
             break
+    mib = 0.0 if reply is None else session.most_resident()
     session.close()
-    return best, reply
+    return Timing(trial.size, best, reply, mib)
 
 
 def try_shape(program: Path, report: Report, name: str, trials: list[Trial], wanted: list[int]) -> None:
     """Times a shape at its sizes, and says what is wrong with its replies, its times and their growth."""
     timings: list[Timing] = []
     for trial, number in zip(trials, wanted):
-        seconds, reply = timed(program, trial)
+        timing = timed(program, trial)
         report.add("inputs timed")
-        if reply is None:
+        if timing.reply is None:
             report.differ(f"{name}: no reply", trial.line, b"", None)
             return
-        if number_of(reply) != number:
-            report.differ(f"{name}: number {number_of(reply)} in place of {number}", trial.line, b"", reply)
-        timings.append(Timing(trial.size, seconds))
-        if seconds > TOO_LONG:
+        if number_of(timing.reply) != number:
+            found = number_of(timing.reply)
+            report.differ(f"{name}: number {found} in place of {number}", trial.line, b"", timing.reply)
+        timings.append(timing)
+        if timing.seconds > TOO_LONG:
             break
     growths = [second.seconds * first.size / first.seconds / second.size for first, second in zip(timings, timings[1:])]
     told = "  ".join(f"{timing.size:>9,} {timing.seconds * 1e3:>9.2f} {timing.seconds * 1e9 / timing.size:>8.1f}"
                      for timing in timings)
     flags = flags_of(timings, growths)
-    print(f"{name:<52} {told}  {' '.join(f'{growth:.2f}' for growth in growths)}{flags}")
+    print(f"{name:<52} {told}  {' '.join(f'{growth:.2f}' for growth in growths)} {timings[-1].mib:>6.1f}{flags}")
     sys.stdout.flush()
     if flags:
-        report.fault(f"{name}:{flags.lower()}: {timings[-1].seconds * 1e3:.1f} ms for {timings[-1].size:,} bytes, growth "
+        last = timings[-1]
+        report.fault(f"{name}:{flags.lower()}: {last.seconds * 1e3:.1f} ms for {last.size:,} bytes, growth "
                      + ", ".join(f"{growth:.2f}" for growth in growths))
 
 
@@ -151,9 +158,9 @@ def try_lines(program: Path, report: Report) -> None:
 
 
 def try_growth(program: Path, report: Report) -> None:
-    """Prints, for each shape, bytes, milliseconds and nanoseconds a byte at each size, and then the growth of the
-    latter from size to size."""
-    print("shape, then for each size: bytes, milliseconds, nanoseconds a byte; and the growth of the last from size to size")
+    """Prints, for each shape, bytes, milliseconds and nanoseconds a byte at each size, then the growth of the
+    latter from size to size, and the most memory in MiB that the program had."""
+    print("shape, then for each size: bytes, milliseconds, nanoseconds a byte; growth of the last from size to size; MiB")
     try_modules(program, report)
     try_texts(program, report)
     try_lines(program, report)

@@ -1,5 +1,5 @@
-"""Every prefix and every single flipped bit of modules, texts, configs and lines: each is answered by one line, with the
-number that the second reading of the standards has where it reads the same thing."""
+"""Every prefix and every single flipped bit of modules, texts, configs and lines: each is answered by one line,
+with the number that the second reading of the standards has where it reads the same thing."""
 from __future__ import annotations
 
 import hashlib
@@ -302,8 +302,8 @@ def some_lines(data: bytes) -> list[tuple[bytes, list[bytes]]]:
 
 
 def lines_around(before: list[bytes], line: bytes) -> list[bytes]:
-    """The lines before a bent one, that one, and lines after it that end its task and leave nothing of it. A task `a` that
-    was started ends by itself, so it is waited for; one that never ends is killed first."""
+    """The lines before a bent one, that one, and lines after it that end its task and leave nothing of it. A task
+    `a` that was started ends by itself, so it is waited for; one that never ends is killed first."""
     name = "loop" if before[-1:] == [line_of(op="start", id="loop")] else "a"
     wait, kill = line_of(op="wait", id=name), line_of(op="kill", id=name, signal=9)
     after = [kill, wait] if name == "loop" else [wait, kill]
@@ -312,7 +312,8 @@ def lines_around(before: list[bytes], line: bytes) -> list[bytes]:
 
 
 def try_lines(program: Path, report: Report) -> None:
-    """Each bent line is asked with lines before it that make what it names; all are compared with the second board's."""
+    """Each bent line is asked with lines before it that make what it names; all are compared with the second
+    board's."""
     for whole, before in some_lines(first_module()):
         session, board = Session(program), Board(False)
         for batch in batches(iter([whole, *bent(whole)])):
@@ -368,13 +369,17 @@ def nested(depth: int) -> bytes:
 
 def edges(data: bytes) -> list[bytes]:
     """Lines at limits and one beyond: of ids, digests, lines, depths, bytes and numbers."""
-    digest, ids = digest_of(data), ("a", "a" * 64, "a" * 65, "", "a\0", "a-._Z9", ".a", "\u00e9", "a" * 63 + "\u00e9", "0")
-    digests = (digest, digest[:-1], digest + "0", digest.upper(), digest[:7] + "A" * 64, "sha256:" + "0" * 64, "sha512:" + "0" * 64)
+    ids = ("a", "a" * 64, "a" * 65, "", "a\0", "a-._Z9", ".a", "\u00e9", "a" * 63 + "\u00e9", "0")
+    digest, zeros = digest_of(data), "0" * 64
+    digests = (digest, digest[:-1], digest + "0", digest.upper(), digest[:7] + "A" * 64, f"sha256:{zeros}",
+               f"sha512:{zeros}")
     lines = [line_of(op="put", hex=data.hex())]
     lines += [line_of(op="lease_create", id=name) for name in ids] + [line_of(op="state", id=name) for name in ids]
     lines += [line_of(op="lease_add", id="a", digest=text) for text in digests]
-    lines += [line_of(op="lease_delete", id=name) for name in ids] + [line_of(op="remove", digest=text) for text in digests]
-    lines += [padded(line, size) for line in (b'{"op":"gc"}', b"x") for size in (1_048_575, 1_048_576, 1_048_577, 3_000_000)]
+    lines += [line_of(op="lease_delete", id=name) for name in ids]
+    lines += [line_of(op="remove", digest=text) for text in digests]
+    sizes = (1_048_575, 1_048_576, 1_048_577, 3_000_000)
+    lines += [padded(line, size) for line in (b'{"op":"gc"}', b"x") for size in sizes]
     lines += [nested(depth) for depth in (126, 127, 128, 129)]
     lines += [line_of(op="put", hex="00" * size) for size in (0, 1, 262_143, 262_144, 262_145)] + [line_of(op="gc")]
     lines += [line_of(op="put", hex=data.hex()), line_of(op="create", id="a", config=config_of(digest, limit=65_536)),
@@ -383,7 +388,8 @@ def edges(data: bytes) -> list[bytes]:
     lines += [line_of(op="peek", id="a", address=at, length=count) for at in numbers for count in numbers]
     lines += [line_of(op="step", id="a", count=count) for count in (0, 1_001, 2**64 - 1, 2**64, -1, 1)]
     lines += [line_of(op="output", id="a", stream=stream) for stream in (0, 1, 2, 3, 2**64 - 1, 2**64)]
-    lines += [line_of(op=op, id="a", func=at, place=place) for op in ("break", "unbreak") for at in numbers for place in numbers]
+    for op in ("break", "unbreak"):
+        lines += [line_of(op=op, id="a", func=at, place=place) for at in numbers for place in numbers]
     return [*lines, *(line_of(op="kill", id="a", signal=number) for number in numbers), DELETE, line_of(op="gc")]
 
 
@@ -405,7 +411,8 @@ def try_full_tables(program: Path, report: Report) -> None:
     lines += [line_of(op="remove", digest=digest_of(b"\0\xff")), line_of(op="put", hex=data.hex())]
     lines += [line_of(op="create", id=f"t{at}", config=config_of(digest)) for at in range(65)]
     lines += [line_of(op="break", id="t0", func=0, place=at) for at in range(33)]
-    lines += [line_of(op="start", id="t0"), line_of(op="inspect", id="t0"), line_of(op="gc"), line_of(op="delete", id="t1")]
+    lines += [line_of(op="start", id="t0"), line_of(op="inspect", id="t0"), line_of(op="gc"),
+              line_of(op="delete", id="t1")]
     compare(report, "a full table", lines, [board.answer(line) for line in lines], session.ask_all(lines))
     report.add("lines over full tables", len(lines))
     finish(report, session)

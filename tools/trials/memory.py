@@ -19,8 +19,8 @@ NO_THREAD = b"wasm-shim: the thread of a worker cannot be started\n"
 
 
 def try_least(program: Path, report: Report) -> None:
-    """The least limit with which a module is put and a task of it run to its end, for some numbers of workers. A limit below
-    that ends the program with one line on standard error."""
+    """The least limit with which a module is put and a task of it run to its end, for some numbers of workers. A
+    limit below that ends the program with one line on standard error."""
     data = scripts.long_code(100)
     lines = [line_of(op="put", hex=data.hex()), *scripts.task("a", digest_of(data))]
     for workers in (1, 2, 4, 16):
@@ -40,7 +40,7 @@ def try_least(program: Path, report: Report) -> None:
 def try_scripts(program: Path, report: Report) -> None:
     """Runs the script of modules of several sizes at each limit, with one worker and with two."""
     lines = scripts.large_script()
-    print("workers, limit of address space: lines asked, refused for memory, then taken, too large with nothing else there; end")
+    print("workers, limit of address space: lines asked, refused for memory, then taken, too large by themselves; end")
     for workers in (1, 2):
         for kib in LIMITS_KIB:
             session = Session(program, ("serve", "--workers", str(workers)), kib=kib)
@@ -111,8 +111,9 @@ def try_runs(program: Path, report: Report) -> None:
             file, wanted = Path(folder) / f"{at}.wasm", wanted_of_run(data)
             file.write_bytes(data)
             for kib in LIMITS_KIB:
-                command = ["sh", "-c", 'ulimit -v "$1"; shift; exec "$@"', "sh", str(kib), str(program), "run", str(file)]
-                done = subprocess.run(command, stdin=subprocess.DEVNULL, capture_output=True, timeout=60, check=False)
+                words = ["sh", "-c", 'ulimit -v "$1"; shift; exec "$@"', "sh", str(kib)]
+                done = subprocess.run([*words, program, "run", file], stdin=subprocess.DEVNULL, capture_output=True,
+                                      timeout=60, check=False)
                 found = done.returncode, done.stdout, done.stderr
                 is_refused = done.returncode == 1 and wanted[1].startswith(done.stdout) and done.stderr in (
                     OUT_OF_MEMORY, f"wasm-shim: {file}: out of memory\n".encode())

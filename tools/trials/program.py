@@ -64,7 +64,8 @@ def config_of(digest: str, limit: int | None = None, args: tuple[str, ...] = ("a
 
 
 def told_once(told: bytes) -> bool:
-    """Whether standard error has what a program says that ends with status 1: one line, with its name (docs/PROTOCOL.md)."""
+    """Whether standard error has what a program says that ends with status 1: one line, with its name
+    (docs/PROTOCOL.md)."""
     return told.startswith(b"wasm-shim: ") and told.endswith(b"\n") and told.count(b"\n") == 1
 
 
@@ -74,8 +75,8 @@ def operation_of(line: bytes) -> str:
 
 
 def agree(line: bytes, wanted: bytes, reply: bytes) -> bool:
-    """Whether a reply is the one wanted. Of tasks named `loop..`, which run while other lines are asked, it is open how many
-    turns they have made, and whether a slice of them is out."""
+    """Whether a reply is the one wanted. Of tasks named `loop..`, which run while other lines are asked, it is open
+    how many turns they have made, and whether a slice of them is out."""
     return reply == wanted or (b'"loop' in line and settled(reply) == settled(wanted))
 
 
@@ -150,6 +151,11 @@ class Session:
         """The seconds of processor time that the program's threads have used."""
         threads = Path(f"/proc/{self.process.pid}/task").iterdir()
         return sum(int((thread / "schedstat").read_text().split()[0]) for thread in threads) / 1e9
+
+    def most_resident(self) -> float:
+        """The most memory, in MiB, that the program has had at a time."""
+        found = re.search(r"VmHWM:\s+(\d+) kB", Path(f"/proc/{self.process.pid}/status").read_text())
+        return int(found[1]) / 1024 if found else 0.0
 
     def close(self, seconds: float = 60) -> tuple[int, bytes]:
         """Ends the input. Returns the status, negative for a signal, and what is on standard error."""

@@ -1,5 +1,5 @@
-"""Hostile modules that run: each fault at its limit, much memory, much output, and loops on all slots. What each comes to
-is worked out here, by the counts of instructions, and by the second reading."""
+"""Hostile modules that run: each fault at its limit, much memory, much output, and loops on all slots. What each
+comes to is worked out here, by the counts of instructions, and by the second reading."""
 from __future__ import annotations
 
 import json
@@ -16,8 +16,8 @@ from reference import wasm
 from reference.board import Board, line_of as reply_of
 from reference.execute import Machine
 from trials import scripts, waits
-from trials.modules import (DROP, END, EXIT, I32, I64, NOP, UNREACHABLE, WRITE, block, call, code, digest_of, func_type, i32,
-                            i64, leb, limits, program, sized, vector)
+from trials.modules import (DROP, END, EXIT, I32, I64, NOP, UNREACHABLE, WRITE, block, call, code, digest_of, func_type,
+                            i32, i64, leb, limits, program, sized, vector)
 from trials.program import Report, Session, agree, config_of, line_of, replay
 from trials.scripts import LOOP
 
@@ -78,8 +78,8 @@ def tables() -> Iterator[Case]:
     kind = func_type((I32,), (I32,))
     segment = {9: vector([b"\0" + i32(0) + END + vector([leb(1), leb(2), leb(1)])])}
     ends = {0: (RETURN, 3), 1: (trap("indirect call type mismatch"), 2), 2: (RETURN, 3),
-            3: (trap("uninitialized element"), 2), 4: (trap("undefined element"), 2), 2**31: (trap("undefined element"), 2),
-            2**32 - 1: (trap("undefined element"), 2)}
+            3: (trap("uninitialized element"), 2)}
+    ends |= {index: (trap("undefined element"), 2) for index in (4, 2**31, 2**32 - 1)}
     for index, (end, turns) in ends.items():
         data = program(word(index) + b"\x11\0\0", types=[kind], table=limits(4), more=segment,
                        functions=[(0, code(NOP)), (1, code(b"\x20\0"))])
@@ -105,7 +105,8 @@ def exhaustion() -> Iterator[Case]:
     yield Case("1,025 frames", scripts.calls_itself(1_025), exhausted, 6 * 1_023 + 2)
     for count in (65_536, 65_537):
         body = i32(0) * count + DROP * count
-        yield Case(f"{count:,} operands", program(body), *((RETURN, 2 * count) if count == 65_536 else (exhausted, count)))
+        end = (RETURN, 2 * count) if count == 65_536 else (exhausted, count)
+        yield Case(f"{count:,} operands", program(body), *end)
     yield Case("frames of 1,024 locals", program(call(0), runs=[(1_024, I64)]), exhausted, 64)
     most = [func_type((), [I32] * 1_024)]
     gives = program(call(1) * 64 + UNREACHABLE, types=most, functions=[(1, code(i32(1) * 1_024))])
@@ -167,8 +168,9 @@ def try_cases(program_: Path, report: Report) -> None:
         digest = digest_of(case.data)
         ended = reply_of({**case.end, "id": "a", "n": case.turns, "ok": True, "status": "stopped"})
         create = line_of(op="create", id="a", config=config_of(digest, case.limit, case.args))
-        lines = [line_of(op="put", hex=case.data.hex()), create, line_of(op="start", id="a"), line_of(op="wait", id="a"),
-                 line_of(op="output", id="a", stream=1), line_of(op="delete", id="a"), line_of(op="gc")]
+        lines = [line_of(op="put", hex=case.data.hex()), create, line_of(op="start", id="a"),
+                 line_of(op="wait", id="a"), line_of(op="output", id="a", stream=1), line_of(op="delete", id="a"),
+                 line_of(op="gc")]
         replies = session.ask_all(lines)
         report.add("modules run to their ends")
         if len(replies) < len(lines) or replies[3] != ended or replies[5] != ended:
@@ -204,11 +206,13 @@ def try_slices(program_: Path, report: Report, case: Case, lines: list[bytes], e
     while left > 0:
         budgets.append(random.choice([1, 7, 100, 3_000, 1_000_000]))
         left -= budgets[-1]
-    slices = [line for budget in budgets for line in (line_of(op="take", id="a", budget=budget), line_of(op="return", id="a"))]
+    return_ = line_of(op="return", id="a")
+    slices = [line for budget in budgets for line in (line_of(op="take", id="a", budget=budget), return_)]
     answers = replay(program_, [*lines[:3], *slices, line_of(op="state", id="a")])
     report.add("modules run in slices")
     if answers[-1:] != [ended]:
-        report.differ(f"{case.name}, in slices of {budgets}", b"\n".join(lines[:3]), ended, answers[-1] if answers else None)
+        found = answers[-1] if answers else None
+        report.differ(f"{case.name}, in slices of {budgets}", b"\n".join(lines[:3]), ended, found)
 
 
 # --- loops on all slots ---
@@ -258,7 +262,8 @@ def loops_in_replay() -> tuple[list[bytes], list[bytes]]:
             say({"ok": True, "taken": True}, op="take", id=other, budget=10)
             say({"ok": True, "returned": True}, op="return", id=other)
             del turns[other]
-            say({"cause": "exit", "exit": 7, "id": other, "n": 2, "ok": True, "status": "stopped"}, op="delete", id=other)
+            say({"cause": "exit", "exit": 7, "id": other, "n": 2, "ok": True, "status": "stopped"}, op="delete",
+                id=other)
             begin(name, LOOP)
     for name, count in turns.items():
         say({"id": name, "n": count, "ok": True, "status": "running"}, op="state", id=name)
@@ -269,27 +274,28 @@ def loops_in_serve() -> list[bytes]:
     """Loops on all slots that are started, paused, stepped, killed and deleted, while others come and go."""
     seven = scripts.long_code(100)
     lines = [line_of(op="put", hex=data.hex()) for data in (LOOP, seven)]
-    begun = [[line_of(op="create", id=f"loop{at}", config=config_of(digest_of(LOOP))), line_of(op="start", id=f"loop{at}")]
+    config = config_of(digest_of(LOOP))
+    begun = [[line_of(op="create", id=f"loop{at}", config=config), line_of(op="start", id=f"loop{at}")]
              for at in range(MOST_TASKS)]
     lines += [line for two in begun for line in two]
     for at in range(400):
         number = random.randrange(MOST_TASKS)
         name = f"loop{number}"
-        lines += [line_of(op="create", id="more", config=config_of(digest_of(LOOP))), line_of(op="pause", id=name),
+        lines += [line_of(op="create", id="more", config=config), line_of(op="pause", id=name),
                   line_of(op="wait", id=name), line_of(op="step", id=name, count=random.randint(1, 1_000)),
                   line_of(op="inspect", id=name)]
         if at % 4:
             lines.append(line_of(op="resume", id=name))
             continue
         lines += [line_of(op="resume", id=name), line_of(op="kill", id=name, signal=9), line_of(op="wait", id=name),
-                  line_of(op="delete", id=name), *scripts.task("seven", digest_of(seven)), line_of(op="delete", id="seven"),
-                  *begun[number]]
+                  line_of(op="delete", id=name), *scripts.task("seven", digest_of(seven)),
+                  line_of(op="delete", id="seven"), *begun[number]]
     return lines
 
 
 def check_turns(report: Report, lines: list[bytes], answers: list[bytes]) -> None:
-    """Of loops that were paused: a step makes just its turns, a frame is at the place of its number of turns, and between
-    two pauses the turns grow."""
+    """Of loops that were paused: a step makes just its turns, a frame is at the place of its number of turns, and
+    between two pauses the turns grow."""
     turns: dict[str, int] = {}
     for line, answer in zip(lines, answers):
         request, told = json.loads(line), json.loads(answer)
@@ -326,7 +332,8 @@ def try_loops(program_: Path, report: Report) -> None:
         session = Session(program_, ("serve", "--workers", str(workers)))
         answers = session.ask_all(lines)
         report.add("lines of serve with loops on all slots", len(lines))
-        check_all(report, f"loops in serve with {workers} workers", lines, [board.answer(line) for line in lines], answers)
+        wanted = [board.answer(line) for line in lines]
+        check_all(report, f"loops in serve with {workers} workers", lines, wanted, answers)
         check_turns(report, lines, answers)
         status, told = session.close()
         if status or told:
@@ -373,7 +380,8 @@ def long_turns() -> dict[str, tuple[bytes, int]]:
     wide = [func_type((), [I32] * 1_024)]
     carried = block(i32(1) * 1_024 + b"\x0c\0", b"\x01") + DROP * 1_024
     zeros = program(counted + block(written + again, opcode=3), [WRITE], [(1, I32)], memory=limits(MOST_PAGES))
-    locals_ = program(counted + block(call(1) + again, opcode=3), runs=[(1, I32)], functions=[(0, code(b"", [(1_024, I64)]))])
+    locals_ = program(counted + block(call(1) + again, opcode=3), runs=[(1, I32)],
+                      functions=[(0, code(b"", [(1_024, I64)]))])
     return {
         "fd_write of 2,097,152 buffers": (zeros, times),
         "a branch that takes 1,024 values": (program(counted + block(carried + again, opcode=3), runs=[(1, I32)],

@@ -1,5 +1,5 @@
-"""The script that is answered with little memory, the model that says what each of its lines is answered, and a client that
-makes room and asks again where memory ran out."""
+"""The script that is answered with little memory, the model that says what each of its lines is answered, and a
+client that makes room and asks again where memory ran out."""
 from __future__ import annotations
 
 import json
@@ -19,12 +19,13 @@ LOOP = program(block(b"\x0c\0", opcode=3))
 
 
 def grows(pages: int, config: int | None = None) -> tuple[bytes, int | None]:
-    """A module that grows its memory page by page, writes into each, and exits with the number of pages that it has; and
-    the limit of its config in bytes."""
+    """A module that grows its memory page by page, writes into each, and exits with the number of pages that it
+    has; and the limit of its config in bytes."""
     grown = i32(1) + b"\x40\0" + i32(-1) + b"\x47"
-    body = block(grown + b"\x04\x40" + b"\x3f\0" + i32(1) + b"\x6b" + i32(16) + b"\x74" + i32(7) + b"\x3a\0\0" + b"\x0c\1"
-                 + b"\x0b", opcode=3)
-    return program(body + b"\x3f\0" + call(0), [EXIT], memory=limits(0)), config if config is not None else pages * 65_536
+    touched = b"\x3f\0" + i32(1) + b"\x6b" + i32(16) + b"\x74" + i32(7) + b"\x3a\0\0"
+    body = block(grown + b"\x04\x40" + touched + b"\x0c\1" + b"\x0b", opcode=3)
+    data = program(body + b"\x3f\0" + call(0), [EXIT], memory=limits(0))
+    return data, config if config is not None else pages * 65_536
 
 
 def writes(count: int, size: int) -> bytes:
@@ -32,7 +33,8 @@ def writes(count: int, size: int) -> bytes:
     buffer = (8).to_bytes(4, "little") + size.to_bytes(4, "little") + b"x" * size
     body = i32(count) + b"\x21\0" + block(i32(1) + i32(0) + i32(1) + i32(1_000) + call(0) + DROP + b"\x20\0" + i32(1)
                                           + b"\x6b\x22\0\x0d\0", opcode=3)
-    return program(body, [WRITE], [(1, I32)], memory=limits(1), more={11: vector([b"\0" + i32(0) + b"\x0b" + sized(buffer)])})
+    segment = b"\0" + i32(0) + b"\x0b" + sized(buffer)
+    return program(body, [WRITE], [(1, I32)], memory=limits(1), more={11: vector([segment])})
 
 
 def long_code(size: int) -> bytes:
@@ -68,14 +70,15 @@ def small_script() -> list[bytes]:
         line_of(op="create", id="s", config=config_of(last)), line_of(op="create", id="s", config=config_of(last)),
         line_of(op="break", id="s", func=2, place=1), line_of(op="break", id="s", func=1, place=0),
         line_of(op="break", id="s", func=9, place=0), line_of(op="start", id="s"), line_of(op="inspect", id="s"),
-        line_of(op="step", id="s", count=20), line_of(op="inspect", id="s"), line_of(op="unbreak", id="s", func=2, place=1),
-        line_of(op="resume", id="s"), line_of(op="wait", id="s"), line_of(op="state", id="s"), line_of(op="delete", id="s"),
+        line_of(op="step", id="s", count=20), line_of(op="inspect", id="s"),
+        line_of(op="unbreak", id="s", func=2, place=1), line_of(op="resume", id="s"), line_of(op="wait", id="s"),
+        line_of(op="state", id="s"), line_of(op="delete", id="s"),
         line_of(op="put", hex=LOOP.hex()), line_of(op="create", id="loop", config=config_of(digest_of(LOOP))),
         line_of(op="start", id="loop"), line_of(op="state", id="loop"), line_of(op="pause", id="loop"),
         line_of(op="wait", id="loop"), line_of(op="kill", id="loop", signal=9), line_of(op="delete", id="loop"),
         line_of(op="create", id="b", config="{"), line_of(op="create", id="b", config=config_of(digest_of(b"x"))),
-        line_of(op="kill", id="a", signal=9), line_of(op="delete", id="a"), line_of(op="delete", id="a"), b"no request", b"",
-        line_of(op="lease_delete", id="l"), line_of(op="lease_delete", id="l"), line_of(op="gc"),
+        line_of(op="kill", id="a", signal=9), line_of(op="delete", id="a"), line_of(op="delete", id="a"),
+        b"no request", b"", line_of(op="lease_delete", id="l"), line_of(op="lease_delete", id="l"), line_of(op="gc"),
     ]
 
 
@@ -101,8 +104,8 @@ def large_script() -> list[bytes]:
     lines = []
     for at, size in enumerate([100, 4_000, 60_000, 200_000]):
         data = long_code(size)
-        lines += [line_of(op="put", hex=data.hex()), *task(f"s{at}", digest_of(data)), line_of(op="inspect", id=f"s{at}"),
-                  line_of(op="delete", id=f"s{at}")]
+        lines += [line_of(op="put", hex=data.hex()), *task(f"s{at}", digest_of(data)),
+                  line_of(op="inspect", id=f"s{at}"), line_of(op="delete", id=f"s{at}")]
     for name, (data, limit) in {"o": (writes(1_100, 64), None), "c": (calls_itself(1_024), None), "g": grows(16),
                                 "h": grows(PAGES)}.items():
         lines += [line_of(op="put", hex=data.hex()), *task(name, digest_of(data), limit),
@@ -146,8 +149,8 @@ class Talk:
 
 
 def ask_again(session: Session, talk: Talk, model: Model, line: bytes) -> bytes | None:
-    """Asks a line whose answer was NoMemory again: after all tasks are deleted, and then after all contents that it does
-    not need are removed too."""
+    """Asks a line whose answer was NoMemory again: after all tasks are deleted, and then after all contents that it
+    does not need are removed too."""
     for lines in (deletes(model), removals(model, line)):
         for other in lines:
             ask_one(session, talk, model, other)
@@ -171,7 +174,8 @@ def ask_one(session: Session, talk: Talk, model: Model, line: bytes) -> None:
 
 
 def deletes(model: Model) -> list[bytes]:
-    """Lines that end and delete all tasks; none of them takes memory once it is read. A task that was started ends by itself."""
+    """Lines that end and delete all tasks; none of them takes memory once it is read. A task that was started ends
+    by itself."""
     found = []
     for name, task_ in model.board.tasks.items():
         if task_.end is None:
@@ -187,8 +191,8 @@ def removals(model: Model, line: bytes) -> list[bytes]:
 
 
 def talk_to(session: Session, lines: list[bytes]) -> Talk:
-    """Asks lines one after another, and compares each reply with the model's. A line that is refused for memory is asked
-    again, after room was made."""
+    """Asks lines one after another, and compares each reply with the model's. A line that is refused for memory is
+    asked again, after room was made."""
     talk, model = Talk(), Model()
     for at, line in enumerate(lines):
         reply = session.ask(line)

@@ -8,8 +8,8 @@ from typing import Any
 
 from reference import wasm
 from reference.board import process_of, request_of
-from trials.modules import (DROP, END, EXIT, I32, I64, NOP, UNREACHABLE, block, call, code, exported, func_type, i32, i64,
-                            imported, leb, limits, module, program, repeated, signed, sized, vector)
+from trials.modules import (DROP, END, EXIT, I32, I64, NOP, UNREACHABLE, block, call, code, exported, func_type, i32,
+                            i64, imported, leb, limits, module, program, repeated, signed, sized, vector)
 
 MODULE_BYTES = 262_144
 LINE_BYTES = 1_048_576
@@ -66,7 +66,8 @@ def wide(count: int, unit: bytes, at_block: bytes = b"") -> Make:
 
 
 def many_params(unit: bytes, before: bytes = b"", after: bytes = b"", with_table: bool = False) -> Make:
-    """A type with as many parameters as half of the bytes, and a unit that takes them as often as the other half has it."""
+    """A type with as many parameters as half of the bytes, and a unit that takes them as often as the other half
+    has it."""
     def make(size: int) -> bytes:
         types = [func_type([I32] * (size // 2), ())]
         body = UNREACHABLE + before + repeated(unit, size // 2 - 100) + after
@@ -164,7 +165,8 @@ MODULES = [
     Shape("nops", filled(NOP), 0),
     Shape("constants, and then drops", in_pairs(i32(0), DROP), 0),
     Shape("255 blocks in each other, again and again", filled(b"\x02\x40" * 255 + END * 255), 0),
-    Shape("255 if and else in each other, again and again", filled((i32(0) + b"\x04\x40") * 255 + b"\x05\x0b" * 255), 0),
+    Shape("255 if and else in each other, again and again",
+          filled((i32(0) + b"\x04\x40") * 255 + b"\x05\x0b" * 255), 0),
     Shape("blocks beside each other", filled(block(b"")), 0),
     Shape("a br_table as long as the module", labels, 0),
     Shape("br_tables of one label", filled(block(i32(0) + b"\x0e\1\0\0")), 0),
@@ -266,7 +268,8 @@ TEXTS = [
     Shape("br_table with labels", around("0 ", "(module (type (func)) (func (type 0) br_table ", "))"), 0),
     Shape("types with ids", counted("(type $t%06d (func))"), 0),
     Shape("parameters with ids", counted("(param $p%06d i32)", "(module (type (func ", ")))"), 0),
-    Shape("locals without a group of their own", around("i32 ", "(module (type (func)) (func (type 0) (local ", ")))"), 9),
+    Shape("locals without a group of their own",
+          around("i32 ", "(module (type (func)) (func (type 0) (local ", ")))"), 9),
     Shape("globals with ids", counted("(global $g%06d i32 i32.const 0)"), 0),
     Shape("exports", counted('(export "n%06d" (func 0))', "(module (type (func)) (func (type 0)) "), 0),
     Shape("functions with ids", counted("(func $f%06d (type 0))", "(module (type (func)) "), 9),
@@ -318,7 +321,8 @@ LINES = [
     Shape("keys that differ", counted_in_line('{"op":"gc"', ',"k%06d":0', "}")),
     Shape("a key again and again", in_line('{"op":"gc"', ',"op":"gc"', "}")),
     Shape("arrays in each other", in_line("", "[", "")),
-    Shape("arrays 126 deep, again and again", in_line('{"op":"gc","op":[', "[" * 125 + "]" * 125 + ",", '0],"op":"gc"}')),
+    Shape("arrays 126 deep, again and again",
+          in_line('{"op":"gc","op":[', "[" * 125 + "]" * 125 + ",", '0],"op":"gc"}')),
     Shape("an array of numbers", in_line('{"op":"gc","op":[', "0,", '0],"op":"gc"}')),
     Shape("a number of digits", in_line('{"op":"step","id":"a","count":', "1", "}")),
     Shape("a number of zeros after a point", in_line('{"op":"step","id":"a","count":0.', "0", "1}")),
@@ -328,8 +332,8 @@ LINES = [
     Shape("hexadecimal with a fault at the end", in_line('{"op":"put","hex":"', "00", '0g"}')),
     Shape("no UTF-8 at the end", lambda size: in_line('{"op":"state","id":"', "a", "")(size - 3) + b'\xff"}'),
     Shape("a config with keys that differ", config_with('"k%06d":0,', ', "x": {', '"k":0}}', 1.2)),
-    Shape("a config with annotations that differ", config_with('"k%06d":"",', ', "annotations": {', '"dev.shim.module":"'
-                                                               + "sha256:" + "0" * 64 + '"}}', 1.4)),
+    Shape("a config with annotations that differ",
+          config_with('"k%06d":"",', ', "annotations": {', f'"dev.shim.module":"sha256:{"0" * 64}"}}}}', 1.4)),
     Shape("a config with an array of numbers", config_with("0,")),
     Shape("a config of escapes", config_with("\\u0041", ', "x": "', '"}', 1.17)),
     Shape("a config with arrays 120 deep", config_with("[" * 120 + "]" * 120 + ",")),

@@ -1,5 +1,5 @@
-"""How long one hostile module holds up others: by turns that take long, and by a create that does. No document bounds it, so
-it is printed."""
+"""How long one hostile module holds up others: by turns that take long, and by a create that does. No document
+bounds it, so it is printed."""
 from __future__ import annotations
 
 import json
@@ -23,15 +23,17 @@ def writes_nothing(pages: int) -> bytes:
 
 
 def try_slices(program_: Path, report: Report) -> None:
-    """Two tasks that make long turns on two workers: how long a short task waits for its end, and a kill for its effect."""
+    """Two tasks that make long turns on two workers: how long a short task waits for its end, and a kill for its
+    effect."""
     data, short = writes_nothing(1), scripts.long_code(100)
     session = Session(program_, ("serve", "--workers", "2"))
     session.ask_all([line_of(op="put", hex=data.hex()), line_of(op="put", hex=short.hex())])
     for name in ("a", "b"):
-        session.ask_all([line_of(op="create", id=name, config=config_of(digest_of(data))), line_of(op="start", id=name)])
+        create = line_of(op="create", id=name, config=config_of(digest_of(data)))
+        session.ask_all([create, line_of(op="start", id=name)])
     time.sleep(0.2)
-    times = []
-    for lines in (scripts.task("c", digest_of(short)), [line_of(op="kill", id="a", signal=9), line_of(op="wait", id="a")]):
+    times, killed = [], [line_of(op="kill", id="a", signal=9), line_of(op="wait", id="a")]
+    for lines in (scripts.task("c", digest_of(short)), killed):
         begun = time.monotonic()
         replies = session.ask_all(lines)
         times.append(time.monotonic() - begun)
@@ -41,8 +43,8 @@ def try_slices(program_: Path, report: Report) -> None:
     session.close()
     report.add("waits beside two tasks of long turns", 2)
     print(f"beside two tasks on two workers that call fd_write with {PAGE // 8:,} buffers: a short task ends after "
-          f"{times[0]:.2f} s, and a kill has its effect after {times[1]:.2f} s; it is 16 times as long with the memory of a "
-          "config without a limit, and 256 times with the most that a config allows")
+          f"{times[0]:.2f} s, and a kill has its effect after {times[1]:.2f} s; it is 16 times as long with the memory "
+          "of a config without a limit, and 256 times with the most that a config allows")
 
 
 def try_create(program_: Path, report: Report) -> None:
