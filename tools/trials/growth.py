@@ -160,7 +160,7 @@ def try_lines(program: Path, report: Report) -> None:
 def try_growth(program: Path, report: Report) -> None:
     """Prints, for each shape, bytes, milliseconds and nanoseconds a byte at each size, then the growth of the
     latter from size to size, and the most memory in MiB that the program had."""
-    print("shape, then for each size: bytes, milliseconds, nanoseconds a byte; growth of the last from size to size; MiB")
+    print("shape; for each size: bytes, milliseconds, nanoseconds a byte; growth of the last from size to size; MiB")
     try_modules(program, report)
     try_texts(program, report)
     try_lines(program, report)

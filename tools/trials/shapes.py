@@ -80,6 +80,12 @@ def import_of_many_params(size: int) -> bytes:
     return program(UNREACHABLE + repeated(call(0), size // 2 - 120), [host])
 
 
+def wide_functions(size: int) -> bytes:
+    """Functions of 1,024 parameters and results, up to as many as there may be."""
+    types = [func_type([I32] * 1_024, [I32] * 1_024)]
+    return program(b"", types=types, functions=[(1, code(UNREACHABLE))] * min((size - 2_200) // 5, 4_095))
+
+
 def functions_without_code(size: int) -> bytes:
     count = min(size // 64, 4_095)
     return program(b"", functions=[(0, code(b""))] * count)
@@ -179,6 +185,7 @@ MODULES = [
     Shape("br_if to a loop of parameters by the 10,000", many_params(b"\x0d\0", b"\x03\1\0", b"\0\x0b\0"), 0),
     Shape("call_indirect of parameters by the 10,000", many_params(b"\x11\1\0", with_table=True), 0),
     Shape("calls of an import of parameters by the 10,000", import_of_many_params, 22),
+    Shape("functions of 1,024 parameters and results", wide_functions, 0),
     Shape("functions without code, up to 4,096", functions_without_code, 0),
     Shape("runs of no locals", runs_of_locals, 0),
     Shape("imports of a call, up to 4,095", imports(b"proc_exit"), 0),

@@ -1,5 +1,5 @@
-"""How long one hostile module holds up others: by turns that take long, and by a create that does. No document
-bounds it, so it is printed."""
+"""How long one hostile module holds up others: by turns, a create and an inspect that take long. No document bounds it,
+so it is printed."""
 from __future__ import annotations
 
 import json
@@ -8,7 +8,7 @@ import time
 from pathlib import Path
 
 from trials import scripts, shapes
-from trials.modules import DROP, WRITE, block, call, digest_of, i32, limits, program
+from trials.modules import DROP, I32, NOP, WRITE, block, call, code, digest_of, func_type, i32, limits, program
 from trials.program import Report, Session, config_of, line_of
 from trials.scripts import LOOP
 
@@ -72,7 +72,41 @@ def try_create(program_: Path, report: Report) -> None:
           f"{(turns[2] - turns[1]) / seconds:,.0f} turns a second; before it made {(turns[1] - turns[0]) / 0.2:,.0f}")
 
 
+def calls_itself_from_many_places(bytes_before: int, levels: int = 1_000) -> bytes:
+    """A module whose function calls itself from another place at each level, behind that many bytes, and then loops."""
+    body = NOP * bytes_before
+    for level in range(1, levels + 1):
+        body += b"\x20\0" + i32(level) + b"\x46" + block(b"\x20\0" + i32(1) + b"\x6b" + call(1), opcode=4)
+    body += b"\x20\0" + b"\x45" + block(block(b"\x0c\0", opcode=3), opcode=4)
+    return program(i32(levels) + call(1), types=[func_type((I32,), ())], functions=[(1, code(body))])
+
+
+def try_inspect(program_: Path, report: Report) -> None:
+    """An inspect of a task with a thousand frames, each at another place of a long function."""
+    data, session = calls_itself_from_many_places(10_000), Session(program_, ("serve", "--workers", "2"))
+    begin = [line_of(op="put", hex=data.hex()), line_of(op="create", id="a", config=config_of(digest_of(data))),
+             line_of(op="start", id="a")]
+    session.ask_all(begin)
+    # All levels take less turns than this: a level has its bytes before, and four turns for each place that it passes.
+    most = 1_000 * (10_000 + 4 * 1_000)
+    while json.loads(session.ask(line_of(op="state", id="a")) or b'{"n":1e9}')["n"] < most:
+        time.sleep(0.1)
+    session.ask_all([line_of(op="pause", id="a"), line_of(op="wait", id="a")])
+    begun = time.monotonic()
+    reply = session.ask(line_of(op="inspect", id="a"))
+    seconds = time.monotonic() - begun
+    session.process.kill()
+    session.close()
+    frames = 0 if reply is None else len(json.loads(reply)["frames"])
+    if frames != 1_002:
+        report.fault(f"an inspect of 1,002 frames has {frames}")
+    report.add("inspects that take long")
+    print(f"an inspect of {frames:,} frames at as many places of a module of {len(data):,} bytes takes {seconds:.2f} s, "
+          "and no other call is answered meanwhile; the time grows with the bytes before the places")
+
+
 def try_waits(program_: Path, report: Report) -> None:
     try_slices(program_, report)
+    try_inspect(program_, report)
     try_create(program_, report)
     sys.stdout.flush()
