@@ -183,6 +183,7 @@ class Table:
         self.refused: collections.Counter[str] = collections.Counter()
         self.phases: collections.Counter[str] = collections.Counter()
         self.ends: dict[str, collections.Counter[str]] = {}
+        self.requests: dict[str, collections.Counter[str]] = {}
         self.unnoticed: list[str] = []
 
     def count(self, way: Way, run: Run) -> None:
@@ -197,6 +198,8 @@ class Table:
         phase = f"{self.symbols.phase_of(run.refusals[-1])} ({told})"
         self.phases[phase] += 1
         self.ends.setdefault(phase, collections.Counter())[self.symbols.place_of(run.refusals[-1])] += 1
+        if not way.is_replay() and run.ended_at:
+            self.requests.setdefault(phase, collections.Counter())[operation_of(way.lines[run.ended_at])] += 1
 
     def tell(self) -> None:
         """Prints the table: what ended the program by what it was doing, and the functions that took the memory."""
@@ -208,6 +211,8 @@ class Table:
             print(f"  not noticed: {', '.join(sorted(set(self.unnoticed)))}")
         for phase, times in self.phases.most_common():
             print(f"  {times:>5} ended where {phase}")
+            if phase in self.requests:
+                print("        at " + ", ".join(f"{count} {op}" for op, count in self.requests[phase].most_common()))
             for place, count in self.ends[phase].most_common():
                 print(f"        {count:>4} {place}")
         sys.stdout.flush()

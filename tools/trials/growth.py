@@ -84,7 +84,7 @@ def timed(program: Path, trial: Trial) -> Timing:
         best, spent = min(best, seconds), spent + seconds
         if len(session.ask_all(trial.after)) < len(trial.after) or spent > ENOUGH_SECONDS:
             break
-    mib = 0.0 if reply is None else session.most_resident()
+    mib = 0.0 if reply is None else session.resident("VmHWM")
     session.close()
     return Timing(trial.size, best, reply, mib)
 

@@ -15,6 +15,8 @@ from trials.program import OUT_OF_MEMORY, Report, Session, config_of, line_of, t
 
 LIMITS_KIB = range(16 * 1024, 64 * 1024 + 1, 4 * 1024)
 MIB = 1024
+# An entry of the journal, with an id and a digest at their limits, is smaller than this.
+MOST_KEPT_KIB = 4
 NO_THREAD = b"wasm-shim: the thread of a worker cannot be started\n"
 
 
@@ -89,6 +91,36 @@ def check_too_large(program: Path, report: Report, workers: int, kib: int, lines
             print(f"     {line[:70]!r} is taken by a program that has just begun")
 
 
+def requests_without_trace() -> dict[str, list[bytes]]:
+    """Requests of much data after which the board is as it was: made and undone, or refused."""
+    data = bytes(262_144)
+    put = line_of(op="put", hex=data.hex())
+    return {
+        "a put that is removed again": [put, line_of(op="remove", digest=digest_of(data))],
+        "a put that is refused 9": [line_of(op="put", hex=(data + b"x").hex())],
+        "a put_text that is refused 18": [line_of(op="put_text", text="a " * 120_000)],
+        "a create that is refused 10": [line_of(op="create", id="a", config=" " * 240_000)],
+        "a state that is refused 2": [line_of(op="state", id="a" * 240_000)],
+        "a line that is refused 1": [line_of(op="none", id="a" * 240_000)],
+    }
+
+
+def try_kept(program: Path, report: Report) -> None:
+    """How much memory stays with the program after requests that leave nothing on the board. PROTOCOL.md says that
+    removals make room."""
+    for name, lines in requests_without_trace().items():
+        session = Session(program)
+        session.ask_all(lines * 4)
+        before = session.resident()
+        session.ask_all(lines * 40)
+        kept = (session.resident() - before) / 40 * 1024
+        session.close()
+        report.add("kinds of requests whose memory was looked at")
+        print(f"{name}, of {len(lines[0]):,} bytes: {kept:.1f} KiB stay")
+        if kept > MOST_KEPT_KIB:
+            report.fault(f"{name}, of {len(lines[0]):,} bytes: {kept:.1f} KiB stay with the program")
+
+
 def modules_of_runs() -> list[tuple[bytes, int | None]]:
     sizes = [(scripts.long_code(size), None) for size in (100, 4_000, 60_000, 200_000)]
     return [*sizes, (scripts.writes(1_100, 64), None), (scripts.calls_itself(1_024), None), scripts.grows(16),
@@ -127,3 +159,4 @@ def try_limits(program: Path, report: Report) -> None:
     try_least(program, report)
     try_scripts(program, report)
     try_runs(program, report)
+    try_kept(program, report)

@@ -152,9 +152,9 @@ class Session:
         threads = Path(f"/proc/{self.process.pid}/task").iterdir()
         return sum(int((thread / "schedstat").read_text().split()[0]) for thread in threads) / 1e9
 
-    def most_resident(self) -> float:
-        """The most memory, in MiB, that the program has had at a time."""
-        found = re.search(r"VmHWM:\s+(\d+) kB", Path(f"/proc/{self.process.pid}/status").read_text())
+    def resident(self, field: str = "VmRSS") -> float:
+        """The memory, in MiB, that the program has; `VmHWM`: the most that it has had at a time."""
+        found = re.search(rf"{field}:\s+(\d+) kB", Path(f"/proc/{self.process.pid}/status").read_text())
         return int(found[1]) / 1024 if found else 0.0
 
     def close(self, seconds: float = 60) -> tuple[int, bytes]:

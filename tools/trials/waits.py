@@ -101,8 +101,8 @@ def try_inspect(program_: Path, report: Report) -> None:
     if frames != 1_002:
         report.fault(f"an inspect of 1,002 frames has {frames}")
     report.add("inspects that take long")
-    print(f"an inspect of {frames:,} frames at as many places of a module of {len(data):,} bytes takes {seconds:.2f} s, "
-          "and no other call is answered meanwhile; the time grows with the bytes before the places")
+    print(f"an inspect of {frames:,} frames at as many places of a module of {len(data):,} bytes takes "
+          f"{seconds:.2f} s, and no other call is answered meanwhile; the time grows with the bytes before the places")
 
 
 def try_waits(program_: Path, report: Report) -> None:
