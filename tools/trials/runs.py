@@ -353,8 +353,11 @@ def check_all(report: Report, what: str, lines: list[bytes], wanted: list[bytes]
 
 
 def try_signal(program_: Path, report: Report, number: signal.Signals) -> None:
-    """A signal ends a `serve` that waits for a loop, within a second."""
+    """A signal ends a `serve` that waits for a loop, within a second. A signal that this tool was told to ignore, as by
+    nohup, would be ignored by the program too."""
+    before = signal.signal(number, signal.SIG_DFL)
     session = Session(program_)
+    signal.signal(number, before)
     lines = [line_of(op="put", hex=LOOP.hex()), *scripts.task("a", digest_of(LOOP))]
     session.ask_all(lines[:-1])
     session.send(lines[-1:])
