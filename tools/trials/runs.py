@@ -328,7 +328,7 @@ def try_loops(program_: Path, report: Report) -> None:
     report.add("lines of a replay with loops on all slots", len(lines))
     check_all(report, "loops in a replay", lines, wanted, answers)
     lines, board = loops_in_serve(), Board(False)
-    for workers in (1, 2, 16):
+    for workers in (1, 2):
         session = Session(program_, ("serve", "--workers", str(workers)))
         answers = session.ask_all(lines)
         report.add("lines of serve with loops on all slots", len(lines))
