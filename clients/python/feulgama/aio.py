@@ -15,8 +15,8 @@ from feulgama import requests
 from feulgama.config import Config, digest_of
 from feulgama.errors import BadReply, Exists, FeulgamaError, NoShim, Refusal, ShimEnded
 from feulgama.model import Content, Inspection, Ran, Signal, State, Stream, TaskStatus
-from feulgama.program import program
-from feulgama.requests import Request
+from feulgama.program import serving
+from feulgama.requests import JOURNAL, Request
 
 T = TypeVar("T")
 LONGEST_REPLY = 1 << 24
@@ -26,10 +26,11 @@ PATIENCE = 5.0
 class AsyncShim:
     """A `wasm-shim serve` for one event loop: `async with AsyncShim() as shim`. A request is sent when its coroutine
     begins, whether or not earlier ones are answered. Each method raises what those of Shim raise. A coroutine that is
-    cancelled does not take its request back."""
+    cancelled does not take its request back. `workers` is how many threads run the shim's tasks, from 1 to 16."""
 
-    def __init__(self, program_file: str | os.PathLike[str] | None = None) -> None:
-        self._words = program(program_file)
+    def __init__(self, program_file: str | os.PathLike[str] | None = None, *, workers: int | None = None) -> None:
+        self._words = serving(program_file, workers)
+        self._asked = 0
         self._process: asyncio.subprocess.Process | None = None
         self._reader: asyncio.Task[None] | None = None
         self._pending: collections.deque[tuple[Request[Any], asyncio.Future[Any]]] = collections.deque()
@@ -39,10 +40,10 @@ class AsyncShim:
     async def __aenter__(self) -> Self:
         try:
             self._process = await asyncio.create_subprocess_exec(
-                *self._words, "serve", stdin=asyncio.subprocess.PIPE, stdout=asyncio.subprocess.PIPE,
+                *self._words, stdin=asyncio.subprocess.PIPE, stdout=asyncio.subprocess.PIPE,
                 stderr=asyncio.subprocess.PIPE, limit=LONGEST_REPLY, start_new_session=True)
         except OSError as error:
-            raise NoShim(f"{self._words[-1]}: {error.strerror}") from error
+            raise NoShim(f"{' '.join(self._words)}: {error.strerror}") from error
         self._reader = asyncio.create_task(self._read(self._process))
         return self
 
@@ -55,6 +56,11 @@ class AsyncShim:
         """The number of the shim's process."""
         assert self._process is not None
         return self._process.pid
+
+    @property
+    def left(self) -> int:
+        """How many requests the shim answers yet, at least; then it refuses each one as JournalFull."""
+        return max(0, JOURNAL - self._asked)
 
     async def close(self) -> None:
         """Ends the shim, after the requests that were sent; one that runs a task for longer is broken off."""
@@ -74,6 +80,7 @@ class AsyncShim:
         assert self._process is not None and self._process.stdin is not None
         future: asyncio.Future[T] = asyncio.get_running_loop().create_future()
         self._pending.append((request, future))
+        self._asked += 1
         if not self._process.stdin.is_closing():
             self._process.stdin.write(request.line)
             with contextlib.suppress(ConnectionError):

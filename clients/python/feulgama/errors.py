@@ -131,6 +131,15 @@ class TooMany(Refusal):
     NUMBER = 14
 
 
+class JournalFull(Refusal):
+    """The board has answered as many requests as it may, and refuses each one from now on."""
+    NUMBER = 15
+
+    @staticmethod
+    def where(_reply: Mapping[str, object]) -> str:
+        return ": the shim answers no more requests; start another, and make contents and tasks anew there"
+
+
 class DigestConflict(Refusal):
     """Other bytes are stored under the same digest."""
     NUMBER = 16
@@ -172,7 +181,7 @@ class SegmentOutOfBounds(Refusal):
 
 REFUSALS: dict[int, type[Refusal]] = {kind.NUMBER: kind for kind in (
     BadRequest, BadId, Exists, NotFound, NoContent, InUse, BadModule, Invalid, Limit, BadConfig, WrongStatus, Busy,
-    OutOfRange, TooMany, DigestConflict, NoMemory, BadText, NoEntry, BadImport, SegmentOutOfBounds)}
+    OutOfRange, TooMany, JournalFull, DigestConflict, NoMemory, BadText, NoEntry, BadImport, SegmentOutOfBounds)}
 
 
 def optional_number(reply: Mapping[str, object], key: str) -> int | None:

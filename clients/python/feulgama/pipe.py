@@ -15,14 +15,15 @@ PATIENCE = 5.0
 
 
 class Pipe:
-    """A running `wasm-shim serve`. It has a session of its own, so that a Ctrl-C in a terminal does not reach it."""
+    """A running `wasm-shim serve`, of the words that start it. It has a session of its own, so that a Ctrl-C in a
+    terminal does not reach it. `asked` is how many lines it was sent."""
 
     def __init__(self, words: list[str]) -> None:
         try:
-            self._process = subprocess.Popen([*words, "serve"], bufsize=0, start_new_session=True,
-                                             stdin=subprocess.PIPE, stdout=subprocess.PIPE, stderr=subprocess.PIPE)
+            self._process = subprocess.Popen(words, bufsize=0, start_new_session=True, stdin=subprocess.PIPE,
+                                             stdout=subprocess.PIPE, stderr=subprocess.PIPE)
         except OSError as error:
-            raise NoShim(f"{words[-1]}: {error.strerror}") from error
+            raise NoShim(f"{' '.join(words)}: {error.strerror}") from error
         streams = self._process.stdin, self._process.stdout, self._process.stderr
         assert streams[0] and streams[1] and streams[2]
         self._streams = streams[0], streams[1], streams[2]
@@ -31,6 +32,7 @@ class Pipe:
             os.set_blocking(descriptor, False)
         self._ended: ShimEnded | None = None
         self._unanswered = 0
+        self.asked = 0
 
     @property
     def pid(self) -> int:
@@ -70,6 +72,7 @@ class Pipe:
         if self._unanswered:
             raise self.end("an earlier request was broken off")
         self._unanswered = count
+        self.asked += count
 
     def _pump(self, lines: bytes, count: int) -> bytes:
         poll = select.poll()

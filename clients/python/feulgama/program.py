@@ -27,6 +27,11 @@ def program(named: str | os.PathLike[str] | None = None) -> list[str]:
     return [str(path)]
 
 
+def serving(named: str | os.PathLike[str] | None, workers: int | None) -> list[str]:
+    """The words that start a shim; with this many workers, or as many as the program has by itself."""
+    return [*program(named), "serve", *([] if workers is None else ["--workers", str(workers)])]
+
+
 def assemble(text: bytes, words: list[str]) -> bytes:
     """The bytes of the module that a text denotes, by the program's command `asm`."""
     try:

@@ -13,6 +13,7 @@ from feulgama.model import (Cause, Content, Exit, Frame, Inspection, Signal, Sta
 
 T = TypeVar("T")
 Reply = Mapping[str, Any]
+JOURNAL = 16_384  # how many requests a shim answers
 
 
 @dataclass(frozen=True, slots=True)

@@ -14,8 +14,8 @@ from feulgama.config import Config, digest_of
 from feulgama.errors import BadReply, Exists, FeulgamaError
 from feulgama.model import Content, Inspection, Ran, Signal, State, Stream, TaskStatus
 from feulgama.pipe import Pipe
-from feulgama.program import program
-from feulgama.requests import Request
+from feulgama.program import serving
+from feulgama.requests import JOURNAL, Request
 
 T = TypeVar("T")
 
@@ -23,11 +23,12 @@ T = TypeVar("T")
 class Shim:
     """A `wasm-shim serve` that this object has started, and ends when it is closed. Several threads may use it: a
     request waits until the one before it is answered. Each method raises the Refusal that the request is answered,
-    ShimEnded if the shim ends, and BadReply if it writes what is no reply."""
+    ShimEnded if the shim ends, and BadReply if it writes what is no reply. `workers` is how many threads run its tasks,
+    from 1 to 16."""
 
-    def __init__(self, program_file: str | os.PathLike[str] | None = None) -> None:
-        self._program_file = program_file
-        self._pipe = Pipe(program(program_file))
+    def __init__(self, program_file: str | os.PathLike[str] | None = None, *, workers: int | None = None) -> None:
+        self._program_file, self._workers = program_file, workers
+        self._pipe = Pipe(serving(program_file, workers))
         self._lock = threading.Lock()
         self._ids = (f"py-{count}" for count in itertools.count())
 
@@ -43,13 +44,18 @@ class Shim:
         """The number of the shim's process."""
         return self._pipe.pid
 
+    @property
+    def left(self) -> int:
+        """How many requests the shim answers yet, at least; then it refuses each one as JournalFull."""
+        return max(0, JOURNAL - self._pipe.asked)
+
     def close(self) -> None:
         """Ends the shim. Its board is lost."""
         self._pipe.close()
 
     def another(self) -> Shim:
-        """A new shim of the same program."""
-        return Shim(self._program_file)
+        """A new shim of the same program, with as many workers."""
+        return Shim(self._program_file, workers=self._workers)
 
     def kill_shim(self) -> None:
         """Ends the shim at once, also while another thread waits for a reply."""

@@ -125,7 +125,44 @@ class Refusals(unittest.TestCase):
         self.assertEqual((fault.exception.func, fault.exception.place), (0, 1))
 
     def test_numbers_are_those_of_the_page(self) -> None:
-        self.assertEqual(sorted(feulgama.REFUSALS), [*range(1, 15), 16, 17, 18, 21, 22, 23])
+        self.assertEqual(sorted(feulgama.REFUSALS), [*range(1, 19), 21, 22, 23])
+
+
+@unittest.skipIf(IS_REFERENCE, "the second reading has no journal and no workers")
+class Serve(unittest.TestCase):
+    """What `serve` has beside its board."""
+
+    def test_the_end_of_the_journal(self) -> None:
+        """16,384 requests are answered, then each is refused, and another shim begins anew."""
+        with feulgama.Shim(SHIM) as shim:
+            self.assertEqual(shim.left, 16_384)
+            shim.put(EXIT_7)
+            answers = shim.call_all([requests.state("none")] * 16_383)
+            self.assertEqual({type(answer) for answer in answers}, {feulgama.NotFound})
+            self.assertEqual(shim.left, 0)
+            for _ in range(2):
+                with self.assertRaises(feulgama.JournalFull) as found:
+                    shim.put(EXIT_7)
+            self.assertEqual(found.exception.number, 15)
+            self.assertIn("start another", str(found.exception))
+            with shim.another() as other:
+                self.assertEqual((other.left, other.run(EXIT_7).exit.code), (16_384, 7))
+
+    def test_workers(self) -> None:
+        """Each worker is a thread of the shim's process."""
+        threads = []
+        for workers in (1, 16):
+            with feulgama.Shim(SHIM, workers=workers) as shim, shim.another() as other:
+                self.assertEqual({shim.run(EXIT_7).exit.code, other.run(EXIT_7).exit.code}, {7})
+                threads.append([len(os.listdir(f"/proc/{one.pid}/task")) for one in (shim, other)])
+        self.assertEqual(threads[1], [found + 15 for found in threads[0]])
+
+    def test_a_number_of_workers_that_there_is_not(self) -> None:
+        for workers in (0, 17):
+            with self.assertRaises(feulgama.ShimEnded) as found, feulgama.Shim(SHIM, workers=workers) as shim:
+                shim.gc()
+            self.assertEqual(found.exception.status, 2)
+            self.assertIn("--workers", found.exception.said)
 
 
 class Broken(unittest.TestCase):
