@@ -46,7 +46,7 @@ def main(words: Sequence[str] | None = None) -> int:
         if found.command == "dap":
             return serve(found.shim)
         data = module_bytes(found.module, found.shim)
-        with Shim(found.shim) as shim:
+        with Shim(found.shim, workers=1) as shim:
             opened = open_debugger(shim, found.module, data, found.args, dict(found.env), found.memory)
             with contextlib.closing(opened.timeline):
                 return debug(Commands(opened), sys.stdin)

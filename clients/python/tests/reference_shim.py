@@ -4,8 +4,9 @@
     reference_shim.py serve
     reference_shim.py asm FILE      (a file of bytes alone)
 
-With the environment variable EAGER a task runs as soon as it is started or resumed, and not only while a `wait` for it is
-answered, as if there were a worker that is faster than all requests.
+A task that is started runs to its end while a `wait` for it is answered, and a slice each time that it is asked for
+its state. With the environment variable EAGER it runs as soon as it is started or resumed, as if there were a worker
+that is faster than all requests.
 """
 import os
 import sys
@@ -16,7 +17,17 @@ sys.path.insert(0, str(Path(__file__).resolve().parents[3] / "tools"))
 
 from reference.board import Board  # noqa: E402
 
-MOST_TURNS = 10_000_000
+MOST_TURNS, SLICE = 10_000_000, 10_000
+
+
+class SlicedBoard(Board):  # type: ignore[misc]
+    """A board whose tasks run while others ask for them."""
+
+    def state_(self, id: str) -> Any:
+        task = self.tasks.get(id)
+        if task is not None and task.status == "running":
+            task.run(SLICE)
+        return super().state_(id)
 
 
 class EagerBoard(Board):  # type: ignore[misc]
@@ -43,7 +54,7 @@ def main(words: list[str]) -> int:
     if words[:1] == ["asm"]:
         print(Path(words[1]).read_bytes().hex())
         return 0
-    board = EagerBoard(False) if os.environ.get("EAGER") else Board(False)
+    board: Board = EagerBoard(False) if os.environ.get("EAGER") else SlicedBoard(False)
     for line in sys.stdin.buffer:
         sys.stdout.buffer.write(board.answer(line.removesuffix(b"\n")) + b"\n")
         sys.stdout.buffer.flush()

@@ -37,6 +37,11 @@ FOREVER = b"""(module (type $v (func))
   (export "_start" (func $main)))"""
 
 
+# The same module in bytes.
+FOREVER_BYTES = bytes.fromhex("0061736d01000000" "010401600000" "03020100" "070a01065f73746172740000"
+                              "0a12011001017f" "0340" "2000" "4101" "6a" "2100" "0c00" "0b" "0b")
+
+
 # The same, with a call of function 0 each 65,536 rounds.
 OFTEN = b"""(module (type $v (func))
   (func $often (type $v) nop)

@@ -13,12 +13,14 @@ from typing import Any
 from unittest import mock
 
 import feulgama
-from feulgama.debug import timeline as timelines
+from feulgama.debug import hunt as hunts
+from feulgama.debug import shims
 from feulgama.debug.commands import Commands
 from feulgama.debug.debugger import Debugger
+from feulgama.debug.hunt import Search
 from feulgama.debug.look import Place
 from feulgama.debug.symbols import Symbols
-from feulgama.debug.timeline import Search, Why
+from feulgama.debug.timeline import Why
 from feulgama.model import Frame
 from feulgama.opening import open_debugger
 from feulgama.program import assemble
@@ -74,6 +76,12 @@ class RandomStops(unittest.TestCase):
     def test_frames(self) -> None:
         self.assertEqual(self.stop(7, PROGRAMS, SHIM), 200)
 
+    def test_frames_over_many_shims(self) -> None:
+        """The same where each shim is left after some two hundred requests."""
+        with mock.patch.object(feulgama.shim, "JOURNAL", 600), mock.patch.object(shims, "FRESH", 400):
+            self.assertEqual(self.stop(9, 3, SHIM), 60)
+        self.assertGreater(self.started, 3)
+
     def test_frames_where_tasks_run_at_once(self) -> None:
         """The same over a shim that runs a task as soon as it is started or resumed."""
         with mock.patch.dict(os.environ, EAGER="1"):
@@ -81,7 +89,7 @@ class RandomStops(unittest.TestCase):
 
     def stop(self, seed: int, programs: int, program: str | Path) -> int:
         """Stops 20 times in each of some programs; how many stops there were."""
-        stops = 0
+        stops = self.started = 0
         for data, turns in some_programs(seed, programs, TURNS):
             oracle = Oracle(data, turns)
             with feulgama.Shim(program) as shim:
@@ -89,6 +97,8 @@ class RandomStops(unittest.TestCase):
                 for _ in range(STOPS):
                     self.move(Commands(debugger), oracle)
                     stops += 1
+                self.started += debugger.timeline.shims_started
+                debugger.timeline.close()
         return stops
 
     def test_more_breakpoints_than_a_task_may_have(self) -> None:
@@ -159,6 +169,7 @@ class Forever(unittest.TestCase):
         shim = self.enterContext(feulgama.Shim(SHIM))
         self.debugger = open_debugger(shim, Path("module"), assemble(FOREVER, [SHIM]), [], {}, None)
         self.timeline = self.debugger.timeline
+        self.addCleanup(self.timeline.close)
 
     def assert_exact(self, turn: int) -> None:
         """The state is that of the turn: each round of the loop is six turns, the fifth of which sets the local."""
@@ -204,10 +215,17 @@ class Forever(unittest.TestCase):
         self.timeline.backward(only_first)
         self.assert_exact(7)
 
+    def test_more_requests_than_a_shim_answers(self) -> None:
+        """A search that looks at each of 20,000 turns asks more than 40,000 times."""
+        last = Search(lambda look: look.turn == 20_000, each_turn=True)
+        self.assertIs(self.timeline.forward(last), Why.FOUND)
+        self.assert_exact(20_000)
+        self.assertGreater(self.timeline.shims_started, 1)
+
 
 @unittest.skipIf(IS_REFERENCE, "the second reading is too slow, and reads no texts")
-class Scouts(unittest.TestCase):
-    """A search with a second shim beside it finds what one without it finds."""
+class Runs(unittest.TestCase):
+    """A search that lets the task run finds what one by steps alone finds."""
 
     def opened(self) -> Debugger:
         shim = self.enterContext(feulgama.Shim(SHIM))
@@ -218,7 +236,7 @@ class Scouts(unittest.TestCase):
     def test_breakpoints(self) -> None:
         found: list[list[int]] = []
         for after in (0, 10**18):
-            with mock.patch.object(timelines, "SCOUT_AFTER", after):
+            with mock.patch.object(hunts, "RUN_AFTER", after):
                 debugger = self.opened()
                 debugger.add_breakpoint("often", [Place(0, 0)])
                 turns = []
@@ -233,14 +251,14 @@ class Scouts(unittest.TestCase):
         self.assertEqual(*found)
 
     def test_a_search_that_accepts_little(self) -> None:
-        with mock.patch.object(timelines, "SCOUT_AFTER", 0):
+        with mock.patch.object(hunts, "RUN_AFTER", 0):
             timeline = self.opened().timeline
             third = Search(lambda look: b'"i32:196608"' in look.line, frozenset({Place(0, 0)}))
             self.assertIs(timeline.forward(third), Why.FOUND)
             self.assertIn("i32:196608", map(str, timeline.inspection().frames[1].locals))
 
     def test_it_can_be_broken_off(self) -> None:
-        with mock.patch.object(timelines, "SCOUT_AFTER", 0):
+        with mock.patch.object(hunts, "RUN_AFTER", 0):
             timeline = self.opened().timeline
             for _ in range(3):
                 timer = threading.Timer(0.5, timeline.interrupted.set)

@@ -35,7 +35,7 @@ def serve(shim_file: str | None) -> int:
     with contextlib.ExitStack() as shims:
         def open_file(path: Path, args: list[str], env: dict[str, str], memory: int | None) -> Debugger:
             data = module_bytes(path, shim_file)
-            debugger = open_debugger(shims.enter_context(Shim(shim_file)), path, data, args, env, memory)
+            debugger = open_debugger(shims.enter_context(Shim(shim_file, workers=1)), path, data, args, env, memory)
             shims.callback(debugger.timeline.close)
             return debugger
 

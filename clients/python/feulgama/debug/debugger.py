@@ -5,10 +5,11 @@ from dataclasses import dataclass
 
 from feulgama.debug.c_variables import Found
 from feulgama.debug.expressions import Scope
+from feulgama.debug.hunt import Search, at_any
 from feulgama.debug.lines import SourceLine
 from feulgama.debug.look import Look, Place
 from feulgama.debug.symbols import Symbols
-from feulgama.debug.timeline import Search, Timeline, Why, at_any
+from feulgama.debug.timeline import Timeline, Why
 from feulgama.model import Frame
 
 

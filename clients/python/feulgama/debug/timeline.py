@@ -7,30 +7,27 @@ from __future__ import annotations
 
 import enum
 import threading
+import time
 from collections.abc import Callable
-from dataclasses import dataclass
 
 from feulgama import requests
 from feulgama.config import Config
-from feulgama.debug.look import Look, Place, look_of
-from feulgama.debug.scout import Scout
-from feulgama.debug.track import STRIDE, Track
+from feulgama.debug.hunt import LONG_WAY, Hunt, Search
+from feulgama.debug.look import Look, look_of
+from feulgama.debug.running import Watch
+from feulgama.debug.shims import Shims
+from feulgama.debug.track import TooFar, Track
 from feulgama.debug.trail import Trail, leave_trail
 from feulgama.errors import FeulgamaError
 from feulgama.model import Exit, Inspection, Stream
 from feulgama.shim import Shim
 from feulgama.wasm.module import Module
 
-MOST_BREAKS = 32
 MOST_PEEK = 256
 MOST_PARKED = 8
-MOST_REPEATS = 2048
-PATIENT_LOOKS = 64
 TRAIL = 128
-LONG_WAY = 1_000_000
-RUN_ON = 50_000_000
-SCOUT_AFTER = 10_000_000
-NEAR, NEAR_TURNS, MANY_LOOKS = 50_000, 4096, 20_000
+LEAST_LEG = 0.5
+NEAR, NEAR_TURNS, MANY_HITS = 50_000, 4096, 2000
 PAGE, MOST_PAGES = 65_536, 256
 LAST_TURN = 10**15
 
@@ -44,35 +41,15 @@ class Why(enum.Enum):
     INTERRUPTED = "interrupted"
 
 
-@dataclass(frozen=True, slots=True)
-class Search:
-    """What is looked for: a turn that `accept` takes, among those at `breaks`, or among all if `each_turn` is set."""
-    accept: Callable[[Look], bool]
-    breaks: frozenset[Place] = frozenset()
-    each_turn: bool = False
-
-    def is_dense(self) -> bool:
-        """Whether each turn is looked at; also if there are more breakpoints than a task may have."""
-        return self.each_turn or len(self.breaks) > MOST_BREAKS
-
-    def takes(self, look: Look) -> bool:
-        """Whether a look is one that is looked for."""
-        return (self.each_turn or look.place in self.breaks) and self.accept(look)
-
-
-def at_any(breaks: frozenset[Place]) -> Search:
-    """The search for the next breakpoint."""
-    return Search(lambda _look: True, breaks)
-
-
 class Timeline:
     """A run of a module. `turn` is where it is shown. `interrupted` may be set by another thread or by a signal's
     handler; it breaks off what is going on, and the caller clears it. `progress` is called now and then on the way of
     a long search."""
 
     def __init__(self, shim: Shim, config: Config, module: Module) -> None:
-        self._shim, self._config, self._module = shim, config, module
-        self._track = Track(shim, config)
+        self._config, self._module = config, module
+        self._shims = Shims(shim, module.data)
+        self._track = Track(self._shims, config)
         self._parked: list[Track] = []
         self._seen: dict[int, bytes] = {}
         self._trail: Trail | None = None
@@ -84,6 +61,16 @@ class Timeline:
         self._told, self._told_turn = dict.fromkeys(Stream, 0), 0
 
     @property
+    def shims_started(self) -> int:
+        """How many shims were started beside the first."""
+        return self._shims.started
+
+    @property
+    def late(self) -> int:
+        """How often a task was paused too late, and another one had to come to its turn."""
+        return self._shims.gait.late
+
+    @property
     def exit(self) -> Exit | None:
         """How the task ended, if it has ended at this turn."""
         return self._end[1] if self._end is not None and self._end[0] == self.turn else None
@@ -92,7 +79,7 @@ class Timeline:
 
     def inspection(self) -> Inspection:
         """The frames."""
-        return requests.inspect(self._track.id).result(self._line())
+        return requests.inspect("").result(self._line())
 
     def look(self) -> Look:
         """The place that is next, and the number of frames."""
@@ -109,10 +96,8 @@ class Timeline:
         """Bytes of memory from an address on; fewer where memory ends."""
         track, trail = self._with_memory()
         length = max(0, min(length, size_of(track) - address))
-        asked = [requests.peek(track.id, address + at, min(MOST_PEEK, length - at))
-                 for at in range(0, length, MOST_PEEK)]
         found = b""
-        for part in track.shim.call_all(asked):
+        for part in track.peek([(address + at, min(MOST_PEEK, length - at)) for at in range(0, length, MOST_PEEK)]):
             if isinstance(part, FeulgamaError):
                 raise part
             found += part
@@ -131,8 +116,7 @@ class Timeline:
 
     def output(self, stream: int) -> bytes:
         """What was written to a stream up to this turn."""
-        track = self._here()
-        return track.shim.output(track.id, stream)
+        return self._here().output(stream)
 
     def new_output(self) -> dict[Stream, bytes]:
         """What was written to the streams up to this turn, but for what this method has answered before. At a turn
@@ -172,8 +156,13 @@ class Timeline:
     def _take(self, turn: int, interrupted: threading.Event) -> Why:
         """Lets the task that is nearest behind a turn, or a new one, go on to it and be the one that is shown."""
         behind = [track for track in (self._track, *self._parked) if track.turn <= turn]
-        track = max(behind, key=lambda found: found.turn, default=None) or Track(self._shim, self._config)
-        track.advance(turn, interrupted)
+        track = max(behind, key=lambda found: found.turn, default=None) or Track(self._shims, self._config)
+        try:
+            track.advance(turn, Watch(interrupted))
+        except TooFar:
+            if track is not self._track:
+                self._park(track, track)
+            raise
         self._note_end(track)
         is_reached = track.turn == turn or track.exit is not None
         if track is not self._track:
@@ -200,66 +189,40 @@ class Timeline:
         goal = LAST_TURN if limit is None else limit
         if not search.breaks and not search.each_turn:
             return self._run_on(goal)
-        scout = Scout(self._shim, self._module.data, self._config)
-        try:
-            return self._search_on(search, goal, scout)
-        finally:
-            scout.stop()
-
-    def _search_on(self, search: Search, goal: int, scout: Scout) -> Why:
-        """Goes on by steps, and after a while with a scout beside it."""
-        track, is_dense, looked, repeats = self._here(), search.is_dense(), 0, 1
-        far = self.turn + SCOUT_AFTER
+        track, hunt, told = self._here(), Hunt(search, self.interrupted, is_patient=True), time.monotonic()
         while track.exit is None and track.turn < goal:
             if self.interrupted.is_set():
                 return Why.INTERRUPTED
-            if scout.found is not None and scout.found.turn <= goal:
-                return self._follow(scout)
-            if not is_dense and track.turn > far and not scout.is_out:
-                scout.start(track.turn, search.breaks, search.accept)
-            count, repeats = self._pace(goal - track.turn, is_dense, repeats)
-            breaks = frozenset() if is_dense else search.breaks
-            for look in track.looks(count, repeats, breaks):
-                if search.takes(look):
+            for look in hunt.on(track, goal):
+                if look.turn <= goal and search.takes(look):
                     self._note_end(track)
                     return self.seek(look.turn)
             self._note_end(track)
+            if track.turn > goal:
+                why = self.seek(goal)
+                return Why.LIMIT if why is Why.FOUND else why
             self.turn = track.turn
-            self.progress()
-            looked += repeats
-            repeats = 1 if looked < PATIENT_LOOKS else min(2 * repeats, MOST_REPEATS)
+            if time.monotonic() > told + LEAST_LEG:
+                self.progress()
+                told = time.monotonic()
         return Why.ENDED if track.exit is not None else Why.LIMIT
-
-    def _follow(self, scout: Scout) -> Why:
-        """Takes the task that a scout has found as the one that is shown."""
-        found = scout.take()
-        assert found is not None
-        self._park(self._track, found)
-        self._track, self.turn = found, found.turn
-        self._note_end(found)
-        return Why.ENDED if found.exit is not None else Why.FOUND
-
-    def close(self) -> None:
-        """Ends the shims that scouts have left."""
-        for track in (self._track, *self._parked):
-            if track.owns_shim:
-                track.drop()
 
     def _run_on(self, goal: int) -> Why:
         """Goes on to a turn or to the task's end."""
-        while True:
-            why = self.seek(goal if self._end is not None else min(goal, self.turn + RUN_ON))
+        track, since = self._here(), time.monotonic()
+        while track.turn != goal and track.exit is None:
+            if self.interrupted.is_set():
+                return Why.INTERRUPTED
+            now = time.monotonic()
+            track.advance(goal, Watch(self.interrupted, since, now + max(LEAST_LEG, (now - since) / 2)))
+            self._note_end(track)
+            self.turn = track.turn
             self.progress()
-            if why is not Why.FOUND:
-                return why
-            if self.turn == goal:
-                return Why.LIMIT
+        return Why.LIMIT if track.turn == goal else Why.ENDED
 
-    @staticmethod
-    def _pace(left: int, is_dense: bool, repeats: int) -> tuple[int, int]:
-        """How many turns are made at a time, and how many times, of those that are left."""
-        count = 1 if is_dense else min(STRIDE, left)
-        return count, min(repeats, left // count)
+    def close(self) -> None:
+        """Ends the shims that were started on the way."""
+        self._shims.close()
 
     def backward(self, search: Search) -> Why:
         """Goes back to the last turn before this one that is looked for, or to the first turn."""
@@ -280,19 +243,17 @@ class Timeline:
         return None
 
     def _last(self, search: Search, begin: int, end: int) -> int | None:
-        """The last turn from one on and before another that is looked for. If there turns out to be much to look at,
-        the end of what is left comes first. None if it was broken off, too."""
+        """The last turn that is looked for, from a turn on and before another one. If there are many on the way, the
+        parts that are later are looked at first."""
         if self._take(begin, self.interrupted) is Why.INTERRUPTED:
             return None
-        track, is_dense, looked = self._track, search.is_dense(), 0
+        track, hunt = self._track, Hunt(search, self.interrupted, is_patient=False)
         found = begin if search.takes(track.look()) else None
         while track.exit is None and track.turn < end and not self.interrupted.is_set():
-            if looked > MANY_LOOKS and end - track.turn > 2 * NEAR:
+            if hunt.hits > MANY_HITS and end - track.turn > 2 * NEAR:
                 later = self._last_of_parts(search, [track.turn, (track.turn + end) // 2, end - NEAR, end])
                 return found if later is None else later
-            count, repeats = self._pace(end - track.turn, is_dense, MOST_REPEATS)
-            looks = track.looks(count, repeats, frozenset() if is_dense else search.breaks)
-            looked += len(looks)
+            looks = hunt.on(track, end)
             found = max((look.turn for look in looks if look.turn < end and search.takes(look)), default=found)
         self._note_end(track)
         return found
@@ -303,8 +264,7 @@ def size_of(track: Track) -> int:
     least, most = 0, MOST_PAGES
     while least < most:
         middle = (least + most + 1) // 2
-        asked = requests.peek(track.id, middle * PAGE, 0)
-        if isinstance(track.shim.call_all([asked])[0], bytes):
+        if isinstance(track.peek([(middle * PAGE, 0)])[0], bytes):
             least = middle
         else:
             most = middle - 1

@@ -11,6 +11,7 @@ from dataclasses import dataclass, field
 
 from feulgama import requests
 from feulgama.debug.look import Look
+from feulgama.debug.running import Watch
 from feulgama.debug.track import Track
 from feulgama.model import Frame
 from feulgama.wasm import opcodes as op
@@ -64,10 +65,10 @@ def leave_trail(track: Track, module: Module, turn: int) -> Trail:
     while track.exit is None and track.turn < turn:
         addresses = written_by(module, look)
         for address, size in addresses or ():
-            before = track.shim.call_all([requests.peek(track.id, address, size)])[0]
+            before, = track.peek([(address, size)])
             if isinstance(before, bytes):
                 trail.writes.append(Write(look.turn, address, before))
-        depth, found = look.depth, track.looks(1, 1, frozenset())
+        depth, found = look.depth, track.looks(1, 1, frozenset(), Watch())
         if not found:
             break
         look = found[0]
