@@ -3,10 +3,12 @@
 
     clients/python/bench/measure.py [PROGRAM]
 
-PROGRAM is that of FEULGAMA_SHIM, or the one that tools/shim builds, if it is not told. First the time of a request by the library, by asyncio, and by the bare pipe (the same line written and its reply read by
-two system calls). Then how long the debugger takes to move in a program that runs for ever: to a turn, back from it, to a
-breakpoint, and back to one. Last, how soon a call ends whose shim is killed at a random moment, at most of 50 times. The
-time of a request is the best of five rounds; the others are of one.
+PROGRAM is that of FEULGAMA_SHIM, or the one that tools/shim builds, if it is not told. First the time of a request by
+the library, by asyncio, and by the bare pipe (the same line written and its reply read by two system calls). Then how
+long the debugger takes to move in a program that runs for ever: to a turn, back from it, to a breakpoint, and back to
+one; to 20 random turns, each time from the first turn; and to stop, once it is interrupted. Last, how soon a call ends
+whose shim is killed at a random moment, at most of 50 times. The time of a request is the best of five rounds; that of
+the moves is of one.
 """
 from __future__ import annotations
 
@@ -14,6 +16,7 @@ import asyncio
 import os
 import random
 import signal
+import statistics
 import subprocess
 import sys
 import threading
@@ -43,7 +46,7 @@ FOREVER = b"""(module (type $v (func))
       br 0
     end)
   (export "_start" (func $main)))"""
-REQUESTS = 20_000
+REQUESTS = 3000  # five rounds are less than a shim answers
 FAR = 10**8
 
 
@@ -100,7 +103,7 @@ async def by_asyncio(name: str, data: bytes) -> float:
 
 
 def moves(name: str, data: bytes) -> None:
-    with feulgama.Shim(name) as shim:
+    with feulgama.Shim(name, workers=1) as shim:
         debugger = open_debugger(shim, Path("module"), data, [], {}, None)
         timeline = debugger.timeline
 
@@ -119,6 +122,47 @@ def moves(name: str, data: bytes) -> None:
         timed("goto 0", lambda: timeline.seek(0))
         timed(f"goto {FAR - 1000:,}", lambda: timeline.seek(FAR - 1000))
         with_breakpoint(debugger, timed)
+        print(f"shims that were started on the way: {timeline.shims_started}")
+        timeline.close()
+
+
+def far_turns(name: str, data: bytes) -> None:
+    """To random turns from 50 to 150 million, from the first turn each time."""
+    times, late = [], 0
+    for _ in range(20):
+        with feulgama.Shim(name, workers=1) as shim:
+            timeline = open_debugger(shim, Path("module"), data, [], {}, None).timeline
+            turn = random.randrange(FAR // 2, FAR * 3 // 2)
+            begin = time.perf_counter()
+            timeline.seek(turn)
+            times.append((time.perf_counter() - begin) / turn * FAR)
+            assert timeline.turn == turn and timeline.inspection().turns == turn
+            late += timeline.late
+            timeline.close()
+    print(f"goto of 20 random turns, seconds for each 100,000,000 of them: {min(times):.3f} to {max(times):.3f}, "
+          f"median {statistics.median(times):.3f}; paused too late {late} times")
+
+
+def interrupts(name: str, data: bytes) -> None:
+    """A run without a goal that is interrupted."""
+    slowest = 0.0
+    with feulgama.Shim(name, workers=1) as shim:
+        debugger = open_debugger(shim, Path("module"), data, [], {}, None)
+        timeline = debugger.timeline
+        for _ in range(20):
+            moment: list[float] = []
+
+            def interrupt(moment: list[float] = moment) -> None:
+                moment.append(time.perf_counter())
+                timeline.interrupted.set()
+
+            timer = threading.Timer(random.uniform(0.1, 0.5), interrupt)
+            timer.start()
+            debugger.go_on()
+            slowest = max(slowest, time.perf_counter() - moment[0])
+            timeline.interrupted.clear()
+        print(f"a stop after an interrupt: at most {slowest * 1000:.1f} ms, at turn {timeline.turn:,}")
+        timeline.close()
 
 
 def with_breakpoint(debugger: Debugger, timed: Callable[[str, Callable[[], object]], None]) -> None:
@@ -165,6 +209,8 @@ def main(words: list[str]) -> int:
     data = assemble(FOREVER, program(name))
     requests_of(program(name), name, data)
     moves(name, data)
+    far_turns(name, data)
+    interrupts(name, data)
     kills(name, data)
     return 0
 
