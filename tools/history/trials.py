@@ -7,8 +7,8 @@ import typing
 
 from history.calls import Wrong, history_of
 from history.search import decide
-from history.tasks import line_of
-from history.written import config_of, history_as, request_as
+from history.tasks import line_of, refusal
+from history.written import history_as, request_as
 from reference.board import Board
 
 PUT = ["put endless -> stored", "create x endless -> created"]
@@ -33,6 +33,10 @@ RIGHT: dict[str, list[list[str]]] = {
         [*RUNS, "pause x -> pausing", "resume x -> 11", "state x -> pausing 5", "wait x -> paused 10005"],
         ["resume x -> running", "state x -> running 10005"]],
     "a kill of a task that is to be paused": [[*RUNS, "pause x -> pausing", "kill x -> pausing", "wait x -> killed 1"]],
+    "a kill that would change nothing now ends the next task of the id": [
+        [*RUNS, "pause x -> pausing", "kill x -> pausing", "wait x -> killed 5", "delete x -> killed 5",
+         "create x endless -> created", "start x -> running", "pause x -> pausing", "wait x -> killed 7"],
+        ["kill x -> pausing"]],
     "counts that two callers read in turn": [
         [*RUNS, "state x -> running 1", "state x -> running 30000"],
         ["state x -> running 20000", "state x -> running 40000"]],
@@ -96,11 +100,23 @@ def is_legal(scripts: list[bytes], printed: bytes) -> bool:
     return verdict.is_legal
 
 
-def exchanged() -> tuple[list[bytes], bytes]:
-    """Two callers, of whom each has the other's replies."""
+def edges() -> dict[str, tuple[bool, list[bytes], bytes]]:
+    """Histories that the notation has no words for, with what they are."""
     scripts, printed = history_as([PUT, ["create y endless -> created", "kill y -> stopped"]])
-    replies = printed.splitlines(True)
-    return scripts, b"".join([*replies[2:], *replies[:2]])
+    replies, (one, none) = printed.splitlines(True), history_as([["state x -> 4"]])
+    bad, full, no_memory = (line_of(refusal(number)).encode() + b"\n" for number in (1, 15, 17))
+    return {
+        "two callers with their own replies": (True, scripts, printed),
+        "each of two callers has the other's replies": (False, scripts, b"".join([*replies[2:], *replies[:2]])),
+        "a reply is missing": (False, scripts, b"".join(replies[1:])),
+        "a line that is no request is answered 1": (True, [b"nothing\n", *one], bad + none),
+        "a line that is no request is answered 4": (False, [b"nothing\n", *one], none + none),
+        "a request is answered 17": (True, [*one, *one], no_memory + none),
+        "a full journal": (True, [one[0] * 16_385, one[0]], none * 16_384 + full * 2),
+        "a full journal takes one more call": (False, [one[0] * 16_385, *one], none * 16_383 + full + none + full),
+        "a journal takes too many calls": (False, [one[0] * 16_385], none * 16_385),
+        "a reply with spaces": (False, one, none.replace(b",", b", ")),
+    }
 
 
 # ---- random histories
@@ -237,8 +253,9 @@ def self_test(count: int, seed: int) -> tuple[list[str], str]:
     random.seed(seed)
     faults = [f"refused: {name}" for name, callers in RIGHT.items() if not is_legal(*history_as(callers))]
     faults += [f"accepted: {name}" for name, callers in WRONG.items() if is_legal(*history_as(callers))]
-    if is_legal(*exchanged()):
-        faults.append("accepted: each of two callers has the other's replies")
+    faults += [f"{'refused' if wanted else 'accepted'}: {name}" for name, (wanted, scripts, printed) in edges().items()
+               if is_legal(scripts, printed) != wanted]
     told, legal, illegal = try_random(count)
-    tried = f"{len(RIGHT)} right and {len(WRONG) + 1} wrong histories; of random ones {legal} legal and {illegal} not"
-    return faults + told, tried
+    right = len(RIGHT) + sum(wanted for wanted, *_ in edges().values())
+    wrong = len(RIGHT) + len(WRONG) + len(edges()) - right
+    return faults + told, f"{right} right and {wrong} wrong histories; of random ones {legal} legal and {illegal} not"
