@@ -4,9 +4,9 @@ import typing
 from history.board import Boards
 from history.calls import Call, History, Wrong, history_of
 from history.search import MOST_STATES, Verdict, decide
-from history.tasks import line_of
+from history.tasks import Members, line_of
 
-MOST_SHOWN = 300  # characters of a line
+MOST_SHOWN = 40  # characters of a text
 
 
 class Report(typing.NamedTuple):
@@ -15,12 +15,14 @@ class Report(typing.NamedTuple):
     lines: list[str]
 
 
-def short(text: str) -> str:
-    return text if len(text) <= MOST_SHOWN else text[:MOST_SHOWN] + " .."
+def short(members: Members) -> str:
+    """A line in which configs, modules and other long texts are cut."""
+    return line_of({key: value[:MOST_SHOWN] + ".." if isinstance(value, str) and len(value) > MOST_SHOWN else value
+                    for key, value in members.items()})
 
 
 def told(call: Call) -> str:
-    return f"{short(line_of(call.request))} -> {short(line_of(call.reply))}"
+    return f"{short(call.request)} -> {short(call.reply)}"
 
 
 def order_lines(history: History, order: list[int]) -> list[str]:
@@ -43,7 +45,7 @@ def stuck_lines(history: History, boards: Boards, verdict: Verdict) -> list[str]
             call = history.call(caller, at)
             lines.append(f"  caller {caller + 1}, line {history.lines[caller][at] + 1}: {told(call)}")
             found = boards.could_answer(verdict.board, call)
-            lines.append(f"    the board answers {short(' or '.join(found) or 'nothing yet')}")
+            lines.append(f"    the board answers {' or '.join(found) or 'nothing yet'}")
     for caller, calls in enumerate(history.callers):
         at = verdict.reached[caller]
         if verdict.is_legal is False and at < len(calls):

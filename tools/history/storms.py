@@ -11,10 +11,13 @@ import time
 import typing
 from pathlib import Path
 
-from history.calls import lines_in
+from history.calls import lines_in, reply_in
 from history.written import request_as
 
 LIFE = ["create {} endless", "start {}", "pause {}", "kill {}", "resume {}", "delete {}"]
+STORE = ["put short", "put short", "put endless", "remove short", "remove endless", "gc", "lease_create l",
+         "lease_add l short", "lease_add l endless", "lease_delete l", "create x short", "create x short", "kill x",
+         "delete x", "create y endless", "kill y", "delete y"]
 CALLERS, LIMIT = 4, 600  # how many there are, and how many seconds a storm may take
 
 
@@ -28,8 +31,10 @@ class Storm(typing.NamedTuple):
     most: int
 
     def numbers(self) -> collections.Counter[int]:
-        """How many replies are refusals with each number; 0 stands for those that were accepted."""
-        return collections.Counter(json.loads(line).get("number", 0) for line in lines_in(self.printed))
+        """How many replies are refusals with each number; 0 stands for those that were accepted, -1 for what is no
+        reply."""
+        replies = map(reply_in, lines_in(self.printed))
+        return collections.Counter(-1 if reply is None else reply.get("number", 0) for reply in replies)
 
 
 def script_of(puts: list[str], rounds: typing.Iterable[list[str]]) -> list[bytes]:
@@ -47,6 +52,11 @@ def life(count: int) -> list[bytes]:
 def looks(count: int) -> list[bytes]:
     """The same with looks at the task between, and at times a task that ends by itself, for which callers wait."""
     return script_of(["put endless", "put short"], (look(random.choice("xys")) for _ in range(count)))
+
+
+def stores(count: int) -> list[bytes]:
+    """Contents that come and go, and leases and tasks that hold them."""
+    return script_of([], (random.sample(STORE, 6) for _ in range(count)))
 
 
 def look(id: str) -> list[str]:

@@ -22,13 +22,17 @@ def config_of(name: str) -> str:
     return json.dumps({"ociVersion": "1.0.2", "process": process, "annotations": {"dev.shim.module": digest_of(name)}})
 
 
-def request_as(op: str, id: str, *others: str) -> Members:
-    """The request of `create x short`, `kill x 15`, `put short`, `break x 0 2` ..; a signal is 9 and a stream 1, if
-    none is there."""
+def request_as(op: str, id: str = "", *others: str) -> Members:
+    """The request of `create x short`, `kill x 15`, `put short`, `lease_add l short`, `break x 0 2` ..; a signal is 9
+    and a stream 1, if none is there."""
+    if op == "gc":
+        return {"op": op}
     if op == "put":
         return {"op": "put_text", "text": TEXT} if id == "text" else {"op": op, "hex": MODULES[id].hex()}
     if op == "remove":
         return {"op": op, "digest": digest_of(id)}
+    if op == "lease_add":
+        return {"op": op, "digest": digest_of(others[0]), "id": id}
     if op == "create":
         return {"op": op, "id": id, "config": config_of(others[0])}
     if op in ("break", "unbreak"):
