@@ -21,6 +21,33 @@ pub const SIX_ANSWERS: &str =
 {"cause":"kill","exit":137,"id":"a","n":0,"ok":true,"signal":9,"status":"stopped"}
 "#;
 
+/// Stores the same module, and creates a task with the id `b` beside `a`, starts both and waits for both; with a
+/// line between that is no request.
+pub const RUN_LINES: &str =
+    r#"{"op":"put","hex":"0061736d0100000001080260017f0060000002240116776173695f736e617073686f745f70726576696577310970726f635f65786974000003020101070a01065f737461727400010a08010600410710000b"}
+{"op":"create","id":"a","config":"{\"ociVersion\":\"1.0.2\",\"process\":{\"args\":[\"a\"],\"cwd\":\"/\"},\"annotations\":{\"dev.shim.module\":\"sha256:2194f0d23626e6104d4a7a891350fbd0e82a54a29dd596a672d41474e9b6ee0a\"}}"}
+{"op":"create","id":"b","config":"{\"ociVersion\":\"1.0.2\",\"process\":{\"args\":[\"a\"],\"cwd\":\"/\"},\"annotations\":{\"dev.shim.module\":\"sha256:2194f0d23626e6104d4a7a891350fbd0e82a54a29dd596a672d41474e9b6ee0a\"}}"}
+{"op":"start","id":"a"}
+{"op":"start","id":"b"}
+{}
+{"op":"wait","id":"a"}
+{"op":"wait","id":"b"}
+{"op":"state","id":"a"}
+"#;
+
+/// What they are answered, if workers run the tasks.
+pub const RUN_ANSWERS: &str =
+    r#"{"digest":"sha256:2194f0d23626e6104d4a7a891350fbd0e82a54a29dd596a672d41474e9b6ee0a","ok":true,"size":82}
+{"id":"a","ok":true,"status":"created"}
+{"id":"b","ok":true,"status":"created"}
+{"id":"a","ok":true,"status":"running"}
+{"id":"b","ok":true,"status":"running"}
+{"error":"BadRequest","number":1,"ok":false}
+{"cause":"exit","exit":7,"id":"a","n":2,"ok":true,"status":"stopped"}
+{"cause":"exit","exit":7,"id":"b","n":2,"ok":true,"status":"stopped"}
+{"cause":"exit","exit":7,"id":"a","n":2,"ok":true,"status":"stopped"}
+"#;
+
 /// A request for a task that is not there.
 pub const STATE: &str = r#"{"op":"state","id":"zz"}"#;
 

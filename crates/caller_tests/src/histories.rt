@@ -1,15 +1,18 @@
 //! What callers see of each other's calls.
 
 use crate::asking::{accepted, find_nothing, refused, seen_of};
-use crate::checks::check_count;
-use crate::fixtures::STATE;
+use crate::checks::{check_bytes, check_count};
+use crate::fixtures::{NOT_FOUND_LINE, STATE};
+use crate::scripts::{Told, repeated, side_by_side};
 use crate::stories::{Story, tell};
 use call_journal::{Row, Seat, Shim};
+use shim_threads::{Answered, Caller};
 use std::alloc::Global;
 use std::cmp::Ordering;
 use std::process::Abort;
 use std::sync::Wait;
 use std::test::Fail;
+use std::thread::Threads;
 use wasm_ast::Refusal;
 
 /// Stores three bytes.
@@ -75,4 +78,103 @@ pub fn full_journal<R: Row, W: Wait + Abort>(rt: &W, alloc: Global, shim: &Shim<
 #[test]
 fn a_full_journal_refuses(rt: HostRuntime) -> Result<(), Fail> {
     tell(&rt, rt.alloc(), Story::FullJournal)
+}
+
+// Asserts that a seat has seen the first entries of those that another has seen, and that these are the same.
+fn check_begins<R: Row, A: Abort>(rt: &A, shim: &Shim<R>, short: &Seat<R>, long: &Seat<R>) {
+    assert!(rt; shim.meet(short, long) != Ordering::Greater);
+    for i in 0..short.len() {
+        assert!(rt; is_same_entry(shim, short, long, i));
+    }
+}
+
+// Whether both seats see the same call by the same seat.
+fn is_same_entry<R: Row>(shim: &Shim<R>, one: &Seat<R>, other: &Seat<R>, i: usize) -> bool {
+    match (shim.entry(one, i), shim.entry(other, i)) {
+        (Some(a), Some(b)) => a.seat == b.seat && a.found == b.found,
+        _ => false,
+    }
+}
+
+// Asserts that of two seats one has seen the first entries of those that the other has seen.
+fn check_agree<R: Row, A: Abort>(rt: &A, shim: &Shim<R>, one: &Seat<R>, other: &Seat<R>) {
+    if one.len() <= other.len() {
+        check_begins(rt, shim, one, other);
+    } else {
+        check_begins(rt, shim, other, one);
+    }
+}
+
+// Asserts that a caller's replies are those wanted, and that it and the last seat agree with all callers.
+fn check_told<R: Row, A: Abort>(
+    rt: &A,
+    shim: &Shim<R>,
+    told: &Told<'_, R>,
+    all: &[Told<'_, R>],
+    last: &Seat<R>,
+    replies: &[u8],
+) {
+    let seat = &told.caller.seat;
+    check_bytes(rt, seat.len(), told.replies.as_slice(), replies);
+    check_begins(rt, shim, seat, last);
+    for other in all {
+        check_agree(rt, shim, seat, &other.caller.seat);
+    }
+}
+
+// The seat of what a caller was answered.
+fn seat_of<R: Row>(told: Told<'_, R>) -> Seat<R> {
+    let Answered { caller, .. } = told;
+    let Caller { seat, .. } = caller;
+    seat
+}
+
+/// Two callers with 1,000 calls each, side by side; then each makes one more. The one that is ahead has seen all, each
+/// caller's calls once. None if a call is answered otherwise.
+pub fn two_callers<R: Row + Send + Sync, W: Threads + Wait + Abort + Sync>(
+    rt: &W,
+    alloc: Global,
+    shim: &Shim<R>,
+) -> Option<()> {
+    let lines = repeated(alloc, STATE, 1_000)?;
+    let scripts = [lines.as_slice(); 2];
+    let mut all = side_by_side(rt, alloc, shim, scripts.as_slice())?;
+    let one = find_nothing(rt, alloc, shim, seat_of(all.pop()?), 1)?;
+    let other = find_nothing(rt, alloc, shim, seat_of(all.pop()?), 1)?;
+    check_count(rt, "entries", other.len(), 2_002);
+    check_seen(rt, shim, &other, one.number(), 1_001);
+    check_seen(rt, shim, &other, other.number(), 1_001);
+    check_order(rt, shim, &one, &other);
+    check_begins(rt, shim, &one, &other);
+    Some(())
+}
+
+/// Four callers with 2,000 calls each, side by side; then a fifth makes one, and has seen all: each caller's calls
+/// once. None if a call is answered otherwise.
+pub fn four_callers<R: Row + Send + Sync, W: Threads + Wait + Abort + Sync>(
+    rt: &W,
+    alloc: Global,
+    shim: &Shim<R>,
+) -> Option<()> {
+    let lines = repeated(alloc, STATE, 2_000)?;
+    let replies = repeated(alloc, NOT_FOUND_LINE.trim_end(), 2_000)?;
+    let scripts = [lines.as_slice(); 4];
+    let all = side_by_side(rt, alloc, shim, scripts.as_slice())?;
+    let last = find_nothing(rt, alloc, shim, shim.seat(rt)?, 1)?;
+    check_count(rt, "entries", last.len(), 8_001);
+    for told in all.iter() {
+        check_seen(rt, shim, &last, told.caller.seat.number(), 2_000);
+        check_told(rt, shim, told, all.as_slice(), &last, replies.as_slice());
+    }
+    Some(())
+}
+
+#[test]
+fn two_callers_see_one_history(rt: HostRuntime) -> Result<(), Fail> {
+    tell(&rt, rt.alloc(), Story::TwoCallers)
+}
+
+#[test]
+fn four_callers_see_one_history(rt: HostRuntime) -> Result<(), Fail> {
+    tell(&rt, rt.alloc(), Story::FourCallers)
 }

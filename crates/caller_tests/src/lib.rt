@@ -1,4 +1,5 @@
-//! Tests of a shim that callers share: the lines of one caller, streams that fail, and what seats see.
+//! Tests of a shim that callers and workers share: the lines of one caller, streams that fail, what seats see, and
+//! calls and slices in several threads.
 #![tactic(auto)]
 
 #[cfg(test)]
@@ -16,6 +17,12 @@ mod long_lines;
 #[cfg(test)]
 mod readers;
 #[cfg(test)]
+mod scripts;
+#[cfg(test)]
 mod stories;
+#[cfg(test)]
+mod storm;
+#[cfg(test)]
+mod workers;
 #[cfg(test)]
 mod writers;

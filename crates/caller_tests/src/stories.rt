@@ -3,9 +3,12 @@
 ghost use Rattle.std.specs.Prelude.{◌≡◌, ◌+◌};
 ghost use Rattle.call_journal.specs.Seats.{most_seats};
 
-use crate::histories::{full_journal, two_seats};
+use crate::histories::{four_callers, full_journal, two_callers, two_seats};
+use crate::storm::storm;
+use crate::workers::{Meeting, large_output, run_by_two};
 use call_journal::{Cells, MOST_SEATS, Row, Shim};
 use callers::{Driven, drive};
+use slice_workers::OpenGate;
 use std::alloc::Global;
 use std::io::{Read, Write};
 use std::marker::Brand;
@@ -13,15 +16,25 @@ use std::process::Abort;
 use std::sync::Wait;
 use std::sync::ledger::Blank;
 use std::test::Fail;
+use std::thread::Threads;
 use wasm_ast::Refusal;
 
-/// What happens to a new shim.
+/// What happens to a new shim, by one caller or several.
 #[derive(Clone, Copy)]
-pub enum Story {
-    /// `two_seats` of `histories`.
+pub enum Story<'a> {
+    /// `two_seats` of `histories`; so are the three that follow.
     TwoSeats,
-    /// `full_journal` of `histories`.
     FullJournal,
+    TwoCallers,
+    FourCallers,
+    /// `storm`.
+    Storm,
+    /// `run_by_two` of `workers`.
+    TwoWorkers,
+    /// The same, with slices that meet at a gate.
+    Meeting(&'a Meeting),
+    /// `large_output` of `workers`.
+    LargeOutput,
 }
 
 fn cells(alloc: Global) -> Result<Cells, Refusal> {
@@ -35,25 +48,31 @@ fn blank() -> Blank
 }
 
 // Tells a story. None if a call is answered otherwise than it should be.
-fn told<R: Row, W: Wait + Abort>(
+fn told<R: Row + Send + Sync, W: Threads + Wait + Abort + Sync>(
     rt: &W,
     alloc: Global,
     shim: &Shim<R>,
-    story: Story,
+    story: Story<'_>,
 ) -> Option<()> {
     match story {
         Story::TwoSeats => two_seats(rt, alloc, shim),
         Story::FullJournal => full_journal(rt, alloc, shim),
+        Story::TwoCallers => two_callers(rt, alloc, shim),
+        Story::FourCallers => four_callers(rt, alloc, shim),
+        Story::Storm => storm(rt, alloc, shim),
+        Story::TwoWorkers => run_by_two(rt, alloc, shim, &OpenGate),
+        Story::Meeting(gate) => run_by_two(rt, alloc, shim, gate),
+        Story::LargeOutput => large_output(rt, alloc, shim),
     }
 }
 
 // Tells a story of a shim over these cells. Whether it goes on to its end.
-fn told_of<R: Row, W: Wait + Abort>(
+fn told_of<R: Row + Send + Sync, W: Threads + Wait + Abort + Sync>(
     rt: &W,
     alloc: Global,
     cells: Cells,
     blank: Blank,
-    story: Story,
+    story: Story<'_>,
 ) -> Result<bool, Refusal>
     requires row { cells ≡ R.cells }
     requires name { blank.name ≡ R.name }
@@ -64,7 +83,11 @@ fn told_of<R: Row, W: Wait + Abort>(
 }
 
 /// Tells a story of a shim of its own, and asserts that it goes on to its end.
-pub fn tell<W: Wait + Abort>(rt: &W, alloc: Global, story: Story) -> Result<(), Fail> {
+pub fn tell<W: Threads + Wait + Abort + Sync>(
+    rt: &W,
+    alloc: Global,
+    story: Story<'_>,
+) -> Result<(), Fail> {
     let cells = cells(alloc)?;
     let is_told = told_of::<Brand, W>(rt, alloc, cells, blank(), story)?;
     assert!(rt; is_told, "each call is answered as it should be");
