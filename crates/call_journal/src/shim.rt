@@ -96,9 +96,7 @@ impl<R: Row> Shim<R> {
     {
         let mut shared = self.shared.lock(rt);
         shared.callers = shared.callers.wrapping_add(1);
-        let mut shared = self
-            .settled
-            .wait_while(rt, shared, |s| !s.book.is_due(&id));
+        let mut shared = self.settled.wait_while(rt, shared, |s| !s.book.is_due(&id));
         shared.callers = shared.callers.wrapping_sub(1);
         let answer = shared.book.call_due(&self.cells, &mut seat, id);
         (seat, answer)

@@ -36,9 +36,9 @@ pub all_or_but_one : (before after : List ℕ) (texts written : List (List ℕ))
     ⊎ ((all : List (List ℕ)) × (last : List ℕ) × (texts ≡ all ++ last ∷ []) × (after ≡ before ++ joined all))
 all_or_but_one before after texts written b is = but_one b.last b.one b.joins
   where
-  but_one : (last : List (List ℕ)) → length last ≤ 1 → written ++ last ≡ texts
-      → (after ≡ before ++ joined texts)
-      ⊎ ((all : List (List ℕ)) × (last : List ℕ) × (texts ≡ all ++ last ∷ []) × (after ≡ before ++ joined all))
-  but_one [] few joins = inl (is ∙ ap (λ ts. before ++ joined ts) (sym (append-nil written) ∙ joins))
-  but_one (x ∷ []) few joins = inr (written, x, sym joins, is)
-  but_one (x ∷ y ∷ rest) few joins = absurd (omega (arith, few))
+    but_one : (last : List (List ℕ)) → length last ≤ 1 → written ++ last ≡ texts
+        → (after ≡ before ++ joined texts)
+        ⊎ ((all : List (List ℕ)) × (last : List ℕ) × (texts ≡ all ++ last ∷ []) × (after ≡ before ++ joined all))
+    but_one [] few joins = inl (is ∙ ap (λ ts. before ++ joined ts) (sym (append-nil written) ∙ joins))
+    but_one (x ∷ []) few joins = inr (written, x, sym joins, is)
+    but_one (x ∷ y ∷ rest) few joins = absurd (omega (arith, few))

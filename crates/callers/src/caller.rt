@@ -1,6 +1,6 @@
 //! Answers the lines of one caller as they come.
 
-ghost use Rattle.std.specs.Prelude.{◌≡◌, ◌≤◌, List, ℕ, IsTrue, option_map};
+ghost use Rattle.std.specs.Prelude.{◌≡◌, ◌≤◌, List, ℕ, IsTrue, IfOk, option_map, string_bytes};
 ghost use Rattle.std.specs.Io.KnownBytes.{Appends};
 ghost use Rattle.task_requests.specs.declared.request.Request.TheVariants as Asked;
 ghost use Rattle.request_lines.specs.Input.{IsKept};
@@ -12,11 +12,14 @@ ghost use Rattle.callers.specs.Inside.Writing.{Writes};
 
 use call_journal::{Row, Seat, Shim};
 use request_lines::{LineReader, Stop, answer_line, no_memory_line, read_request_line};
-use std::alloc::Global;
+use std::alloc::{AllocError, Global};
 use std::io::{Error, ErrorKind, Read, Write};
 use std::sync::Wait;
 use task_requests::{Reply, Request};
 use wasm_ast::Refusal;
+
+/// How many bytes are kept for the line of an answer: several times what most lines and their making take.
+const SPARE_BYTES: usize = 16_384;
 
 /// How the lines of a caller ended.
 #[derive(Clone, Copy, PartialEq, Eq, Debug)]
@@ -141,11 +144,34 @@ fn write_text<W: Write>(writer: &mut W, text: &str) -> Result<(), WriteError>
     }
 }
 
+// Memory that is kept for a line of an answer, so that most lines can be made where no other is left.
+fn spare_memory(alloc: Global) -> Option<Vec<u8>> {
+    Vec::with_capacity(alloc, SPARE_BYTES).ok()
+}
+
+// The line of an answer. Where memory runs out for it, the spare memory is given back, and the line is made once more.
+fn line_of_answer(
+    alloc: Global,
+    answer: &Result<Reply, Refusal>,
+    spare: &mut Option<Vec<u8>>,
+) -> Result<String, AllocError>
+    ensures { IfOk result (λ s. string_bytes s ≡ line_text (json_of answer.now)) }
+{
+    match answer_line(alloc, answer) {
+        Ok(line) => Ok(line),
+        Err(_) => {
+            *spare = None;
+            answer_line(alloc, answer)
+        }
+    }
+}
+
 // Writes the line of an answer. That of `NoMemory` needs no memory; any other is not written if memory runs
 // out, since its request has been made.
 fn write_answer<W: Write>(
     alloc: Global,
     answer: &Result<Reply, Refusal>,
+    spare: &mut Option<Vec<u8>>,
     writer: &mut W,
 ) -> Result<(), WriteError>
     ensures { Writes result (line_text (json_of answer.now)) (W.contents writer.old)
@@ -154,7 +180,7 @@ fn write_answer<W: Write>(
     if let Err(Refusal::NoMemory) = answer {
         return write_text(writer, no_memory_line());
     }
-    match answer_line(alloc, answer) {
+    match line_of_answer(alloc, answer, spare) {
         Ok(line) => write_text(writer, line.as_str()),
         Err(_) => Err(WriteError::OutOfMemory),
     }
@@ -167,6 +193,7 @@ fn serve_line<J: Row, W: Write, H: Wait>(
     shim: &Shim<J>,
     seat: Seat<J>,
     line: Option<&[u8]>,
+    spare: &mut Option<Vec<u8>>,
     writer: &mut W,
 ) -> (Seat<J>, Result<(), WriteError>)
     ensures { (text : List ℕ) → IsKept (option_map (λ b. b.now) line.entry) text
@@ -174,7 +201,7 @@ fn serve_line<J: Row, W: Write, H: Wait>(
         × Writes result.1 reply (W.contents writer.old) (W.contents writer.new) }
 {
     let (seat, answer) = answer(rt, alloc, shim, seat, line);
-    let written = write_answer(alloc, &answer, writer);
+    let written = write_answer(alloc, &answer, spare, writer);
     (seat, written)
 }
 
@@ -196,13 +223,17 @@ pub fn drive<J: Row, R: Read, W: Write, H: Wait>(
         return (seat, Driven::NoMemory);
     };
     let mut seat = seat;
+    let mut spare = None;
     for _ in 0..u64::MAX {
+        if spare.is_none() {
+            spare = spare_memory(alloc);
+        }
         match lines.next(reader) {
             Ok(true) => {}
             Ok(false) => return (seat, Driven::End),
             Err(stop) => return (seat, Driven::from(stop)),
         }
-        let (next, written) = serve_line(rt, alloc, shim, seat, lines.bytes(), writer);
+        let (next, written) = serve_line(rt, alloc, shim, seat, lines.bytes(), &mut spare, writer);
         seat = next;
         if let Err(error) = written {
             return (seat, Driven::from(error));
