@@ -11,7 +11,7 @@ use std::thread::Threads;
 /// What a script was answered.
 pub type Told<'a, R> = Answered<R, ChunkedReader<'a>>;
 
-/// The same line, so many times. None if memory runs out.
+/// The same line, `count` times. None if memory runs out.
 pub fn repeated(alloc: Global, line: &str, count: usize) -> Option<Vec<u8>> {
     let mut lines = Vec::new(alloc);
     for _ in 0..count {

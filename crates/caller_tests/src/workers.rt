@@ -62,7 +62,7 @@ fn large_reply(alloc: Global) -> Option<Vec<u8>> {
     Some(reply)
 }
 
-// The last bytes, so many of them.
+// The last `count` bytes.
 fn last_bytes(bytes: &[u8], count: usize) -> Option<&[u8]> {
     bytes.get(bytes.len().checked_sub(count)?..)
 }
