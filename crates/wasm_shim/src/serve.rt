@@ -130,12 +130,18 @@ fn tell<J: Row>(
         stream_failed(rt, "standard output", &error);
         return false;
     }
-    let driven = answered.driven;
-    if driven == Driven::End {
-        return true;
+    match answered.driven {
+        Driven::End => true,
+        Driven::ReadFault => {
+            broken(rt, name, answered.caller.reader.error());
+            false
+        }
+        // Replies are kept in memory, so nothing else can fail.
+        Driven::WriteFault | Driven::NoMemory => {
+            failed(rt, OUT_OF_MEMORY);
+            false
+        }
     }
-    ended(rt, driven, name, answered.caller.reader.error(), None);
-    false
 }
 
 // Writes what all callers were answered, in the order of the scripts.
