@@ -1,7 +1,8 @@
 -- Known bytes, as they are read piece by piece.
 use Rattle.std.proofs.Common.{◌≡◌, ◌≢◌, ◌<◌, length, ℕ, List, [], ◌∷◌, ◌++◌, ◌==◌, Option, None, Some, true, false, subst, arith, append_assoc, sym, ap, ◌∙◌, refl}
 use Rattle.std.specs.Io.KnownBytes.{Consumes, Keeps, IsAtEnd, prepend_known}
-use Rattle.request_lines.specs.Input.{HasNoFeed, IsKept, TakesPiece, TakesLine, ReadsPiece, IsProgress}
+use Rattle.request_lines.specs.Input.{IsKept, TakesLine}
+use Rattle.request_lines.specs.Inside.Pieces.{HasNoFeed, TakesPiece, ReadsPiece, IsProgress}
 use Rattle.request_lines.specs.declared.line_reader.Progress.{Progress}
 use Rattle.request_lines.specs.declared.line_reader.Progress.TheVariants.{Found, More, End}
 use Rattle.std.proofs.lemmas.List.{append-nil}

@@ -1,3 +1,4 @@
 -- What only private clauses name.
 pub mod Parse
 pub mod States
+pub mod Pieces

@@ -3,7 +3,8 @@
 ghost use Rattle.std.specs.Prelude.{◌≡◌, ◌≢◌, ◌↔◌, ◌<◌, ◌≤◌, ◌++◌, [], List, ℕ, Some, None, Ok, Err, false, true, IfOk, OnOk, OnErr, IsTrue, length, drop, take, vec_len, option_map};
 ghost use Rattle.std.specs.Io.KnownBytes.{Consumes, Keeps, IsAtEnd, prepend_known};
 ghost use Rattle.std.specs.IoError.{error_kind};
-ghost use Rattle.request_lines.specs.Input.{IsKept, KnowsEnd, TakesPiece, TakesLine, ReadsPiece};
+ghost use Rattle.request_lines.specs.Input.{IsKept, KnowsEnd, TakesLine};
+ghost use Rattle.request_lines.specs.Inside.Pieces.{TakesPiece, ReadsPiece};
 
 use crate::members::MAX_LINE_BYTES;
 use std::alloc::{AllocError, Global};

@@ -1,6 +1,6 @@
 use Rattle.std.proofs.Common.{subst}
 use Rattle.std.specs.Io.KnownBytes.{prepend_known}
-use Rattle.request_lines.specs.Input.{TakesPiece}
+use Rattle.request_lines.specs.Inside.Pieces.{TakesPiece}
 use Rattle.request_lines.proofs.LineLemmas.{consumes_to_feed}
 use Rattle.request_lines.proofs.line_reader.read_piece.Goals as goal
 

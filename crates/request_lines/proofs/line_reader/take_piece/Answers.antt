@@ -1,5 +1,5 @@
 use Rattle.std.proofs.Common.{◌+◌, drop, take, length, subst, sym, true, false}
-use Rattle.request_lines.specs.Input.{TakesPiece}
+use Rattle.request_lines.specs.Inside.Pieces.{TakesPiece}
 use Rattle.request_lines.proofs.SplitLemmas.{piece_to_feed, piece_to_end}
 use Rattle.request_lines.proofs.line_reader.take_piece.Goals as goal
 
