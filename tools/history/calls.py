@@ -1,4 +1,5 @@
 """What several callers of `serve SCRIPT..` sent and were answered, and what can be said of it call by call."""
+import bisect
 import hashlib
 import json
 import typing
@@ -32,6 +33,10 @@ class History(typing.NamedTuple):
 
     def call(self, caller: int, position: int) -> Call:
         return self.table[self.callers[caller][position]]
+
+    def position(self, caller: int, line: int) -> int:
+        """How many calls of a caller come before a line."""
+        return bisect.bisect_left(self.lines[caller], line)
 
     def digests(self) -> dict[str, str]:
         """The digests of texts, by the replies to puts of them."""

@@ -55,11 +55,13 @@ def stuck_lines(history: History, boards: Boards, verdict: Verdict) -> list[str]
 
 
 def report(scripts: typing.Sequence[bytes], printed: bytes, modules: dict[str, bytes] | None = None,
-           has_order: bool = False, most: int = MOST_STATES) -> Report:
-    """Decides the history of callers with these scripts, by what `serve` printed."""
+           has_order: bool = False, most: int = MOST_STATES, rounds: typing.Sequence[typing.Sequence[int]] = ()) -> Report:
+    """Decides the history of callers with these scripts, by what `serve` printed. Where it is known that the callers went
+    on in rounds, for each but the last the lines of each caller that came before its end."""
     try:
         history = history_of(scripts, printed)
-        verdict, boards = decide(history, modules, most)
+        ends = [[history.position(caller, line) for caller, line in enumerate(lines)] for lines in rounds]
+        verdict, boards = decide(history, modules, most, ends)
     except Wrong as wrong:
         return Report(False, [f"not legal: {wrong}"])
     count = sum(map(len, history.callers))

@@ -1,4 +1,5 @@
 """The search for an order of all calls of a history that is legal, each caller's own calls in its order."""
+import bisect
 import typing
 
 from history.board import Boards
@@ -29,11 +30,17 @@ class Node(typing.NamedTuple):
 class Search:
     """Depth first, those first that lead farthest. A state is the board and the positions of all callers. It is looked
     at once: a state that was left has failed. A call that leaves the board is made as soon as it may be: that narrows
-    nothing, so each order that has it later has one that has it now."""
+    nothing, so each order that has it later has one that has it now.
 
-    def __init__(self, history: History, boards: Boards, most: int = MOST_STATES) -> None:
+    With rounds, which are positions of all callers, only orders are looked for in which all calls of a round come before
+    those of the next. There are far fewer of these, and each of them is an order."""
+
+    def __init__(self, history: History, boards: Boards, most: int = MOST_STATES,
+                 rounds: typing.Sequence[typing.Sequence[int]] = ()) -> None:
         end = len(history.table)  # no board answers it
         self.callers = [[*calls, end] for calls in history.callers]
+        self.ends = [[*found, len(calls)] for found, calls in zip(zip(*rounds), self.callers)] if rounds else [
+            [len(calls)] for calls in self.callers]
         self.boards, self.most, self.total = boards, most, sum(map(len, history.callers))
         self.seen: set[int] = set()
         self.reached = [0] * len(self.callers)
@@ -51,25 +58,36 @@ class Search:
             state >>= BITS + 1
         return state, positions[::-1]
 
+    def limits(self, positions: list[int]) -> list[int]:
+        """How far each caller may go until all have come to the end of their round."""
+        number = min(bisect.bisect_right(ends, at) for ends, at in zip(self.ends, positions))
+        return [ends[min(number, len(ends) - 1)] for ends in self.ends]
+
     def settled(self, board: int, positions: list[int]) -> list[int]:
         """Makes the calls that leave the board. The callers whose calls those are."""
-        made, after = [], self.boards.after
-        for caller, calls in enumerate(self.callers):
-            at = positions[caller]
-            while after(board, calls[at]) & 1:
-                at += 1
-                made.append(caller)
-            positions[caller] = at
-            self.reached[caller] = max(self.reached[caller], at)
+        made, count = list[int](), -1
+        while count != len(made):
+            count = len(made)
+            for caller, limit in enumerate(self.limits(positions)):
+                made += self.settled_of(board, positions, caller, limit)
         return made
+
+    def settled_of(self, board: int, positions: list[int], caller: int, limit: int) -> list[int]:
+        """The same for the calls of one caller before a position."""
+        begin = at = positions[caller]
+        while at < limit and self.boards.after(board, self.callers[caller][at]) & 1:
+            at += 1
+        positions[caller] = at
+        self.reached[caller] = max(self.reached[caller], at)
+        return [caller] * (at - begin)
 
     def next_nodes(self, state: int) -> list[Node]:
         """Where a call leads that changes the board, the farthest last."""
         board, positions = self.unpacked(state)
-        found = []
+        found, limits = [], self.limits(positions)
         for caller, calls in enumerate(self.callers):
             after = self.boards.after(board, calls[positions[caller]])
-            if after >= 0:
+            if after >= 0 and positions[caller] < limits[caller]:
                 later = [*positions]
                 later[caller] += 1
                 self.settled(after >> 1, later)
@@ -112,8 +130,10 @@ class Search:
         return order
 
 
-def decide(
-        history: History, modules: dict[str, bytes] | None = None, most: int = MOST_STATES) -> tuple[Verdict, Boards]:
-    """The verdict on a history, and the boards that it comes to."""
+def decide(history: History, modules: dict[str, bytes] | None = None, most: int = MOST_STATES,
+           rounds: typing.Sequence[typing.Sequence[int]] = ()) -> tuple[Verdict, Boards]:
+    """The verdict on a history, and the boards that it comes to. If rounds are given, an order is looked for in which one
+    comes after the other; if there is none, the calls of all rounds may be in any order."""
     boards = Boards(history, modules)
-    return Search(history, boards, most).run(), boards
+    verdict = Search(history, boards, most, rounds).run()
+    return (verdict if verdict.is_legal or not rounds else Search(history, boards, most).run()), boards

@@ -22,13 +22,15 @@ CALLERS, LIMIT = 4, 600  # how many there are, and how many seconds a storm may 
 
 
 class Storm(typing.NamedTuple):
-    """What came of a storm: its status, what was printed, and the KiB resident, now and again and at the most."""
+    """What came of a storm: its status, what was printed, and the KiB resident, now and again and at the most. If it took
+    a time, for each round how many lines of each caller came before its end, and so, most likely, were answered then."""
     scripts: list[bytes]
     status: int
     printed: bytes
     errors: bytes
     resident: list[int]
     most: int
+    rounds: list[list[int]]
 
     def numbers(self) -> collections.Counter[int]:
         """How many replies are refusals with each number; 0 stands for those that were accepted, -1 for what is no
@@ -105,7 +107,14 @@ def blown(program: Path, workers: int, scripts: list[list[bytes]], folder: Path,
     # All callers have ended, and what is printed does not fit into the pipe: the program is still there.
     most = max(*samples, resident(process.pid, "VmHWM"))
     printed, errors = process.communicate()
-    return Storm([b"".join(parts) for parts in scripts], process.returncode, printed, errors, samples, most)
+    rounds = rounds_of(scripts) if seconds else []
+    return Storm([b"".join(parts) for parts in scripts], process.returncode, printed, errors, samples, most, rounds)
+
+
+def rounds_of(scripts: list[list[bytes]]) -> list[list[int]]:
+    """How many lines of each script come before the end of each round."""
+    counts = [[part.count(b"\n") for part in parts] for parts in scripts]
+    return [[sum(lines[:number]) for lines in counts] for number in range(1, max(map(len, counts)))]
 
 
 def feed(files: list[Path], scripts: list[list[bytes]], seconds: float) -> None:

@@ -5,7 +5,7 @@ import json
 import random
 import typing
 
-from history.calls import Wrong, history_of
+from history.calls import History, Wrong, history_of
 from history.search import decide
 from history.tasks import line_of, refusal
 from history.written import history_as, request_as
@@ -92,12 +92,21 @@ WRONG: dict[str, list[list[str]]] = {
 
 
 def is_legal(scripts: list[bytes], printed: bytes) -> bool:
+    """Whether it is legal; the same must be found if the callers are said to go on in rounds, whatever these are."""
     try:
-        verdict, _ = decide(history_of(scripts, printed))
+        history = history_of(scripts, printed)
+        verdict, _ = decide(history)
+        in_rounds, _ = decide(history, rounds=some_rounds(history))
     except Wrong:
         return False
-    assert verdict.is_legal is not None
+    assert verdict.is_legal is not None and in_rounds.is_legal == verdict.is_legal
     return verdict.is_legal
+
+
+def some_rounds(history: History) -> list[list[int]]:
+    """Positions of all callers that rise from one to the next."""
+    columns = [sorted(random.choices(range(len(calls) + 1), k=3)) for calls in history.callers]
+    return [list(row) for row in zip(*columns)]
 
 
 def edges() -> dict[str, tuple[bool, list[bytes], bytes]]:
