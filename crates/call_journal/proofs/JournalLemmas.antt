@@ -11,7 +11,8 @@ use Rattle.task_board.specs.BoardState.{Task, Entries, BoardState, empty, task_o
 use Rattle.task_board.specs.Tasks.{lent}
 use Rattle.task_board.specs.Step.{Answer, Answers, Returns, Step}
 use Rattle.task_board.proofs.EntryLemmas.{none_is_not, some_is}
-use Rattle.task_board.specs.Run.{takes_memory, is_no_memory, met_no_memory, Happens, Run}
+use Rattle.task_requests.specs.Memory.{takes_memory}
+use Rattle.task_board.specs.Run.{is_no_memory, met_no_memory, Happens, Run}
 use Rattle.task_board.proofs.RunLemmas.{no_memory_is}
 use Rattle.task_board.proofs.LawLemmas.{IsTakenOf, taken_of}
 use Rattle.task_board.proofs.StepLemmas.{task_named, in_range}

@@ -10,7 +10,7 @@ ghost use Rattle.task_requests.specs.Limits.{max_budget};
 ghost use Rattle.task_board.specs.Loans.{Fits};
 ghost use Rattle.task_board.specs.Step.{Step};
 ghost use Rattle.task_board.specs.Tickets.{CanLend, Lends, ticket_in};
-ghost use Rattle.task_board.specs.Waiting.{enter_again};
+ghost use Rattle.task_board.specs.Waiting.{enter_again, waiting_ticket, without};
 ghost use Rattle.call_journal.specs.Journalled.{IsSlice};
 ghost use Rattle.call_journal.specs.Seats.{most_entries, most_seats, GoesOn};
 ghost use Rattle.call_journal.specs.Inside.Calls.{PreparesCall, IsEntered};
@@ -278,6 +278,20 @@ impl<R: Row> Book<R> {
         } }
     {
         self.board.next_waiting()
+    }
+
+    /// The ticket of the task with an id, which waits for a worker and now no more. None, and nothing has changed,
+    /// if no task has the id or that does not wait.
+    pub fn leave_waiting(&mut self, id: &Text) -> Option<Ticket>
+        ensures ticket { result
+            ≡ waiting_ticket id.now self.old.journalled.board.tasks self.old.journalled.waiting }
+        ensures some { IfSome result (λ t. self.new ≡ record self.old {
+          journalled =
+              record self.old.journalled { waiting = without t self.old.journalled.waiting };
+        }) }
+        ensures none { IfNone result (self.new ≡ self.old) }
+    {
+        self.board.leave_waiting(id)
     }
 
     /// Lets the ticket's task wait for a worker, after all that wait, unless it waits already. A ticket of no

@@ -102,6 +102,30 @@ impl<R: Row> Shim<R> {
         (seat, answer)
     }
 
+    /// Runs a slice of at most `budget` turns of the task with an id, if that waits for a worker, with no lock held
+    /// meanwhile. A caller that is about to wait for a short task need not sleep then until a worker has woken.
+    pub fn run_waiting<W: Wait>(&self, rt: &W, id: &Text, budget: u64)
+        requires { (1 ≤ budget) × (budget ≤ max_budget) }
+    {
+        let Some(mut loan) = self.take_waiting(rt, id, budget) else {
+            return;
+        };
+        loan.run();
+        if let Some(ticket) = self.give_back(rt, loan) {
+            self.wait_again(rt, ticket);
+        }
+    }
+
+    // Lends the machine of the task with an id, which waits for a worker and now no more.
+    fn take_waiting<W: Wait>(&self, rt: &W, id: &Text, budget: u64) -> Option<Loan>
+        requires { (1 ≤ budget) × (budget ≤ max_budget) }
+        ensures { IfSome result (λ l. (l.ran ≡ false) × (l.budget ≡ budget)) }
+    {
+        let mut shared = self.shared.lock(rt);
+        let ticket = shared.book.leave_waiting(id)?;
+        shared.book.take(ticket, budget)
+    }
+
     /// The entry, exactly if the seat has seen it. It takes no lock.
     pub fn entry(&self, seat: &Seat<R>, i: usize) -> Option<&Entry>
         ensures { option_map (λ e. e.now) result ≡ slice_get seat.now.history i }
@@ -142,7 +166,9 @@ impl<R: Row> Shim<R> {
     }
 
     /// Lets the ticket's task wait for a worker if a worker sleeps, and wakes it; else gives the ticket back.
-    pub fn offer<W: Wait>(&self, rt: &W, ticket: Ticket) -> Option<Ticket> {
+    pub fn offer<W: Wait>(&self, rt: &W, ticket: Ticket) -> Option<Ticket>
+        ensures { IfSome result (λ t. t ≡ ticket) }
+    {
         let mut shared = self.shared.lock(rt);
         if shared.workers == 0 {
             return Some(ticket);

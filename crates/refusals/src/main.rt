@@ -7,7 +7,7 @@
 
 use shim_service::{line_of, request_of};
 use std::process::ExitCode;
-use task_board::{Board, Reply, Request};
+use task_board::{Board, Reply};
 use wasm_ast::Refusal;
 
 /// How often a call is made at most.
@@ -225,23 +225,6 @@ fn open(rt: &HostRuntime) -> Option<Session<'_>> {
     None
 }
 
-// Whether the request takes no memory.
-fn is_quiet(request: &Request) -> bool {
-    matches!(
-        request,
-        Request::Remove { .. }
-            | Request::LeaseDelete { .. }
-            | Request::Start { .. }
-            | Request::Pause { .. }
-            | Request::Resume { .. }
-            | Request::Kill { .. }
-            | Request::Delete { .. }
-            | Request::State { .. }
-            | Request::Wait { .. }
-            | Request::Step { .. }
-    )
-}
-
 impl Session<'_> {
     // What the line is answered. None where it was refused for memory, and takes some.
     fn try_line(&mut self, line: &str) -> Option<Result<Reply, Refusal>> {
@@ -250,9 +233,9 @@ impl Session<'_> {
             Err(Refusal::NoMemory) => return None,
             Err(refusal) => return Some(Err(refusal)),
         };
-        let quiet = is_quiet(&request);
+        let takes_memory = request.takes_memory();
         match self.board.call(request) {
-            Err(Refusal::NoMemory) if !quiet => None,
+            Err(Refusal::NoMemory) if takes_memory => None,
             answer => Some(answer),
         }
     }

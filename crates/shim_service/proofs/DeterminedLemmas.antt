@@ -8,7 +8,8 @@ use Rattle.task_requests.specs.declared.event.EventReply.TheVariants as answer
 use Rattle.task_board.specs.BoardState.{BoardState}
 use Rattle.task_board.specs.Choices.{IsDetermined}
 use Rattle.task_board.specs.Step.{Answer}
-use Rattle.task_board.specs.Run.{takes_memory, is_no_memory, met_no_memory, Happens}
+use Rattle.task_requests.specs.Memory.{takes_memory}
+use Rattle.task_board.specs.Run.{is_no_memory, met_no_memory, Happens}
 use Rattle.request_lines.specs.Request.{IsEvent}
 use Rattle.request_lines.specs.Reply.{json_of, event_data, line_text}
 use Rattle.shim_service.specs.Replay.{IsPlayed, IsBad, IsReplied}

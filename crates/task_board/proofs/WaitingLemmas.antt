@@ -12,7 +12,7 @@ use Rattle.task_board.specs.Limits.{max_tasks}
 use Rattle.task_board.specs.BoardState.{Task, Entries, BoardState, task_in, entry_of, put_task, change_task, with_task, with_new_task}
 use Rattle.task_board.specs.Sound.{Each, AreDistinct, IsBoard}
 use Rattle.task_board.specs.Tickets.{ticket_if_running, ticket_in}
-use Rattle.task_board.specs.Waiting.{is_ticket, is_waiting, has_incarnation, is_present, enter, enter_if, running_ticket, waiting_after_call, AreWaiting}
+use Rattle.task_board.specs.Waiting.{is_ticket, is_waiting, has_incarnation, is_present, enter, enter_if, running_ticket, without, waiting_after_call, AreWaiting}
 use Rattle.task_board.specs.Inside.Changes.{change_request, enters}
 use Rattle.task_board.specs.Inside.StoreChanges.{store_request, IsMadeFor}
 use Rattle.task_board.specs.Inside.Plans.{IsQuestion}
@@ -208,6 +208,15 @@ filtered ts ws d = record { once = some_distinct (is_present ts) ws d; present =
 -- the oldest leaves
 pub left : (ts : Entries) (t : Ticket) (ws : List Ticket) → AreWaiting ts (t ∷ ws) → AreWaiting ts ws
 left ts t ws all = record { once = all.once.1; present = all.present.1 }
+
+-- a ticket leaves
+pub left_without : (ts : Entries) (t : Ticket) (ws : List Ticket) → AreWaiting ts ws → AreWaiting ts (without t ws)
+left_without ts t ws all =
+    let test : Ticket → Bool = λ w. not (is_ticket w t) in
+    record {
+      once = some_distinct test ws all.once;
+      present = some_each (λ (w : Ticket). is_present ts w ≡ true) test ws all.present;
+    }
 
 all_stay :
     (ts us : Entries) (ws : List Ticket) → ((w : Ticket) → is_present ts w ≡ true → is_present us w ≡ true)

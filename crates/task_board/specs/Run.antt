@@ -5,25 +5,9 @@ use Rattle.task_requests.specs.declared.event.Event.{Event}
 use Rattle.task_requests.specs.declared.event.Event.TheVariants as event
 use Rattle.task_requests.specs.declared.event.EventReply.{EventReply}
 use Rattle.task_requests.specs.declared.event.EventReply.TheVariants as answer
-use Rattle.task_requests.specs.declared.request.Request.{Request}
-use Rattle.task_requests.specs.declared.request.Request.TheVariants as request
+use Rattle.task_requests.specs.Memory.{takes_memory}
 use Rattle.task_board.specs.BoardState.{BoardState}
 use Rattle.task_board.specs.Step.{Answer, Step}
-
--- the request allocates, and so may be answered NoMemory
-abbrev pub takes_memory : Request → Bool
-takes_memory (request.Put bytes) = true
-takes_memory (request.PutText text) = true
-takes_memory (request.LeaseCreate id) = true
-takes_memory (request.LeaseAdd digest id) = true
-takes_memory request.Gc = true
-takes_memory (request.Create config id) = true
-takes_memory (request.Output id stream) = true
-takes_memory (request.Break func id place) = true
-takes_memory (request.Unbreak func id place) = true
-takes_memory (request.Inspect id) = true
-takes_memory (request.Peek address id length) = true
-takes_memory other = false
 
 abbrev pub is_no_memory : Answer → Bool
 is_no_memory (Err refusal.NoMemory) = true

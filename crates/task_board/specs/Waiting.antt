@@ -1,5 +1,5 @@
 -- The tasks that wait for a worker, as tickets, the oldest first.
-use Rattle.std.specs.Prelude.{◌≡◌, ℕ, ◌++◌, ◌&&◌, nat_eq, List, [], ◌∷◌, filter, Bool, true, false, if◌then◌else◌, Option, Some, None, option_and_then, Ok, Err}
+use Rattle.std.specs.Prelude.{◌≡◌, ℕ, ◌++◌, ◌&&◌, not, nat_eq, List, [], ◌∷◌, filter, Bool, true, false, if◌then◌else◌, Option, Some, None, option_and_then, Ok, Err}
 use Rattle.std.specs.List.{list_any}
 use Rattle.task_requests.specs.declared.request.Request.{Request}
 use Rattle.task_requests.specs.declared.request.Request.TheVariants as request
@@ -7,7 +7,7 @@ use Rattle.task_board.specs.declared.ticket.Ticket.{Ticket}
 use Rattle.task_board.specs.BoardState.{Task, Entries, task_in, entry_of}
 use Rattle.task_board.specs.Sound.{Each, AreDistinct}
 use Rattle.task_board.specs.Step.{Answer}
-use Rattle.task_board.specs.Tickets.{ticket_if_running}
+use Rattle.task_board.specs.Tickets.{ticket_if_running, ticket_of}
 
 abbrev pub is_ticket : (a b : Ticket) → Bool
 is_ticket a b = nat_eq a.slot b.slot && nat_eq a.incarnation b.incarnation
@@ -40,6 +40,18 @@ enter_again ts ticket ws = if is_present ts ticket then enter ticket ws else ws
 abbrev pub running_ticket : (id : List ℕ) → Entries → Option Ticket
 running_ticket id ts =
     option_and_then (λ (e : ℕ × Task). ticket_if_running e.0 e.1) (entry_of id ts)
+
+abbrev pub only_waiting : List Ticket → Option Ticket → Option Ticket
+only_waiting ws None = None
+only_waiting ws (Some ticket) = if is_waiting ticket ws then Some ticket else None
+
+-- the ticket of the task with an id, if that waits
+abbrev pub waiting_ticket : (id : List ℕ) → Entries → List Ticket → Option Ticket
+waiting_ticket id ts ws = only_waiting ws (ticket_of id ts)
+
+-- all of them but a ticket
+abbrev pub without : Ticket → List Ticket → List Ticket
+without ticket ws = filter (λ (w : Ticket). not (is_ticket w ticket)) ws
 
 -- those that wait after a request that was accepted and left these tasks: start and resume enter a
 -- task that is running then, and a deleted task leaves

@@ -13,12 +13,12 @@ ghost use Rattle.task_requests.specs.Limits.{max_budget};
 ghost use Rattle.task_board.specs.Loans.{Fits};
 ghost use Rattle.task_board.specs.Prepared.{Prepares, refusal_of, refusal_answered};
 ghost use Rattle.task_board.specs.Refusals.{Openable};
-ghost use Rattle.task_board.specs.Run.{takes_memory};
+ghost use Rattle.task_requests.specs.Memory.{takes_memory};
 ghost use Rattle.task_board.specs.Sound.{IsBoard};
 ghost use Rattle.task_board.specs.Settled.{is_settled};
 ghost use Rattle.task_board.specs.Step.{Answers, Step};
 ghost use Rattle.task_board.specs.Tickets.{ticket_of, CanLend, Lends, ticket_in};
-ghost use Rattle.task_board.specs.Waiting.{enter_again, waiting_after, AreWaiting};
+ghost use Rattle.task_board.specs.Waiting.{enter_again, waiting_ticket, without, waiting_after, AreWaiting};
 ghost use Rattle.task_board.specs.Inside.Machines.{IsMachine};
 ghost use Rattle.task_board.specs.Inside.Plans.{Plans, PlansTask};
 ghost use Rattle.task_board.specs.Inside.OpenedModules.{IsOpen};
@@ -428,6 +428,17 @@ impl Board {
         ensures rest { self.new ≡ record self.old { waiting = self.new.waiting } }
     {
         self.tables.next_waiting()
+    }
+
+    /// The ticket of the task with an id, which waits for a worker and now no more. None, and nothing has changed,
+    /// if no task has the id or that does not wait. No memory is taken.
+    pub fn leave_waiting(&mut self, id: &str) -> Option<Ticket>
+        ensures ticket { result ≡ waiting_ticket id.now self.old.state.tasks self.old.waiting }
+        ensures some { IfSome result
+            (λ t. self.new ≡ record self.old { waiting = without t self.old.waiting }) }
+        ensures none { IfNone result (self.new ≡ self.old) }
+    {
+        self.tables.leave_waiting(id)
     }
 
     /// Lets the ticket's task wait for a worker, after all that wait, unless it waits already. A ticket of no

@@ -22,7 +22,7 @@ ghost use Rattle.task_board.specs.Sound.{IsBoard};
 ghost use Rattle.task_board.specs.Settled.{is_settled};
 ghost use Rattle.task_board.specs.Step.{Answers, Step};
 ghost use Rattle.task_board.specs.Tickets.{ticket_of, CanLend, Lends, ticket_in};
-ghost use Rattle.task_board.specs.Waiting.{enter_if, enter_again, running_ticket, waiting_after_call, waiting_after, AreWaiting};
+ghost use Rattle.task_board.specs.Waiting.{enter_if, enter_again, running_ticket, waiting_ticket, without, waiting_after_call, waiting_after, AreWaiting};
 ghost use Rattle.task_board.specs.Inside.Plans.{id_refusals, IsAllowed, RefusesTask, RefusesKill, RefusesOutput, TellsOutput, CreatePrepared, CallPrepared, MarkPrepared, Plans};
 ghost use Rattle.task_board.specs.Inside.Changes.{change_request, change_refusals};
 ghost use Rattle.task_board.specs.Inside.Marks.{mark_request};
@@ -562,6 +562,28 @@ impl Tables {
             slot,
             incarnation: task.incarnation(),
         })
+    }
+
+    /// Takes the ticket of the task with an id out of the list. None, and nothing has changed, if that does not wait.
+    pub fn leave_waiting(&mut self, id: &str) -> Option<Ticket>
+        ensures ticket { result ≡ waiting_ticket id.now self.old.state.tasks self.old.waiting }
+        ensures some { IfSome result
+            (λ t. self.new ≡ record self.old { waiting = without t self.old.waiting }) }
+        ensures none { IfNone result (self.new ≡ self.old) }
+    {
+        let ticket = self.ticket(id)?;
+        if !self.waiting.has(ticket) {
+            return None;
+        }
+        self.leave(ticket);
+        Some(ticket)
+    }
+
+    // Takes a ticket out of the list.
+    fn leave(&mut self, ticket: Ticket)
+        ensures { self.new ≡ record self.old { waiting = without ticket self.old.waiting } }
+    {
+        self.waiting.leave(ticket);
     }
 
     /// How many turns the task with an id has made, and the budget of its slice while that is out.

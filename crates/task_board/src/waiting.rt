@@ -1,9 +1,9 @@
 //! The tasks that wait for a worker.
 
-ghost use Rattle.std.specs.Prelude.{◌≡◌, ◌<◌, ◌∷◌, ◌==◌, [], IfOk, IfSome, IfNone, length, filter, false};
+ghost use Rattle.std.specs.Prelude.{◌≡◌, ◌<◌, ◌∷◌, ◌==◌, [], IfOk, IfSome, IfNone, length, filter, not, false};
 ghost use Rattle.slab.specs.Slab.{entries};
 ghost use Rattle.task_board.specs.Limits.{max_tasks};
-ghost use Rattle.task_board.specs.Waiting.{is_waiting, is_present, enter};
+ghost use Rattle.task_board.specs.Waiting.{is_ticket, is_waiting, is_present, enter, without};
 
 use crate::task::{Task, is_present};
 use crate::ticket::Ticket;
@@ -45,8 +45,8 @@ impl Waiting {
         self.tickets.is_empty()
     }
 
-    // Whether a ticket is among them.
-    fn has(&self, ticket: Ticket) -> bool
+    /// Whether a ticket is among them.
+    pub fn has(&self, ticket: Ticket) -> bool
         ensures { result ≡ is_waiting ticket self.now }
     {
         self.tickets.iter().any(|other| other.is(ticket))
@@ -72,6 +72,17 @@ impl Waiting {
         } else {
             Some(self.tickets.remove(0))
         }
+    }
+
+    /// Takes a ticket out, wherever it is.
+    pub fn leave(&mut self, ticket: Ticket)
+        ensures { self.new ≡ without ticket self.old }
+    {
+        self.tickets.retain(
+            |other: &Ticket| -> bool
+                ensures { result ≡ not (is_ticket other.now ticket) }
+            { !other.is(ticket) },
+        );
     }
 
     /// Drops the tickets of tasks that are not there.

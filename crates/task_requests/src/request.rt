@@ -1,5 +1,8 @@
 //! What is asked of the board, and what it answers.
 
+ghost use Rattle.std.specs.Prelude.{◌≡◌};
+ghost use Rattle.task_requests.specs.Memory.{takes_memory};
+
 use step_machine::ShownFrame;
 use task_lifecycle::{ExitRecord, Status};
 use wasm_ast::{Bytes, Sequence, Text};
@@ -49,6 +52,37 @@ pub enum Request {
     Inspect { id: Text },
     /// Asks for bytes of a task's memory at an address.
     Peek { address: u64, id: Text, length: u64 },
+}
+
+impl Request {
+    /// Whether a board takes memory for it. One for which none is taken is never answered `NoMemory`.
+    pub fn takes_memory(&self) -> bool
+        ensures { result ≡ takes_memory self.now }
+    {
+        match self {
+            Request::Put { .. }
+            | Request::PutText { .. }
+            | Request::LeaseCreate { .. }
+            | Request::LeaseAdd { .. }
+            | Request::Gc
+            | Request::Create { .. }
+            | Request::Output { .. }
+            | Request::Break { .. }
+            | Request::Unbreak { .. }
+            | Request::Inspect { .. }
+            | Request::Peek { .. } => true,
+            Request::Remove { .. }
+            | Request::LeaseDelete { .. }
+            | Request::Start { .. }
+            | Request::Pause { .. }
+            | Request::Resume { .. }
+            | Request::Kill { .. }
+            | Request::Delete { .. }
+            | Request::State { .. }
+            | Request::Wait { .. }
+            | Request::Step { .. } => false,
+        }
+    }
 }
 
 /// What a call can see of a task: its id, how many turns it has made, its status, and how it ended,
