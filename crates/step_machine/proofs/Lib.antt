@@ -48,6 +48,7 @@ pub mod HostParts
 pub mod StartLemmas
 pub mod RunTurns
 pub mod RunSteps
+pub mod LocalsThere
 pub mod LoopCells
 pub mod SliceLemmas
 pub mod SliceCuts

@@ -12,6 +12,7 @@ pub mod Standing
 pub mod Going
 pub mod Ran
 pub mod UnderWay
+pub mod LocalThere
 pub mod SharedCode
 pub mod Marks
 pub mod Code
