@@ -21,12 +21,12 @@ pub const SIX_ANSWERS: &str =
 {"cause":"kill","exit":137,"id":"a","n":0,"ok":true,"signal":9,"status":"stopped"}
 "#;
 
-/// Stores the same module, and creates a task with the id `b` beside `a`, starts both and waits for both; with a
-/// line between that is no request.
+/// Stores a module whose entry makes 24,002 turns and exits with 7, creates the tasks `a` and `b` of it, starts both and
+/// waits for both; with a line between that is no request. The caller may run a first slice of each, and workers the rest.
 pub const RUN_LINES: &str =
-    r#"{"op":"put","hex":"0061736d0100000001080260017f0060000002240116776173695f736e617073686f745f70726576696577310970726f635f65786974000003020101070a01065f737461727400010a08010600410710000b"}
-{"op":"create","id":"a","config":"{\"ociVersion\":\"1.0.2\",\"process\":{\"args\":[\"a\"],\"cwd\":\"/\"},\"annotations\":{\"dev.shim.module\":\"sha256:2194f0d23626e6104d4a7a891350fbd0e82a54a29dd596a672d41474e9b6ee0a\"}}"}
-{"op":"create","id":"b","config":"{\"ociVersion\":\"1.0.2\",\"process\":{\"args\":[\"a\"],\"cwd\":\"/\"},\"annotations\":{\"dev.shim.module\":\"sha256:2194f0d23626e6104d4a7a891350fbd0e82a54a29dd596a672d41474e9b6ee0a\"}}"}
+    r#"{"op":"put","hex":"0061736d0100000001080260017f0060000002240116776173695f736e617073686f745f70726576696577310970726f635f65786974000003020101070a01065f737461727400010a1a011801017f0340200041016a220041b817490d000b410710000b"}
+{"op":"create","id":"a","config":"{\"ociVersion\":\"1.0.2\",\"process\":{\"args\":[\"a\"],\"cwd\":\"/\"},\"annotations\":{\"dev.shim.module\":\"sha256:fa76229e32d9d57d26199a7ff36258690908fe7df8763ab6adeae95bc78c6382\"}}"}
+{"op":"create","id":"b","config":"{\"ociVersion\":\"1.0.2\",\"process\":{\"args\":[\"a\"],\"cwd\":\"/\"},\"annotations\":{\"dev.shim.module\":\"sha256:fa76229e32d9d57d26199a7ff36258690908fe7df8763ab6adeae95bc78c6382\"}}"}
 {"op":"start","id":"a"}
 {"op":"start","id":"b"}
 {}
@@ -37,15 +37,15 @@ pub const RUN_LINES: &str =
 
 /// What they are answered, if workers run the tasks.
 pub const RUN_ANSWERS: &str =
-    r#"{"digest":"sha256:2194f0d23626e6104d4a7a891350fbd0e82a54a29dd596a672d41474e9b6ee0a","ok":true,"size":82}
+    r#"{"digest":"sha256:fa76229e32d9d57d26199a7ff36258690908fe7df8763ab6adeae95bc78c6382","ok":true,"size":100}
 {"id":"a","ok":true,"status":"created"}
 {"id":"b","ok":true,"status":"created"}
 {"id":"a","ok":true,"status":"running"}
 {"id":"b","ok":true,"status":"running"}
 {"error":"BadRequest","number":1,"ok":false}
-{"cause":"exit","exit":7,"id":"a","n":2,"ok":true,"status":"stopped"}
-{"cause":"exit","exit":7,"id":"b","n":2,"ok":true,"status":"stopped"}
-{"cause":"exit","exit":7,"id":"a","n":2,"ok":true,"status":"stopped"}
+{"cause":"exit","exit":7,"id":"a","n":24002,"ok":true,"status":"stopped"}
+{"cause":"exit","exit":7,"id":"b","n":24002,"ok":true,"status":"stopped"}
+{"cause":"exit","exit":7,"id":"a","n":24002,"ok":true,"status":"stopped"}
 "#;
 
 /// A request for a task that is not there.

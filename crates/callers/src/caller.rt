@@ -21,6 +21,9 @@ use wasm_ast::Refusal;
 /// How many bytes are kept for the line of an answer: several times what most lines and their making take.
 const SPARE_BYTES: usize = 16_384;
 
+/// How many turns a caller runs of a task that it is about to wait for.
+const SLICE_TURNS: u64 = 10_000;
+
 /// How the lines of a caller ended.
 #[derive(Clone, Copy, PartialEq, Eq, Debug)]
 pub enum Driven {
@@ -69,7 +72,7 @@ impl From<Stop> for Driven {
     }
 }
 
-// Makes a call. A wait is made once it is due.
+// Makes a call. A wait is made once it is due; the first slice of a task that no worker has yet is run here.
 fn call<J: Row, H: Wait>(
     rt: &H,
     shim: &Shim<J>,
@@ -79,7 +82,10 @@ fn call<J: Row, H: Wait>(
     ensures { IsCall seat result.0 request result.1 }
 {
     match request {
-        Request::Wait { id } => shim.wait(rt, seat, id),
+        Request::Wait { id } => {
+            shim.run_waiting(rt, &id, SLICE_TURNS);
+            shim.wait(rt, seat, id)
+        }
         other => shim.call(rt, seat, other),
     }
 }

@@ -25,7 +25,8 @@ pub trait Lender {
 
     /// Lets the ticket's task wait for a worker if a worker sleeps in `next`, and wakes it; else gives the ticket
     /// back.
-    fn offer<W: Wait>(&self, rt: &W, ticket: Ticket) -> Option<Ticket>;
+    fn offer<W: Wait>(&self, rt: &W, ticket: Ticket) -> Option<Ticket>
+        ensures { IfSome result (λ t. t ≡ ticket) };
 
     /// The ticket of the task that has waited longest for a worker, which waits no more. None if none waits.
     fn next_waiting<W: Wait>(&self, rt: &W) -> Option<Ticket>;
