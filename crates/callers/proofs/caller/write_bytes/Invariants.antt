@@ -1,9 +1,0 @@
-use Rattle.std.proofs.Common.{◌≤◌, length, take}
-use Rattle.std.specs.Io.KnownBytes.{Appends}
-use Rattle.callers.proofs.caller.write_bytes.Given as goal
-
--- the bytes before `at` are written
-abbrev pub invariant-loop : goal.invariant-loop
-invariant-loop g l =
-    (l.at ≤ length l.bytes)
-    × Appends (g.W.Write.contents l.fn.writer) (g.W.Write.contents l.writer) (take l.at l.bytes)
