@@ -5,6 +5,7 @@ pub mod PlaceExact
 pub mod PlacesOfModules
 pub mod WorkedPlaces
 pub mod OperandLemmas
+pub mod GroupLemmas
 pub mod AccessLemmas
 pub mod CountLemmas
 pub mod ConstantLemmas

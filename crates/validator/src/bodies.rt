@@ -4,7 +4,7 @@ ghost use Rattle.std.specs.Prelude.{◌≡◌, ◌<◌, ◌≤◌, ◌+◌, ◌�
 ghost use Rattle.wasm_ast.specs.Syntax.{count, ops_count};
 ghost use Rattle.wasm_ast.specs.View.{op_of};
 ghost use Rattle.validator.specs.Inside.Algorithm.{after_i32, encloses, ends, start, check_op, check_ops};
-ghost use Rattle.validator.specs.Inside.Blocks.{Blocks, Leads, inside, begun, IsOuter};
+ghost use Rattle.validator.specs.Inside.Blocks.{Blocks, Leads, IsOuter};
 ghost use Rattle.validator.specs.Inside.CheckErrors.{IsLater};
 ghost use Rattle.validator.specs.declared.check_error.BodyError.TheVariants.{Invalid};
 ghost use Rattle.validator.specs.Inside.FunctionContext.{context_of, func_type_of};
@@ -23,12 +23,13 @@ use wasm_ast::{Body, Instr, ValType};
 fn open<'a>(
     labels: &mut Labels<'a>,
     label: &'a [ValType],
-    params: &[ValType],
-    operands: &mut Operands,
+    params: &'a [ValType],
+    operands: &mut Operands<'a>,
 ) -> Result<Outer, AllocError>
-    ensures outer { IfOk result (λ outer. IsOuter outer operands.old) }
+    ensures outer { IfOk result (λ outer. IsOuter outer operands.old operands.new.outside) }
+    ensures within { IfOk result (λ outer. outer.base ≤ length operands.new.outside) }
     ensures labels { OnOk result (labels.new ≡ label.now ∷ labels.old) }
-    ensures operands { OnOk result (operands.new ≡ begun params.now operands.old) }
+    ensures operands { OnOk result (operands.new.stack ≡ start params.now) }
 {
     labels.push(label)?;
     let outer = operands.enter();
@@ -41,13 +42,13 @@ fn close(
     labels: &mut Labels<'_>,
     outer: Outer,
     results: &[ValType],
-    operands: &mut Operands,
+    operands: &mut Operands<'_>,
 ) -> bool
     requires { outer.base ≤ length operands.old.outside }
     ensures ends { result ≡ ends results.now (Some operands.old.stack) }
     ensures labels { labels.new ≡ drop 1 labels.old }
-    ensures operands { IsTrue result → (o : Blocks) → IsOuter outer o
-        → operands.old.outside ≡ (inside o).outside → operands.new ≡ o }
+    ensures operands { IsTrue result → (o : Blocks) → IsOuter outer o operands.old.outside
+        → operands.new ≡ o }
 {
     labels.pop();
     if !operands.end(results) {
@@ -64,7 +65,7 @@ pub fn check_instr<'a>(
     function: &Function<'a>,
     labels: &mut Labels<'a>,
     instr: &Instr,
-    operands: &mut Operands,
+    operands: &mut Operands<'a>,
 ) -> Result<(), BodyError>
     ensures ok { OnOk result
         (Leads (check_op (context_of function.now labels.old) (op_of instr.now))
@@ -106,7 +107,7 @@ fn check_block<'a>(
     types: BlockTypes<'a>,
     label: &'a [ValType],
     body: &Body,
-    operands: &mut Operands,
+    operands: &mut Operands<'a>,
 ) -> Result<(), BodyError>
     ensures ok { OnOk result (let t = func_type_of types.entry in
         let context = context_of function.now (label.now ∷ labels.old) in
@@ -135,7 +136,7 @@ fn check_if<'a>(
     types: BlockTypes<'a>,
     then_arm: &Body,
     else_arm: &Body,
-    operands: &mut Operands,
+    operands: &mut Operands<'a>,
 ) -> Result<(), BodyError>
     ensures ok { OnOk result (let t = func_type_of types.entry in
         let context = context_of function.now (t.results ∷ labels.old) in
@@ -170,7 +171,7 @@ fn check_else<'a>(
     types: BlockTypes<'a>,
     then_arm: &Body,
     else_arm: &Body,
-    operands: &mut Operands,
+    operands: &mut Operands<'a>,
 ) -> Result<(), BodyError>
     ensures ok { OnOk result (let t = func_type_of types.entry in
         let context = context_of function.now (t.results ∷ labels.old) in
@@ -198,7 +199,7 @@ fn check_arm<'a>(
     types: BlockTypes<'a>,
     label: &'a [ValType],
     body: &Body,
-    operands: &mut Operands,
+    operands: &mut Operands<'a>,
 ) -> Result<(), BodyError>
     ensures ok { OnOk result (let t = func_type_of types.entry in
         let context = context_of function.now (label.now ∷ labels.old) in
@@ -226,7 +227,7 @@ pub fn check_body<'a>(
     types: BlockTypes<'a>,
     label: &'a [ValType],
     body: &Body,
-    operands: &mut Operands,
+    operands: &mut Operands<'a>,
 ) -> Result<bool, BodyError>
     ensures ok { IfOk result (λ passes. let t = func_type_of types.entry in
         let context = context_of function.now (label.now ∷ labels.old) in
@@ -249,7 +250,7 @@ fn check_instrs<'a>(
     function: &Function<'a>,
     labels: &mut Labels<'a>,
     body: &Body,
-    operands: &mut Operands,
+    operands: &mut Operands<'a>,
 ) -> Result<(), BodyError>
     ensures ok { OnOk result
         (Leads (check_ops (context_of function.now labels.old) body.now)

@@ -1,48 +1,50 @@
 //! The types of the operands that are known while a body is checked (appendix A.3).
 
-ghost use Rattle.std.specs.Prelude.{◌≡◌, ◌∷◌, ◌++◌, ◌≤◌, [], IfSome, IsTrue, OnOk, length, reverse, take, drop, false, None, Some};
+ghost use Rattle.std.specs.Prelude.{◌≡◌, ◌∷◌, ◌++◌, ◌≤◌, ◌<◌, [], IfOk, IfSome, IsTrue, OnOk, length, reverse, take, false, None, Some};
 ghost use Rattle.wasm_ast.specs.declared.values.ValType.{ValType};
-ghost use Rattle.validator.specs.Inside.Algorithm.{is_same, can_be, pop_any, pop, pops, knowns, nowhere, is_empty, ends};
-ghost use Rattle.validator.specs.Inside.Blocks.{Blocks, with_operands, Takes, KeepsRest, inside, IsOuter};
+ghost use Rattle.validator.specs.Inside.Algorithm.{pop_any, pop, pops, knowns, nowhere, is_empty, ends, start};
+ghost use Rattle.validator.specs.Inside.Blocks.{Blocks, group_types, with_operands, Takes, KeepsRest, IsOuter};
 
+use crate::comparisons::can_be;
+use crate::groups::{Group, leave_of_last};
 use std::alloc::{AllocError, Global};
 use std::marker::Model;
 use wasm_ast::ValType;
 
-/// The operands of all blocks that are open, the newest last, and None for one whose type is not
-/// known. Contracts see those of the innermost block as a stack.
+/// The operands of all blocks that are open, in groups, the newest last. Contracts see those of the
+/// innermost block as a stack.
 #[derive(Drop)]
-pub struct Operands {
-    types: Vec<Option<ValType>>,
-    /// How many of them are of the blocks outside the innermost one.
+pub struct Operands<'a> {
+    groups: Vec<Group<'a>>,
+    /// How many of the groups are of the blocks outside the innermost one.
     base: usize,
     /// Whether the point that is checked is unreachable.
     unreachable: bool,
 }
 
-impl Model for Operands {
-    ghost use Rattle.validator.specs.Inside.Blocks.{Blocks};
+impl<'a> Model for Operands<'a> {
+    ghost use Rattle.validator.specs.Inside.Blocks.{Blocks, group_types, types_of};
 
     ghost Value = { Blocks };
 
-    ghost use Rattle.std.specs.Prelude.{◌≤◌, take, drop, reverse, length};
+    ghost use Rattle.std.specs.Prelude.{◌≤◌, take, drop, map, length};
 
     ghost view = { λ o. record {
-      outside = take o.base o.types.items;
-      stack = record { unreachable = o.unreachable; types = reverse (drop o.base o.types.items) };
+      outside = map group_types (take o.base o.groups.items);
+      stack = record { unreachable = o.unreachable; types = types_of (drop o.base o.groups.items) };
     } };
 
-    ghost invariant = { λ o. o.base ≤ length o.types.items };
+    ghost invariant = { λ o. o.base ≤ length o.groups.items };
 }
 
-impl Operands {
+impl<'a> Operands<'a> {
     /// No operands. No memory is taken.
-    pub fn new(alloc: Global) -> Operands
+    pub fn new(alloc: Global) -> Operands<'a>
         ensures { result
             ≡ record { outside = []; stack = record { unreachable = false; types = [] } } }
     {
         Operands {
-            types: Vec::new(alloc),
+            groups: Vec::new(alloc),
             base: 0,
             unreachable: false,
         }
@@ -52,7 +54,26 @@ impl Operands {
     pub fn push(&mut self, operand: Option<ValType>) -> Result<(), AllocError>
         ensures { OnOk result (self.new ≡ with_operands self.old (operand ∷ self.old.stack.types)) }
     {
-        self.types.push(operand)?;
+        self.push_group(Group::one(operand))
+    }
+
+    /// Puts operands of these types on top, which are in written order.
+    pub fn push_all(&mut self, types: &'a [ValType]) -> Result<(), AllocError>
+        ensures { OnOk result (self.new
+            ≡ with_operands self.old (knowns (reverse types.now) ++ self.old.stack.types)) }
+    {
+        match Group::known(types) {
+            Some(group) => self.push_group(group),
+            None => Ok(()),
+        }
+    }
+
+    // Puts the operands of a group on top.
+    fn push_group(&mut self, group: Group<'a>) -> Result<(), AllocError>
+        ensures { OnOk result (self.new
+            ≡ with_operands self.old (group_types group.entry ++ self.old.stack.types)) }
+    {
+        self.groups.push(group)?;
         Ok(())
     }
 
@@ -64,11 +85,11 @@ impl Operands {
             pop_any old.unreachable old.types ≡ None }
         ensures rest { KeepsRest self.old self.new }
     {
-        let height = self.types.len();
+        let height = self.groups.len();
         if height > self.base {
-            let operand = self.types[height - 1];
-            self.types.truncate(height - 1);
-            Some(operand)
+            let group = self.groups[height - 1];
+            leave_of_last(&mut self.groups, group.below);
+            Some(group.newest)
         } else if self.unreachable {
             Some(None)
         } else {
@@ -77,7 +98,7 @@ impl Operands {
     }
 }
 
-impl Operands {
+impl<'a> Operands<'a> {
     /// Takes the newest operand if it can be of this type.
     pub fn pop(&mut self, expected: ValType) -> bool
         ensures takes { Takes result (λ unreachable. pop unreachable expected) self.old self.new }
@@ -97,30 +118,41 @@ impl Operands {
     {
         let mut left = types.len();
         while left > 0 {
-            left -= 1;
-            if !self.pop(types[left]) {
+            let Some(others) = self.pop_group(&types[..left]) else {
                 return false;
-            }
+            };
+            left = others;
         }
         true
     }
 
-    /// Puts operands of these types on top, which are in written order.
-    pub fn push_all(&mut self, types: &[ValType]) -> Result<(), AllocError>
-        ensures { OnOk result (self.new
-            ≡ with_operands self.old (knowns (reverse types.now) ++ self.old.stack.types)) }
+    // Takes operands of these types, as far as there are some in the newest group. Gives how many of
+    // the types are still to be taken, or None if an operand cannot be of its type. At an unreachable
+    // point where none is known, all are taken.
+    fn pop_group(&mut self, types: &[ValType]) -> Option<usize>
+        requires { 0 < length types.now }
+        ensures some { IfSome result (λ left. let old = self.old.stack in
+            pops old.unreachable (reverse types.now) old.types
+            ≡ pops old.unreachable (reverse (take left types.now)) self.new.stack.types) }
+        ensures fewer { IfSome result (λ left. left < length types.now) }
+        ensures none { result ≡ None → let old = self.old.stack in
+            pops old.unreachable (reverse types.now) old.types ≡ None }
+        ensures rest { KeepsRest self.old self.new }
     {
-        for val_type in types {
-            self.push(Some(*val_type))?;
+        let count = self.groups.len();
+        if count == self.base {
+            return self.unreachable.then_some(0);
         }
-        Ok(())
+        let remains = self.groups[count - 1].take(types)?;
+        leave_of_last(&mut self.groups, remains.left);
+        Some(remains.wanted)
     }
 
     /// Removes the operands of the block: the instructions that follow in it are not reached.
     pub fn stop(&mut self)
         ensures { self.new ≡ record { outside = self.old.outside; stack = nowhere } }
     {
-        self.types.truncate(self.base);
+        self.groups.truncate(self.base);
         self.unreachable = true;
     }
 
@@ -137,14 +169,18 @@ impl Operands {
     fn is_empty(&self) -> bool
         ensures { result ≡ is_empty (Some self.now.stack.types) }
     {
-        self.types.len() == self.base
+        self.groups.len() == self.base
     }
 
-    /// The operands of the innermost block, the newest last.
-    pub fn known(&self) -> &[Option<ValType>]
-        ensures { reverse result.now ≡ self.now.stack.types }
+    /// The operands of the innermost block one by one, the newest last.
+    pub fn spread(&self, alloc: Global) -> Result<Vec<Option<ValType>>, AllocError>
+        ensures { IfOk result (λ types. reverse types.items ≡ self.now.stack.types) }
     {
-        &self.types[self.base..]
+        let mut types = Vec::new(alloc);
+        for group in &self.groups[self.base..] {
+            group.spread(&mut types)?;
+        }
+        Ok(types)
     }
 
     /// Whether the point that is checked is unreachable.
@@ -156,14 +192,15 @@ impl Operands {
 
     /// Begins a block, without operands. What is returned goes to `leave`.
     pub fn enter(&mut self) -> Outer
-        ensures outer { IsOuter result self.old }
-        ensures new { self.new ≡ inside self.old }
+        ensures outer { IsOuter result self.old self.new.outside }
+        ensures within { result.base ≤ length self.new.outside }
+        ensures new { self.new.stack ≡ start [] }
     {
         let outer = Outer {
             base: self.base,
             unreachable: self.unreachable,
         };
-        self.base = self.types.len();
+        self.base = self.groups.len();
         self.unreachable = false;
         outer
     }
@@ -172,8 +209,7 @@ impl Operands {
     pub fn leave(&mut self, outer: Outer)
         requires within { outer.base ≤ length self.old.outside }
         requires none { self.old.stack.types ≡ [] }
-        ensures { (o : Blocks) → IsOuter outer o → self.old.outside ≡ (inside o).outside
-            → self.new ≡ o }
+        ensures { (o : Blocks) → IsOuter outer o self.old.outside → self.new ≡ o }
     {
         self.base = outer.base;
         self.unreachable = outer.unreachable;
@@ -185,24 +221,4 @@ impl Operands {
 pub struct Outer {
     pub base: usize,
     pub unreachable: bool,
-}
-
-/// Whether two types are the same.
-pub fn is_same(left: ValType, right: ValType) -> bool
-    ensures { result ≡ is_same left right }
-{
-    match (left, right) {
-        (ValType::I32, ValType::I32) | (ValType::I64, ValType::I64) => true,
-        _ => false,
-    }
-}
-
-/// Whether an operand can be of this type.
-pub fn can_be(expected: ValType, operand: Option<ValType>) -> bool
-    ensures { result ≡ can_be expected operand }
-{
-    match operand {
-        None => true,
-        Some(known) => is_same(expected, known),
-    }
 }

@@ -4,7 +4,7 @@ ghost use Rattle.std.specs.Prelude.{◌≡◌, ◌∷◌, [], OnOk, Err, Some, N
 ghost use Rattle.wasm_ast.specs.Limits.{are_all};
 ghost use Rattle.wasm_ast.specs.Types.{func_types};
 ghost use Rattle.wasm_ast.specs.Access.{load_type, load_bytes, store_type, store_bytes};
-ghost use Rattle.validator.specs.Inside.Algorithm.{are_same, is_label, replaced, branch, branch_if, branch_table, call, call_indirect, check_local, local_op, check_global, global_op, with_memory, access, check_simple};
+ghost use Rattle.validator.specs.Inside.Algorithm.{is_label, replaced, branch, branch_if, branch_table, call, call_indirect, check_local, local_op, check_global, global_op, with_memory, access, check_simple};
 ghost use Rattle.validator.specs.Inside.Blocks.{Leads};
 ghost use Rattle.validator.specs.Inside.FunctionContext.{context_of, locals_of};
 
@@ -12,20 +12,21 @@ use crate::access::{
     is_aligned, load_bytes, load_type, source_of, store_bytes, store_type, target_of, type_of,
 };
 use crate::check_error::CheckError;
+use crate::comparisons::are_same;
 use crate::function::Function;
 use crate::labels::Labels;
-use crate::operands::{Operands, is_same};
+use crate::operands::Operands;
 use crate::steps::{combine, convert, discard, give, leave, replace, select, take, take_two};
 use wasm_ast::{
     FuncType, Global, GlobalOp, LoadOp, LocalOp, Module, Mutability, Simple, StoreOp, ValType,
 };
 
 /// One instruction without a body, in a function and inside these labels.
-pub fn check_simple(
-    function: &Function<'_>,
-    labels: &Labels<'_>,
+pub fn check_simple<'a>(
+    function: &Function<'a>,
+    labels: &Labels<'a>,
     simple: &Simple,
-    operands: &mut Operands,
+    operands: &mut Operands<'a>,
 ) -> Result<(), CheckError>
     ensures ok { OnOk result
         (Leads (check_simple (context_of function.now labels.now) simple.now)
@@ -67,7 +68,11 @@ pub fn check_simple(
     }
 }
 
-fn check_branch(labels: &Labels<'_>, label: u32, operands: &mut Operands) -> Result<(), CheckError>
+fn check_branch(
+    labels: &Labels<'_>,
+    label: u32,
+    operands: &mut Operands<'_>,
+) -> Result<(), CheckError>
     ensures ok { OnOk result (Leads (branch labels.now label) operands.old operands.new) }
     ensures invalid { result ≡ Err CheckError.Invalid
         → branch labels.now label operands.old.stack ≡ None }
@@ -78,10 +83,10 @@ fn check_branch(labels: &Labels<'_>, label: u32, operands: &mut Operands) -> Res
     leave(operands, types)
 }
 
-fn check_branch_if(
-    labels: &Labels<'_>,
+fn check_branch_if<'a>(
+    labels: &Labels<'a>,
     label: u32,
-    operands: &mut Operands,
+    operands: &mut Operands<'a>,
 ) -> Result<(), CheckError>
     ensures ok { OnOk result (Leads (branch_if labels.now label) operands.old operands.new) }
     ensures invalid { result ≡ Err CheckError.Invalid
@@ -100,7 +105,7 @@ fn check_branch_table(
     labels: &Labels<'_>,
     list: &[u32],
     other: u32,
-    operands: &mut Operands,
+    operands: &mut Operands<'_>,
 ) -> Result<(), CheckError>
     ensures ok { OnOk result
         (Leads (branch_table labels.now list.now other) operands.old operands.new) }
@@ -137,22 +142,7 @@ fn is_label(labels: &Labels<'_>, types: &[ValType], label: u32) -> bool
     }
 }
 
-// Whether two lists of types are the same.
-fn are_same(types: &[ValType], others: &[ValType]) -> bool
-    ensures { result ≡ are_same types.now others.now }
-{
-    if types.len() != others.len() {
-        return false;
-    }
-    for (i, val_type) in types.iter().enumerate() {
-        if !is_same(*val_type, others[i]) {
-            return false;
-        }
-    }
-    true
-}
-
-fn check_call(of: &Module, func: u32, operands: &mut Operands) -> Result<(), CheckError>
+fn check_call<'a>(of: &'a Module, func: u32, operands: &mut Operands<'a>) -> Result<(), CheckError>
     ensures ok { OnOk result (Leads (call (func_types of.now) func) operands.old operands.new) }
     ensures invalid { result ≡ Err CheckError.Invalid
         → call (func_types of.now) func operands.old.stack ≡ None }
@@ -164,7 +154,7 @@ fn check_call(of: &Module, func: u32, operands: &mut Operands) -> Result<(), Che
 }
 
 // Operands of a function's parameters become operands of its results.
-fn apply(func_type: &FuncType, operands: &mut Operands) -> Result<(), CheckError>
+fn apply<'a>(func_type: &'a FuncType, operands: &mut Operands<'a>) -> Result<(), CheckError>
     ensures ok { OnOk result
         (Leads (replaced func_type.now.params func_type.now.results) operands.old operands.new) }
     ensures invalid { result ≡ Err CheckError.Invalid
@@ -177,10 +167,10 @@ fn apply(func_type: &FuncType, operands: &mut Operands) -> Result<(), CheckError
     )
 }
 
-fn check_call_indirect(
-    function: &Function<'_>,
+fn check_call_indirect<'a>(
+    function: &Function<'a>,
     index: u32,
-    operands: &mut Operands,
+    operands: &mut Operands<'a>,
 ) -> Result<(), CheckError>
     ensures ok { OnOk result (let of = function.now.of.now in
         Leads (call_indirect of.types of.tables index) operands.old operands.new) }
@@ -203,7 +193,7 @@ fn check_local(
     function: &Function<'_>,
     op: LocalOp,
     index: u32,
-    operands: &mut Operands,
+    operands: &mut Operands<'_>,
 ) -> Result<(), CheckError>
     ensures ok { OnOk result
         (Leads (local_op (locals_of function.now) op index) operands.old operands.new) }
@@ -224,7 +214,7 @@ fn check_global(
     function: &Function<'_>,
     op: GlobalOp,
     index: u32,
-    operands: &mut Operands,
+    operands: &mut Operands<'_>,
 ) -> Result<(), CheckError>
     ensures ok { OnOk result
         (Leads (global_op function.now.of.now.globals op index) operands.old operands.new) }
@@ -237,7 +227,11 @@ fn check_global(
     access_global(global, op, operands)
 }
 
-fn access_global(global: &Global, op: GlobalOp, operands: &mut Operands) -> Result<(), CheckError>
+fn access_global(
+    global: &Global,
+    op: GlobalOp,
+    operands: &mut Operands<'_>,
+) -> Result<(), CheckError>
     ensures ok { OnOk result (Leads (check_global op global.now) operands.old operands.new) }
     ensures invalid { result ≡ Err CheckError.Invalid
         → check_global op global.now operands.old.stack ≡ None }
@@ -253,7 +247,7 @@ fn check_load(
     function: &Function<'_>,
     op: LoadOp,
     align: u32,
-    operands: &mut Operands,
+    operands: &mut Operands<'_>,
 ) -> Result<(), CheckError>
     ensures ok { OnOk result (Leads (access function.now.of.now.memories align (load_bytes op)
         (ValType.I32 ∷ []) (load_type op ∷ [])) operands.old operands.new) }
@@ -270,7 +264,7 @@ fn check_store(
     function: &Function<'_>,
     op: StoreOp,
     align: u32,
-    operands: &mut Operands,
+    operands: &mut Operands<'_>,
 ) -> Result<(), CheckError>
     ensures ok { OnOk result (Leads (access function.now.of.now.memories align (store_bytes op)
         (ValType.I32 ∷ store_type op ∷ []) []) operands.old operands.new) }
@@ -283,7 +277,7 @@ fn check_store(
     take_two(operands, ValType::I32, store_type(op))
 }
 
-fn check_memory_size(function: &Function<'_>, operands: &mut Operands) -> Result<(), CheckError>
+fn check_memory_size(function: &Function<'_>, operands: &mut Operands<'_>) -> Result<(), CheckError>
     ensures ok { OnOk result (Leads (with_memory function.now.of.now.memories [] (ValType.I32 ∷ []))
         operands.old operands.new) }
     ensures invalid { result ≡ Err CheckError.Invalid
@@ -295,7 +289,7 @@ fn check_memory_size(function: &Function<'_>, operands: &mut Operands) -> Result
     give(operands, ValType::I32)
 }
 
-fn check_memory_grow(function: &Function<'_>, operands: &mut Operands) -> Result<(), CheckError>
+fn check_memory_grow(function: &Function<'_>, operands: &mut Operands<'_>) -> Result<(), CheckError>
     ensures ok { OnOk result (Leads
         (with_memory function.now.of.now.memories (ValType.I32 ∷ []) (ValType.I32 ∷ []))
         operands.old operands.new) }

@@ -5,14 +5,15 @@ ghost use Rattle.validator.specs.Inside.Algorithm.{pop_any, pop, join, replaced,
 ghost use Rattle.validator.specs.Inside.Blocks.{Leads};
 
 use crate::check_error::CheckError;
-use crate::operands::{Operands, can_be};
+use crate::comparisons::can_be;
+use crate::operands::Operands;
 use wasm_ast::ValType;
 
 /// Operands of the first types, in written order, become operands of the second.
-pub fn replace(
-    operands: &mut Operands,
+pub fn replace<'a>(
+    operands: &mut Operands<'a>,
     takes: &[ValType],
-    gives: &[ValType],
+    gives: &'a [ValType],
 ) -> Result<(), CheckError>
     ensures ok { OnOk result (Leads (replaced takes.now gives.now) operands.old operands.new) }
     ensures invalid { result ≡ Err CheckError.Invalid
@@ -26,7 +27,7 @@ pub fn replace(
 }
 
 /// An operand is put on top.
-pub fn give(operands: &mut Operands, gives: ValType) -> Result<(), CheckError>
+pub fn give(operands: &mut Operands<'_>, gives: ValType) -> Result<(), CheckError>
     ensures ok { OnOk result (Leads (replaced [] (gives ∷ [])) operands.old operands.new) }
     ensures invalid { result ≡ Err CheckError.Invalid
         → replaced [] (gives ∷ []) operands.old.stack ≡ None }
@@ -36,7 +37,7 @@ pub fn give(operands: &mut Operands, gives: ValType) -> Result<(), CheckError>
 }
 
 /// An operand is taken.
-pub fn take(operands: &mut Operands, takes: ValType) -> Result<(), CheckError>
+pub fn take(operands: &mut Operands<'_>, takes: ValType) -> Result<(), CheckError>
     ensures ok { OnOk result (Leads (replaced (takes ∷ []) []) operands.old operands.new) }
     ensures invalid { result ≡ Err CheckError.Invalid
         → replaced (takes ∷ []) [] operands.old.stack ≡ None }
@@ -49,7 +50,11 @@ pub fn take(operands: &mut Operands, takes: ValType) -> Result<(), CheckError>
 }
 
 /// An operand becomes another.
-pub fn convert(operands: &mut Operands, takes: ValType, gives: ValType) -> Result<(), CheckError>
+pub fn convert(
+    operands: &mut Operands<'_>,
+    takes: ValType,
+    gives: ValType,
+) -> Result<(), CheckError>
     ensures ok { OnOk result
         (Leads (replaced (takes ∷ []) (gives ∷ [])) operands.old operands.new) }
     ensures invalid { result ≡ Err CheckError.Invalid
@@ -63,7 +68,11 @@ pub fn convert(operands: &mut Operands, takes: ValType, gives: ValType) -> Resul
 }
 
 /// Two operands of a type become one.
-pub fn combine(operands: &mut Operands, takes: ValType, gives: ValType) -> Result<(), CheckError>
+pub fn combine(
+    operands: &mut Operands<'_>,
+    takes: ValType,
+    gives: ValType,
+) -> Result<(), CheckError>
     ensures ok { OnOk result
         (Leads (replaced (takes ∷ takes ∷ []) (gives ∷ [])) operands.old operands.new) }
     ensures invalid { result ≡ Err CheckError.Invalid
@@ -76,7 +85,7 @@ pub fn combine(operands: &mut Operands, takes: ValType, gives: ValType) -> Resul
 }
 
 /// Two operands are taken, the second type on top.
-pub fn take_two(operands: &mut Operands, below: ValType, top: ValType) -> Result<(), CheckError>
+pub fn take_two(operands: &mut Operands<'_>, below: ValType, top: ValType) -> Result<(), CheckError>
     ensures ok { OnOk result
         (Leads (replaced (below ∷ top ∷ []) []) operands.old operands.new) }
     ensures invalid { result ≡ Err CheckError.Invalid
@@ -89,7 +98,7 @@ pub fn take_two(operands: &mut Operands, below: ValType, top: ValType) -> Result
 }
 
 /// Operands of these types are taken, and what follows is not reached.
-pub fn leave(operands: &mut Operands, takes: &[ValType]) -> Result<(), CheckError>
+pub fn leave(operands: &mut Operands<'_>, takes: &[ValType]) -> Result<(), CheckError>
     ensures ok { OnOk result (Leads (leaves takes.now) operands.old operands.new) }
     ensures invalid { result ≡ Err CheckError.Invalid → leaves takes.now operands.old.stack ≡ None }
 {
@@ -101,7 +110,7 @@ pub fn leave(operands: &mut Operands, takes: &[ValType]) -> Result<(), CheckErro
 }
 
 /// The newest operand is taken, whatever its type.
-pub fn discard(operands: &mut Operands) -> Result<(), CheckError>
+pub fn discard(operands: &mut Operands<'_>) -> Result<(), CheckError>
     ensures ok { OnOk result (Leads drops operands.old operands.new) }
     ensures invalid { result ≡ Err CheckError.Invalid → drops operands.old.stack ≡ None }
 {
@@ -112,7 +121,7 @@ pub fn discard(operands: &mut Operands) -> Result<(), CheckError>
 }
 
 /// `select` (3.3.2): after an i32, two operands of one type become one.
-pub fn select(operands: &mut Operands) -> Result<(), CheckError>
+pub fn select(operands: &mut Operands<'_>) -> Result<(), CheckError>
     ensures ok { OnOk result (Leads (after_i32 joins) operands.old operands.new) }
     ensures invalid { result ≡ Err CheckError.Invalid → after_i32 joins operands.old.stack ≡ None }
 {
@@ -126,7 +135,7 @@ pub fn select(operands: &mut Operands) -> Result<(), CheckError>
 }
 
 // The next operand and this one become one.
-fn join_next(operands: &mut Operands, first: Option<ValType>) -> Result<(), CheckError>
+fn join_next(operands: &mut Operands<'_>, first: Option<ValType>) -> Result<(), CheckError>
     ensures ok { OnOk result (Leads (joins_next first) operands.old operands.new) }
     ensures invalid { result ≡ Err CheckError.Invalid → joins_next first operands.old.stack ≡ None }
 {

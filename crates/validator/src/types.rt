@@ -9,11 +9,19 @@ use std::alloc::{AllocError, Global};
 use std::marker::Model;
 use wasm_ast::ValType;
 
+/// The operands of a block that is open.
+#[derive(Drop)]
+struct OpenBlock {
+    /// Their types, the newest last.
+    types: Vec<Option<ValType>>,
+    unreachable: bool,
+}
+
 /// The operands of each block that is open. Contracts see the innermost block's first.
 #[derive(Drop)]
 pub struct Stacks {
     alloc: Global,
-    operands: Vec<Operands>,
+    blocks: Vec<OpenBlock>,
 }
 
 impl Model for Stacks {
@@ -24,7 +32,8 @@ impl Model for Stacks {
 
     ghost use Rattle.std.specs.Prelude.{map, reverse};
 
-    ghost view = { λ s. reverse (map (λ o. o.stack) s.operands.items) };
+    ghost view = { λ s. reverse (map
+        (λ b. record { unreachable = b.unreachable; types = reverse b.types.items }) s.blocks.items) };
 }
 
 impl Stacks {
@@ -34,12 +43,12 @@ impl Stacks {
     {
         Stacks {
             alloc,
-            operands: Vec::new(alloc),
+            blocks: Vec::new(alloc),
         }
     }
 
     /// The operands of a block that has none yet. No memory is taken.
-    pub fn begin(&self) -> Operands
+    pub fn begin<'a>(&self) -> Operands<'a>
         ensures { result
             ≡ record { outside = []; stack = record { unreachable = false; types = [] } } }
     {
@@ -47,23 +56,32 @@ impl Stacks {
     }
 
     /// Adds the operands of a block inside all others.
-    pub fn push(&mut self, operands: Operands) -> Result<(), AllocError>
-        ensures { OnOk result (self.new ≡ operands.stack ∷ self.old) }
+    pub fn push(&mut self, operands: Operands<'_>) -> Result<(), AllocError>
+        ensures { OnOk result (self.new ≡ operands.entry.stack ∷ self.old) }
     {
-        self.operands.push(operands)?;
+        let block = OpenBlock {
+            types: operands.spread(self.alloc)?,
+            unreachable: operands.is_unreachable(),
+        };
+        self.blocks.push(block)?;
         Ok(())
     }
 
     /// The operands of the block with this index, the innermost one being 0.
-    pub fn get(&self, block: u32) -> Option<&Operands>
+    pub fn get(&self, block: u32) -> Option<KnownOperands<'_>>
         ensures { MatchOption result
             (slice_get self.now block ≡ None)
-            (λ operands. slice_get self.now block ≡ Some operands.now.stack) }
+            (λ o. slice_get self.now block
+            ≡ Some (record { unreachable = o.unreachable; types = reverse o.types.now })) }
     {
-        let count = self.operands.len();
+        let count = self.blocks.len();
         let index = block as usize;
         if index < count {
-            Some(&self.operands[count - 1 - index])
+            let found = &self.blocks[count - 1 - index];
+            Some(KnownOperands {
+                types: found.types.as_slice(),
+                unreachable: found.unreachable,
+            })
         } else {
             None
         }
@@ -125,10 +143,6 @@ impl<'a> Types<'a> {
             (λ o. slice_get self.now.stacks block
             ≡ Some (record { unreachable = o.unreachable; types = reverse o.types.now })) }
     {
-        let operands = self.stacks.get(block)?;
-        Some(KnownOperands {
-            types: operands.known(),
-            unreachable: operands.is_unreachable(),
-        })
+        self.stacks.get(block)
     }
 }

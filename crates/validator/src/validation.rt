@@ -114,7 +114,7 @@ fn check_func<'a>(
     of: &'a Module,
     func: &'a Func,
     labels: &mut Labels<'a>,
-    operands: &mut Operands,
+    operands: &mut Operands<'a>,
 ) -> Result<(), BodyError>
     requires { labels.old ≡ [] }
     ensures valid { OnOk result (ValidBody of.now func.now) }
@@ -137,7 +137,7 @@ fn check_func<'a>(
 fn check_whole<'a>(
     function: &Function<'a>,
     labels: &mut Labels<'a>,
-    operands: &mut Operands,
+    operands: &mut Operands<'a>,
 ) -> Result<(), BodyError>
     requires { labels.old ≡ [] }
     ensures valid { OnOk result

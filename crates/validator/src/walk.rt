@@ -54,7 +54,7 @@ fn enter_body<'a>(
     labels: &mut Labels<'a>,
     stacks: &mut Stacks,
     label: &'a [ValType],
-    params: &[ValType],
+    params: &'a [ValType],
     body: &Body,
     place: u32,
 ) -> Result<(), CheckError>
@@ -79,7 +79,7 @@ fn walk_to<'a, 'b>(
     labels: &mut Labels<'a>,
     body: &'b Body,
     place: u32,
-    operands: &mut Operands,
+    operands: &mut Operands<'a>,
 ) -> Result<(&'b Instr, u32), CheckError>
     ensures ok { IfOk result (λ r. (outside : List Stack)
         → ops_known (context_of function.now labels.old) outside body.now operands.old.stack place
@@ -110,13 +110,15 @@ fn enter_instr<'a>(
     stacks: &mut Stacks,
     instr: &Instr,
     place: u32,
-    operands: Operands,
+    operands: Operands<'a>,
 ) -> Result<(), CheckError>
     ensures ok { OnOk result
-        (op_known (context_of function.now labels.old) stacks.old (op_of instr.now) operands.stack
+        (op_known (context_of function.now labels.old) stacks.old (op_of instr.now)
+        operands.entry.stack
         place ≡ Some (record { labels = labels.new; stacks = stacks.new })) }
     ensures invalid { result ≡ Err CheckError.Invalid
-        → op_known (context_of function.now labels.old) stacks.old (op_of instr.now) operands.stack
+        → op_known (context_of function.now labels.old) stacks.old (op_of instr.now)
+        operands.entry.stack
         place ≡ None }
 {
     let Some(inside) = place.checked_sub(1) else {
@@ -176,14 +178,14 @@ fn enter_block<'a>(
     label: &'a [ValType],
     body: &Body,
     place: u32,
-    mut operands: Operands,
+    mut operands: Operands<'a>,
 ) -> Result<(), CheckError>
     ensures ok { OnOk result (let t = func_type_of types.entry in
-        and_then (below t operands.stack)
+        and_then (below t operands.entry.stack)
         (λ u. ops_known (context_of function.now (label.now ∷ labels.old)) (u ∷ stacks.old) body.now
         (start t.params) place) ≡ Some (record { labels = labels.new; stacks = stacks.new })) }
     ensures invalid { result ≡ Err CheckError.Invalid → let t = func_type_of types.entry in
-        and_then (below t operands.stack)
+        and_then (below t operands.entry.stack)
         (λ u. ops_known (context_of function.now (label.now ∷ labels.old)) (u ∷ stacks.old) body.now
         (start t.params) place) ≡ None }
 {
@@ -204,16 +206,16 @@ fn enter_if<'a>(
     then_arm: &Body,
     else_arm: &Body,
     place: u32,
-    mut operands: Operands,
+    mut operands: Operands<'a>,
 ) -> Result<(), CheckError>
     ensures ok { OnOk result (let t = func_type_of types.entry in
         let context = context_of function.now (t.results ∷ labels.old) in
-        and_then (after_i32 (below t) operands.stack)
+        and_then (after_i32 (below t) operands.entry.stack)
         (λ u. arm_known context t (u ∷ stacks.old) then_arm.now else_arm.now place)
         ≡ Some (record { labels = labels.new; stacks = stacks.new })) }
     ensures invalid { result ≡ Err CheckError.Invalid → let t = func_type_of types.entry in
         let context = context_of function.now (t.results ∷ labels.old) in
-        and_then (after_i32 (below t) operands.stack)
+        and_then (after_i32 (below t) operands.entry.stack)
         (λ u. arm_known context t (u ∷ stacks.old) then_arm.now else_arm.now place) ≡ None }
 {
     if !operands.pop(ValType::I32) {

@@ -1,7 +1,9 @@
-use Rattle.std.proofs.Common.{Err, ap, arith}
+use Rattle.std.proofs.Common.{Err, List, Option, ap, sym, subst, arith}
+use Rattle.wasm_ast.specs.declared.values.ValType.{ValType}
 use Rattle.wasm_ast.specs.declared.instr.Instr.{Instr}
 use Rattle.wasm_ast.specs.Syntax.{Ops, count, ops_count}
 use Rattle.wasm_ast.specs.View.{op_of}
+use Rattle.validator.specs.Inside.Blocks.{IsOuter}
 use Rattle.validator.specs.declared.check_error.BodyError.TheVariants.{Invalid}
 use Rattle.validator.proofs.CountLemmas.{item_le_count, before_le_count, later_place, err_same}
 use Rattle.validator.proofs.bodies.+check.Goals as goal
@@ -22,6 +24,15 @@ check_instrs-returns-in-Err-clause-place t c at is =
     let same = ap (λ (os : Ops). ops_count os) c.loop-i.invariant.same in
     let counted = c.count_instrs.ensures in
     let later =
-    later_place c.count_instrs.result _ c.in-Err.error c.later.result at c.later.ensures (err_same c.later.result (Invalid at) is)
+    later_place c.count_instrs.result _ c.in-Err.error c.later.result at c.later.ensures
+    (err_same c.later.result (Invalid at) is)
     (λ k e. c.in-Err.ensures.place k (ap Err e)) in
     omega (arith, fits, item, same, counted, later)
+
+pub check_body-returns-clause-operands : goal.check_body-returns-clause-operands
+check_body-returns-clause-operands t c = λ passes.
+    let same = c.in_ok-check_instrs.ensures.ok.1 in
+    c.close.ensures.operands passes c.args.operands.now
+    (subst
+    (λ (groups : List (List (Option ValType))). IsOuter c.in_ok-outer.outer c.args.operands.now groups) (sym same)
+    c.in_ok-outer.ensures.outer)

@@ -6,7 +6,7 @@ use Rattle.validator.proofs.operands.Operands.is_empty.Goals as goal
 
 pub returns : goal.returns
 returns c =
-    let items = c.self.inside.types.items in
+    let items = c.self.inside.groups.items in
     let count : c.len.result ≡ length items = search rules in
     ap (λ n. nat_eq n c.self.inside.base) count
     ∙ (empty_above items c.self.inside.base c.self.invariant

@@ -1,0 +1,41 @@
+//! Whether types are the same.
+
+ghost use Rattle.std.specs.Prelude.{◌≡◌};
+ghost use Rattle.validator.specs.Inside.Algorithm.{is_same, are_same, can_be};
+
+use wasm_ast::ValType;
+
+/// Whether two types are the same.
+pub fn is_same(left: ValType, right: ValType) -> bool
+    ensures { result ≡ is_same left right }
+{
+    match (left, right) {
+        (ValType::I32, ValType::I32) | (ValType::I64, ValType::I64) => true,
+        _ => false,
+    }
+}
+
+/// Whether an operand can be of this type.
+pub fn can_be(expected: ValType, operand: Option<ValType>) -> bool
+    ensures { result ≡ can_be expected operand }
+{
+    match operand {
+        None => true,
+        Some(known) => is_same(expected, known),
+    }
+}
+
+/// Whether two lists of types are the same. The loop goes on where two types differ, since the compiler
+/// then compares many of them at once.
+pub fn are_same(types: &[ValType], others: &[ValType]) -> bool
+    ensures { result ≡ are_same types.now others.now }
+{
+    if types.len() != others.len() {
+        return false;
+    }
+    let mut same = true;
+    for (i, val_type) in types.iter().enumerate() {
+        same &= is_same(*val_type, others[i]);
+    }
+    same
+}
