@@ -1,6 +1,6 @@
 //! The check of instructions without bodies (3.3.1 to 3.3.5).
 
-ghost use Rattle.std.specs.Prelude.{◌≡◌, ◌∷◌, [], OnOk, Err, Some, None};
+ghost use Rattle.std.specs.Prelude.{◌≡◌, ◌∷◌, [], IsTrue, OnOk, Err, Some, None};
 ghost use Rattle.wasm_ast.specs.Limits.{are_all};
 ghost use Rattle.wasm_ast.specs.Types.{func_types};
 ghost use Rattle.wasm_ast.specs.Access.{load_type, load_bytes, store_type, store_bytes};
@@ -115,20 +115,24 @@ fn check_branch_table(
     let Some(types) = labels.get(other) else {
         return Err(CheckError::Invalid);
     };
-    if !are_labels(labels, types, list) || !operands.pop(ValType::I32) {
+    if !are_labels(labels, types, list, other) || !operands.pop(ValType::I32) {
         return Err(CheckError::Invalid);
     }
     leave(operands, types)
 }
 
-// Whether each of these labels takes these types.
-fn are_labels(labels: &Labels<'_>, types: &[ValType], list: &[u32]) -> bool
+// Whether each of these labels takes these types, as this one does. A label that is there again right
+// after itself is not compared again.
+fn are_labels(labels: &Labels<'_>, types: &[ValType], list: &[u32], takes_them: u32) -> bool
+    requires { IsTrue (is_label labels.now types.now takes_them) }
     ensures { result ≡ are_all (is_label labels.now types.now) list.now }
 {
+    let mut last = takes_them;
     for label in list {
-        if !is_label(labels, types, *label) {
+        if *label != last && !is_label(labels, types, *label) {
             return false;
         }
+        last = *label;
     }
     true
 }
