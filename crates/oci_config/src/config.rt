@@ -9,12 +9,13 @@ ghost use Rattle.linear_memory.specs.Memory.{page_bytes, max_pages};
 ghost use Rattle.oci_config.specs.Limits.{default_pages};
 ghost use Rattle.oci_config.specs.Processes.{config_of};
 ghost use Rattle.oci_config.specs.Config.{version_at, directory_at, module_at, pages_in, cap_at, process_of, process_read, are_arguments_alone, process_with};
+ghost use Rattle.oci_config.specs.Setup.{are_taken, pages_under, process_under};
 ghost use Rattle.oci_config.specs.Inside.Parts.{part_of, pages_at, outline};
 
 use crate::page_cap::PageCap;
 use crate::process::{Output, Process};
 use crate::properties::{are_texts, begins, has_float, is_plain, object_at, part_at, text_at};
-use crate::texts::{are_arguments_alone, texts_at};
+use crate::texts::{are_arguments_alone, are_taken, texts_at};
 use linear_memory::{MAX_PAGES, PAGE_BYTES};
 use serde_json::Value;
 use std::alloc::{AllocError, Global};
@@ -39,6 +40,16 @@ fn default_pages() -> PageCap
     ensures { result ≡ default_pages }
 {
     PageCap::new(DEFAULT_PAGES).unwrap()
+}
+
+// The pages of a memory under a limit in bytes, if there is one.
+fn pages_under(limit: Option<u64>) -> PageCap
+    ensures { result ≡ pages_under limit }
+{
+    match limit {
+        Some(bytes) => pages_within(bytes),
+        None => default_pages(),
+    }
 }
 
 // The pages of a memory under a limit in bytes; -1 means no limit.
@@ -242,5 +253,31 @@ pub fn process_with(alloc: Global, args: Vec<Text>) -> Result<Process, Refusal>
         return Err(Refusal::BadConfig);
     }
     let process = new_process(alloc, "", args, Vec::new(alloc), default_pages())?;
+    Ok(process)
+}
+
+/// The process that has these arguments, this environment and, if there is a limit, at most this number of
+/// bytes of memory, before it has written anything: no config names its module. `BadConfig` exactly if a
+/// config could not give it these arguments and this environment: if there is no argument, there are more
+/// than 64 arguments or 64 entries, one of all these holds U+0000, an entry has no `=` after at least one
+/// character, or they take more than 65,536 bytes together with one more for each; `NoMemory` if memory
+/// runs out. The memory may have the whole pages within the limit, at most 256, and 16 without a limit.
+pub fn process_under(
+    alloc: Global,
+    args: Vec<Text>,
+    env: Vec<Text>,
+    limit: Option<u64>,
+) -> Result<Process, Refusal>
+    ensures process { IfOk result (λ p. config_of p ≡ process_under args.items env.items limit) }
+    ensures nothing_written { IfOk result (λ p. (p.out ≡ []) × (p.err ≡ [])) }
+    ensures taken { OnOk result (are_taken args.items env.items ≡ true) }
+    ensures bad { result ≡ Err refusal.BadConfig → are_taken args.items env.items ≡ false }
+    ensures err { OnErr result
+        ((result ≡ Err refusal.BadConfig) ⊎ (result ≡ Err refusal.NoMemory)) }
+{
+    if !are_taken(args.as_slice(), env.as_slice()) {
+        return Err(Refusal::BadConfig);
+    }
+    let process = new_process(alloc, "", args, env, pages_under(limit))?;
     Ok(process)
 }

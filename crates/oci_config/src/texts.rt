@@ -5,6 +5,7 @@ ghost use Rattle.std.specs.List.{list_any, list_all};
 ghost use Rattle.serde_json.specs.View.{view, items_view};
 ghost use Rattle.oci_config.specs.Limits.{max_text_bytes};
 ghost use Rattle.oci_config.specs.Config.{is_plain, is_equals_sign, is_entry, texts_in, bytes_of, are_arguments, are_arguments_alone, args_at, are_entries, entries_in, env_at, texts_at};
+ghost use Rattle.oci_config.specs.Setup.{are_taken};
 
 use crate::properties::is_plain;
 use serde_json::Value;
@@ -153,6 +154,13 @@ pub fn are_arguments_alone(texts: &[Text]) -> bool
     ensures { result ≡ are_arguments_alone texts.now }
 {
     are_arguments(texts) && bytes_left(texts, MAX_TEXT_BYTES).is_some()
+}
+
+/// Whether a process may have these arguments with this environment.
+pub fn are_taken(args: &[Text], env: &[Text]) -> bool
+    ensures { result ≡ are_taken args.now env.now }
+{
+    are_arguments(args) && are_entries(env) && fit(args, env)
 }
 
 /// The arguments and the environment of a process, if they are as the profile demands. An error if

@@ -1,12 +1,13 @@
 //! What definitions come to, computed. Each function has a contract and no body.
 
-ghost use Rattle.std.specs.Prelude.{◌≡◌, ◌-◌, ◌^◌, zero, suc, pos, negsuc, [], ◌∷◌, codes, replicate, Some, None, true, false, is_some, is_none};
+ghost use Rattle.std.specs.Prelude.{◌≡◌, ◌-◌, ◌^◌, ℕ, zero, suc, pos, negsuc, [], ◌∷◌, codes, replicate, Some, None, true, false, is_some, is_none};
 ghost use Rattle.serde_json.specs.Data.{unsigned, negative, Data, null, number, string, array, object, no_items, item, no_members, member};
 ghost use Rattle.oci_config.specs.Config.{is_plain, is_entry, are_texts, bytes_of, are_arguments, args_at, are_entries, env_at, version_at, directory_at, module_at, pages_of, cap_at, process_read};
+ghost use Rattle.oci_config.specs.Setup.{are_taken, pages_under, process_under};
 ghost use Rattle.oci_config.specs.Limits.{max_output, max_args, max_entries, max_text_bytes, default_pages};
 ghost use Rattle.oci_config.specs.Streams.{stream_of};
 ghost use Rattle.oci_config.specs.declared.stream.Stream.TheVariants as stream;
-ghost use Rattle.oci_config.specs.Worked.{with_env, with_linux, with_memory, config_with, asked_with};
+ghost use Rattle.oci_config.specs.Worked.{with_env, with_linux, with_memory, zeros, config_with, asked_with};
 
 /// The limits of the profile.
 pub fn limits_are_these()
@@ -131,4 +132,23 @@ pub fn configs_are_read()
     ensures fraction { process_read (config_with [] (codes ",\"x\":[1.5]")) ≡ None }
     ensures not_json { process_read (config_with [] (codes ",")) ≡ None }
     ensures not_utf8 { process_read (255 ∷ []) ≡ None }
+{}
+
+/// Processes that a command line describes: what a config may give, and no more.
+pub fn setups_are_those_of_configs()
+    ensures alone { are_taken (codes "a" ∷ []) [] ≡ true }
+    ensures no_argument { are_taken [] [] ≡ false }
+    ensures entry { are_taken (codes "a" ∷ []) (codes "b=" ∷ []) ≡ true }
+    ensures no_sign { are_taken (codes "a" ∷ []) (codes "b" ∷ []) ≡ false }
+    ensures nul { are_taken (codes "a" ∷ []) ((97 ∷ 61 ∷ 0 ∷ []) ∷ []) ≡ false }
+    ensures too_many { are_taken (codes "a" ∷ []) (replicate 65 (codes "a=")) ≡ false }
+    ensures no_limit { pages_under None ≡ 16 }
+    ensures nothing { pages_under (Some 0) ≡ 0 }
+    ensures rounded_down { pages_under (Some 196607) ≡ 2 }
+    ensures at_most { pages_under (Some 18446744073709551615) ≡ 256 }
+    ensures as_a_config { (bytes : ℕ) → pages_of (unsigned bytes) ≡ Some (pages_under (Some bytes)) }
+    ensures process { process_read (config_with (codes ",\"env\":[\"b=1\"]")
+        (codes ",\"linux\":{\"resources\":{\"memory\":{\"limit\":131072}}}"))
+        ≡ Some (record (process_under (codes "a" ∷ []) (codes "b=1" ∷ []) (Some 131072))
+        { «module» = zeros }) }
 {}
