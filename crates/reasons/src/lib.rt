@@ -1,4 +1,4 @@
-//! Why the file of a module is refused, as a line for a person.
+//! Why the file of a module, the words of a command line, a config or a line is refused, as a line for a person.
 //!
 //! Nothing here decides what is refused. A reason is looked for after a refusal, in the bytes and with the
 //! readers that the refusal came from.
@@ -7,17 +7,25 @@
 mod bad_text;
 mod body;
 mod code;
+mod command_line;
+mod config;
+mod config_texts;
 mod fields;
 mod find_instr;
 mod first_bytes;
+mod floats;
 mod hints;
 mod invalid;
 mod items;
+mod json;
 mod limits;
+mod line;
+mod line_keys;
 mod module;
 mod outside;
 mod parts;
 mod place;
+mod process_texts;
 mod sections;
 mod shown;
 mod spelling;
@@ -26,8 +34,12 @@ mod task;
 mod token;
 
 use bad_text::why_text;
+pub use command_line::TaskWords;
+use command_line::{pages_under, why_words};
+pub use config::why_config;
 use invalid::why_invalid;
 use limits::why_limit;
+pub use line::{Lines, why_line};
 use spelling::why_bytes;
 use std::alloc::{AllocError, Global};
 use task::{Cause, why_task};
@@ -39,11 +51,26 @@ pub fn why_file(alloc: Global, bytes: &[u8], refusal: Refusal) -> Result<String,
     match refusal {
         Refusal::BadModule => why_bytes(alloc, bytes),
         Refusal::Invalid(at) => why_invalid(alloc, bytes, at),
-        Refusal::Limit => why_limit(alloc, bytes),
+        Refusal::Limit => why_limit(alloc, bytes, pages_under(None)),
         Refusal::BadText { line, column } => why_text(alloc, bytes, line, column),
         Refusal::NoEntry => why_task(alloc, bytes, Cause::Entry),
         Refusal::BadImport => why_task(alloc, bytes, Cause::Import),
         Refusal::SegmentOutOfBounds => why_task(alloc, bytes, Cause::Segment),
         _ => Ok(String::new(alloc)),
+    }
+}
+
+/// Why no task can be made of a file with these bytes and what a command line gives it, in one line without its
+/// line feed; an empty text if there is nothing to add to the refusal. An error only if memory runs out.
+pub fn why_run(
+    alloc: Global,
+    bytes: &[u8],
+    words: &TaskWords<'_>,
+    refusal: Refusal,
+) -> Result<String, AllocError> {
+    match refusal {
+        Refusal::BadConfig => why_words(alloc, words),
+        Refusal::Limit => why_limit(alloc, bytes, pages_under(words.limit)),
+        _ => why_file(alloc, bytes, refusal),
     }
 }

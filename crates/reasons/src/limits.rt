@@ -20,9 +20,6 @@ struct Passed {
     most: u64,
 }
 
-/// Pages of memory that a task without a limit in its config may have.
-const TASK_PAGES: u32 = 16;
-
 const NESTING: &str = "more than 256 blocks are open at once";
 
 // That an item has more of something than it may have.
@@ -154,13 +151,13 @@ fn why_text(alloc: Global, bytes: &[u8]) -> Result<String, AllocError> {
     }
 }
 
-// Why a module within the limits cannot be run.
-fn why_task(alloc: Global, of: &Module) -> Result<String, AllocError> {
+// Why a module within the limits cannot be run by a task that may have this many pages.
+fn why_task(alloc: Global, of: &Module, most: u64) -> Result<String, AllocError> {
     match of.memories.as_slice().first() {
         Some(memory) => {
             let pages = memory.min;
             format!(in alloc;
-                "the memory begins with {pages} pages, and the task may have {TASK_PAGES}; a config can raise that"
+                "the memory begins with {pages} pages, and the task may have {most}; --memory can raise that"
             )
         }
         None => Ok(String::new(alloc)),
@@ -168,10 +165,10 @@ fn why_task(alloc: Global, of: &Module) -> Result<String, AllocError> {
 }
 
 /// Why a file is refused for a limit: that of the bytes or the text, or else that of a task which
-/// `run` makes. An error only if memory runs out.
-pub fn why_limit(alloc: Global, bytes: &[u8]) -> Result<String, AllocError> {
+/// `run` makes, whose memory may have this many pages. An error only if memory runs out.
+pub fn why_limit(alloc: Global, bytes: &[u8], pages: u64) -> Result<String, AllocError> {
     if let Some(of) = module_of(alloc, bytes)? {
-        return why_task(alloc, &of);
+        return why_task(alloc, &of, pages);
     }
     match bytes.first() {
         Some(0) => why_bytes(alloc, bytes),
