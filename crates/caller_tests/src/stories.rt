@@ -8,6 +8,7 @@ use crate::storm::storm;
 use crate::workers::{Meeting, large_output, run_by_two};
 use call_journal::{Cells, MOST_SEATS, Row, Shim};
 use callers::{Driven, drive};
+use request_lines::Watched;
 use slice_workers::OpenGate;
 use std::alloc::Global;
 use std::io::{Read, Write};
@@ -108,7 +109,8 @@ fn driven<J: Row, R: Read, W: Write, H: Wait>(
 {
     let shim: Shim<J> = Shim::new(alloc, cells, blank)?;
     let seat = shim.seat(rt).ok_or(Refusal::NoMemory)?;
-    let (_, driven) = drive(rt, alloc, &shim, seat, reader, writer);
+    let (mut from, mut to) = (Watched::new(reader), Watched::new(writer));
+    let (_, driven) = drive(rt, alloc, &shim, seat, &mut from, &mut to);
     Ok(driven)
 }
 

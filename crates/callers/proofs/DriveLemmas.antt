@@ -26,7 +26,7 @@ use Rattle.callers.specs.declared.caller.Driven.TheVariants as driven
 use Rattle.callers.specs.declared.caller.WriteError.{WriteError}
 use Rattle.callers.specs.declared.caller.WriteError.TheVariants as why
 use Rattle.callers.specs.Answered.{IsCall, IsAnswered, IsServed}
-use Rattle.callers.specs.Driving.{HaveLines, BeginWithLines, AllButLast, Drives}
+use Rattle.callers.specs.Driving.{HaveLines, BeginWithLines, AllButLast, Drives, IsTold}
 use Rattle.callers.specs.Inside.Ends.{of_read, of_write}
 use Rattle.callers.specs.Inside.Writing.{Writes}
 
@@ -294,3 +294,20 @@ driving_after was input left next before writes after kept kept' mid now r done 
     let line = served_line kept kept' left next writes after mid now r came same served in
     driving_more was input left next before writes after mid now came.0 line.0 d came.2 line.1
     (subst (λ x. Writes x line.0 writes after) is line.2)
+
+-- ---- faults
+
+told_of_read : (e : Stop) (X Y : Type 0) → (e ≡ stop.Stream → X) → IsTold (of_read e) X Y
+told_of_read stop.Stream X Y h = h refl
+told_of_read stop.OutOfMemory X Y h = tt
+
+pub told_unread : (e : Stop) (how : Driven) (X Y : Type 0) → how ≡ of_read e → (e ≡ stop.Stream → X) → IsTold how X Y
+told_unread e how X Y is h = subst (λ d. IsTold d X Y) (sym is) (told_of_read e X Y h)
+
+told_of_write : (e : WriteError) (X Y : Type 0) → (e ≡ why.Stream → Y) → IsTold (of_write e) X Y
+told_of_write why.Stream X Y h = h refl
+told_of_write why.OutOfMemory X Y h = tt
+
+pub told_unwritten :
+    (e : WriteError) (how : Driven) (X Y : Type 0) → how ≡ of_write e → (e ≡ why.Stream → Y) → IsTold how X Y
+told_unwritten e how X Y is h = subst (λ d. IsTold d X Y) (sym is) (told_of_write e X Y h)

@@ -1,3 +1,2 @@
 pub mod DriveLemmas
 pub mod LawLemmas
-pub mod WriteLemmas

@@ -40,6 +40,12 @@ AreWritten driven.NoMemory before after texts =
     (written : List (List ℕ)) × AllButLast texts written × Appends before after (joined written)
 AreWritten other before after texts = Appends before after (joined texts)
 
+-- a fault is told only of a stream that has failed
+abbrev pub IsTold : Driven → (reader writer : Type 0) → Type 0
+IsTold driven.ReadFault reader writer = reader
+IsTold driven.WriteFault reader writer = writer
+IsTold other reader writer = Unit {0}
+
 -- the lines of a stream are answered in their order, each by one line, and the seat has seen this then
 pub record Drives (how : Driven) (was now : Known) (input before after : Option (List ℕ)) :
     Type 0 where

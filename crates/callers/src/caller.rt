@@ -1,19 +1,18 @@
 //! Answers the lines of one caller as they come.
 
-ghost use Rattle.std.specs.Prelude.{◌≡◌, ◌≤◌, List, ℕ, IsTrue, IfOk, option_map, string_bytes};
-ghost use Rattle.std.specs.Io.KnownBytes.{Appends};
+ghost use Rattle.std.specs.Prelude.{◌≡◌, List, ℕ, Err, IfOk, option_map, string_bytes};
 ghost use Rattle.task_requests.specs.declared.request.Request.TheVariants as Asked;
 ghost use Rattle.request_lines.specs.Input.{IsKept};
 ghost use Rattle.request_lines.specs.Reply.{json_of, line_text};
-ghost use Rattle.call_journal.specs.Fronts.{Begins};
 ghost use Rattle.callers.specs.Answered.{IsAnswered, IsCall, IsServed};
-ghost use Rattle.callers.specs.Driving.{Drives};
+ghost use Rattle.callers.specs.Driving.{Drives, IsTold};
 ghost use Rattle.callers.specs.Inside.Writing.{Writes};
 
 use call_journal::{Row, Seat, Shim};
-use request_lines::{LineReader, Stop, answer_line, no_memory_line, read_request_line};
+use request_lines::{
+    LineReader, Sink, Source, Stop, answer_line, no_memory_line, read_request_line,
+};
 use std::alloc::{AllocError, Global};
-use std::io::{Error, ErrorKind, Read, Write};
 use std::sync::Wait;
 use task_requests::{Reply, Request};
 use wasm_ast::Refusal;
@@ -31,7 +30,7 @@ pub enum Driven {
     End,
     /// The reader failed.
     ReadFault,
-    /// The writer failed, or took no more.
+    /// The writer failed.
     WriteFault,
     /// Memory ran out for the lines that are read, or for a reply.
     NoMemory,
@@ -40,7 +39,7 @@ pub enum Driven {
 /// Why a reply was not written.
 #[derive(Clone, Copy, PartialEq, Eq, Debug)]
 pub(crate) enum WriteError {
-    /// The writer failed, or took no more.
+    /// The writer failed.
     Stream,
     /// Memory ran out for the reply's line.
     OutOfMemory,
@@ -110,43 +109,14 @@ fn answer<J: Row, H: Wait>(
     }
 }
 
-// Whether the writer is to be called again: only if it was interrupted.
-fn is_interrupted(error: &Error) -> bool {
-    error.kind() == ErrorKind::Interrupted
-}
-
-// Writes bytes as far as the writer takes them; false if it takes no more.
-fn write_bytes<W: Write>(writer: &mut W, bytes: &[u8]) -> bool
-    ensures all { IsTrue result → Appends (W.contents writer.old) (W.contents writer.new) bytes.now }
-    ensures some { (front : List ℕ) × Begins front bytes.now
-        × Appends (W.contents writer.old) (W.contents writer.new) front }
-{
-    let mut at = 0;
-    for _ in 0..u64::MAX {
-        if at == bytes.len() {
-            return true;
-        }
-        match writer.write(&bytes[at..]) {
-            Ok(0) => return false,
-            Ok(count) => at += count,
-            Err(error) => {
-                if !is_interrupted(&error) {
-                    return false;
-                }
-            }
-        }
-    }
-    false
-}
-
 // Writes a text and flushes.
-fn write_text<W: Write>(writer: &mut W, text: &str) -> Result<(), WriteError>
-    ensures { Writes result text.now (W.contents writer.old) (W.contents writer.new) }
+fn write_text<W: Sink>(writer: &mut W, text: &str) -> Result<(), WriteError>
+    ensures text { Writes result text.now (W.contents writer.old) (W.contents writer.new) }
+    ensures failed { result ≡ Err WriteError.Stream → W.has_failed writer.new }
 {
-    if write_bytes(writer, text.as_bytes()) && writer.flush().is_ok() {
-        Ok(())
-    } else {
-        Err(WriteError::Stream)
+    match writer.put(text.as_bytes()) {
+        Ok(()) => Ok(()),
+        Err(_) => Err(WriteError::Stream),
     }
 }
 
@@ -174,14 +144,15 @@ fn line_of_answer(
 
 // Writes the line of an answer. That of `NoMemory` needs no memory; any other is not written if memory runs
 // out, since its request has been made.
-fn write_answer<W: Write>(
+fn write_answer<W: Sink>(
     alloc: Global,
     answer: &Result<Reply, Refusal>,
     spare: &mut Option<Vec<u8>>,
     writer: &mut W,
 ) -> Result<(), WriteError>
-    ensures { Writes result (line_text (json_of answer.now)) (W.contents writer.old)
+    ensures text { Writes result (line_text (json_of answer.now)) (W.contents writer.old)
         (W.contents writer.new) }
+    ensures failed { result ≡ Err WriteError.Stream → W.has_failed writer.new }
 {
     if let Err(Refusal::NoMemory) = answer {
         return write_text(writer, no_memory_line());
@@ -193,7 +164,7 @@ fn write_answer<W: Write>(
 }
 
 // Answers a line, and writes the line of the answer.
-fn serve_line<J: Row, W: Write, H: Wait>(
+fn serve_line<J: Row, W: Sink, H: Wait>(
     rt: &H,
     alloc: Global,
     shim: &Shim<J>,
@@ -202,9 +173,10 @@ fn serve_line<J: Row, W: Write, H: Wait>(
     spare: &mut Option<Vec<u8>>,
     writer: &mut W,
 ) -> (Seat<J>, Result<(), WriteError>)
-    ensures { (text : List ℕ) → IsKept (option_map (λ b. b.now) line.entry) text
+    ensures served { (text : List ℕ) → IsKept (option_map (λ b. b.now) line.entry) text
         → (reply : List ℕ) × IsServed seat text reply result.0
         × Writes result.1 reply (W.contents writer.old) (W.contents writer.new) }
+    ensures failed { result.1 ≡ Err WriteError.Stream → W.has_failed writer.new }
 {
     let (seat, answer) = answer(rt, alloc, shim, seat, line);
     let written = write_answer(alloc, &answer, spare, writer);
@@ -212,9 +184,9 @@ fn serve_line<J: Row, W: Write, H: Wait>(
 }
 
 /// Answers each line of a caller's reader by one line, written and flushed before the next line is waited for,
-/// until the reader is at its end. A line that is no request is answered `BadRequest`. The seat is that of the
-/// caller, and is given back.
-pub fn drive<J: Row, R: Read, W: Write, H: Wait>(
+/// until the reader is at its end. A line that is no request is answered `BadRequest`. A fault of a stream is told
+/// only if that stream has failed. The seat is that of the caller, and is given back.
+pub fn drive<J: Row, R: Source, W: Sink, H: Wait>(
     rt: &H,
     alloc: Global,
     shim: &Shim<J>,
@@ -222,15 +194,16 @@ pub fn drive<J: Row, R: Read, W: Write, H: Wait>(
     reader: &mut R,
     writer: &mut W,
 ) -> (Seat<J>, Driven)
-    ensures { Drives result.1 seat result.0 (R.remaining reader.old) (W.contents writer.old)
+    ensures lines { Drives result.1 seat result.0 (R.remaining reader.old) (W.contents writer.old)
         (W.contents writer.new) }
+    ensures told { IsTold result.1 (R.has_failed reader.new) (W.has_failed writer.new) }
 {
     let Ok(mut lines) = LineReader::new(alloc) else {
         return (seat, Driven::NoMemory);
     };
     let mut seat = seat;
     let mut spare = None;
-    for _ in 0..u64::MAX {
+    loop {
         if spare.is_none() {
             spare = spare_memory(alloc);
         }
@@ -245,5 +218,4 @@ pub fn drive<J: Row, R: Read, W: Write, H: Wait>(
             return (seat, Driven::from(error));
         }
     }
-    (seat, Driven::ReadFault)
 }

@@ -1,6 +1,6 @@
 //! What is proved of the answers to lines. Each function does nothing, and its contract is the law.
 
-ghost use Rattle.std.specs.Prelude.{◌≡◌, ◌<◌, ◌⊎◌, ◌++◌, [], ◌∷◌, List, ℕ, length, Some, Err};
+ghost use Rattle.std.specs.Prelude.{◌≡◌, ◌<◌, ◌⊎◌, ◌++◌, [], ◌∷◌, ⊤, ⊥, List, ℕ, length, Some, Err};
 ghost use Rattle.wasm_ast.specs.declared.refusal.Refusal.TheVariants as refusal;
 ghost use Rattle.task_board.specs.Step.{Answer};
 ghost use Rattle.request_lines.specs.Lines.{lines_of, joined};
@@ -9,7 +9,7 @@ ghost use Rattle.request_lines.specs.Shape.{max_line_bytes};
 ghost use Rattle.call_journal.specs.Fronts.{Begins};
 ghost use Rattle.call_journal.specs.Seats.{Known};
 ghost use Rattle.callers.specs.Answered.{IsAnswered, IsServed};
-ghost use Rattle.callers.specs.Driving.{Drives};
+ghost use Rattle.callers.specs.Driving.{Drives, IsTold};
 ghost use Rattle.callers.specs.declared.caller.Driven.TheVariants as driven;
 
 /// A line that is too long is refused as no request, and the seat has seen what it had seen.
@@ -62,4 +62,10 @@ pub fn first_lines_are_answered_where_memory_runs_out()
         → (after ≡ before ++ joined d.texts)
         ⊎ ((all : List (List ℕ)) × (last : List ℕ) × (d.texts ≡ all ++ last ∷ [])
         × (after ≡ before ++ joined all)) }
+{}
+
+/// A fault is told of no stream that is well.
+pub fn faults_are_told_of_streams_that_failed()
+    ensures read { IsTold driven.ReadFault ⊥ ⊤ → ⊥ }
+    ensures write { IsTold driven.WriteFault ⊤ ⊥ → ⊥ }
 {}

@@ -4,3 +4,4 @@ pub mod LineLemmas
 pub mod SplitLemmas
 pub mod OneEvent
 pub mod FloatLemmas
+pub mod WriteLemmas

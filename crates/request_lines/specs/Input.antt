@@ -1,5 +1,5 @@
 -- Lines as they are read.
-use Rattle.std.specs.Prelude.{◌≡◌, ◌<◌, ℕ, List, ◌∷◌, true, Bool, Option, None, Some, length}
+use Rattle.std.specs.Prelude.{◌≡◌, ◌<◌, ◌+◌, ◌*◌, ℕ, List, ◌∷◌, true, Bool, Option, None, Some, length}
 use Rattle.std.specs.Io.KnownBytes.{IsAtEnd}
 use Rattle.request_lines.specs.Shape.{max_line_bytes}
 use Rattle.request_lines.specs.Lines.{lines_of}
@@ -18,3 +18,11 @@ TakesLine (Some xs) (Some ys) line = lines_of xs ≡ line ∷ lines_of ys
 -- where it says that the reader has answered its end, none of the known bytes are left
 abbrev pub KnowsEnd : (at_end : Bool) → Option (List ℕ) → Type 0
 KnowsEnd at_end known = at_end ≡ true → IsAtEnd known
+
+-- how many bytes are asked of a source at a time
+abbrev pub chunk_bytes : ℕ
+chunk_bytes = 65536
+
+-- how much there is to read yet at most: each read gives at most a chunk, and some bytes have been read and not used
+abbrev pub still_to_read : (reads : ℕ) → (bytes : List ℕ) → ℕ
+still_to_read reads bytes = reads * (chunk_bytes + 1) + length bytes

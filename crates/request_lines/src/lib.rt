@@ -11,6 +11,7 @@ mod parse_event;
 mod parse_request;
 mod reply_line;
 mod reply_value;
+mod stream;
 
 pub use line_error::LineError;
 pub use line_reader::{LineReader, Stop};
@@ -19,3 +20,4 @@ pub use parse_request::{read_request_line, request_of};
 pub use reply_line::{
     answer_line, bad_request_line, event_line, event_line_of, line_of, no_memory_line,
 };
+pub use stream::{Sink, Source, StreamFailed, Watched};

@@ -1,14 +1,13 @@
 //! Lines as they are read.
 
-ghost use Rattle.std.specs.Prelude.{◌≡◌, ◌≢◌, ◌↔◌, ◌<◌, ◌≤◌, ◌++◌, [], List, ℕ, Some, None, Ok, Err, false, true, IfOk, OnOk, OnErr, IsTrue, length, drop, take, vec_len, option_map};
+ghost use Rattle.std.specs.Prelude.{◌≡◌, ◌≢◌, ◌↔◌, ◌<◌, ◌≤◌, ◌++◌, [], List, ℕ, Some, None, Ok, Err, false, true, IfOk, OnOk, IsTrue, length, drop, option_map};
 ghost use Rattle.std.specs.Io.KnownBytes.{Consumes, Keeps, IsAtEnd, prepend_known};
-ghost use Rattle.std.specs.IoError.{error_kind};
-ghost use Rattle.request_lines.specs.Input.{IsKept, KnowsEnd, TakesLine};
+ghost use Rattle.request_lines.specs.Input.{IsKept, KnowsEnd, TakesLine, chunk_bytes, still_to_read};
 ghost use Rattle.request_lines.specs.Inside.Pieces.{TakesPiece, ReadsPiece};
 
 use crate::members::MAX_LINE_BYTES;
+use crate::stream::{Source, StreamFailed};
 use std::alloc::{AllocError, Global};
-use std::io::{Error, ErrorKind, Read};
 use std::marker::Model;
 
 /// Bytes that are asked of a reader at a time.
@@ -34,6 +33,17 @@ impl From<AllocError> for Stop {
     }
 }
 
+impl From<StreamFailed> for Stop {
+    ghost use Rattle.std.specs.Prelude.{◌≡◌};
+    ghost use Rattle.request_lines.specs.declared.line_reader.Stop.TheVariants.{Stream};
+
+    ghost from_gives = { λ _ stop. stop ≡ Stream };
+
+    fn from(_error: StreamFailed) -> Stop {
+        Stop::Stream
+    }
+}
+
 /// Bytes that were read and not yet used. Contracts see these.
 #[derive(Drop)]
 pub struct Chunk {
@@ -43,14 +53,15 @@ pub struct Chunk {
 }
 
 impl Model for Chunk {
-    ghost use Rattle.std.specs.Prelude.{List, ℕ, take, drop, vec_len, ◌-◌, ◌≤◌, ◌<◌};
+    ghost use Rattle.std.specs.Prelude.{List, ℕ, take, drop, vec_len, ◌-◌, ◌≤◌, ◌≡◌};
+    ghost use Rattle.request_lines.specs.Input.{chunk_bytes};
 
     ghost Value = { List ℕ };
 
     ghost view = { λ c. take (c.end - c.start) (drop c.start c.buffer.items) };
 
     ghost invariant = { λ c. (c.start ≤ c.end) × (c.end ≤ vec_len c.buffer)
-        × (0 < vec_len c.buffer) };
+        × (vec_len c.buffer ≡ chunk_bytes) };
 }
 
 impl Chunk {
@@ -81,48 +92,23 @@ impl Chunk {
     }
 }
 
-/// What a call of a reader gave.
-#[derive(Clone, Copy, PartialEq, Eq, Debug)]
-pub(crate) enum Filled {
-    /// At least one byte.
-    Bytes,
-    /// Nothing, and it is to be called again.
-    Interrupted,
-    /// Nothing, since it is at its end.
-    End,
-}
-
-/// Says of an error whether the reader is to be called again: only if it was interrupted.
-fn retry_if_interrupted(error: &Error) -> Result<Filled, Stop>
-    ensures again { error_kind error.now ≡ ErrorKind.Interrupted → result ≡ Ok Filled.Interrupted }
-    ensures stop { error_kind error.now ≢ ErrorKind.Interrupted → result ≡ Err Stop.Stream }
-{
-    if error.kind() == ErrorKind::Interrupted {
-        Ok(Filled::Interrupted)
-    } else {
-        Err(Stop::Stream)
-    }
-}
-
 impl Chunk {
-    /// Reads the next bytes.
-    fn fill<R: Read>(&mut self, reader: &mut R) -> Result<Filled, Stop>
+    /// Reads the next bytes; false if there are none, since the source is at its end.
+    fn fill<R: Source>(&mut self, reader: &mut R) -> Result<bool, Stop>
         requires { self.old ≡ [] }
         ensures bytes { OnOk result
             (Consumes (R.remaining reader.old) (R.remaining reader.new) self.new) }
-        ensures some { result ≡ Ok Filled.Bytes → self.new ≢ [] }
-        ensures end { result ≡ Ok Filled.End → IsAtEnd (R.remaining reader.new) × (self.new ≡ []) }
+        ensures some { result ≡ Ok true → self.new ≢ [] }
+        ensures end { result ≡ Ok false → IsAtEnd (R.remaining reader.new) × (self.new ≡ []) }
+        ensures failed { result ≡ Err Stop.Stream → R.has_failed reader.new }
+        ensures left { OnOk result (R.reads_left reader.new < R.reads_left reader.old) }
+        ensures fits { length self.new ≤ chunk_bytes }
     {
         self.start = 0;
         self.end = 0;
-        match reader.read(&mut self.buffer) {
-            Ok(0) => Ok(Filled::End),
-            Ok(count) => {
-                self.end = count;
-                Ok(Filled::Bytes)
-            }
-            Err(error) => retry_if_interrupted(&error),
-        }
+        let count = reader.read(&mut self.buffer)?;
+        self.end = count;
+        Ok(count > 0)
     }
 }
 
@@ -194,7 +180,7 @@ impl Line {
 }
 
 /// Moves what is there of a line from the bytes to it, and says whether its line feed was found.
-fn take_piece(chunk: &mut Chunk, line: &mut Line) -> Result<bool, Stop>
+fn take_piece(chunk: &mut Chunk, line: &mut Line) -> Result<bool, AllocError>
     ensures { IfOk result (λ found. (piece : List ℕ) × TakesPiece found chunk.old chunk.new piece
         × ((before : List ℕ) → IsKept line.old before → IsKept line.new (before ++ piece))) }
 {
@@ -226,26 +212,36 @@ pub(crate) enum Progress {
 }
 
 /// Reads the next bytes if none are left; false if there are none to read.
-fn refill<R: Read>(chunk: &mut Chunk, reader: &mut R) -> Result<bool, Stop>
+fn refill<R: Source>(chunk: &mut Chunk, reader: &mut R) -> Result<bool, Stop>
     ensures bytes { OnOk result (Keeps (prepend_known chunk.old (R.remaining reader.old))
         (prepend_known chunk.new (R.remaining reader.new))) }
+    ensures some { result ≡ Ok true → chunk.new ≢ [] }
     ensures end { result ≡ Ok false → IsAtEnd (prepend_known chunk.new (R.remaining reader.new)) }
+    ensures failed { result ≡ Err Stop.Stream → R.has_failed reader.new }
+    ensures left { OnOk result (still_to_read (R.reads_left reader.new) chunk.new
+        ≤ still_to_read (R.reads_left reader.old) chunk.old) }
+    ensures less { result ≡ Ok false → still_to_read (R.reads_left reader.new) chunk.new
+        < still_to_read (R.reads_left reader.old) chunk.old }
 {
     if !chunk.bytes().is_empty() {
         return Ok(true);
     }
-    match chunk.fill(reader)? {
-        Filled::Bytes | Filled::Interrupted => Ok(true),
-        Filled::End => Ok(false),
-    }
+    chunk.fill(reader)
 }
 
 /// Moves a piece of a line from the reader to the line.
-fn read_piece<R: Read>(chunk: &mut Chunk, line: &mut Line, reader: &mut R) -> Result<Progress, Stop>
-    ensures { IfOk result
+fn read_piece<R: Source>(
+    chunk: &mut Chunk,
+    line: &mut Line,
+    reader: &mut R,
+) -> Result<Progress, Stop>
+    ensures bytes { IfOk result
         (λ p. ReadsPiece p (prepend_known chunk.old (R.remaining reader.old))
         (prepend_known chunk.new (R.remaining reader.new))
         line.old line.new) }
+    ensures failed { result ≡ Err Stop.Stream → R.has_failed reader.new }
+    ensures less { OnOk result (still_to_read (R.reads_left reader.new) chunk.new
+        < still_to_read (R.reads_left reader.old) chunk.old) }
 {
     if !refill(chunk, reader)? {
         return Ok(Progress::End);
@@ -259,7 +255,7 @@ fn read_piece<R: Read>(chunk: &mut Chunk, line: &mut Line, reader: &mut R) -> Re
 
 /// Reads the next line, and says whether its line feed was found. If not, the reader is at its end, and what
 /// there is of a line is the last one.
-fn next_line<R: Read>(chunk: &mut Chunk, line: &mut Line, reader: &mut R) -> Result<bool, Stop>
+fn next_line<R: Source>(chunk: &mut Chunk, line: &mut Line, reader: &mut R) -> Result<bool, Stop>
     ensures found { result ≡ Ok true → (text : List ℕ) × IsKept line.new text
         × TakesLine (prepend_known chunk.old (R.remaining reader.old))
         (prepend_known chunk.new (R.remaining reader.new)) text }
@@ -270,19 +266,21 @@ fn next_line<R: Read>(chunk: &mut Chunk, line: &mut Line, reader: &mut R) -> Res
     ensures none { result ≡ Ok false → line.new ≡ Some []
         → IsAtEnd (prepend_known chunk.old (R.remaining reader.old)) }
     ensures end { result ≡ Ok false → IsAtEnd (prepend_known chunk.new (R.remaining reader.new)) }
+    ensures failed { result ≡ Err Stop.Stream → R.has_failed reader.new }
+    ensures less { OnOk result (still_to_read (R.reads_left reader.new) chunk.new
+        < still_to_read (R.reads_left reader.old) chunk.old) }
 {
     line.clear();
-    for _ in 0..u64::MAX {
+    loop {
         match read_piece(chunk, line, reader)? {
             Progress::Found => return Ok(true),
             Progress::More => {}
             Progress::End => return Ok(false),
         }
     }
-    Err(Stop::Stream)
 }
 
-/// Reads lines, one after another. Once its reader has answered its end, that is asked for nothing more.
+/// Reads lines, one after another. Once its source has answered its end, that is asked for nothing more.
 #[derive(Drop)]
 pub struct LineReader {
     chunk: Chunk,
@@ -309,8 +307,8 @@ impl LineReader {
         self.line.bytes()
     }
 
-    /// Reads the next line; false if there is none.
-    pub fn next<R: Read>(&mut self, reader: &mut R) -> Result<bool, Stop>
+    /// Reads the next line; false if there is none. `Stream` only if the source has failed.
+    pub fn next<R: Source>(&mut self, reader: &mut R) -> Result<bool, Stop>
         requires { KnowsEnd self.old.at_end
             (prepend_known self.old.chunk (R.remaining reader.old)) }
         ensures line { result ≡ Ok true → (text : List ℕ) × IsKept self.new.line text
@@ -320,6 +318,9 @@ impl LineReader {
             → IsAtEnd (prepend_known self.old.chunk (R.remaining reader.old)) }
         ensures ends { OnOk result (KnowsEnd self.new.at_end
             (prepend_known self.new.chunk (R.remaining reader.new))) }
+        ensures failed { result ≡ Err Stop.Stream → R.has_failed reader.new }
+        ensures less { result ≡ Ok true → still_to_read (R.reads_left reader.new) self.new.chunk
+            < still_to_read (R.reads_left reader.old) self.old.chunk }
     {
         if self.at_end {
             return Ok(false);

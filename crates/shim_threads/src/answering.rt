@@ -1,14 +1,14 @@
 //! Callers in threads of their own.
 
-ghost use Rattle.std.specs.Prelude.{◌≡◌, ◌++◌, [], option_map, Some, IfSome, IfOk};
+ghost use Rattle.std.specs.Prelude.{◌≡◌, ◌++◌, [], ⊤, option_map, Some, IfSome, IfOk};
 ghost use Rattle.std.specs.Thread.{IsSend, IsSync};
-ghost use Rattle.callers.specs.Driving.{Drives};
+ghost use Rattle.callers.specs.Driving.{Drives, IsTold};
 ghost use Rattle.shim_threads.specs.Pairs.{Each};
 
 use call_journal::{Row, Seat, Shim};
 use callers::{Driven, drive};
+use request_lines::{Source, Watched};
 use std::alloc::{AllocError, Global};
-use std::io::Read;
 use std::snapshot::Snapshot;
 use std::sync::Wait;
 use std::thread;
@@ -34,43 +34,46 @@ pub struct Answered<J: Row, R> {
 
 // What a thread is to answer.
 #[derive(Drop)]
-struct Asked<J: Row, R: Read> {
+struct Asked<J: Row, R: Source> {
     caller: Snapshot<Caller<J, R>>,
 }
 
-impl<J: Row, R: Read> Promise<Answered<J, R>> for Asked<J, R> {
+impl<J: Row, R: Source> Promise<Answered<J, R>> for Asked<J, R> {
     ghost kept_by = { λ p a. Drives a.driven p.caller.value.seat a.caller.seat
-        (R.remaining p.caller.value.reader) (Some []) (Some a.replies.items) };
+        (R.remaining p.caller.value.reader) (Some []) (Some a.replies.items)
+        × IsTold a.driven (R.has_failed a.caller.reader) ⊤ };
 }
 
 // Answers the lines of a caller.
-fn answer<J: Row, H: Wait, R: Read + Drop>(
+fn answer<J: Row, H: Wait, R: Source + Drop>(
     rt: &H,
     alloc: Global,
     shim: &Shim<J>,
     caller: Caller<J, R>,
 ) -> Answered<J, R>
-    ensures { Drives result.driven caller.seat result.caller.seat
+    ensures lines { Drives result.driven caller.seat result.caller.seat
         (R.remaining caller.reader) (Some []) (Some result.replies.items) }
+    ensures told { IsTold result.driven (R.has_failed result.caller.reader) ⊤ }
 {
     let Caller { seat, mut reader } = caller;
-    let mut replies = Vec::new(alloc);
+    let mut replies = Watched::new(Vec::new(alloc));
     let (seat, driven) = drive(rt, alloc, shim, seat, &mut reader, &mut replies);
     Answered {
         caller: Caller { seat, reader },
-        replies,
+        replies: replies.into_stream(),
         driven,
     }
 }
 
 // Waits for the thread of a caller, if it was started.
-fn finish<J: Row, H: Threads, R: Read>(
+fn finish<J: Row, H: Threads, R: Source>(
     rt: &H,
     thread: Option<PromisedHandle<Answered<J, R>, Asked<J, R>>>,
 ) -> Option<Answered<J, R>>
     ensures { IfSome result (λ a. (p : _) × (option_map (λ t. t.promise) thread ≡ Some p)
-        × Drives a.driven p.caller.value.seat a.caller.seat
-        (R.remaining p.caller.value.reader) (Some []) (Some a.replies.items)) }
+        × (Drives a.driven p.caller.value.seat a.caller.seat
+        (R.remaining p.caller.value.reader) (Some []) (Some a.replies.items)
+        × IsTold a.driven (R.has_failed a.caller.reader) ⊤)) }
 {
     match thread {
         Some(thread) => Some(thread.join(rt)),
@@ -79,8 +82,9 @@ fn finish<J: Row, H: Threads, R: Read>(
 }
 
 /// Answers the lines of all callers, each in a thread of its own, as `callers::drive` does. None for one whose
-/// thread could not be started. An error if memory runs out for the lists of threads and answers.
-pub fn answer_all<J: Row + Send + Sync, H: Threads + Wait + Sync, R: Read + Send + Drop>(
+/// thread could not be started. An error if memory runs out for the lists of threads and answers. `ReadFault` is told
+/// only of a reader that has failed.
+pub fn answer_all<J: Row + Send + Sync, H: Threads + Wait + Sync, R: Source + Send + Drop>(
     rt: &H,
     alloc: Global,
     shim: &Shim<J>,
@@ -88,7 +92,7 @@ pub fn answer_all<J: Row + Send + Sync, H: Threads + Wait + Sync, R: Read + Send
 ) -> Result<Vec<Option<Answered<J, R>>>, AllocError>
     ensures { IfOk result (λ all. Each
         (λ c a. IfSome a (λ a. Drives a.driven c.seat a.caller.seat (R.remaining c.reader) (Some [])
-        (Some a.replies.items)))
+        (Some a.replies.items) × IsTold a.driven (R.has_failed a.caller.reader) ⊤))
         callers.items all.items) }
 {
     thread::scope(
@@ -98,7 +102,8 @@ pub fn answer_all<J: Row + Send + Sync, H: Threads + Wait + Sync, R: Read + Send
             requires { IsSend J.row × IsSync J.row × IsSync H.row × IsSend R.row }
             ensures { IfOk result (λ all. Each
                 (λ c a. IfSome a (λ a. Drives a.driven c.seat a.caller.seat (R.remaining c.reader)
-                (Some []) (Some a.replies.items)))
+                (Some []) (Some a.replies.items)
+                × IsTold a.driven (R.has_failed a.caller.reader) ⊤))
                 callers.items all.items) }
         {
             let mut threads = Vec::with_capacity(alloc, callers.len())?;

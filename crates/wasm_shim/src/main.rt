@@ -3,7 +3,6 @@
 
 mod report;
 mod serve;
-mod watched;
 
 use crate::report::{failed, stream_failed};
 use crate::serve::serve;

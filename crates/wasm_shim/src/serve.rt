@@ -4,9 +4,9 @@ ghost use Rattle.std.specs.Prelude.{◌≡◌, ◌+◌};
 ghost use Rattle.call_journal.specs.Seats.{most_seats};
 
 use crate::report::{failed, file_failed, stream_failed};
-use crate::watched::Watched;
 use call_journal::{Cells, MOST_SEATS, Row, Shim};
 use callers::{Driven, drive};
+use request_lines::Watched;
 use shim_threads::{Answered, Caller, StartError, answer_all, with_workers};
 use std::fs::File;
 use std::io;

@@ -4,7 +4,8 @@ use Rattle.shim_threads.proofs.Sent.{shim_sync}
 use Rattle.shim_threads.proofs.answering.Caller.TheSendSync as caller
 use Rattle.call_journal.proofs.seat.Seat.TheSendSync as seat
 use Rattle.std.proofs.Common.{◌≡◌, refl, sym, subst, ap, ◌∙◌, ◌++◌, [], ◌∷◌, append_assoc, option_map, Some, None, IfSome}
-use Rattle.callers.specs.Driving.{Drives}
+use Rattle.std.specs.Prelude.{⊤}
+use Rattle.callers.specs.Driving.{Drives, IsTold}
 use Rattle.shim_threads.specs.Pairs.{Each}
 use Rattle.shim_threads.proofs.PairLemmas.{each-more, each-through, some_of_ok, ok_map, passed-all, joined_is}
 use Rattle.shim_threads.proofs.answering.fn.answer_all.scope.Goals as goal
@@ -50,11 +51,13 @@ returns g c =
     (inner.1 ∙ c.into_iter-thread-iterator.ensures.into_iter_gives.0) in
     each-through _ _ _
     (λ c' t a. joined_is (λ h. h.promise) (λ p. p.caller.value)
-    (λ x b. Drives b.driven x.seat b.caller.seat (g.R.Read.remaining x.reader) (Some []) (Some b.replies.items)) c' t a)
+    (λ x b. Drives b.driven x.seat b.caller.seat (g.R.Source.remaining x.reader) (Some []) (Some b.replies.items)
+    × IsTold b.driven (g.R.Source.has_failed b.caller.reader) ⊤) c' t a)
     c.captures.callers.items c.loop-caller.threads.items c.loop-thread.all.items
     (subst (λ xs. Each (λ c' t. IfSome t (λ h. h.promise.caller.value ≡ c')) xs c.loop-caller.threads.items) asked outer.2)
     (subst (λ ts. Each (λ t a. IfSome a (λ a. (p : _) × (option_map (λ h. h.promise) t ≡ Some p)
-    × Drives a.driven p.caller.value.seat a.caller.seat (g.R.Read.remaining p.caller.value.reader) (Some []) (Some a.replies.items))) ts c.loop-thread.all.items) joined inner.2)
+    × (Drives a.driven p.caller.value.seat a.caller.seat (g.R.Source.remaining p.caller.value.reader) (Some []) (Some a.replies.items)
+    × IsTold a.driven (g.R.Source.has_failed a.caller.reader) ⊤))) ts c.loop-thread.all.items) joined inner.2)
 
 pub spawn_with-requires-send-F : goal.spawn_with-requires-send-F
 spawn_with-requires-send-F g c κs within =

@@ -1,5 +1,6 @@
 use Rattle.std.proofs.Common.{◌≡◌, ◌++◌, List, option_map, [], Some, IfSome}
-use Rattle.callers.specs.Driving.{Drives}
+use Rattle.std.specs.Prelude.{⊤}
+use Rattle.callers.specs.Driving.{Drives, IsTold}
 use Rattle.shim_threads.specs.Pairs.{Each}
 use Rattle.shim_threads.proofs.answering.fn.answer_all.scope.Given as goal
 
@@ -14,4 +15,5 @@ invariant-loop-thread g l =
     ((joined : List _)
     × (joined ++ l.thread-iterator.rest.items ≡ l.initial.thread-iterator.rest.items)
     × Each (λ t a. IfSome a (λ a. (p : _) × (option_map (λ h. h.promise) t ≡ Some p)
-    × Drives a.driven p.caller.value.seat a.caller.seat (g.R.Read.remaining p.caller.value.reader) (Some []) (Some a.replies.items))) joined l.all.items)
+    × (Drives a.driven p.caller.value.seat a.caller.seat (g.R.Source.remaining p.caller.value.reader) (Some []) (Some a.replies.items)
+    × IsTold a.driven (g.R.Source.has_failed a.caller.reader) ⊤))) joined l.all.items)
