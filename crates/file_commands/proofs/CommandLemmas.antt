@@ -1,5 +1,5 @@
 -- The program's command line, and what was found of its arguments.
-use Rattle.std.proofs.Common.{◌≡◌, ◌⊎◌, List, [], Option, true, refl, subst, inl, inr}
+use Rattle.std.proofs.Common.{◌≡◌, ◌⊎◌, List, [], Option, true, false, refl, subst, inl, inr}
 use Rattle.clap.specs.Faults.{is_simple_and_free}
 use Rattle.clap.specs.Kinds.{IsAmong}
 use Rattle.clap.specs.Simple.{is_simple}
@@ -7,8 +7,8 @@ use Rattle.clap.specs.Walk.{Row, Text}
 use Rattle.clap.specs.declared.error.kind.ErrorKind.{ErrorKind}
 use Rattle.clap.specs.declared.error.kind.ErrorKind.TheVariants.{OutOfMemory}
 use Rattle.clap.proofs.OnLiterals.{clap_on_literals}
-use Rattle.file_commands.specs.Command.{program, command_in, faults_in, IsCommand, Name, AreFaulty}
-use Rattle.file_commands.specs.Inside.Chosen.{IsShown, IsOfArguments}
+use Rattle.file_commands.specs.Command.{program, command_in, faults_in, lacks_task, LacksTask, IsCommand, Name, AreFaulty}
+use Rattle.file_commands.specs.Inside.Chosen.{IsShown, IsLacking, IsOfArguments}
 use Rattle.file_commands.specs.declared.command.Command.{Command}
 use Rattle.file_commands.specs.declared.command.Command.TheVariants.{Serve, Replay, Asm, Check, Run, Show}
 use Rattle.file_commands.specs.declared.command.CommandError.{CommandError}
@@ -24,17 +24,18 @@ program_is_free = refl
 
 pub named_from_chosen :
     (arguments : List Text) (found : Option (Text × List Row)) → found ≡ command_in arguments → faults_in arguments ≡ []
-    → (c : Command) → IsCommand found c → Name arguments c
-named_from_chosen arguments found e none (Serve workers scripts) h =
+    → (c : Command) → IsCommand found c × (lacks_task c ≡ false) → Name arguments c
+named_from_chosen arguments found e none (Serve workers scripts) (h, complete) =
     (none, subst (λ f. IsCommand f (Serve workers scripts)) e h)
-named_from_chosen arguments found e none (Replay file) h = (none, subst (λ f. IsCommand f (Replay file)) e h)
-named_from_chosen arguments found e none (Asm file explain) h =
+named_from_chosen arguments found e none (Replay file) (h, complete) =
+    (none, subst (λ f. IsCommand f (Replay file)) e h)
+named_from_chosen arguments found e none (Asm file explain) (h, complete) =
     (none, subst (λ f. IsCommand f (Asm file explain)) e h)
-named_from_chosen arguments found e none (Check file list explain) h =
-    (none, subst (λ f. IsCommand f (Check file list explain)) e h)
-named_from_chosen arguments found e none (Run name args explain) h =
-    (none, subst (λ f. IsCommand f (Run name args explain)) e h)
-named_from_chosen arguments found e none (Show text) h = absurd h
+named_from_chosen arguments found e none (Check file list task memory explain) (h, complete) =
+    (none, subst (λ f. IsCommand f (Check file list task memory explain)) e h, complete)
+named_from_chosen arguments found e none (Run name args settings explain) (h, complete) =
+    (none, subst (λ f. IsCommand f (Run name args settings explain)) e h)
+named_from_chosen arguments found e none (Show text) (h, complete) = absurd h
 
 pub named_from_shown :
     (arguments : List Text) (kind : ErrorKind) → (kind ≡ OutOfMemory) ⊎ IsAmong kind (faults_in arguments)
@@ -42,8 +43,8 @@ pub named_from_shown :
 named_from_shown arguments kind h (Serve workers scripts) shown = absurd shown
 named_from_shown arguments kind h (Replay file) shown = absurd shown
 named_from_shown arguments kind h (Asm file explain) shown = absurd shown
-named_from_shown arguments kind h (Check file list explain) shown = absurd shown
-named_from_shown arguments kind h (Run name args explain) shown = absurd shown
+named_from_shown arguments kind h (Check file list task memory explain) shown = absurd shown
+named_from_shown arguments kind h (Run name args settings explain) shown = absurd shown
 named_from_shown arguments kind (inl memory) (Show text) (inl help) = cc
 named_from_shown arguments kind (inl memory) (Show text) (inr version) = cc
 named_from_shown arguments kind (inr among) (Show text) (inl help) =
@@ -57,4 +58,14 @@ pub faulty_from_kind :
 faulty_from_kind arguments kind h failed.OutOfMemory g = tt
 faulty_from_kind arguments kind (inl memory) (failed.Arguments text) g = absurd (g.0 memory)
 faulty_from_kind arguments kind (inr among) (failed.Arguments text) g =
-    record { kind = kind; fault = among; no_help = g.1; no_version = g.2 }
+    inl (record { kind = kind; fault = among; no_help = g.1; no_version = g.2 })
+
+pub is_lacking : (found : Option (Text × List Row)) → LacksTask found → (f : CommandError) → IsLacking found f
+is_lacking found h failed.OutOfMemory = tt
+is_lacking found h (failed.Arguments text) = h
+
+pub faulty_from_lacking :
+    (arguments : List Text) (found : Option (Text × List Row)) → found ≡ command_in arguments → faults_in arguments ≡ []
+    → (f : CommandError) → IsLacking found f → AreFaulty arguments f
+faulty_from_lacking arguments found e none failed.OutOfMemory h = tt
+faulty_from_lacking arguments found e none (failed.Arguments text) h = inr (none, subst LacksTask e h)

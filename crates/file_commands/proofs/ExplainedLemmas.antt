@@ -1,5 +1,5 @@
 -- What is written with the line of a reason.
-use Rattle.std.proofs.Common.{◌≡◌, inl, inr, List, [], ◌++◌, codes, refl, sym, ap, ◌∙◌}
+use Rattle.std.proofs.Common.{inl, inr, [], ◌++◌, codes, refl, sym, ap, ◌∙◌}
 use Rattle.std.proofs.Common.{append-nil}
 use Rattle.wasm_ast.specs.declared.refusal.Refusal.{Refusal}
 use Rattle.file_commands.specs.declared.ran.Ran.{Ran}

@@ -1,5 +1,5 @@
 -- What the bytes of a file determine.
-use Rattle.std.proofs.Common.{◌≡◌, ◌⊎◌, ◌++◌, cond, codes, inl, inr, ℕ, zero, suc, ◌+◌, ◌≤◌, List, ◌∷◌, Bool, true, false, true≢false, None, Some, length, refl, sym, ap, ◌∙◌, subst, arith}
+use Rattle.std.proofs.Common.{◌≡◌, ◌⊎◌, ◌++◌, cond, codes, inl, inr, ℕ, zero, suc, ◌+◌, ◌≤◌, List, Bool, true, false, true≢false, None, Some, length, refl, sym, ap, ◌∙◌, subst, arith}
 use Rattle.hex.specs.Hex.{encode_lower}
 use Rattle.wasm_ast.specs.declared.module.Module.{Module}
 use Rattle.wasm_ast.specs.declared.refusal.Refusal.{Refusal}
@@ -9,7 +9,6 @@ use Rattle.wasm_binary.specs.Limits.{Over}
 use Rattle.wasm_binary.specs.Canonical.{canon, FitsLimits}
 use Rattle.text_assembler.specs.Modules.{Denotes}
 use Rattle.oci_config.specs.declared.process.ProcessConfig.{ProcessConfig}
-use Rattle.oci_config.specs.Config.{process_with}
 use Rattle.validator.specs.Typing.{ValidModule}
 use Rattle.step_machine.specs.declared.ends.End.{End}
 use Rattle.step_machine.specs.declared.ends.End.TheVariants as ends
@@ -24,9 +23,9 @@ use Rattle.file_commands.specs.Source as source
 use Rattle.file_commands.specs.Ran.{line}
 use Rattle.file_commands.specs.Assembled.{IsAssembled}
 use Rattle.file_commands.specs.Assembled as asm
-use Rattle.file_commands.specs.Checked.{IsChecked, list_if}
+use Rattle.file_commands.specs.Checked.{IsChecked, IsTaskChecked, list_if}
 use Rattle.file_commands.specs.Checked as check
-use Rattle.file_commands.specs.TaskRun.{CannotRun, IsEnd, IsRun, ran_to}
+use Rattle.file_commands.specs.TaskRun.{Given, can_have, process_given, CannotRun, IsEnd, IsRun, ran_to}
 use Rattle.file_commands.specs.TaskRun as task
 
 -- ---- modules
@@ -167,12 +166,12 @@ same_some : {A : Type 0} (x y : A) → Some x ≡ Some y → x ≡ y
 same_some x y h = cc
 
 ends_alike :
-    OneModule → HaltedStays → CutsCommute → (bytes : List ℕ) (args : List (List ℕ)) (r s : Ran) → IsEnd bytes args r
-    → IsEnd bytes args s → r ≡ s
-ends_alike one halted cuts bytes args r s h g = by_module (one bytes g.module h.module g.source h.source)
+    OneModule → HaltedStays → CutsCommute → (bytes : List ℕ) (given : Given) (r s : Ran) → IsEnd bytes given r
+    → IsEnd bytes given s → r ≡ s
+ends_alike one halted cuts bytes given r s h g = by_module (one bytes g.module h.module g.source h.source)
   where
     p : ProcessConfig
-    p = process_with args
+    p = process_given given
 
     at :
         (m : Module) (n : ℕ) (e : End) → ended (after m p n).state ≡ Some e → m ≡ h.module
@@ -191,29 +190,53 @@ ends_alike one halted cuts bytes args r s h g = by_module (one bytes g.module h.
         ∙ (ap (λ (e : End). ran_to (after h.module p g.turns).store e) end
         ∙ (ap (λ (y : Module). ran_to (after y p g.turns).store g.end) (sym is) ∙ sym g.is)))
 
--- a task that can be run is not refused
-no_refusal :
-    OneModule → Either → (bytes : List ℕ) (args : List (List ℕ)) (r : Ran) (e : Refusal) → IsEnd bytes args r
-    → CannotRun bytes args e → ⊥
-no_refusal one never bytes args r e h (task.CannotRun.no_module x none) = never bytes h.module x h.source none
-no_refusal one never bytes args r e h (task.CannotRun.bad_arguments m g bad) = both h.arguments bad
-no_refusal one never bytes args r e h (task.CannotRun.invalid m at g taken fault) =
-    fault_not_valid m at fault (subst ValidModule (one bytes h.module m h.source g) h.valid)
-no_refusal one never bytes args r e h (task.CannotRun.not_instantiated m x g taken valid refused) =
-    let opens =
-    subst (λ (y : Module). instantiation_refusal y (process_with args) ≡ None)
-    (one bytes h.module m h.source g) h.opens in
-    let clash : None ≡ Some x = sym opens ∙ refused in
+-- a module of which a task can be made is not refused
+no_refusal_of :
+    OneModule → Either → (bytes : List ℕ) (given : Given) (n : Module) (e : Refusal) → IsSource bytes n
+    → can_have given ≡ true
+    → ValidModule n → instantiation_refusal n (process_given given) ≡ None → CannotRun bytes given e → ⊥
+no_refusal_of one never bytes given n e source taken valid opens (task.CannotRun.no_module x none) =
+    never bytes n x source none
+no_refusal_of one never bytes given n e source taken valid opens (task.CannotRun.bad_arguments m h bad) = both taken bad
+no_refusal_of one never bytes given n e source taken valid opens (task.CannotRun.invalid m at h had fault) =
+    fault_not_valid m at fault (subst ValidModule (one bytes n m source h) valid)
+no_refusal_of one never bytes given n e source taken valid opens
+    (task.CannotRun.not_instantiated m x h had ok refused) =
+    let here =
+    subst (λ (y : Module). instantiation_refusal y (process_given given) ≡ None) (one bytes n m source h) opens in
+    let clash : None ≡ Some x = sym here ∙ refused in
     absurd cc
 
+-- a task that can be run is not refused
+no_refusal :
+    OneModule → Either → (bytes : List ℕ) (given : Given) (r : Ran) (e : Refusal) → IsEnd bytes given r
+    → CannotRun bytes given e → ⊥
+no_refusal one never bytes given r e h why =
+    no_refusal_of one never bytes given h.module e h.source h.arguments h.valid h.opens why
+
 pub run_alike :
-    OneModule → Either → HaltedStays → CutsCommute → (name bytes : List ℕ) (args : List (List ℕ)) (r s : Ran)
-    → IsRun name bytes args r → IsRun name bytes args s → Alike r s
-run_alike one never halted cuts name bytes args r s (task.IsRun.ran x h) (task.IsRun.ran y g) =
-    let same = ends_alike one halted cuts bytes (name ∷ args) x y h g in
+    OneModule → Either → HaltedStays → CutsCommute → (bytes : List ℕ) (given : Given) (r s : Ran)
+    → IsRun bytes given r → IsRun bytes given s → Alike r s
+run_alike one never halted cuts bytes given r s (task.IsRun.ran x h) (task.IsRun.ran y g) =
+    let same = ends_alike one halted cuts bytes given x y h g in
     (ap (λ (z : Ran). z.out) same, ap (λ (z : Ran). z.status) same)
-run_alike one never halted cuts name bytes args r s (task.IsRun.ran x h) (task.IsRun.no_task e g) =
-    absurd (no_refusal one never bytes (name ∷ args) x e h g)
-run_alike one never halted cuts name bytes args r s (task.IsRun.no_task e g) (task.IsRun.ran x h) =
-    absurd (no_refusal one never bytes (name ∷ args) x e h g)
-run_alike one never halted cuts name bytes args r s (task.IsRun.no_task e h) (task.IsRun.no_task d g) = (refl, refl)
+run_alike one never halted cuts bytes given r s (task.IsRun.ran x h) (task.IsRun.no_task e g) =
+    absurd (no_refusal one never bytes given x e h g)
+run_alike one never halted cuts bytes given r s (task.IsRun.no_task e g) (task.IsRun.ran x h) =
+    absurd (no_refusal one never bytes given x e h g)
+run_alike one never halted cuts bytes given r s (task.IsRun.no_task e h) (task.IsRun.no_task d g) = (refl, refl)
+
+pub task_checked_alike :
+    OneModule → Either → (bytes : List ℕ) (given : Given) (list : Bool) (r s : Ran) → IsTaskChecked bytes given list r
+    → IsTaskChecked bytes given list s → Alike r s
+task_checked_alike one never bytes given list r s (check.IsTaskChecked.task m h t v o)
+    (check.IsTaskChecked.task n k u w p) =
+    (ap (λ (x : Module). line (codes "ok") ++ list_if list x) (one bytes m n h k), refl)
+task_checked_alike one never bytes given list r s (check.IsTaskChecked.task m h t v o)
+    (check.IsTaskChecked.no_task e why) =
+    absurd (no_refusal_of one never bytes given m e h t v o why)
+task_checked_alike one never bytes given list r s (check.IsTaskChecked.no_task e why)
+    (check.IsTaskChecked.task m h t v o) =
+    absurd (no_refusal_of one never bytes given m e h t v o why)
+task_checked_alike one never bytes given list r s (check.IsTaskChecked.no_task e h) (check.IsTaskChecked.no_task d k) =
+    (refl, refl)

@@ -1,18 +1,21 @@
 -- The task of a file, or why there is none.
-use Rattle.std.proofs.Common.{◌≡◌, ◌≢◌, ◌⊎◌, inl, inr, ℕ, List, ◌∷◌, Bool, true, false, Result, Ok, Err, Some, None, refl, sym, subst}
+use Rattle.std.proofs.Common.{◌≡◌, ◌≢◌, ◌⊎◌, inl, inr, ℕ, List, ◌++◌, codes, ap, ◌∙◌, Bool, true, false, Result, Ok, Err, Some, None, refl, sym, subst}
 use Rattle.std.specs.Prelude.{IfOk, IfErr, OnOk, OnErr}
 use Rattle.wasm_ast.specs.declared.module.Module.{Module}
 use Rattle.wasm_ast.specs.declared.refusal.Refusal.{Refusal}
 use Rattle.wasm_ast.specs.declared.refusal.Refusal.TheVariants as refusal
 use Rattle.oci_config.specs.declared.process.ProcessConfig.{ProcessConfig}
-use Rattle.oci_config.specs.Config.{are_arguments_alone, process_with}
 use Rattle.validator.specs.Typing.{ValidModule}
 use Rattle.step_machine.specs.Instantiation.{instantiation_refusal}
 use Rattle.step_machine.specs.MachineView.{MachineView}
 use Rattle.file_commands.specs.declared.ran.Ran.{Ran}
 use Rattle.file_commands.specs.Source.{IsSource, IsNoSource}
-use Rattle.file_commands.specs.TaskRun.{ran_to, CannotRun, IsEnd, IsRun}
+use Rattle.file_commands.specs.TaskRun.{Given, can_have, process_given, ran_to, CannotRun, IsEnd, IsRun}
 use Rattle.file_commands.specs.TaskRun as task
+use Rattle.file_commands.specs.Ran.{line, succeeded, refused}
+use Rattle.file_commands.specs.Explained.{IsToldWhy, IsExplained}
+use Rattle.file_commands.specs.Checked.{list_if, IsTaskChecked}
+use Rattle.file_commands.specs.Checked as checked
 use Rattle.file_commands.specs.Inside.Written.{CannotStart, IsOpened, HasEnded}
 use Rattle.file_commands.specs.Inside.Written as why
 use Rattle.file_commands.proofs.RanLemmas.{Told}
@@ -53,55 +56,55 @@ not_started m p (Err e) valid refused = λ other. why.CannotStart.not_instantiat
 -- ---- the task
 
 pub no_module :
-    (bytes : List ℕ) (args : List (List ℕ)) (e : Refusal) → Told (IsNoSource bytes) e → Unless (CannotRun bytes args) e
-no_module bytes args e h other = task.CannotRun.no_module e (told_unless (IsNoSource bytes) e h other)
+    (bytes : List ℕ) (g : Given) (e : Refusal) → Told (IsNoSource bytes) e → Unless (CannotRun bytes g) e
+no_module bytes g e h other = task.CannotRun.no_module e (told_unless (IsNoSource bytes) e h other)
 
 pub no_process :
-    (bytes : List ℕ) (args : List (List ℕ)) (m : Module) (e : Refusal) → IsSource bytes m
-    → Unless (BadArguments (are_arguments_alone args)) e → Unless (CannotRun bytes args) e
-no_process bytes args m e source h other =
+    (bytes : List ℕ) (g : Given) (m : Module) (e : Refusal) → IsSource bytes m
+    → Unless (BadArguments (can_have g)) e → Unless (CannotRun bytes g) e
+no_process bytes g m e source h other =
     let bad = h other in
-    subst (CannotRun bytes args) (sym bad.0) (task.CannotRun.bad_arguments m source bad.1)
+    subst (CannotRun bytes g) (sym bad.0) (task.CannotRun.bad_arguments m source bad.1)
 
 no_start :
-    (bytes : List ℕ) (args : List (List ℕ)) (m : Module) (p : ProcessConfig) (e : Refusal) → IsSource bytes m
-    → are_arguments_alone args ≡ true → p ≡ process_with args → CannotStart m p e → CannotRun bytes args e
-no_start bytes args m p e source taken same (why.CannotStart.not_valid at fault) =
+    (bytes : List ℕ) (g : Given) (m : Module) (p : ProcessConfig) (e : Refusal) → IsSource bytes m
+    → can_have g ≡ true → p ≡ process_given g → CannotStart m p e → CannotRun bytes g e
+no_start bytes g m p e source taken same (why.CannotStart.not_valid at fault) =
     task.CannotRun.invalid m at source taken fault
-no_start bytes args m p e source taken same (why.CannotStart.not_instantiated x valid refused) =
+no_start bytes g m p e source taken same (why.CannotStart.not_instantiated x valid refused) =
     task.CannotRun.not_instantiated m e source taken valid
     (subst (λ (q : ProcessConfig). instantiation_refusal m q ≡ Some e) same refused)
 
 pub no_machine :
-    {W : Type 0} (bytes : List ℕ) (args : List (List ℕ)) (m : Module) (p : ProcessConfig) (r : Result W Refusal)
-    → IsSource bytes m → are_arguments_alone args ≡ true → p ≡ process_with args
-    → IfErr r (Unless (CannotStart m p)) → IfErr r (Unless (CannotRun bytes args))
-no_machine bytes args m p (Ok v) source taken same h = tt
-no_machine bytes args m p (Err e) source taken same h = λ other. no_start bytes args m p e source taken same (h other)
+    {W : Type 0} (bytes : List ℕ) (g : Given) (m : Module) (p : ProcessConfig) (r : Result W Refusal)
+    → IsSource bytes m → can_have g ≡ true → p ≡ process_given g
+    → IfErr r (Unless (CannotStart m p)) → IfErr r (Unless (CannotRun bytes g))
+no_machine bytes g m p (Ok v) source taken same h = tt
+no_machine bytes g m p (Err e) source taken same h = λ other. no_start bytes g m p e source taken same (h other)
 
 pub opened :
-    (bytes : List ℕ) (args : List (List ℕ)) (m : Module) (p : ProcessConfig) (r : Result MachineView Refusal)
-    → IsSource bytes m → are_arguments_alone args ≡ true → p ≡ process_with args
+    (bytes : List ℕ) (g : Given) (m : Module) (p : ProcessConfig) (r : Result MachineView Refusal)
+    → IsSource bytes m → can_have g ≡ true → p ≡ process_given g
     → OnOk r (ValidModule m) → OnOk r (instantiation_refusal m p ≡ None)
-    → IfOk r (λ v. v ≡ record { «module» = m; process = p; turns = 0 }) → IfOk r (IsOpened bytes args)
-opened bytes args m p (Ok v) source taken same valid opens is =
-    let its : IsOpened bytes args (record { «module» = m; process = p; turns = 0 }) = record {
+    → IfOk r (λ v. v ≡ record { «module» = m; process = p; turns = 0 }) → IfOk r (IsOpened bytes g)
+opened bytes g m p (Ok v) source taken same valid opens is =
+    let its : IsOpened bytes g (record { «module» = m; process = p; turns = 0 }) = record {
       source = source;
       arguments = taken;
       valid = valid;
       opens = subst (λ (q : ProcessConfig). instantiation_refusal m q ≡ None) same opens;
       process = same;
     } in
-    subst (IsOpened bytes args) (sym is) its
-opened bytes args m p (Err e) source taken same valid opens is = tt
+    subst (IsOpened bytes g) (sym is) its
+opened bytes g m p (Err e) source taken same valid opens is = tt
 
 -- ---- its end
 
 pub is_run :
-    (name bytes : List ℕ) (args : List (List ℕ)) (v : MachineView) (x : Ran) → IsOpened bytes (name ∷ args) v
-    → HasEnded v.module v.process x → IsRun name bytes args x
-is_run name bytes args v x opened_so h =
-    let p = process_with (name ∷ args) in
+    (bytes : List ℕ) (g : Given) (v : MachineView) (x : Ran) → IsOpened bytes g v
+    → HasEnded v.module v.process x → IsRun bytes g x
+is_run bytes g v x opened_so h =
+    let p = process_given g in
     let its : HasEnded v.module p x = subst (λ (q : ProcessConfig). HasEnded v.module q x) opened_so.process h in
     task.IsRun.ran x (record {
       «module» = v.module;
@@ -114,3 +117,29 @@ is_run name bytes args v x opened_so h =
       ends = its.ends;
       is = its.is;
     })
+
+-- ---- whether there could be one
+
+-- a module of which a task was made
+pub task_checked :
+    (bytes : List ℕ) (g : Given) (list : Bool) (v : MachineView) (text : List ℕ) (r : Ran) → IsOpened bytes g v
+    → text ≡ line (codes "ok") ++ list_if list v.module → r ≡ succeeded text → IsTaskChecked bytes g list r
+task_checked bytes g list v text r opened_so same is =
+    subst (IsTaskChecked bytes g list) (sym (is ∙ ap succeeded same))
+    (checked.IsTaskChecked.task v.module opened_so.source opened_so.arguments opened_so.valid opened_so.opens)
+
+-- one of which none was made
+pub task_refused :
+    (bytes : List ℕ) (g : Given) (list : Bool) (e : Refusal) (r : Result Ran Refusal) → IfOk r (λ x. x ≡ refused e)
+    → OnOk r (e ≢ refusal.NoMemory) → Unless (CannotRun bytes g) e → IfOk r (IsTaskChecked bytes g list)
+task_refused bytes g list e (Ok x) is told why =
+    subst (IsTaskChecked bytes g list) (sym is) (checked.IsTaskChecked.no_task e (why told))
+task_refused bytes g list e (Err x) is told why = tt
+
+-- the same with the line of a reason
+pub task_why :
+    (bytes : List ℕ) (g : Given) (list : Bool) (e : Refusal) (r : Result Ran Refusal) → IfOk r (IsToldWhy (refused e))
+    → OnOk r (e ≢ refusal.NoMemory) → Unless (CannotRun bytes g) e
+    → IfOk r (IsExplained refused (IsTaskChecked bytes g list))
+task_why bytes g list e (Ok x) is told why = inr (e, checked.IsTaskChecked.no_task e (why told), is)
+task_why bytes g list e (Err x) is told why = tt

@@ -1,5 +1,5 @@
 -- Streams that are written piece by piece.
-use Rattle.std.proofs.Common.{◌≡◌, ◌≢◌, ◌⊎◌, inl, inr, [], ap, ℕ, ◌+◌, ◌%◌, List, ◌∷◌, ◌++◌, length, length-append, take, drop, take-append-drop, Option, Some, Result, Ok, Err, refl, sym, subst, arith}
+use Rattle.std.proofs.Common.{◌≡◌, ◌≢◌, inl, inr, [], ap, ℕ, ◌+◌, ◌%◌, List, ◌++◌, length, length-append, take, drop, take-append-drop, Option, Some, Result, Ok, Err, refl, sym, subst, arith}
 use lib.Seq.{take-append_seam}
 use Rattle.std.specs.Prelude.{IfOk, OnOk}
 use Rattle.std.specs.Io.KnownBytes.{Appends}
@@ -17,8 +17,8 @@ use Rattle.step_machine.specs.MachineView.{MachineView, state_of, written_to, ou
 use Rattle.file_commands.specs.declared.ran.Ran.{Ran}
 use Rattle.file_commands.specs.declared.run_error.RunError.{RunError}
 use Rattle.file_commands.specs.Ran.{refused_run}
-use Rattle.file_commands.specs.Explained.{because, IsToldWhy, IsExplained}
-use Rattle.file_commands.specs.TaskRun.{trap_line, status_of, ran_to, CannotRun, IsRun, IsWritten}
+use Rattle.file_commands.specs.Explained.{IsToldWhy, IsExplained}
+use Rattle.file_commands.specs.TaskRun.{Given, trap_line, status_of, ran_to, CannotRun, IsRun, IsWritten}
 use Rattle.file_commands.specs.TaskRun as task
 use Rattle.file_commands.specs.Inside.Written.{IsOpened, HasEnded, IsCopied}
 use Rattle.file_commands.proofs.RunLemmas.{Unless, is_run}
@@ -73,32 +73,32 @@ end_written v w end o o' e e' e'' status same_module same_process ends out err l
     )
 
 -- the task of a file
-pub run_written : (name bytes : List ℕ) (args : List (List ℕ)) (v : MachineView)
+pub run_written : (bytes : List ℕ) (g : Given) (v : MachineView)
     (r : Result ℕ RunError) (o o' e e' : Option (List ℕ))
-    → IsOpened bytes (name ∷ args) v → IfOk r (IsWritten (HasEnded v.module v.process) o o' e e')
-    → IfOk r (IsWritten (IsRun name bytes args) o o' e e')
-run_written name bytes args v r o o' e e' opened_so h =
-    written_as r o o' e e' (λ x ended_so. is_run name bytes args v x opened_so ended_so) h
+    → IsOpened bytes g v → IfOk r (IsWritten (HasEnded v.module v.process) o o' e e')
+    → IfOk r (IsWritten (IsRun bytes g) o o' e e')
+run_written bytes g v r o o' e e' opened_so h =
+    written_as r o o' e e' (λ x ended_so. is_run bytes g v x opened_so ended_so) h
 
 -- a file without a task
-pub refusal_written : (name bytes : List ℕ) (args : List (List ℕ)) (cause : Refusal)
+pub refusal_written : (bytes : List ℕ) (g : Given) (cause : Refusal)
     (r : Result ℕ RunError) (o e e' : Option (List ℕ))
-    → Unless (CannotRun bytes (name ∷ args)) cause → OnOk r (Appends e e' (refused_run cause).err)
+    → Unless (CannotRun bytes g) cause → OnOk r (Appends e e' (refused_run cause).err)
     → IfOk r (λ s. s ≡ (refused_run cause).status) → OnOk r (cause ≢ refusal.NoMemory)
-    → IfOk r (IsWritten (IsRun name bytes args) o o e e')
-refusal_written name bytes args cause (Ok n) o e e' why err status told =
+    → IfOk r (IsWritten (IsRun bytes g) o o e e')
+refusal_written bytes g cause (Ok n) o e e' why err status told =
     (refused_run cause, task.IsRun.no_task cause (why told), Appends-nil o, err, status)
-refusal_written name bytes args cause (Err x) o e e' why err status told = tt
+refusal_written bytes g cause (Err x) o e e' why err status told = tt
 
 -- ---- with the line of a reason
 
 -- the task of a file
-pub run_why : (name bytes : List ℕ) (args : List (List ℕ)) (v : MachineView)
+pub run_why : (bytes : List ℕ) (g : Given) (v : MachineView)
     (r : Result ℕ RunError) (o o' e e' : Option (List ℕ))
-    → IsOpened bytes (name ∷ args) v → IfOk r (IsWritten (HasEnded v.module v.process) o o' e e')
-    → IfOk r (IsWritten (IsExplained refused_run (IsRun name bytes args)) o o' e e')
-run_why name bytes args v r o o' e e' opened_so h =
-    written_as r o o' e e' (λ x ended_so. inl (is_run name bytes args v x opened_so ended_so)) h
+    → IsOpened bytes g v → IfOk r (IsWritten (HasEnded v.module v.process) o o' e e')
+    → IfOk r (IsWritten (IsExplained refused_run (IsRun bytes g)) o o' e e')
+run_why bytes g v r o o' e e' opened_so h =
+    written_as r o o' e e' (λ x ended_so. inl (is_run bytes g v x opened_so ended_so)) h
 
 -- a reason is no output
 told_out : (cause : Refusal) (ran : Ran) → IsToldWhy (refused_run cause) ran → ran.out ≡ []
@@ -106,13 +106,13 @@ told_out cause ran (inl is) = ap (λ (r : Ran). r.out) is
 told_out cause ran (inr h) = ap (λ (r : Ran). r.out) h.2
 
 -- a file without a task
-pub refusal_why : (name bytes : List ℕ) (args : List (List ℕ)) (cause : Refusal)
+pub refusal_why : (bytes : List ℕ) (g : Given) (cause : Refusal)
     (r : Result ℕ RunError) (o e e' : Option (List ℕ))
-    → Unless (CannotRun bytes (name ∷ args)) cause
+    → Unless (CannotRun bytes g) cause
     → IfOk r (λ s. (ran : Ran) × IsToldWhy (refused_run cause) ran × Appends e e' ran.err × (s ≡ ran.status))
     → OnOk r (cause ≢ refusal.NoMemory)
-    → IfOk r (IsWritten (IsExplained refused_run (IsRun name bytes args)) o o e e')
-refusal_why name bytes args cause (Ok n) o e e' why written told =
+    → IfOk r (IsWritten (IsExplained refused_run (IsRun bytes g)) o o e e')
+refusal_why bytes g cause (Ok n) o e e' why written told =
     let ran = written.0 in (
       ran,
       inr (cause, task.IsRun.no_task cause (why told), written.1),
@@ -120,4 +120,4 @@ refusal_why name bytes args cause (Ok n) o e e' why written told =
       written.2,
       written.3,
     )
-refusal_why name bytes args cause (Err x) o e e' why written told = tt
+refusal_why bytes g cause (Err x) o e e' why written told = tt

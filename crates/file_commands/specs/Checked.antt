@@ -1,5 +1,5 @@
 -- What `check` writes.
-use Rattle.std.specs.Prelude.{ℕ, ◌+◌, List, [], ◌∷◌, ◌++◌, length, Bool, codes, decimal, if◌then◌else◌, Option}
+use Rattle.std.specs.Prelude.{◌≡◌, ℕ, ◌+◌, List, [], ◌∷◌, ◌++◌, length, Bool, true, codes, decimal, if◌then◌else◌, Option, None}
 use Rattle.wasm_ast.specs.declared.module.Func.{Func}
 use Rattle.wasm_ast.specs.declared.module.Module.{Module}
 use Rattle.wasm_ast.specs.declared.place.Place.{Place}
@@ -9,9 +9,11 @@ use Rattle.wasm_ast.specs.Syntax.{Op, simple, block, loop, if', Ops, stop, next,
 use Rattle.text_assembler.specs.Lines.{line_of}
 use Rattle.validator.specs.Typing.{ValidModule}
 use Rattle.validator.specs.Faults.{NamesFault}
+use Rattle.step_machine.specs.Instantiation.{instantiation_refusal}
 use Rattle.file_commands.specs.declared.ran.Ran.{Ran}
 use Rattle.file_commands.specs.Source.{IsSource, IsNoSource}
 use Rattle.file_commands.specs.Ran.{line, succeeded, refused}
+use Rattle.file_commands.specs.TaskRun.{Given, can_have, process_given, CannotRun}
 
 -- ---- the list of instructions
 
@@ -61,3 +63,11 @@ pub data IsChecked (bytes : List ℕ) (list : Bool) : Ran → Type 0 where
       (m : Module) → (at : Option Place) → IsSource bytes m → NamesFault m at
       → IsChecked bytes list (refused (refusal.Invalid at))
   no_module : (e : Refusal) → IsNoSource bytes e → IsChecked bytes list (refused e)
+
+-- what `check --task` writes: whether `run` could make a task of the file
+pub data IsTaskChecked (bytes : List ℕ) (g : Given) (list : Bool) : Ran → Type 0 where
+  task :
+      (m : Module) → IsSource bytes m → can_have g ≡ true → ValidModule m
+      → instantiation_refusal m (process_given g) ≡ None
+      → IsTaskChecked bytes g list (succeeded (line (codes "ok") ++ list_if list m))
+  no_task : (e : Refusal) → CannotRun bytes g e → IsTaskChecked bytes g list (refused e)

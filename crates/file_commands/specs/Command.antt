@@ -1,12 +1,12 @@
 -- How the program's command line is read, by `clap`'s own reading of its arguments.
-use Rattle.std.specs.Prelude.{ℕ, ◌≡◌, ◌≢◌, ◌⊎◌, List, [], ◌∷◌, map, Bool, true, false, bytes_eq, Option, Some, None, option_map, codes, string_bytes}
+use Rattle.std.specs.Prelude.{ℕ, ◌≡◌, ◌≢◌, ◌⊎◌, List, [], ◌∷◌, map, Bool, true, false, not, ◌&&◌, bytes_eq, Option, Some, None, is_some, option_map, codes, string_bytes}
 use Rattle.std.specs.Str.Parse.{digits_value, without_leading_plus}
 use Rattle.clap.specs.Faults.{fault_of}
 use Rattle.clap.specs.Kinds.{Kinds, IsAmong}
 use Rattle.clap.specs.Simple.{App, Shape, new_shape, new_rule, subcommand_of, with_subcommand}
 use Rattle.clap.specs.Lexer.{usize_max}
 use Rattle.clap.specs.Walk.{Row, Rule, Text, first_of, all_of}
-use Rattle.clap.specs.declared.builder.action.ArgAction.TheVariants.{SetTrue}
+use Rattle.clap.specs.declared.builder.action.ArgAction.TheVariants.{Append, SetTrue}
 use Rattle.clap.specs.declared.builder.value_parser.ValueParser.TheVariants.{Unsigned}
 use Rattle.clap.specs.declared.error.kind.ErrorKind.{ErrorKind}
 use Rattle.clap.specs.declared.error.kind.ErrorKind.TheVariants.{DisplayHelp, DisplayVersion}
@@ -27,12 +27,32 @@ abbrev pub explain_rule : Rule
 explain_rule =
     record (new_rule (codes "explain")) { long = Some (codes "explain"); action = Some SetTrue }
 
+-- the flag `--task`
+abbrev pub task_rule : Rule
+task_rule = record (new_rule (codes "task")) { long = Some (codes "task"); action = Some SetTrue }
+
 -- the option `--workers`, whose value is a number from 1 to 16
 abbrev pub workers_rule : Rule
 workers_rule = record (new_rule (codes "workers")) {
   long = Some (codes "workers");
   value_names = 1;
   parser = Some (Unsigned 1 16);
+}
+
+-- the option `--env`, an entry of the environment each time that it is given
+abbrev pub env_rule : Rule
+env_rule = record (new_rule (codes "env")) {
+  long = Some (codes "env");
+  value_names = 1;
+  action = Some Append;
+}
+
+-- the option `--memory`, whose value is a number of bytes
+abbrev pub memory_rule : Rule
+memory_rule = record (new_rule (codes "memory")) {
+  long = Some (codes "memory");
+  value_names = 1;
+  parser = Some (Unsigned 0 18446744073709551615);
 }
 
 -- the files of callers, of which there may be several
@@ -64,7 +84,8 @@ bare_program =
     }
 
 -- `serve [--workers N] [SCRIPT..]`, `replay FILE`, `asm [--explain] FILE`,
--- `check [--list] [--explain] FILE` and `run [--explain] MODULE [ARG..]`
+-- `check [--task [--memory BYTES]] [--list] [--explain] FILE` and
+-- `run [--env NAME=VALUE]* [--memory BYTES] [--explain] MODULE [ARG..]`
 abbrev pub serve_shape : Shape
 serve_shape = command_shape (codes "serve") (workers_rule ∷ script_rule ∷ [])
 
@@ -75,10 +96,13 @@ abbrev pub asm_shape : Shape
 asm_shape = command_shape (codes "asm") (explain_rule ∷ file_rule ∷ [])
 
 abbrev pub check_shape : Shape
-check_shape = command_shape (codes "check") (list_rule ∷ explain_rule ∷ file_rule ∷ [])
+check_shape =
+    command_shape (codes "check")
+    (task_rule ∷ memory_rule ∷ list_rule ∷ explain_rule ∷ file_rule ∷ [])
 
 abbrev pub run_shape : Shape
-run_shape = command_shape (codes "run") (explain_rule ∷ module_rule ∷ [])
+run_shape =
+    command_shape (codes "run") (env_rule ∷ memory_rule ∷ explain_rule ∷ module_rule ∷ [])
 
 -- the program with the commands for lines, and with all
 abbrev pub line_program : App
@@ -101,6 +125,10 @@ is_set (Some value) = bytes_eq value (codes "true")
 abbrev pub has_list : List Row → Bool
 has_list rows = is_set (first_of (codes "list") rows)
 
+-- `--task` is among them
+abbrev pub has_task : List Row → Bool
+has_task rows = is_set (first_of (codes "task") rows)
+
 -- `--explain` is among them
 abbrev pub has_explain : List Row → Bool
 has_explain rows = is_set (first_of (codes "explain") rows)
@@ -121,6 +149,18 @@ texts_from (Some texts) = texts
 abbrev pub scripts_in : List Row → List Text
 scripts_in rows = texts_from (all_of (codes "SCRIPT") rows)
 
+-- the entries of the environment, in their order
+abbrev pub env_in : List Row → List Text
+env_in rows = texts_from (all_of (codes "env") rows)
+
+-- the limit on the memory in bytes, if one is given
+abbrev pub limit_from : Option Text → Option ℕ
+limit_from None = None
+limit_from (Some text) = Some (digits_value 10 (without_leading_plus text))
+
+abbrev pub memory_in : List Row → Option ℕ
+memory_in rows = limit_from (first_of (codes "memory") rows)
+
 -- the file of a module and the words after it
 abbrev pub module_in : List Row → Option (List Text)
 module_in = all_of (codes "MODULE")
@@ -129,8 +169,9 @@ module_in = all_of (codes "MODULE")
 abbrev pub command_in : List Text → Option (Text × List Row)
 command_in = subcommand_of program
 
--- its name with its workers and SCRIPTs, with its FILE, with its FILE and which flags are there, and with its
--- MODULE and ARGs and whether `--explain` is there
+-- its name with its workers and SCRIPTs; with its FILE; with its FILE, the limit on memory and
+-- which flags are there; and with its MODULE and ARGs, the settings of the task and whether
+-- `--explain` is there
 abbrev pub with_scripts : Text × List Row → Text × ℕ × List Text
 with_scripts p = (p.0, workers_in p.1, scripts_in p.1)
 
@@ -140,11 +181,12 @@ with_file p = (p.0, file_in p.1)
 abbrev pub with_explain : Text × List Row → Text × Option Text × Bool
 with_explain p = (p.0, file_in p.1, has_explain p.1)
 
-abbrev pub with_flags : Text × List Row → Text × Option Text × Bool × Bool
-with_flags p = (p.0, file_in p.1, has_list p.1, has_explain p.1)
+abbrev pub with_flags : Text × List Row → Text × Option Text × Bool × Bool × Option ℕ × Bool
+with_flags p = (p.0, file_in p.1, has_list p.1, has_task p.1, memory_in p.1, has_explain p.1)
 
-abbrev pub with_module : Text × List Row → Text × Option (List Text) × Bool
-with_module p = (p.0, module_in p.1, has_explain p.1)
+abbrev pub with_module :
+    Text × List Row → Text × Option (List Text) × List Text × Option ℕ × Bool
+with_module p = (p.0, module_in p.1, env_in p.1, memory_in p.1, has_explain p.1)
 
 -- this is the command
 abbrev pub IsCommand : Option (Text × List Row) → Command → Type 0
@@ -154,11 +196,18 @@ IsCommand found (Replay file) =
     option_map with_file found ≡ Some (codes "replay", Some (string_bytes file))
 IsCommand found (Asm file explain) =
     option_map with_explain found ≡ Some (codes "asm", Some (string_bytes file), explain)
-IsCommand found (Check file list explain) =
-    option_map with_flags found ≡ Some (codes "check", Some (string_bytes file), list, explain)
-IsCommand found (Run name args explain) =
+IsCommand found (Check file list task memory explain) =
+    option_map with_flags found
+    ≡ Some (codes "check", Some (string_bytes file), list, task, memory, explain)
+IsCommand found (Run name args settings explain) =
     option_map with_module found
-    ≡ Some (codes "run", Some (string_bytes name ∷ map string_bytes args.items), explain)
+    ≡ Some (
+      codes "run",
+      Some (string_bytes name ∷ map string_bytes args.items),
+      map string_bytes settings.env.items,
+      settings.memory,
+      explain,
+    )
 IsCommand found (Show text) = ⊥
 
 -- what is wrong with the arguments, help and version included; empty where nothing is
@@ -170,6 +219,11 @@ abbrev pub AskToShow : List Text → Type 0
 AskToShow arguments =
     IsAmong DisplayHelp (faults_in arguments) ⊎ IsAmong DisplayVersion (faults_in arguments)
 
+-- a check with a limit on the memory of a task that is not asked for
+abbrev pub lacks_task : Command → Bool
+lacks_task (Check file list task memory explain) = is_some memory && not task
+lacks_task other = false
+
 -- the arguments name this command
 abbrev pub Name : List Text → Command → Type 0
 Name arguments (Show text) = AskToShow arguments
@@ -179,10 +233,12 @@ Name arguments (Replay file) =
     (faults_in arguments ≡ []) × IsCommand (command_in arguments) (Replay file)
 Name arguments (Asm file explain) =
     (faults_in arguments ≡ []) × IsCommand (command_in arguments) (Asm file explain)
-Name arguments (Check file list explain) =
-    (faults_in arguments ≡ []) × IsCommand (command_in arguments) (Check file list explain)
-Name arguments (Run name args explain) =
-    (faults_in arguments ≡ []) × IsCommand (command_in arguments) (Run name args explain)
+Name arguments (Check file list task memory explain) =
+    (faults_in arguments ≡ [])
+    × IsCommand (command_in arguments) (Check file list task memory explain)
+    × (lacks_task (Check file list task memory explain) ≡ false)
+Name arguments (Run name args settings explain) =
+    (faults_in arguments ≡ []) × IsCommand (command_in arguments) (Run name args settings explain)
 
 -- one of the faults of the arguments is no wish for help or the version
 pub record HasFault (arguments : List Text) : Type 0 where
@@ -191,7 +247,13 @@ pub record HasFault (arguments : List Text) : Type 0 where
   pub no_help : kind ≢ DisplayHelp
   pub no_version : kind ≢ DisplayVersion
 
+-- this is a check with `--memory` and without `--task`
+abbrev pub LacksTask : Option (Text × List Row) → Type 0
+LacksTask found =
+    (command : Command) × IsCommand found command × (lacks_task command ≡ true)
+
 -- the arguments are at fault, unless memory is
 abbrev pub AreFaulty : List Text → CommandError → Type 0
 AreFaulty arguments OutOfMemory = Unit {0}
-AreFaulty arguments (Arguments text) = HasFault arguments
+AreFaulty arguments (Arguments text) =
+    HasFault arguments ⊎ ((faults_in arguments ≡ []) × LacksTask (command_in arguments))

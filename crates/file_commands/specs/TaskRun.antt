@@ -1,12 +1,13 @@
 -- What `run` writes: one task, from its first turn to its end.
-use Rattle.std.specs.Prelude.{◌≡◌, ℕ, ◌%◌, List, [], ◌∷◌, ◌++◌, true, false, codes, Option, None, Some}
+use Rattle.std.specs.Prelude.{◌≡◌, ℕ, ◌%◌, List, [], ◌∷◌, ◌++◌, map, Bool, true, false, codes, string_bytes, Option, None, Some}
 use Rattle.std.specs.Io.KnownBytes.{Appends}
 use Rattle.wasm_ast.specs.declared.module.Module.{Module}
 use Rattle.wasm_ast.specs.declared.place.Place.{Place}
 use Rattle.wasm_ast.specs.declared.refusal.Refusal.{Refusal}
 use Rattle.wasm_ast.specs.declared.refusal.Refusal.TheVariants as refusal
 use Rattle.wasm_ast.specs.Names.{trap_name}
-use Rattle.oci_config.specs.Config.{are_arguments_alone, process_with}
+use Rattle.oci_config.specs.declared.process.ProcessConfig.{ProcessConfig}
+use Rattle.oci_config.specs.Setup.{are_taken, process_under}
 use Rattle.validator.specs.Typing.{ValidModule}
 use Rattle.validator.specs.Faults.{NamesFault}
 use Rattle.step_machine.specs.declared.ends.End.{End}
@@ -16,24 +17,45 @@ use Rattle.step_machine.specs.Instantiation.{instantiation_refusal, after, ended
 use Rattle.task_lifecycle.specs.Names.{exit_status}
 use Rattle.task_lifecycle.specs.declared.status.ExitRecord.TheVariants as exit
 use Rattle.file_commands.specs.declared.ran.Ran.{Ran}
+use Rattle.file_commands.specs.declared.settings.Settings.{Settings}
 use Rattle.file_commands.specs.Source.{IsSource, IsNoSource}
 use Rattle.file_commands.specs.Ran.{line, refused_run}
 
--- why a file cannot be run with these arguments: the first reason that holds
-pub data CannotRun (bytes : List ℕ) (args : List (List ℕ)) : Refusal → Type 0 where
-  no_module : (e : Refusal) → IsNoSource bytes e → CannotRun bytes args e
-  -- a process cannot have the arguments
+-- what a task is given: its arguments, its environment, and the limit on its memory in bytes, if there is one
+pub record Given : Type 0 where
+  pub args : List (List ℕ)
+  pub env : List (List ℕ)
+  pub limit : Option ℕ
+
+-- the arguments are the name of the file and the words that follow it
+abbrev pub given : (name : List ℕ) → (words : List (List ℕ)) → Settings → Given
+given name words settings = record {
+  args = name ∷ words;
+  env = map string_bytes settings.env.items;
+  limit = settings.memory;
+}
+
+-- a process can have them
+abbrev pub can_have : Given → Bool
+can_have g = are_taken g.args g.env
+
+-- the process that has them
+abbrev pub process_given : Given → ProcessConfig
+process_given g = process_under g.args g.env g.limit
+
+-- why a file cannot be run so: the first reason that holds
+pub data CannotRun (bytes : List ℕ) (g : Given) : Refusal → Type 0 where
+  no_module : (e : Refusal) → IsNoSource bytes e → CannotRun bytes g e
+  -- a process cannot have the arguments and the environment
   bad_arguments :
-      (m : Module) → IsSource bytes m → are_arguments_alone args ≡ false
-      → CannotRun bytes args refusal.BadConfig
+      (m : Module) → IsSource bytes m → can_have g ≡ false → CannotRun bytes g refusal.BadConfig
   -- the place is that of a fault of the module
   invalid :
-      (m : Module) → (at : Option Place) → IsSource bytes m → are_arguments_alone args ≡ true
-      → NamesFault m at → CannotRun bytes args (refusal.Invalid at)
+      (m : Module) → (at : Option Place) → IsSource bytes m → can_have g ≡ true
+      → NamesFault m at → CannotRun bytes g (refusal.Invalid at)
   not_instantiated :
-      (m : Module) (e : Refusal) → IsSource bytes m
-      → are_arguments_alone args ≡ true → ValidModule m
-      → instantiation_refusal m (process_with args) ≡ Some e → CannotRun bytes args e
+      (m : Module) (e : Refusal) → IsSource bytes m → can_have g ≡ true → ValidModule m
+      → instantiation_refusal m (process_given g) ≡ Some e → CannotRun bytes g e
 
 -- a trap adds a line to standard error
 abbrev pub trap_line : End → List ℕ
@@ -55,22 +77,22 @@ ran_to store end = record {
   status = status_of end % 256;
 }
 
--- the file's valid module, run with these arguments, has this end after some number of turns
-pub record IsEnd (bytes : List ℕ) (args : List (List ℕ)) (ran : Ran) : Type 0 where
+-- the file's valid module, run so, has this end after some number of turns
+pub record IsEnd (bytes : List ℕ) (g : Given) (ran : Ran) : Type 0 where
   pub «module» : Module
   pub turns : ℕ
   pub end : End
   pub source : IsSource bytes «module»
-  pub arguments : are_arguments_alone args ≡ true
+  pub arguments : can_have g ≡ true
   pub valid : ValidModule «module»
-  pub opens : instantiation_refusal «module» (process_with args) ≡ None
-  pub ends : ended (after «module» (process_with args) turns).state ≡ Some end
-  pub is : ran ≡ ran_to (after «module» (process_with args) turns).store end
+  pub opens : instantiation_refusal «module» (process_given g) ≡ None
+  pub ends : ended (after «module» (process_given g) turns).state ≡ Some end
+  pub is : ran ≡ ran_to (after «module» (process_given g) turns).store end
 
--- the arguments of the task are the name of the file and the words that follow it
-pub data IsRun (name bytes : List ℕ) (args : List (List ℕ)) : Ran → Type 0 where
-  ran : (r : Ran) → IsEnd bytes (name ∷ args) r → IsRun name bytes args r
-  no_task : (e : Refusal) → CannotRun bytes (name ∷ args) e → IsRun name bytes args (refused_run e)
+-- the task runs to its end, or there is none
+pub data IsRun (bytes : List ℕ) (g : Given) : Ran → Type 0 where
+  ran : (r : Ran) → IsEnd bytes g r → IsRun bytes g r
+  no_task : (e : Refusal) → CannotRun bytes g e → IsRun bytes g (refused_run e)
 
 -- to two streams is appended what one `Ran` of these writes, and the status is its own
 abbrev pub IsWritten :

@@ -135,8 +135,8 @@ fn push_listing(alloc: Global, list: &mut String, module: &Module) -> Result<(),
     push_funcs(alloc, list, first, module.funcs.as_slice())
 }
 
-// `ok`, and the list of instructions if it is wanted.
-fn checked_text(alloc: Global, valid: &Valid, list: bool) -> Result<String, AllocError>
+/// `ok`, and the list of instructions if it is wanted.
+pub(crate) fn checked_text(alloc: Global, valid: &Valid, list: bool) -> Result<String, AllocError>
     ensures { IfOk result (λ s. string_bytes s ≡ line (codes "ok") ++ list_if list valid.now) }
 {
     let mut text = String::from_str(alloc, "ok\n")?;

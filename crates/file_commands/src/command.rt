@@ -1,14 +1,15 @@
 //! Command lines.
 
-ghost use Rattle.std.specs.Prelude.{◌≡◌, ◌∷◌, List, [], IfOk, IfErr, Some, map, string_bytes, false, codes};
+ghost use Rattle.std.specs.Prelude.{◌≡◌, ◌∷◌, List, [], IfOk, IfErr, Option, Some, map, string_bytes, false, codes};
 ghost use Rattle.clap.specs.Matches.{found_of};
 ghost use Rattle.clap.specs.Simple.{app_of, shape_of, subcommand_rows_of};
 ghost use Rattle.clap.specs.Values.{kind_of};
-ghost use Rattle.clap.specs.Walk.{Row, first_of, rows_of, rule_of};
+ghost use Rattle.clap.specs.Walk.{Row, Text, first_of, all_of, rows_of, rule_of};
 ghost use Rattle.clap.specs.declared.builder.command.Command.TheViews.{out-Command as fields_of};
-ghost use Rattle.file_commands.specs.Command.{file_rule, list_rule, explain_rule, workers_rule, script_rule, module_rule, command_shape, serve_shape, asm_shape, check_shape, run_shape, workers_in, scripts_in, bare_program, line_program, program, file_in, is_set, has_explain, module_in, IsCommand, Name, AreFaulty};
-ghost use Rattle.file_commands.specs.Inside.Chosen.{IsShown, IsOfArguments};
+ghost use Rattle.file_commands.specs.Command.{file_rule, task_rule, list_rule, explain_rule, workers_rule, env_rule, memory_rule, script_rule, module_rule, command_shape, serve_shape, asm_shape, check_shape, run_shape, workers_in, scripts_in, texts_from, env_in, memory_in, bare_program, line_program, program, file_in, is_set, has_explain, module_in, lacks_task, IsCommand, Name, AreFaulty};
+ghost use Rattle.file_commands.specs.Inside.Chosen.{IsShown, IsLacking, IsOfArguments};
 
+use crate::settings::Settings;
 use clap::builder::ValueParser;
 use clap::error::ErrorKind;
 use clap::{Arg, ArgAction, ArgMatches, Command as Parser};
@@ -33,18 +34,22 @@ pub enum Command {
         file: String,
         explain: bool,
     },
-    /// Says whether the module in the file of this name is valid, and lists its instructions if that is
-    /// wanted. A refusal is explained if that is wanted.
+    /// Says whether the module in the file of this name is valid and, if `task` holds, whether a task can
+    /// be made of it under this limit on its memory in bytes, which no other check has. Lists its
+    /// instructions if that is wanted. A refusal is explained if that is wanted.
     Check {
         file: String,
         list: bool,
+        task: bool,
+        memory: Option<u64>,
         explain: bool,
     },
-    /// Runs the module in the file of this name as one task, with these arguments. A refusal is explained if
-    /// that is wanted.
+    /// Runs the module in the file of this name as one task, with these arguments and settings. A refusal is
+    /// explained if that is wanted.
     Run {
         module: String,
         args: Vec<String>,
+        settings: Settings,
         explain: bool,
     },
     /// Writes this text, which is help or a version, to standard output.
@@ -71,6 +76,10 @@ const MOST_WORKERS: u64 = 16;
 /// How many workers there are if no number is given.
 const USUAL_WORKERS: u64 = 2;
 
+// What is said of a check with `--memory` and without `--task`.
+const LONE_MEMORY: &str =
+    "error: the argument '--memory <BYTES>' is for '--task' alone\n\nUsage: wasm-shim check [OPTIONS] <FILE>\n\nFor more information, try '--help'.\n";
+
 // What FILE is in the commands that read a module.
 const MODULE_FILE: &str = "The file of the module, in the binary or the text format";
 
@@ -91,6 +100,17 @@ fn list_arg<'a>(alloc: Global) -> Arg<'a>
         .long("list")
         .action(ArgAction::SetTrue)
         .help("Also list the instructions, a line each: function, place, instruction")
+}
+
+// The flag `--task`.
+fn task_arg<'a>(alloc: Global) -> Arg<'a>
+    ensures rule { rule_of result ≡ task_rule }
+    ensures local { result.global ≡ false }
+{
+    Arg::new(alloc, "task")
+        .long("task")
+        .action(ArgAction::SetTrue)
+        .help("Also check whether a task can be made of the module, as run makes one")
 }
 
 // The flag `--explain`.
@@ -114,6 +134,32 @@ fn workers_arg<'a>(alloc: Global) -> Arg<'a>
         .value_name("N")
         .value_parser(ValueParser::Unsigned(1, MOST_WORKERS))
         .help("How many workers run the tasks, 1 to 16; 2 without this option")
+}
+
+// The option `--env`.
+fn env_arg<'a>(alloc: Global) -> Arg<'a>
+    ensures rule { rule_of result ≡ env_rule }
+    ensures local { result.global ≡ false }
+{
+    Arg::new(alloc, "env")
+        .long("env")
+        .value_name("NAME=VALUE")
+        .action(ArgAction::Append)
+        .help("An entry of the task's environment; may be given several times")
+}
+
+// The option `--memory`.
+fn memory_arg<'a>(alloc: Global) -> Arg<'a>
+    ensures rule { rule_of result ≡ memory_rule }
+    ensures local { result.global ≡ false }
+{
+    Arg::new(alloc, "memory")
+        .long("memory")
+        .value_name("BYTES")
+        .value_parser(ValueParser::Unsigned(0, u64::MAX))
+        .help(
+            "The limit on the task's memory, of whole pages of 65536 bytes; 16 pages without this option",
+        )
 }
 
 // The argument SCRIPT, of which there may be several.
@@ -196,9 +242,10 @@ fn asm_command<'a>(alloc: Global) -> Result<Parser<'a>, AllocError>
     explained.arg(file_arg(alloc, MODULE_FILE))
 }
 
-// `check [--list] [--explain] FILE`
-fn check_command<'a>(alloc: Global) -> Result<Parser<'a>, AllocError>
-    ensures shape { IfOk result (λ p. shape_of p ≡ check_shape) }
+// The command `check` with its options for tasks alone.
+fn task_options<'a>(alloc: Global) -> Result<Parser<'a>, AllocError>
+    ensures shape { IfOk result
+        (λ p. shape_of p ≡ command_shape (codes "check") (task_rule ∷ memory_rule ∷ [])) }
     ensures local { IfOk result (λ p. (fields_of p).has_globals ≡ false) }
 {
     let command = bare_command(
@@ -207,12 +254,21 @@ fn check_command<'a>(alloc: Global) -> Result<Parser<'a>, AllocError>
         "Check whether the module of a file is valid",
         "Example: wasm-shim check --list examples/sum.wat",
     );
-    let listed = command.arg(list_arg(alloc))?;
+    let with_task = command.arg(task_arg(alloc))?;
+    with_task.arg(memory_arg(alloc))
+}
+
+// `check [--task [--memory BYTES]] [--list] [--explain] FILE`
+fn check_command<'a>(alloc: Global) -> Result<Parser<'a>, AllocError>
+    ensures shape { IfOk result (λ p. shape_of p ≡ check_shape) }
+    ensures local { IfOk result (λ p. (fields_of p).has_globals ≡ false) }
+{
+    let listed = task_options(alloc)?.arg(list_arg(alloc))?;
     let explained = listed.arg(explain_arg(alloc))?;
     explained.arg(file_arg(alloc, MODULE_FILE))
 }
 
-// `run [--explain] MODULE [ARG..]`
+// `run [--env NAME=VALUE]* [--memory BYTES] [--explain] MODULE [ARG..]`
 fn run_command<'a>(alloc: Global) -> Result<Parser<'a>, AllocError>
     ensures shape { IfOk result (λ p. shape_of p ≡ run_shape) }
     ensures local { IfOk result (λ p. (fields_of p).has_globals ≡ false) }
@@ -221,9 +277,11 @@ fn run_command<'a>(alloc: Global) -> Result<Parser<'a>, AllocError>
         alloc,
         "run",
         "Run the module of a file as one task, and end with its status",
-        "Example: wasm-shim run examples/hello.wat --any words",
+        "Example: wasm-shim run --env LANG=C examples/hello.wat --any words",
     );
-    let explained = command.arg(explain_arg(alloc))?;
+    let with_env = command.arg(env_arg(alloc))?;
+    let with_memory = with_env.arg(memory_arg(alloc))?;
+    let explained = with_memory.arg(explain_arg(alloc))?;
     explained.arg(module_arg(alloc))
 }
 
@@ -329,16 +387,31 @@ fn workers_of(found: &ArgMatches<'_>) -> Result<u64, CommandError>
     }
 }
 
-// The scripts that were found.
-fn scripts_of(alloc: Global, found: &ArgMatches<'_>) -> Result<Vec<String>, CommandError>
-    ensures ok { IfOk result (λ v. map string_bytes v.items ≡ scripts_in (rows_of (found_of found.now))) }
+// The limit on memory that was found, if there is one.
+fn memory_of(found: &ArgMatches<'_>) -> Result<Option<u64>, CommandError>
+    ensures ok { IfOk result (λ n. n ≡ memory_in (rows_of (found_of found.now))) }
     ensures err { IfErr result (λ f. f ≡ CommandError.OutOfMemory) }
 {
-    let Some(names) = found.get_strs("SCRIPT") else {
+    let Some(text) = found.get_str("memory") else {
+        return Ok(None);
+    };
+    match text.parse::<u64>() {
+        Ok(bytes) => Ok(Some(bytes)),
+        Err(_) => Err(CommandError::OutOfMemory),
+    }
+}
+
+// The values of the argument of this name that were found, of which there may be none.
+fn words_of(alloc: Global, found: &ArgMatches<'_>, name: &str) -> Result<Vec<String>, CommandError>
+    ensures ok { IfOk result (λ v. map string_bytes v.items
+        ≡ texts_from (all_of name.now (rows_of (found_of found.now)))) }
+    ensures err { IfErr result (λ f. f ≡ CommandError.OutOfMemory) }
+{
+    let Some(words) = found.get_strs(name) else {
         return Ok(Vec::new(alloc));
     };
-    match copies(alloc, names) {
-        Ok(scripts) => Ok(scripts),
+    match copies(alloc, words) {
+        Ok(copied) => Ok(copied),
         Err(_) => Err(CommandError::OutOfMemory),
     }
 }
@@ -350,13 +423,31 @@ fn serve_of(alloc: Global, found: &ArgMatches<'_>) -> Result<Command, CommandErr
     ensures err { IfErr result (λ f. f ≡ CommandError.OutOfMemory) }
 {
     let workers = workers_of(found)?;
-    let scripts = scripts_of(alloc, found)?;
+    let scripts = words_of(alloc, found, "SCRIPT")?;
     Ok(Command::Serve { workers, scripts })
 }
 
+// The settings of a task that were found.
+fn settings_of(alloc: Global, found: &ArgMatches<'_>) -> Result<Settings, CommandError>
+    ensures env { IfOk result
+        (λ s. env_in (rows_of (found_of found.now)) ≡ map string_bytes s.env.items) }
+    ensures memory { IfOk result (λ s. memory_in (rows_of (found_of found.now)) ≡ s.memory) }
+    ensures err { IfErr result (λ f. f ≡ CommandError.OutOfMemory) }
+{
+    let env = words_of(alloc, found, "env")?;
+    let memory = memory_of(found)?;
+    Ok(Settings { env, memory })
+}
+
 // The command `run` with these words as MODULE and ARGs.
-fn run_with(alloc: Global, words: &[&str], explain: bool) -> Result<Command, CommandError>
+fn run_with(
+    alloc: Global,
+    words: &[&str],
+    settings: Settings,
+    explain: bool,
+) -> Result<Command, CommandError>
     ensures ok { (rows : List Row) → module_in rows ≡ Some (map (λ w. w.now) words.now)
+        → env_in rows ≡ map string_bytes settings.env.items → memory_in rows ≡ settings.memory
         → has_explain rows ≡ explain → IfOk result (IsCommand (Some (codes "run", rows))) }
     ensures err { IfErr result (λ f. f ≡ CommandError.OutOfMemory) }
 {
@@ -372,6 +463,7 @@ fn run_with(alloc: Global, words: &[&str], explain: bool) -> Result<Command, Com
     Ok(Command::Run {
         module,
         args,
+        settings,
         explain,
     })
 }
@@ -382,9 +474,59 @@ fn run_of(alloc: Global, found: &ArgMatches<'_>) -> Result<Command, CommandError
         (IsCommand (Some (codes "run", rows_of (found_of found.now)))) }
     ensures err { IfErr result (λ f. f ≡ CommandError.OutOfMemory) }
 {
+    let settings = settings_of(alloc, found)?;
     match found.get_strs("MODULE") {
-        Some(words) => run_with(alloc, words, has_flag(found, "explain")),
+        Some(words) => run_with(alloc, words, settings, has_flag(found, "explain")),
         None => Err(CommandError::OutOfMemory),
+    }
+}
+
+// The command `check` with the arguments that were found.
+fn check_of(alloc: Global, found: &ArgMatches<'_>) -> Result<Command, CommandError>
+    ensures ok { IfOk result
+        (IsCommand (Some (codes "check", rows_of (found_of found.now)))) }
+    ensures err { IfErr result (λ f. f ≡ CommandError.OutOfMemory) }
+{
+    let file = file_of(alloc, found)?;
+    let memory = memory_of(found)?;
+    Ok(Command::Check {
+        file,
+        list: has_flag(found, "list"),
+        task: has_flag(found, "task"),
+        memory,
+        explain: has_flag(found, "explain"),
+    })
+}
+
+// Whether a command is a check with a limit on the memory of a task that is not asked for.
+fn lacks_task(command: &Command) -> bool
+    ensures { result ≡ lacks_task command.now }
+{
+    match command {
+        Command::Check { task, memory, .. } => memory.is_some() && !*task,
+        _ => false,
+    }
+}
+
+// What is wrong with such a check.
+fn lone_memory(alloc: Global) -> CommandError {
+    match String::from_str(alloc, LONE_MEMORY) {
+        Ok(text) => CommandError::Arguments { text },
+        Err(_) => CommandError::OutOfMemory,
+    }
+}
+
+// A command, if it does not lack `--task`.
+fn complete(alloc: Global, command: Command) -> Result<Command, CommandError>
+    ensures ok { (found : Option (Text × List Row)) → IsCommand found command
+        → IfOk result (λ c. IsCommand found c × (lacks_task c ≡ false)) }
+    ensures err { (found : Option (Text × List Row)) → IsCommand found command
+        → IfErr result (IsLacking found) }
+{
+    if lacks_task(&command) {
+        Err(lone_memory(alloc))
+    } else {
+        Ok(command)
     }
 }
 
@@ -406,25 +548,31 @@ fn chosen(alloc: Global, matches: &ArgMatches<'_>) -> Result<Command, CommandErr
                 explain: has_flag(found, "explain"),
             })
         }
-        Some(("check", found)) => {
-            let file = file_of(alloc, found)?;
-            Ok(Command::Check {
-                file,
-                list: has_flag(found, "list"),
-                explain: has_flag(found, "explain"),
-            })
-        }
+        Some(("check", found)) => check_of(alloc, found),
         Some(("run", found)) => run_of(alloc, found),
         _ => Err(CommandError::OutOfMemory),
+    }
+}
+
+// The command whose arguments were found, if it does not lack `--task`.
+fn whole(alloc: Global, matches: &ArgMatches<'_>) -> Result<Command, CommandError>
+    ensures ok { IfOk result
+        (λ c. IsCommand (subcommand_rows_of matches.now) c × (lacks_task c ≡ false)) }
+    ensures err { IfErr result (IsLacking (subcommand_rows_of matches.now)) }
+{
+    match chosen(alloc, matches) {
+        Ok(command) => complete(alloc, command),
+        Err(_) => Err(CommandError::OutOfMemory),
     }
 }
 
 /// The command that the arguments name. The first word is the program's own name.
 ///
 /// `serve [--workers N] [SCRIPT..]`, with N from 1 to 16, `replay FILE`, `asm [--explain] FILE`,
-/// `check [--list] [--explain] FILE` and `run [--explain] MODULE [ARG..]` are the commands. Every word after
-/// MODULE is an ARG, one that begins with a dash too. `--help` and
-/// `--version`, alone or after a command, and `help` are shown. All else is
+/// `check [--task [--memory BYTES]] [--list] [--explain] FILE` and
+/// `run [--env NAME=VALUE]* [--memory BYTES] [--explain] MODULE [ARG..]` are the commands, BYTES a number
+/// below 2^64. Every word after MODULE is an ARG, one that begins with a dash
+/// too. `--help` and `--version`, alone or after a command, and `help` are shown. All else is
 /// `CommandError::Arguments`, and `CommandError::OutOfMemory` comes if memory ran out.
 pub fn command_of(alloc: Global, arguments: &[String]) -> Result<Command, CommandError>
     ensures ok { IfOk result (Name (map string_bytes arguments.now)) }
@@ -434,7 +582,7 @@ pub fn command_of(alloc: Global, arguments: &[String]) -> Result<Command, Comman
         return Err(CommandError::OutOfMemory);
     };
     match parser.try_get_matches_from(arguments) {
-        Ok(matches) => chosen(alloc, &matches),
+        Ok(matches) => whole(alloc, &matches),
         Err(error) => unmatched(alloc, &error),
     }
 }

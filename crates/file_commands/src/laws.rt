@@ -6,9 +6,9 @@ ghost use Rattle.wasm_ast.specs.declared.refusal.Refusal.{Refusal};
 ghost use Rattle.file_commands.specs.declared.ran.Ran.{Ran};
 ghost use Rattle.file_commands.specs.Source.{IsSource, IsNoSource};
 ghost use Rattle.file_commands.specs.Assembled.{IsAssembled};
-ghost use Rattle.file_commands.specs.Checked.{IsChecked};
+ghost use Rattle.file_commands.specs.Checked.{IsChecked, IsTaskChecked};
 ghost use Rattle.file_commands.specs.Ran.{refused, refused_run};
-ghost use Rattle.file_commands.specs.TaskRun.{IsRun};
+ghost use Rattle.file_commands.specs.TaskRun.{Given, IsRun};
 ghost use Rattle.file_commands.specs.Explained.{IsExplained, AnswersAs};
 
 use step_machine::laws::{cuts_commute, halted_stays};
@@ -42,11 +42,20 @@ pub fn checks_are_determined()
     one_module_to_a_file();
 }
 
-/// What `run` writes to standard output and its status are determined by the name of the file, its bytes
-/// and the arguments: a task has one end.
+/// What `check --task` writes to standard output and its status are determined by the bytes of the
+/// file and by what the task is given.
+pub fn task_checks_are_determined()
+    ensures { (bytes : List ℕ) (g : Given) (list : Bool) (r s : Ran) → IsTaskChecked bytes g list r
+        → IsTaskChecked bytes g list s → (r.out ≡ s.out) × (r.status ≡ s.status) }
+{
+    one_module_to_a_file();
+}
+
+/// What `run` writes to standard output and its status are determined by the bytes of the file and by what
+/// the task is given: a task has one end.
 pub fn runs_are_determined()
-    ensures { (name bytes : List ℕ) (args : List (List ℕ)) (r s : Ran) → IsRun name bytes args r
-        → IsRun name bytes args s → (r.out ≡ s.out) × (r.status ≡ s.status) }
+    ensures { (bytes : List ℕ) (g : Given) (r s : Ran) → IsRun bytes g r → IsRun bytes g s
+        → (r.out ≡ s.out) × (r.status ≡ s.status) }
 {
     one_module_to_a_file();
     halted_stays();
@@ -60,6 +69,9 @@ pub fn reasons_change_nothing()
         → AnswersAs (IsAssembled bytes) r }
     ensures check { (bytes : List ℕ) (list : Bool) (r : Ran)
         → IsExplained refused (IsChecked bytes list) r → AnswersAs (IsChecked bytes list) r }
-    ensures run { (name bytes : List ℕ) (args : List (List ℕ)) (r : Ran)
-        → IsExplained refused_run (IsRun name bytes args) r → AnswersAs (IsRun name bytes args) r }
+    ensures task { (bytes : List ℕ) (g : Given) (list : Bool) (r : Ran)
+        → IsExplained refused (IsTaskChecked bytes g list) r
+        → AnswersAs (IsTaskChecked bytes g list) r }
+    ensures run { (bytes : List ℕ) (g : Given) (r : Ran)
+        → IsExplained refused_run (IsRun bytes g) r → AnswersAs (IsRun bytes g) r }
 {}

@@ -9,7 +9,9 @@ pub mod laws;
 mod ran;
 mod run;
 mod run_error;
+mod settings;
 mod source;
+mod task_check;
 
 pub use asm::{asm_file, explain_asm};
 pub use check::{check_file, explain_check};
@@ -17,3 +19,5 @@ pub use command::{Command, CommandError, command_of};
 pub use ran::Ran;
 pub use run::{explain_run, run_file, run_streams};
 pub use run_error::RunError;
+pub use settings::Settings;
+pub use task_check::{check_task, explain_check_task};

@@ -4,8 +4,6 @@ ghost use Rattle.std.specs.Prelude.{◌≡◌, ◌≢◌, ◌-◌, ◌<◌, ◌�
 ghost use Rattle.std.specs.Io.KnownBytes.{Appends};
 ghost use Rattle.wasm_ast.specs.declared.refusal.Refusal.TheVariants as refusal;
 ghost use Rattle.oci_config.specs.Processes.{config_of};
-ghost use Rattle.oci_config.specs.Config as config;
-ghost use Rattle.oci_config.specs.Config.{are_arguments_alone};
 ghost use Rattle.validator.specs.Typing.{ValidModule};
 ghost use Rattle.step_machine.specs.Instantiation.{instantiation_refusal, ended};
 ghost use Rattle.step_machine.specs.Limits.{last_turn};
@@ -13,14 +11,15 @@ ghost use Rattle.step_machine.specs.MachineView.{state_of, output_of};
 ghost use Rattle.file_commands.specs.Ran.{refused_run};
 ghost use Rattle.file_commands.specs.Explained.{IsToldWhy, IsExplained};
 ghost use Rattle.file_commands.specs.declared.ran.Ran.{Ran};
-ghost use Rattle.file_commands.specs.TaskRun.{trap_line, CannotRun, IsRun, IsWritten, status_of};
+ghost use Rattle.file_commands.specs.TaskRun.{given, can_have, process_given, trap_line, CannotRun, IsRun, IsWritten, status_of};
 ghost use Rattle.file_commands.specs.Inside.Written.{CannotStart, IsOpened, HasEnded};
 
 use crate::explain::refused_run_why;
 use crate::ran::Ran;
 use crate::run_error::RunError;
+use crate::settings::Settings;
 use crate::source::module_of;
-use oci_config::{Process, Stream, process_with};
+use oci_config::{Process, Stream, process_under};
 use std::alloc::{AllocError, Global};
 use std::io;
 use std::io::Write;
@@ -45,18 +44,35 @@ fn texts(alloc: Global, name: &str, args: &[String]) -> Result<Vec<Text>, AllocE
     Ok(texts)
 }
 
-// The process of the task, if it can have these arguments.
-fn process_of(alloc: Global, name: &str, args: &[String]) -> Result<Process, Refusal>
+// The environment of the task: these entries.
+fn entries(alloc: Global, env: &[String]) -> Result<Vec<Text>, AllocError>
+    ensures { IfOk result (λ v. v.items ≡ map string_bytes env.now) }
+{
+    let mut entries = Vec::new(alloc);
+    for entry in env {
+        entries.push(Text::from_str(alloc, entry.as_str())?)?;
+    }
+    Ok(entries)
+}
+
+// The process of the task, if it can have these arguments and these settings.
+fn process_of(
+    alloc: Global,
+    name: &str,
+    args: &[String],
+    settings: &Settings,
+) -> Result<Process, Refusal>
     ensures process { IfOk result (λ p. config_of p
-        ≡ config.process_with (name.now ∷ map string_bytes args.now)) }
+        ≡ process_given (given name.now (map string_bytes args.now) settings.now)) }
     ensures nothing_written { IfOk result (λ p. (p.out ≡ []) × (p.err ≡ [])) }
     ensures taken { OnOk result
-        (are_arguments_alone (name.now ∷ map string_bytes args.now) ≡ true) }
+        (can_have (given name.now (map string_bytes args.now) settings.now) ≡ true) }
     ensures err { IfErr result (λ e. e ≢ refusal.NoMemory → (e ≡ refusal.BadConfig)
-        × (are_arguments_alone (name.now ∷ map string_bytes args.now) ≡ false)) }
+        × (can_have (given name.now (map string_bytes args.now) settings.now) ≡ false)) }
 {
-    let texts = texts(alloc, name, args)?;
-    process_with(alloc, texts)
+    let words = texts(alloc, name, args)?;
+    let env = entries(alloc, settings.env.as_slice())?;
+    process_under(alloc, words, env, settings.memory)
 }
 
 // A machine of a module, if it is valid and can be instantiated.
@@ -74,14 +90,21 @@ fn machine_of(alloc: Global, unchecked: Module, process: Process) -> Result<Mach
     Machine::new(alloc, valid, process)
 }
 
-// The task that runs a file with these arguments.
-fn task_of(alloc: Global, name: &str, bytes: &[u8], args: &[String]) -> Result<Machine, Refusal>
-    ensures ok { IfOk result (IsOpened bytes.now (name.now ∷ map string_bytes args.now)) }
+/// The task that runs a file with these arguments and settings, before its first turn.
+pub(crate) fn task_of(
+    alloc: Global,
+    name: &str,
+    bytes: &[u8],
+    args: &[String],
+    settings: &Settings,
+) -> Result<Machine, Refusal>
+    ensures ok { IfOk result
+        (IsOpened bytes.now (given name.now (map string_bytes args.now) settings.now)) }
     ensures err { IfErr result (λ e. e ≢ refusal.NoMemory
-        → CannotRun bytes.now (name.now ∷ map string_bytes args.now) e) }
+        → CannotRun bytes.now (given name.now (map string_bytes args.now) settings.now) e) }
 {
     let module = module_of(alloc, bytes)?;
-    let process = process_of(alloc, name, args)?;
+    let process = process_of(alloc, name, args, settings)?;
     machine_of(alloc, module, process)
 }
 
@@ -266,13 +289,15 @@ pub fn run_streams<O: Write, E: Write>(
     name: &str,
     bytes: &[u8],
     args: &[String],
+    settings: &Settings,
     out: &mut O,
     err: &mut E,
 ) -> Result<u8, RunError>
-    ensures { IfOk result (IsWritten (IsRun name.now bytes.now (map string_bytes args.now))
+    ensures { IfOk result (IsWritten
+        (IsRun bytes.now (given name.now (map string_bytes args.now) settings.now))
         (O.contents out.old) (O.contents out.new) (E.contents err.old) (E.contents err.new)) }
 {
-    match task_of(alloc, name, bytes, args) {
+    match task_of(alloc, name, bytes, args, settings) {
         Ok(mut machine) => run_task(alloc, &mut machine, out, err),
         Err(refusal) => write_refusal(alloc, refusal, err),
     }
@@ -284,31 +309,39 @@ pub fn explain_run<O: Write, E: Write>(
     name: &str,
     bytes: &[u8],
     args: &[String],
+    settings: &Settings,
     out: &mut O,
     err: &mut E,
 ) -> Result<u8, RunError>
-    ensures { IfOk result (IsWritten
-        (IsExplained refused_run (IsRun name.now bytes.now (map string_bytes args.now)))
+    ensures { IfOk result (IsWritten (IsExplained refused_run
+        (IsRun bytes.now (given name.now (map string_bytes args.now) settings.now)))
         (O.contents out.old) (O.contents out.new) (E.contents err.old) (E.contents err.new)) }
 {
-    match task_of(alloc, name, bytes, args) {
+    match task_of(alloc, name, bytes, args, settings) {
         Ok(mut machine) => run_task(alloc, &mut machine, out, err),
         Err(refusal) => write_refusal_why(alloc, bytes, refusal, err),
     }
 }
 
 /// What `run` writes for a file of this name with these bytes: one task whose arguments are the name and
-/// `args`, without an environment and without a limit on its memory, is run to its end. A trap adds a line
-/// to standard error. The status is the lowest 8 bits of the task's exit status. If there is no task, that
+/// `args`, with the environment and the limit of the settings, is run to its end. A trap adds a line to
+/// standard error. The status is the lowest 8 bits of the task's exit status. If there is no task, that
 /// is a line on standard error, and the status is 125. `NoMemory`, and no other refusal, if memory runs out
 /// for anything but what the task itself may be refused.
-pub fn run_file(alloc: Global, name: &str, bytes: &[u8], args: &[String]) -> Result<Ran, Refusal>
-    ensures ran { IfOk result (IsRun name.now bytes.now (map string_bytes args.now)) }
+pub fn run_file(
+    alloc: Global,
+    name: &str,
+    bytes: &[u8],
+    args: &[String],
+    settings: &Settings,
+) -> Result<Ran, Refusal>
+    ensures ran { IfOk result
+        (IsRun bytes.now (given name.now (map string_bytes args.now) settings.now)) }
     ensures errors { IfErr result (λ e. e ≡ refusal.NoMemory) }
 {
     let mut out = Vec::new(alloc);
     let mut err = Vec::new(alloc);
-    match run_streams(alloc, name, bytes, args, &mut out, &mut err) {
+    match run_streams(alloc, name, bytes, args, settings, &mut out, &mut err) {
         Ok(status) => Ok(Ran {
             out: Sequence::new(out),
             err: Sequence::new(err),

@@ -9,7 +9,9 @@
 #![tactic(auto)]
 
 use anyhow::{Context, Result, bail};
-use file_commands::{Ran, asm_file, check_file, explain_asm, explain_check, explain_run, run_file};
+use file_commands::{
+    Ran, Settings, asm_file, check_file, explain_asm, explain_check, explain_run, run_file,
+};
 use std::alloc::Global;
 use wasm_ast::Sequence;
 
@@ -38,7 +40,15 @@ fn file_of(alloc: Global, written: &str) -> Result<Vec<u8>> {
 fn explained_run(alloc: Global, bytes: &[u8]) -> Result<Ran> {
     let mut out = Vec::new(alloc);
     let mut err = Vec::new(alloc);
-    let status = explain_run(alloc, "m", bytes, &[], &mut out, &mut err)?;
+    let status = explain_run(
+        alloc,
+        "m",
+        bytes,
+        &[],
+        &Settings::none(alloc),
+        &mut out,
+        &mut err,
+    )?;
     Ok(Ran {
         out: Sequence::new(out),
         err: Sequence::new(err),
@@ -51,7 +61,7 @@ fn plain_of(alloc: Global, command: &str, bytes: &[u8]) -> Result<Ran> {
     let ran = match command {
         "asm" => asm_file(alloc, bytes),
         "check" => check_file(alloc, bytes, true),
-        _ => run_file(alloc, "m", bytes, &[]),
+        _ => run_file(alloc, "m", bytes, &[], &Settings::none(alloc)),
     };
     match ran {
         Ok(ran) => Ok(ran),

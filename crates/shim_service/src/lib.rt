@@ -6,8 +6,8 @@ pub mod laws;
 mod replay;
 
 pub use file_commands::{
-    Command, CommandError, Ran, RunError, asm_file, check_file, command_of, explain_asm,
-    explain_check, explain_run, run_file, run_streams,
+    Command, CommandError, Ran, RunError, Settings, asm_file, check_file, check_task, command_of,
+    explain_asm, explain_check, explain_check_task, explain_run, run_file, run_streams,
 };
 pub use replay::replay_lines;
 pub use request_lines::{

@@ -1,7 +1,7 @@
 //! Command lines, and the texts of help and of errors.
 
 use crate::checks::check_text;
-use shim_service::{Command, CommandError, command_of};
+use shim_service::{Command, CommandError, Settings, command_of};
 use std::alloc::{AllocError, Global};
 use std::process::Abort;
 use std::test::Fail;
@@ -64,6 +64,26 @@ For more information, try '--help'.
 const TWO_FILES: &str = "error: unexpected argument 'b' found
 
 Usage: wasm-shim replay <FILE>
+
+For more information, try '--help'.
+";
+
+const LARGE_MEMORY: &str =
+    "error: invalid value '18446744073709551616' for '--memory <BYTES>': number too large to fit in target type
+
+For more information, try '--help'.
+";
+
+const TWO_MEMORIES: &str = "error: the argument '--memory <BYTES>' cannot be used multiple times
+
+Usage: wasm-shim run [OPTIONS] <MODULE> [ARG]...
+
+For more information, try '--help'.
+";
+
+const LONE_MEMORY: &str = "error: the argument '--memory <BYTES>' is for '--task' alone
+
+Usage: wasm-shim check [OPTIONS] <FILE>
 
 For more information, try '--help'.
 ";
@@ -144,6 +164,41 @@ const ROWS: &[Row] = &[
         text: "m",
     },
     Row {
+        arguments: "run --env b=1 --memory 196607 --env a m --env c=3",
+        does: "runs",
+        text: "m --env c=3 under 196607 with b=1 with a",
+    },
+    Row {
+        arguments: "run --memory=0 --env==x -- -m",
+        does: "runs",
+        text: "-m under 0 with =x",
+    },
+    Row {
+        arguments: "run --memory 18446744073709551616 m",
+        does: "refuses",
+        text: LARGE_MEMORY,
+    },
+    Row {
+        arguments: "run --memory 1 --memory 2 m",
+        does: "refuses",
+        text: TWO_MEMORIES,
+    },
+    Row {
+        arguments: "check --task a",
+        does: "checks a task",
+        text: "a",
+    },
+    Row {
+        arguments: "check a --memory 65536 --task",
+        does: "checks a task",
+        text: "a under 65536",
+    },
+    Row {
+        arguments: "check --memory 65536 a",
+        does: "refuses",
+        text: LONE_MEMORY,
+    },
+    Row {
         arguments: "run m a -x --help",
         does: "runs",
         text: "m a -x --help",
@@ -218,6 +273,25 @@ fn joined(mut text: String, args: &[String]) -> Result<String, AllocError> {
     Ok(text)
 }
 
+// The words of a task, with the limit on its memory if there is one.
+fn limited(alloc: Global, mut words: String, memory: Option<u64>) -> Result<String, AllocError> {
+    if let Some(bytes) = memory {
+        let text = format!(in alloc; " under {bytes}")?;
+        words.push_str(text.as_str())?;
+    }
+    Ok(words)
+}
+
+// The words of `run`, with the settings of its task.
+fn with_settings(alloc: Global, words: String, settings: &Settings) -> Result<String, AllocError> {
+    let mut words = limited(alloc, words, settings.memory)?;
+    for entry in &settings.env {
+        words.push_str(" with ")?;
+        words.push_str(entry.as_str())?;
+    }
+    Ok(words)
+}
+
 // One word for a command without `--explain`, and one for it with that.
 fn which(explain: bool, plain: &'static str, explained: &'static str) -> &'static str {
     if explain { explained } else { plain }
@@ -245,18 +319,26 @@ fn found(alloc: Global, line: &str) -> Result<(&'static str, String), Fail> {
             Command::Check {
                 file,
                 list,
+                task,
+                memory,
                 explain,
             },
-        ) => Ok((check_word(list, explain), file)),
+        ) => if task {
+            Ok(("checks a task", limited(alloc, file, memory)?))
+        } else {
+            Ok((check_word(list, explain), file))
+        },
         Ok(
             Command::Run {
                 module,
                 args,
+                settings,
                 explain,
             },
         ) => {
             let does = which(explain, "runs", "explains run");
-            Ok((does, joined(module, args.as_slice())?))
+            let words = joined(module, args.as_slice())?;
+            Ok((does, with_settings(alloc, words, &settings)?))
         }
         Ok(Command::Show { text }) => Ok(("shows", text)),
         Err(error) => Ok(("refuses", error.to_string(alloc)?)),

@@ -1,7 +1,7 @@
 //! What `asm`, `check` and `run` write for a file, by rows that were worked out by hand.
 
 use crate::checks::{check_bytes, check_text};
-use shim_service::{Ran, asm_file, check_file, run_file};
+use shim_service::{Ran, Settings, asm_file, check_file, check_task, run_file};
 use std::alloc::{AllocError, Global};
 use std::process::Abort;
 use std::str::from_utf8;
@@ -31,6 +31,14 @@ const WRITE_AND_TRAP: &str =
 /// more for each.
 const COUNT_ARGUMENTS: &str =
     "(module (type $g (func (param i32 i32) (result i32))) (type $p (func (param i32))) (type $v (func)) (import \"wasi_snapshot_preview1\" \"args_sizes_get\" (func $sizes (type $g))) (import \"wasi_snapshot_preview1\" \"proc_exit\" (func $exit (type $p))) (memory 1) (func $s (type $v) i32.const 0 i32.const 4 call $sizes drop i32.const 0 i32.load i32.const 10 i32.mul i32.const 4 i32.load i32.add call $exit) (export \"_start\" (func $s)) (export \"memory\" (memory 0)))";
+
+/// The same of the entries of its environment.
+const COUNT_ENTRIES: &str =
+    "(module (type $g (func (param i32 i32) (result i32))) (type $p (func (param i32))) (type $v (func)) (import \"wasi_snapshot_preview1\" \"environ_sizes_get\" (func $sizes (type $g))) (import \"wasi_snapshot_preview1\" \"proc_exit\" (func $exit (type $p))) (memory 1) (func $s (type $v) i32.const 0 i32.const 4 call $sizes drop i32.const 0 i32.load i32.const 10 i32.mul i32.const 4 i32.load i32.add call $exit) (export \"_start\" (func $s)) (export \"memory\" (memory 0)))";
+
+/// A module whose memory begins with two pages.
+const TWO_PAGES: &str =
+    "(module (type (func)) (func (type 0) unreachable) (memory 2) (export \"_start\" (func 0)))";
 
 /// A module with a constant above half of its range, and a load with half of its natural alignment.
 const SIGN_AND_ALIGNMENT: &str =
@@ -203,6 +211,64 @@ const FILES: &[Row] = &[
         err: "",
         status: 37,
     },
+    // the entries b=1 and a=: 20, and 7 bytes
+    Row {
+        command: "run in a page with b=1 a=",
+        file: COUNT_ENTRIES,
+        out: "",
+        err: "",
+        status: 27,
+    },
+    Row {
+        command: "run in a page with b",
+        file: COUNT_ENTRIES,
+        out: "",
+        err: "refused 10 BadConfig\n",
+        status: 125,
+    },
+    Row {
+        command: "run in a page with b=1 a=",
+        file: TWO_PAGES,
+        out: "",
+        err: "refused 9 Limit\n",
+        status: 125,
+    },
+    Row {
+        command: "check task in a page",
+        file: TWO_PAGES,
+        out: "",
+        err: "refused 9 Limit\n",
+        status: 3,
+    },
+    // no instruction is run
+    Row {
+        command: "check task",
+        file: TWO_PAGES,
+        out: "ok\n",
+        err: "",
+        status: 0,
+    },
+    Row {
+        command: "check task",
+        file: "\0asm\x01\0\0\0",
+        out: "",
+        err: "refused 21 NoEntry\n",
+        status: 3,
+    },
+    Row {
+        command: "check task",
+        file: "(module (memory 1) (memory 1))",
+        out: "",
+        err: "refused 8 Invalid\n",
+        status: 3,
+    },
+    Row {
+        command: "check task",
+        file: "(module\n(type (func)) (func (type 0) i32.cons 1))",
+        out: "",
+        err: "refused 18 BadText line 2 column 30\n",
+        status: 3,
+    },
 ];
 
 fn words(alloc: Global, line: &str) -> Result<Vec<String>, AllocError> {
@@ -215,7 +281,24 @@ fn words(alloc: Global, line: &str) -> Result<Vec<String>, AllocError> {
 
 fn run_with(alloc: Global, bytes: &[u8], line: &str) -> Result<Ran, Fail> {
     let args = words(alloc, line)?;
-    Ok(run_file(alloc, "m", bytes, args.as_slice())?)
+    Ok(run_file(alloc, "m", bytes, args.as_slice(), &Settings::none(alloc))?)
+}
+
+// Runs a file with these entries as its environment, and a limit of one page on its memory.
+fn run_in(alloc: Global, bytes: &[u8], line: &str) -> Result<Ran, Fail> {
+    let settings = Settings {
+        env: words(alloc, line)?,
+        memory: Some(65_536),
+    };
+    Ok(run_file(alloc, "m", bytes, &[], &settings)?)
+}
+
+fn check_under(alloc: Global, bytes: &[u8], memory: Option<u64>) -> Result<Ran, Fail> {
+    let settings = Settings {
+        env: Vec::new(alloc),
+        memory,
+    };
+    Ok(check_task(alloc, "m", bytes, false, &settings)?)
 }
 
 fn ran(alloc: Global, command: &str, bytes: &[u8]) -> Result<Ran, Fail> {
@@ -223,7 +306,11 @@ fn ran(alloc: Global, command: &str, bytes: &[u8]) -> Result<Ran, Fail> {
         "asm" => Ok(asm_file(alloc, bytes)?),
         "check" => Ok(check_file(alloc, bytes, false)?),
         "list" => Ok(check_file(alloc, bytes, true)?),
+        "check task" => check_under(alloc, bytes, None),
+        "check task in a page" => check_under(alloc, bytes, Some(65_536)),
         "run" => run_with(alloc, bytes, ""),
+        "run in a page with b=1 a=" => run_in(alloc, bytes, "b=1 a="),
+        "run in a page with b" => run_in(alloc, bytes, "b"),
         _ => run_with(alloc, bytes, "a bc"),
     }
 }

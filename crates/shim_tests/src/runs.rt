@@ -2,7 +2,7 @@
 
 use crate::checks::{check_bytes, check_text};
 use crate::writers::FailingWriter;
-use shim_service::{Ran, RunError, run_file, run_streams};
+use shim_service::{Ran, RunError, Settings, run_file, run_streams};
 use std::alloc::{AllocError, Global};
 use std::process::Abort;
 use std::test::Fail;
@@ -116,7 +116,15 @@ fn check_failure(rt: &impl Abort, alloc: Global, at: usize, row: &Failure) -> Re
     let file = framed(alloc, row.body)?;
     let mut out = FailingWriter::new(alloc, row.out_room);
     let mut err = FailingWriter::new(alloc, row.err_room);
-    let ran = run_streams(alloc, "m", file.as_bytes(), &[], &mut out, &mut err);
+    let ran = run_streams(
+        alloc,
+        "m",
+        file.as_bytes(),
+        &[],
+        &Settings::none(alloc),
+        &mut out,
+        &mut err,
+    );
     check_text(rt, row.body, cause(&ran), row.cause);
     check_bytes(rt, at, out.as_slice(), row.out.as_bytes());
     check_bytes(rt, at, err.as_slice(), row.err.as_bytes());
@@ -135,7 +143,15 @@ fn a_stream_fails_while_its_task_runs(rt: HostRuntime) -> Result<(), Fail> {
 fn check_ran(rt: &impl Abort, alloc: Global, file: &str, wanted: &Ran) -> Result<(), Fail> {
     let mut out = FailingWriter::new(alloc, usize::MAX);
     let mut err = FailingWriter::new(alloc, usize::MAX);
-    let status = run_streams(alloc, "m", file.as_bytes(), &[], &mut out, &mut err)?;
+    let status = run_streams(
+        alloc,
+        "m",
+        file.as_bytes(),
+        &[],
+        &Settings::none(alloc),
+        &mut out,
+        &mut err,
+    )?;
     assert_eq!(rt; status, wanted.status, "{file}");
     check_bytes(rt, 0, out.as_slice(), wanted.out.as_slice());
     check_bytes(rt, 0, err.as_slice(), wanted.err.as_slice());
@@ -146,7 +162,7 @@ fn check_ran(rt: &impl Abort, alloc: Global, file: &str, wanted: &Ran) -> Result
 fn streams_are_those_of_the_file(rt: HostRuntime) -> Result<(), Fail> {
     let alloc = rt.alloc();
     let file = framed(alloc, BOTH_AND_TRAP)?;
-    let wanted = run_file(alloc, "m", file.as_bytes(), &[])?;
+    let wanted = run_file(alloc, "m", file.as_bytes(), &[], &Settings::none(alloc))?;
     assert_eq!(rt; wanted.status, 134);
     check_bytes(&rt, 0, wanted.out.as_slice(), b"xx");
     check_bytes(&rt, 0, wanted.err.as_slice(), b"xxtrap: unreachable\n");
@@ -156,7 +172,7 @@ fn streams_are_those_of_the_file(rt: HostRuntime) -> Result<(), Fail> {
 #[test]
 fn a_refused_file_is_one_line(rt: HostRuntime) -> Result<(), Fail> {
     let alloc = rt.alloc();
-    let wanted = run_file(alloc, "m", b"(module", &[])?;
+    let wanted = run_file(alloc, "m", b"(module", &[], &Settings::none(alloc))?;
     assert_eq!(rt; wanted.status, 125);
     check_bytes(&rt, 0, wanted.out.as_slice(), b"");
     check_bytes(&rt, 0, wanted.err.as_slice(), b"refused 18 BadText\n");

@@ -7,8 +7,8 @@ mod serve;
 use crate::report::{failed, stream_failed};
 use crate::serve::serve;
 use shim_service::{
-    Command, CommandError, Ran, RunError, asm_file, check_file, command_of, explain_asm,
-    explain_check, explain_run, replay_lines, run_streams,
+    Command, CommandError, Ran, RunError, Settings, asm_file, check_file, check_task, command_of,
+    explain_asm, explain_check, explain_check_task, explain_run, replay_lines, run_streams,
 };
 use std::io::Write;
 use std::process::ExitCode;
@@ -93,6 +93,31 @@ fn check(rt: &HostRuntime, file: &str, list: bool, explain: bool) -> ExitCode {
     finish(rt, ran)
 }
 
+// Says whether a task can be made of the module in a file, under this limit on its memory.
+fn check_as_task(
+    rt: &HostRuntime,
+    file: &str,
+    list: bool,
+    memory: Option<u64>,
+    explain: bool,
+) -> ExitCode {
+    let bytes = match read(rt, file) {
+        Ok(bytes) => bytes,
+        Err(status) => return status,
+    };
+    let alloc = rt.alloc();
+    let settings = Settings {
+        env: Vec::new(alloc),
+        memory,
+    };
+    let ran = if explain {
+        explain_check_task(alloc, file, bytes.as_slice(), list, &settings)
+    } else {
+        check_task(alloc, file, bytes.as_slice(), list, &settings)
+    };
+    finish(rt, ran)
+}
+
 // Ends with what a run came to. If standard error failed, there is nowhere to say so.
 fn finish_run(rt: &HostRuntime, ran: Result<u8, RunError>) -> ExitCode {
     match ran {
@@ -104,7 +129,13 @@ fn finish_run(rt: &HostRuntime, ran: Result<u8, RunError>) -> ExitCode {
 }
 
 // Runs the module in a file, and writes what it writes as it comes.
-fn run(rt: &HostRuntime, file: &str, args: &[String], explain: bool) -> ExitCode {
+fn run(
+    rt: &HostRuntime,
+    file: &str,
+    args: &[String],
+    settings: &Settings,
+    explain: bool,
+) -> ExitCode {
     let bytes = match read(rt, file) {
         Ok(bytes) => bytes,
         Err(status) => return status,
@@ -114,9 +145,9 @@ fn run(rt: &HostRuntime, file: &str, args: &[String], explain: bool) -> ExitCode
     let alloc = rt.alloc();
     let bytes = bytes.as_slice();
     let ran = if explain {
-        explain_run(alloc, file, bytes, args, &mut out, &mut err)
+        explain_run(alloc, file, bytes, args, settings, &mut out, &mut err)
     } else {
-        run_streams(alloc, file, bytes, args, &mut out, &mut err)
+        run_streams(alloc, file, bytes, args, settings, &mut out, &mut err)
     };
     finish_run(rt, ran)
 }
@@ -149,16 +180,23 @@ fn main(rt: HostRuntime) -> ExitCode {
             Command::Check {
                 file,
                 list,
+                task,
+                memory,
                 explain,
             },
-        ) => check(&rt, file.as_str(), list, explain),
+        ) => if task {
+            check_as_task(&rt, file.as_str(), list, memory, explain)
+        } else {
+            check(&rt, file.as_str(), list, explain)
+        },
         Ok(
             Command::Run {
                 module,
                 args,
+                settings,
                 explain,
             },
-        ) => run(&rt, module.as_str(), args.as_slice(), explain),
+        ) => run(&rt, module.as_str(), args.as_slice(), &settings, explain),
         Ok(Command::Show { text }) => write_out(&rt, text.as_bytes()),
         Err(error) => refuse(&rt, &error),
     }

@@ -11,13 +11,12 @@ use Rattle.text_assembler.specs.Lines.{HasAlignment}
 use Rattle.validator.specs.Typing.{ValidModule}
 use Rattle.validator.specs.Faults.{NamesFault}
 use Rattle.oci_config.specs.declared.process.ProcessConfig.{ProcessConfig}
-use Rattle.oci_config.specs.Config.{are_arguments_alone, process_with}
 use Rattle.step_machine.specs.declared.ends.End.{End}
 use Rattle.step_machine.specs.Instantiation.{instantiation_refusal, after, ended}
 use Rattle.step_machine.specs.MachineView.{MachineView}
 use Rattle.file_commands.specs.declared.ran.Ran.{Ran}
 use Rattle.file_commands.specs.Source.{IsSource, IsNoSource}
-use Rattle.file_commands.specs.TaskRun.{ran_to}
+use Rattle.file_commands.specs.TaskRun.{Given, can_have, process_given, ran_to}
 
 -- why `asm` is refused
 pub data CannotAssemble (bytes : List ℕ) : Refusal → Type 0 where
@@ -50,13 +49,13 @@ pub data CannotStart (m : Module) (p : ProcessConfig) : Refusal → Type 0 where
   not_instantiated :
       (e : Refusal) → ValidModule m → instantiation_refusal m p ≡ Some e → CannotStart m p e
 
--- the machine runs the module in a file with these arguments
-pub record IsOpened (bytes : List ℕ) (args : List (List ℕ)) (v : MachineView) : Type 0 where
+-- the machine runs the module in a file with what the task is given
+pub record IsOpened (bytes : List ℕ) (g : Given) (v : MachineView) : Type 0 where
   pub source : IsSource bytes v.module
-  pub arguments : are_arguments_alone args ≡ true
+  pub arguments : can_have g ≡ true
   pub valid : ValidModule v.module
-  pub opens : instantiation_refusal v.module (process_with args) ≡ None
-  pub process : v.process ≡ process_with args
+  pub opens : instantiation_refusal v.module (process_given g) ≡ None
+  pub process : v.process ≡ process_given g
 
 -- the module, under the process, comes to an end after some number of turns, and this is what it leaves
 pub record HasEnded (m : Module) (p : ProcessConfig) (ran : Ran) : Type 0 where

@@ -8,4 +8,4 @@ pub returns-in-Some-clause-ok : goal.returns-in-Some-clause-ok
 returns-in-Some-clause-ok c =
     let found = found_of c.args.found.now in
     c.run_with.ensures.ok (rows_of found) (sym (c.in-Some.ensures ∙ raw_values-rows found (codes "MODULE")))
-    (sym c.has_flag.ensures)
+    c.in_ok-settings.ensures.env c.in_ok-settings.ensures.memory (sym c.has_flag.ensures)

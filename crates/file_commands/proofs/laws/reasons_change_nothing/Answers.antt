@@ -8,5 +8,8 @@ returns-clause-asm c = λ bytes r h. answers_as refused r h
 pub returns-clause-check : goal.returns-clause-check
 returns-clause-check c = λ bytes list r h. answers_as refused r h
 
+pub returns-clause-task : goal.returns-clause-task
+returns-clause-task c = λ bytes g list r h. answers_as refused r h
+
 pub returns-clause-run : goal.returns-clause-run
-returns-clause-run c = λ name bytes args r h. answers_as refused_run r h
+returns-clause-run c = λ bytes g r h. answers_as refused_run r h

@@ -1,10 +1,12 @@
 use Rattle.std.proofs.Common.{map, string_bytes}
+use Rattle.file_commands.specs.TaskRun.{given}
 use Rattle.file_commands.proofs.StreamLemmas.{run_written, refusal_written}
 use Rattle.file_commands.proofs.run.run_streams.Goals as goal
 
 pub returns-in-Ok : goal.returns-in-Ok
 returns-in-Ok g c =
-    run_written c.args.name.now c.args.bytes.now (map string_bytes c.args.args.now) c.in-Ok.machine
+    run_written c.args.bytes.now
+    (given c.args.name.now (map string_bytes c.args.args.now) c.args.settings.now) c.in-Ok.machine
     c.run_task.result
     (g.O.Write.contents c.args.out.now) (g.O.Write.contents c.run_task.new.out)
     (g.E.Write.contents c.args.err.now) (g.E.Write.contents c.run_task.new.err)
@@ -12,7 +14,8 @@ returns-in-Ok g c =
 
 pub returns-in-Err : goal.returns-in-Err
 returns-in-Err g c =
-    refusal_written c.args.name.now c.args.bytes.now (map string_bytes c.args.args.now) c.in-Err.refusal
+    refusal_written c.args.bytes.now
+    (given c.args.name.now (map string_bytes c.args.args.now) c.args.settings.now) c.in-Err.refusal
     c.write_refusal.result
     (g.O.Write.contents c.args.out.now) (g.E.Write.contents c.args.err.now)
     (g.E.Write.contents c.write_refusal.new.err)

@@ -1,0 +1,14 @@
+use Rattle.std.proofs.Common.{ap, ◌∙◌, codes, Some}
+use Rattle.clap.proofs.WalkLemmas.{first_value-rows}
+use Rattle.clap.specs.Matches.{found_of}
+use Rattle.file_commands.specs.Command.{limit_from}
+use Rattle.file_commands.proofs.command.memory_of.Goals as goal
+
+pub returns-in_default-clause-ok : goal.returns-in_default-clause-ok
+returns-in_default-clause-ok c =
+    ap limit_from (c.in_default.ensures ∙ first_value-rows (found_of c.args.found.now) (codes "memory"))
+
+pub returns-in-Ok-clause-ok : goal.returns-in-Ok-clause-ok
+returns-in-Ok-clause-ok c =
+    ap Some c.in-Ok.ensures.value.0.1
+    ∙ ap limit_from (c.in-Some.ensures ∙ first_value-rows (found_of c.args.found.now) (codes "memory"))

@@ -1,0 +1,16 @@
+use Rattle.std.proofs.Common.{[], inl}
+use Rattle.file_commands.specs.TaskRun.{given}
+use Rattle.file_commands.proofs.RunLemmas.{task_checked, task_why}
+use Rattle.file_commands.proofs.task_check.explain_check_task.Goals as goal
+
+pub returns-in-Ok-clause-ran : goal.returns-in-Ok-clause-ran
+returns-in-Ok-clause-ran c =
+    let told = c.in-Ok.ensures.ok in
+    inl
+    (task_checked c.args.bytes.now (given c.args.name.now [] c.args.settings.now) c.args.list told.0 _
+    c.succeeded.result told.1 told.2 c.succeeded.ensures)
+
+pub returns-in-Err-clause-ran : goal.returns-in-Err-clause-ran
+returns-in-Err-clause-ran c =
+    task_why c.args.bytes.now (given c.args.name.now [] c.args.settings.now) c.args.list c.in-Err.refusal
+    c.refused_why.result c.refused_why.ensures.ran c.refused_why.ensures.told c.in-Err.ensures.err

@@ -1,0 +1,76 @@
+//! The command `check --task`.
+
+ghost use Rattle.std.specs.Prelude.{◌≡◌, ◌≢◌, ◌++◌, [], IfOk, IfErr, codes, string_bytes};
+ghost use Rattle.wasm_ast.specs.declared.refusal.Refusal.TheVariants as refusal;
+ghost use Rattle.step_machine.specs.MachineView.{MachineView};
+ghost use Rattle.file_commands.specs.Ran.{line, refused};
+ghost use Rattle.file_commands.specs.Explained.{IsExplained};
+ghost use Rattle.file_commands.specs.Checked.{list_if, IsTaskChecked};
+ghost use Rattle.file_commands.specs.TaskRun.{given, CannotRun};
+ghost use Rattle.file_commands.specs.Inside.Written.{IsOpened};
+
+use crate::check::checked_text;
+use crate::explain::refused_why;
+use crate::ran::Ran;
+use crate::run::task_of;
+use crate::settings::Settings;
+use std::alloc::Global;
+use wasm_ast::Refusal;
+
+// What is written for the module in a file, if a task can be made of it. The task makes no turn.
+fn checked_task(
+    alloc: Global,
+    name: &str,
+    bytes: &[u8],
+    list: bool,
+    settings: &Settings,
+) -> Result<String, Refusal>
+    ensures ok { IfOk result
+        (λ s. (v : MachineView) × IsOpened bytes.now (given name.now [] settings.now) v
+        × (string_bytes s ≡ line (codes "ok") ++ list_if list v.module)) }
+    ensures err { IfErr result
+        (λ e. e ≢ refusal.NoMemory → CannotRun bytes.now (given name.now [] settings.now) e) }
+{
+    let machine = task_of(alloc, name, bytes, &[], settings)?;
+    Ok(checked_text(alloc, machine.flat().valid(), list)?)
+}
+
+/// What `check --task` writes for a file of this name with these bytes: what `check` writes, if `run` could
+/// make a task of it with these settings and no argument beside its name. If it could not, that is a line on
+/// standard error, with the refusal that `run` would have, and the status is 3. No function of the module
+/// runs. `NoMemory`, and no other refusal, if memory runs out for anything but what the task itself may be
+/// refused.
+pub fn check_task(
+    alloc: Global,
+    name: &str,
+    bytes: &[u8],
+    list: bool,
+    settings: &Settings,
+) -> Result<Ran, Refusal>
+    ensures ran { IfOk result (IsTaskChecked bytes.now (given name.now [] settings.now) list) }
+    ensures errors { IfErr result (λ e. e ≡ refusal.NoMemory) }
+{
+    match checked_task(alloc, name, bytes, list, settings) {
+        Ok(text) => Ok(Ran::succeeded(alloc, text)),
+        Err(refusal) => Ran::refused(alloc, refusal),
+    }
+}
+
+/// The same, and after a refusal that has a reason a line with it on standard error:
+/// `check --task --explain`.
+pub fn explain_check_task(
+    alloc: Global,
+    name: &str,
+    bytes: &[u8],
+    list: bool,
+    settings: &Settings,
+) -> Result<Ran, Refusal>
+    ensures ran { IfOk result (IsExplained refused
+        (IsTaskChecked bytes.now (given name.now [] settings.now) list)) }
+    ensures errors { IfErr result (λ e. e ≡ refusal.NoMemory) }
+{
+    match checked_task(alloc, name, bytes, list, settings) {
+        Ok(text) => Ok(Ran::succeeded(alloc, text)),
+        Err(refusal) => refused_why(alloc, bytes, refusal),
+    }
+}
