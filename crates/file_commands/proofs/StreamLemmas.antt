@@ -18,7 +18,7 @@ use Rattle.file_commands.specs.declared.ran.Ran.{Ran}
 use Rattle.file_commands.specs.declared.run_error.RunError.{RunError}
 use Rattle.file_commands.specs.Ran.{refused_run}
 use Rattle.file_commands.specs.Explained.{IsToldWhy, IsExplained}
-use Rattle.file_commands.specs.TaskRun.{Given, trap_line, status_of, ran_to, CannotRun, IsRun, IsWritten}
+use Rattle.file_commands.specs.TaskRun.{Given, end_lines, status_of, ran_to, CannotRun, IsRun, IsWritten}
 use Rattle.file_commands.specs.TaskRun as task
 use Rattle.file_commands.specs.Inside.Written.{IsOpened, HasEnded, IsCopied}
 use Rattle.file_commands.proofs.RunLemmas.{Unless, is_run}
@@ -57,10 +57,11 @@ pub written_as : {Is Is' : Ran → Type 0} (r : Result ℕ RunError) (o o' e e' 
 written_as (Ok n) o o' e e' f h = (h.0, f h.0 h.1, h.2, h.3, h.4)
 written_as (Err x) o o' e e' f h = tt
 
--- a task that has come to its end, with all of its streams and the line of its trap
+-- a task that has come to its end, with all of its streams and the lines of its end
 pub end_written : (v w : MachineView) (end : End) (o o' e e' e'' : Option (List ℕ)) (status : ℕ)
     → w.module ≡ v.module → w.process ≡ v.process → ended (state_of w) ≡ Some end
-    → Appends o o' (output_of w Out) → Appends e e' (output_of w stream.Err) → Appends e' e'' (trap_line end)
+    → Appends o o' (output_of w Out) → Appends e e' (output_of w stream.Err) → Appends e' e''
+    (end_lines (output_of w Out) (output_of w stream.Err) end)
     → status ≡ status_of end % 256 → IsWritten (HasEnded v.module v.process) o o' e e'' status
 end_written v w end o o' e e' e'' status same_module same_process ends out err line is =
     let r = ran_to (after w.module w.process w.turns).store end in
@@ -68,7 +69,8 @@ end_written v w end o o' e e' e'' status same_module same_process ends out err l
       r,
       subst (λ m. HasEnded m v.process r) same_module (subst (λ p. HasEnded w.module p r) same_process its),
       out,
-      Appends-trans e e' e'' (output_of w stream.Err) (trap_line end) err line,
+      Appends-trans e e' e'' (output_of w stream.Err)
+          (end_lines (output_of w Out) (output_of w stream.Err) end) err line,
       is,
     )
 

@@ -1,5 +1,5 @@
 -- What `run` writes: one task, from its first turn to its end.
-use Rattle.std.specs.Prelude.{◌≡◌, ℕ, ◌%◌, List, [], ◌∷◌, ◌++◌, map, Bool, true, false, codes, string_bytes, Option, None, Some}
+use Rattle.std.specs.Prelude.{◌≡◌, ℕ, ◌%◌, List, [], ◌∷◌, ◌++◌, map, length, nat_lt, if◌then◌else◌, Bool, true, false, codes, string_bytes, Option, None, Some}
 use Rattle.std.specs.Io.KnownBytes.{Appends}
 use Rattle.wasm_ast.specs.declared.module.Module.{Module}
 use Rattle.wasm_ast.specs.declared.place.Place.{Place}
@@ -7,6 +7,7 @@ use Rattle.wasm_ast.specs.declared.refusal.Refusal.{Refusal}
 use Rattle.wasm_ast.specs.declared.refusal.Refusal.TheVariants as refusal
 use Rattle.wasm_ast.specs.Names.{trap_name}
 use Rattle.oci_config.specs.declared.process.ProcessConfig.{ProcessConfig}
+use Rattle.oci_config.specs.Limits.{max_output}
 use Rattle.oci_config.specs.Setup.{are_taken, process_under}
 use Rattle.validator.specs.Typing.{ValidModule}
 use Rattle.validator.specs.Faults.{NamesFault}
@@ -63,6 +64,18 @@ trap_line ends.Returned = []
 trap_line (ends.Exited code) = []
 trap_line (ends.Trapped trap) = line (codes "trap: " ++ trap_name trap)
 
+-- a stream that has taken all the bytes that it takes adds one too
+abbrev pub full_line : (name : List ℕ) → (count : ℕ) → List ℕ
+full_line name count =
+    if nat_lt count max_output then [] else line (name ++ codes " is full: 65536 bytes")
+
+-- what is added to standard error at the end of a task that has written these outputs
+abbrev pub end_lines : (out err : List ℕ) → End → List ℕ
+end_lines out err end =
+    trap_line end
+    ++ (full_line (codes "standard output") (length out)
+    ++ full_line (codes "standard error") (length err))
+
 -- the exit status of a task that ended so
 abbrev pub status_of : End → ℕ
 status_of ends.Returned = exit_status exit.Return
@@ -73,7 +86,7 @@ status_of (ends.Trapped trap) = exit_status (exit.Trapped trap)
 abbrev pub ran_to : Store → End → Ran
 ran_to store end = record {
   out = store.out;
-  err = store.err ++ trap_line end;
+  err = store.err ++ end_lines store.out store.err end;
   status = status_of end % 256;
 }
 

@@ -11,7 +11,7 @@ ghost use Rattle.file_commands.specs.Explained.{IsExplained};
 ghost use Rattle.file_commands.specs.Assembled.{IsAssembled};
 ghost use Rattle.file_commands.specs.Inside.Written.{CannotAssemble};
 
-use crate::explain::refused_why;
+use crate::explain::{file_reason, refused_why};
 use crate::ran::Ran;
 use crate::source::module_of;
 use std::alloc::{AllocError, Global};
@@ -58,6 +58,9 @@ pub fn explain_asm(alloc: Global, bytes: &[u8]) -> Result<Ran, Refusal>
 {
     match encoding_line(alloc, bytes) {
         Ok(line) => Ok(Ran::succeeded(alloc, line)),
-        Err(refusal) => refused_why(alloc, bytes, refusal),
+        Err(refusal) => {
+            let reason = file_reason(alloc, bytes, refusal);
+            refused_why(alloc, reason.as_str(), refusal)
+        }
     }
 }

@@ -13,7 +13,7 @@ ghost use Rattle.file_commands.specs.Explained.{IsExplained};
 ghost use Rattle.file_commands.specs.Checked.{instr_line, op_lines, ops_lines, func_lines, listing, list_if, IsChecked};
 ghost use Rattle.file_commands.specs.Inside.Written.{CannotCheck, OpAligned, OpsAligned};
 
-use crate::explain::refused_why;
+use crate::explain::{file_reason, refused_why};
 use crate::ran::Ran;
 use crate::source::module_of;
 use std::alloc::{AllocError, Global};
@@ -179,6 +179,9 @@ pub fn explain_check(alloc: Global, bytes: &[u8], list: bool) -> Result<Ran, Ref
 {
     match checked(alloc, bytes, list) {
         Ok(text) => Ok(Ran::succeeded(alloc, text)),
-        Err(refusal) => refused_why(alloc, bytes, refusal),
+        Err(refusal) => {
+            let reason = file_reason(alloc, bytes, refusal);
+            refused_why(alloc, reason.as_str(), refusal)
+        }
     }
 }

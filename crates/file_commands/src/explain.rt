@@ -6,7 +6,7 @@ ghost use Rattle.file_commands.specs.Ran.{line, refused, refused_run};
 ghost use Rattle.file_commands.specs.Explained.{IsOneLine, IsToldWhy};
 
 use crate::ran::Ran;
-use reasons::why_file;
+use reasons::{TaskWords, why_file, why_run};
 use std::alloc::{AllocError, Global};
 use wasm_ast::{Refusal, Sequence};
 
@@ -27,18 +27,39 @@ fn is_one_line(text: &str) -> bool
     !text.as_bytes().contains(&b'\n')
 }
 
+// A reason, or an empty text if there was no memory for it.
+fn or_empty(alloc: Global, found: Result<String, AllocError>) -> String {
+    match found {
+        Ok(reason) => reason,
+        Err(_) => String::new(alloc),
+    }
+}
+
+/// Why a file with these bytes is refused so; an empty text if no reason is found, or no memory for it.
+pub(crate) fn file_reason(alloc: Global, bytes: &[u8], refusal: Refusal) -> String {
+    or_empty(alloc, why_file(alloc, bytes, refusal))
+}
+
+/// Why no task can be made of a file with these bytes and what a command line gives it; an empty text if no
+/// reason is found, or no memory for it.
+pub(crate) fn task_reason(
+    alloc: Global,
+    bytes: &[u8],
+    words: &TaskWords<'_>,
+    refusal: Refusal,
+) -> String {
+    or_empty(alloc, why_run(alloc, bytes, words, refusal))
+}
+
 // The line of a reason, if there is one and memory for it.
-fn reason_line(alloc: Global, bytes: &[u8], refusal: Refusal) -> Option<String>
+fn reason_line(alloc: Global, reason: &str) -> Option<String>
     ensures { IfSome result (λ s. (reason : List ℕ) × IsOneLine reason
         × (string_bytes s ≡ line (codes "why: " ++ reason))) }
 {
-    let Ok(reason) = why_file(alloc, bytes, refusal) else {
-        return None;
-    };
-    if reason.is_empty() || !is_one_line(reason.as_str()) {
+    if reason.is_empty() || !is_one_line(reason) {
         return None;
     }
-    match why_line(alloc, reason.as_str()) {
+    match why_line(alloc, reason) {
         Ok(text) => Some(text),
         Err(_) => None,
     }
@@ -59,37 +80,36 @@ fn with_line(plain: Ran, text: &str) -> Ran
     }
 }
 
-// What a refused command writes, with the line of a reason if there is one and memory for it.
-fn explained(alloc: Global, plain: Ran, bytes: &[u8], refusal: Refusal) -> Ran
+// What a refused command writes, with the line of a reason if it is not empty and there is memory for it.
+fn explained(alloc: Global, plain: Ran, reason: &str) -> Ran
     ensures { IsToldWhy plain result }
 {
-    match reason_line(alloc, bytes, refusal) {
+    match reason_line(alloc, reason) {
         Some(line) => with_line(plain, line.as_str()),
         None => plain,
     }
 }
 
-/// Of `asm` or `check` of a file with these bytes, with the line of a reason. `NoMemory` is handed on.
-pub(crate) fn refused_why(alloc: Global, bytes: &[u8], refusal: Refusal) -> Result<Ran, Refusal>
+/// Of `asm` or `check`, with the line of a reason if it is not empty. `NoMemory` is handed on.
+pub(crate) fn refused_why(alloc: Global, reason: &str, refusal: Refusal) -> Result<Ran, Refusal>
     ensures ran { IfOk result (IsToldWhy (refused refusal)) }
     ensures told { OnOk result (refusal ≢ refusals.NoMemory) }
     ensures errors { IfErr result (λ e. e ≡ refusals.NoMemory) }
 {
     match Ran::refused(alloc, refusal) {
-        Ok(plain) => Ok(explained(alloc, plain, bytes, refusal)),
+        Ok(plain) => Ok(explained(alloc, plain, reason)),
         Err(error) => Err(error),
     }
 }
 
-/// Of `run` of a file with these bytes, if there is no task, with the line of a reason. `NoMemory` is handed
-/// on.
-pub(crate) fn refused_run_why(alloc: Global, bytes: &[u8], refusal: Refusal) -> Result<Ran, Refusal>
+/// Of `run`, if there is no task, with the line of a reason if it is not empty. `NoMemory` is handed on.
+pub(crate) fn refused_run_why(alloc: Global, reason: &str, refusal: Refusal) -> Result<Ran, Refusal>
     ensures ran { IfOk result (IsToldWhy (refused_run refusal)) }
     ensures told { OnOk result (refusal ≢ refusals.NoMemory) }
     ensures errors { IfErr result (λ e. e ≡ refusals.NoMemory) }
 {
     match Ran::refused_run(alloc, refusal) {
-        Ok(plain) => Ok(explained(alloc, plain, bytes, refusal)),
+        Ok(plain) => Ok(explained(alloc, plain, reason)),
         Err(error) => Err(error),
     }
 }

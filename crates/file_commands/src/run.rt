@@ -1,6 +1,6 @@
 //! The command `run`.
 
-ghost use Rattle.std.specs.Prelude.{◌≡◌, ◌≢◌, ◌-◌, ◌<◌, ◌≤◌, ◌%◌, ◌∷◌, ◌++◌, [], List, ℕ, map, drop, length, IfOk, IfErr, OnOk, Some, None, true, false, string_bytes};
+ghost use Rattle.std.specs.Prelude.{◌≡◌, ◌≢◌, ◌-◌, ◌<◌, ◌≤◌, ◌%◌, ◌∷◌, ◌++◌, [], List, ℕ, map, drop, length, IfOk, IfErr, OnOk, Some, None, true, false, codes, string_bytes};
 ghost use Rattle.std.specs.Io.KnownBytes.{Appends};
 ghost use Rattle.wasm_ast.specs.declared.refusal.Refusal.TheVariants as refusal;
 ghost use Rattle.oci_config.specs.Processes.{config_of};
@@ -8,13 +8,13 @@ ghost use Rattle.validator.specs.Typing.{ValidModule};
 ghost use Rattle.step_machine.specs.Instantiation.{instantiation_refusal, ended};
 ghost use Rattle.step_machine.specs.Limits.{last_turn};
 ghost use Rattle.step_machine.specs.MachineView.{state_of, output_of};
-ghost use Rattle.file_commands.specs.Ran.{refused_run};
+ghost use Rattle.file_commands.specs.Ran.{line, refused_run};
 ghost use Rattle.file_commands.specs.Explained.{IsToldWhy, IsExplained};
 ghost use Rattle.file_commands.specs.declared.ran.Ran.{Ran};
-ghost use Rattle.file_commands.specs.TaskRun.{given, can_have, process_given, trap_line, CannotRun, IsRun, IsWritten, status_of};
+ghost use Rattle.file_commands.specs.TaskRun.{given, can_have, process_given, trap_line, full_line, end_lines, CannotRun, IsRun, IsWritten, status_of};
 ghost use Rattle.file_commands.specs.Inside.Written.{CannotStart, IsOpened, HasEnded};
 
-use crate::explain::refused_run_why;
+use crate::explain::{refused_run_why, task_reason};
 use crate::ran::Ran;
 use crate::run_error::RunError;
 use crate::settings::Settings;
@@ -26,6 +26,9 @@ use std::io::Write;
 use step_machine::laws::{outputs_grow, slices_go_forward, turns_are_limited};
 use step_machine::{Breaks, End, Machine, validate};
 use wasm_ast::{Module, Refusal, Sequence, Text};
+
+/// The most bytes that an output stream takes.
+const MAX_OUTPUT: usize = 65_536;
 
 /// Turns of a slice at most.
 const SLICE_BUDGET: u64 = 1_000_000;
@@ -220,13 +223,59 @@ fn push_trap(err: &mut Vec<u8>, end: End) -> Result<(), AllocError>
     err.extend_from_slice(b"\n")
 }
 
-// Writes the line of a trap.
-fn write_trap<W: Write>(alloc: Global, end: End, err: &mut W) -> Result<(), RunError>
-    ensures { OnOk result (Appends (W.contents err.old) (W.contents err.new) (trap_line end)) }
+// Adds the line that a stream of this name is full.
+fn push_line(err: &mut Vec<u8>, name: &str) -> Result<(), AllocError>
+    ensures { OnOk result (err.new.items
+        ≡ err.old.items ++ line (name.now ++ codes " is full: 65536 bytes")) }
 {
-    let mut line = Vec::new(alloc);
-    push_trap(&mut line, end)?;
-    write_some(line.as_slice(), err).map_err(RunError::StandardError)
+    err.extend_from_slice(name.as_bytes())?;
+    err.extend_from_slice(b" is full: 65536 bytes")?;
+    err.extend_from_slice(b"\n")
+}
+
+// Adds the line of a stream that has taken all the bytes that it takes.
+fn push_full(err: &mut Vec<u8>, name: &str, count: usize) -> Result<(), AllocError>
+    ensures { OnOk result (err.new.items ≡ err.old.items ++ full_line name.now count) }
+{
+    if count < MAX_OUTPUT {
+        Ok(())
+    } else {
+        push_line(err, name)
+    }
+}
+
+// The lines that are added at the end of a task.
+fn end_lines(alloc: Global, machine: &Machine, end: End) -> Result<Vec<u8>, AllocError>
+    ensures { IfOk result (λ v. v.items
+        ≡ end_lines (output_of machine.now Stream.Out) (output_of machine.now Stream.Err) end) }
+{
+    let mut lines = Vec::new(alloc);
+    push_trap(&mut lines, end)?;
+    push_full(
+        &mut lines,
+        "standard output",
+        machine.output(Stream::Out).len(),
+    )?;
+    push_full(
+        &mut lines,
+        "standard error",
+        machine.output(Stream::Err).len(),
+    )?;
+    Ok(lines)
+}
+
+// Writes the lines that are added at the end of a task.
+fn write_end<W: Write>(
+    alloc: Global,
+    machine: &Machine,
+    end: End,
+    err: &mut W,
+) -> Result<(), RunError>
+    ensures { OnOk result (Appends (W.contents err.old) (W.contents err.new)
+        (end_lines (output_of machine.now Stream.Out) (output_of machine.now Stream.Err) end)) }
+{
+    let lines = end_lines(alloc, machine, end)?;
+    write_some(lines.as_slice(), err).map_err(RunError::StandardError)
 }
 
 // Writes the line of a refusal, and answers its status. `NoMemory` has no line.
@@ -243,11 +292,11 @@ fn write_refusal<W: Write>(alloc: Global, cause: Refusal, err: &mut W) -> Result
     Ok(ran.status)
 }
 
-// Writes the line of a refusal of a file with these bytes, and that of its reason, and answers its status.
-// `NoMemory` has no line.
+// Writes the line of a refusal, and that of its reason if it is not empty, and answers its status. `NoMemory`
+// has no line.
 fn write_refusal_why<W: Write>(
     alloc: Global,
-    bytes: &[u8],
+    reason: &str,
     cause: Refusal,
     err: &mut W,
 ) -> Result<u8, RunError>
@@ -255,7 +304,7 @@ fn write_refusal_why<W: Write>(
         × Appends (W.contents err.old) (W.contents err.new) ran.err × (s ≡ ran.status)) }
     ensures told { OnOk result (cause ≢ refusal.NoMemory) }
 {
-    let Ok(ran) = refused_run_why(alloc, bytes, cause) else {
+    let Ok(ran) = refused_run_why(alloc, reason, cause) else {
         return Err(RunError::OutOfMemory);
     };
     write_some(ran.err.as_slice(), err).map_err(RunError::StandardError)?;
@@ -274,7 +323,7 @@ fn run_task<O: Write, E: Write>(
 {
     let none = Breaks::none(alloc)?;
     let end = run_to_end(machine, &none, out, err)?;
-    write_trap(alloc, end, err)?;
+    write_end(alloc, machine, end, err)?;
     Ok(status_of(end))
 }
 
@@ -319,14 +368,18 @@ pub fn explain_run<O: Write, E: Write>(
 {
     match task_of(alloc, name, bytes, args, settings) {
         Ok(mut machine) => run_task(alloc, &mut machine, out, err),
-        Err(refusal) => write_refusal_why(alloc, bytes, refusal, err),
+        Err(refusal) => {
+            let reason = task_reason(alloc, bytes, &settings.words(name, args), refusal);
+            write_refusal_why(alloc, reason.as_str(), refusal, err)
+        }
     }
 }
 
 /// What `run` writes for a file of this name with these bytes: one task whose arguments are the name and
 /// `args`, with the environment and the limit of the settings, is run to its end. A trap adds a line to
-/// standard error. The status is the lowest 8 bits of the task's exit status. If there is no task, that
-/// is a line on standard error, and the status is 125. `NoMemory`, and no other refusal, if memory runs out
+/// standard error, and so does each of its two streams that has taken all the bytes that it takes.
+/// The status is the lowest 8 bits of the task's exit status. If there is no task, that is a line
+/// on standard error, and the status is 125. `NoMemory`, and no other refusal, if memory runs out
 /// for anything but what the task itself may be refused.
 pub fn run_file(
     alloc: Global,

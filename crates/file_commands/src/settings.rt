@@ -2,6 +2,7 @@
 
 ghost use Rattle.std.specs.Prelude.{◌≡◌, [], None};
 
+use reasons::TaskWords;
 use std::alloc::Global;
 
 /// The settings of a task: the entries of its environment, `NAME=VALUE` each, in their order, and the limit
@@ -21,6 +22,21 @@ impl Settings {
         Settings {
             env: Vec::new(alloc),
             memory: None,
+        }
+    }
+
+    /// What a task of a file of this name is given with these arguments.
+    pub(crate) fn words<'a>(&'a self, name: &'a str, args: &'a [String]) -> TaskWords<'a>
+        ensures name { result.name.now ≡ name.now }
+        ensures args { result.args.now ≡ args.now }
+        ensures env { result.env.now ≡ self.now.env.items }
+        ensures limit { result.limit ≡ self.now.memory }
+    {
+        TaskWords {
+            name,
+            args,
+            env: self.env.as_slice(),
+            limit: self.memory,
         }
     }
 }

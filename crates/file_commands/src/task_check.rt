@@ -10,7 +10,7 @@ ghost use Rattle.file_commands.specs.TaskRun.{given, CannotRun};
 ghost use Rattle.file_commands.specs.Inside.Written.{IsOpened};
 
 use crate::check::checked_text;
-use crate::explain::refused_why;
+use crate::explain::{refused_why, task_reason};
 use crate::ran::Ran;
 use crate::run::task_of;
 use crate::settings::Settings;
@@ -71,6 +71,9 @@ pub fn explain_check_task(
 {
     match checked_task(alloc, name, bytes, list, settings) {
         Ok(text) => Ok(Ran::succeeded(alloc, text)),
-        Err(refusal) => refused_why(alloc, bytes, refusal),
+        Err(refusal) => {
+            let reason = task_reason(alloc, bytes, &settings.words(name, &[]), refusal);
+            refused_why(alloc, reason.as_str(), refusal)
+        }
     }
 }

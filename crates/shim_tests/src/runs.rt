@@ -169,6 +169,26 @@ fn streams_are_those_of_the_file(rt: HostRuntime) -> Result<(), Fail> {
     check_ran(&rt, alloc, file.as_str(), &wanted)
 }
 
+/// Writes 65,536 zeros to standard output and traps.
+const FILL_AND_TRAP: &str =
+    "(module (type $w (func (param i32 i32 i32 i32) (result i32))) (type $v (func)) (import \"wasi_snapshot_preview1\" \"fd_write\" (func $write (type $w))) (memory 2) (data (offset i32.const 65536) \"\\00\\00\\00\\00\\00\\00\\01\\00\") (func $s (type $v) i32.const 1 i32.const 65536 i32.const 1 i32.const 65552 call $write drop unreachable) (export \"_start\" (func $s)) (export \"memory\" (memory 0)))";
+
+#[test]
+fn a_full_stream_is_told(rt: HostRuntime) -> Result<(), Fail> {
+    let alloc = rt.alloc();
+    let settings = Settings::none(alloc);
+    let ran = run_file(alloc, "m", FILL_AND_TRAP.as_bytes(), &[], &settings)?;
+    assert_eq!(rt; ran.status, 134);
+    assert_eq!(rt; ran.out.len(), 65_536);
+    check_bytes(
+        &rt,
+        0,
+        ran.err.as_slice(),
+        b"trap: unreachable\nstandard output is full: 65536 bytes\n",
+    );
+    check_ran(&rt, alloc, FILL_AND_TRAP, &ran)
+}
+
 #[test]
 fn a_refused_file_is_one_line(rt: HostRuntime) -> Result<(), Fail> {
     let alloc = rt.alloc();
