@@ -70,8 +70,11 @@ fn size_of_buffers(memory: &LinearMemory, address: u64, n: u32) -> Option<u64>
 fn append_zeros(count: usize, stream: &mut Output)
     ensures { stream.new ≡ stream.old ++ take (max_output - length stream.old) (replicate count 0) }
 {
-    let some = [0u8; ZERO_BYTES];
     let taken = count.min(stream.room());
+    if taken == 0 {
+        return;
+    }
+    let some = [0u8; ZERO_BYTES];
     for _ in 0..taken / ZERO_BYTES {
         stream.append(&some);
     }
@@ -84,6 +87,9 @@ fn append(memory: &LinearMemory, buffer: &Buffer, stream: &mut Output)
     ensures { stream.new ≡ stream.old ++ take (max_output - length stream.old)
         (take buffer.now.size (drop buffer.now.address memory.now.bytes)) }
 {
+    if buffer.size == 0 {
+        return;
+    }
     match memory.read_range(u64::from(buffer.address), u64::from(buffer.size)) {
         Some(range) => {
             stream.append(range.written);
@@ -104,6 +110,9 @@ fn append_all(memory: &LinearMemory, address: u64, n: u32, stream: &mut Output)
         (gathered memory.now (buffers_at memory.now address n)) }
 {
     for i in 0..n {
+        if stream.room() == 0 {
+            return;
+        }
         let buffer = buffer_at(memory, address + u64::from(i) * BUFFER_BYTES);
         append(memory, &buffer, stream);
     }
