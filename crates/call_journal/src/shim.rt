@@ -61,6 +61,22 @@ impl<R: Row> Shim<R> {
     pub fn call<W: Wait>(
         &self,
         rt: &W,
+        seat: Seat<R>,
+        request: Request,
+    ) -> (Seat<R>, Result<Reply, Refusal>)
+        ensures called { is_journalled result.1 ≡ true → Extends seat result.0 request result.1 }
+        ensures same { is_journalled result.1 ≡ false → result.0 ≡ seat }
+    {
+        let answered = self.call_quietly(rt, seat, request);
+        self.wake(rt);
+        answered
+    }
+
+    /// As `call`, but no worker is woken for a task that waits for one: `wake` and `wait` do that. It is for a
+    /// caller that has its next call at hand.
+    pub fn call_quietly<W: Wait>(
+        &self,
+        rt: &W,
         mut seat: Seat<R>,
         request: Request,
     ) -> (Seat<R>, Result<Reply, Refusal>)
@@ -70,15 +86,19 @@ impl<R: Row> Shim<R> {
         let mut shared = self.shared.lock(rt);
         let answer = shared.book.call(&self.cells, &mut seat, request);
         let callers_wait = shared.callers > 0;
-        let worker_wanted = shared.workers > 0 && shared.book.has_waiting();
         drop(shared);
         if callers_wait {
             self.settled.notify_all();
         }
-        if worker_wanted {
+        (seat, answer)
+    }
+
+    /// Wakes a worker if a task waits for one and one sleeps.
+    pub fn wake<W: Wait>(&self, rt: &W) {
+        let shared = self.shared.lock(rt);
+        if shared.workers > 0 && shared.book.has_waiting() {
             self.waiting.notify_one();
         }
-        (seat, answer)
     }
 
     /// Waits until the task with an id is created, paused or stopped, or is not there, or the shim is closed;
@@ -95,6 +115,9 @@ impl<R: Row> Shim<R> {
         ensures answered { result.1 ≢ Err Refusal.Busy }
     {
         let mut shared = self.shared.lock(rt);
+        if shared.workers > 0 && shared.book.has_waiting() {
+            self.waiting.notify_one();
+        }
         shared.callers = shared.callers.wrapping_add(1);
         let mut shared = self.settled.wait_while(rt, shared, |s| !s.book.is_due(&id));
         shared.callers = shared.callers.wrapping_sub(1);

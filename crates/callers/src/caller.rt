@@ -71,7 +71,8 @@ impl From<Stop> for Driven {
     }
 }
 
-// Makes a call. A wait is made once it is due; the first slice of a task that no worker has yet is run here.
+// Makes a call, and wakes no worker for it. A wait is made once it is due; the first slice of a task that no worker has
+// yet is run here.
 fn call<J: Row, H: Wait>(
     rt: &H,
     shim: &Shim<J>,
@@ -85,7 +86,7 @@ fn call<J: Row, H: Wait>(
             shim.run_waiting(rt, &id, SLICE_TURNS);
             shim.wait(rt, seat, id)
         }
-        other => shim.call(rt, seat, other),
+        other => shim.call_quietly(rt, seat, other),
     }
 }
 
@@ -185,7 +186,8 @@ fn serve_line<J: Row, W: Sink, H: Wait>(
 
 /// Answers each line of a caller's reader by one line, written and flushed before the next line is waited for,
 /// until the reader is at its end. A line that is no request is answered `BadRequest`. A fault of a stream is told
-/// only if that stream has failed. The seat is that of the caller, and is given back.
+/// only if that stream has failed. Workers are woken for the tasks that were started once no next line is at hand. The
+/// seat is that of the caller, and is given back.
 pub fn drive<J: Row, R: Source, W: Sink, H: Wait>(
     rt: &H,
     alloc: Global,
@@ -214,6 +216,9 @@ pub fn drive<J: Row, R: Source, W: Sink, H: Wait>(
         }
         let (next, written) = serve_line(rt, alloc, shim, seat, lines.bytes(), &mut spare, writer);
         seat = next;
+        if written.is_err() || !lines.has_line() {
+            shim.wake(rt);
+        }
         if let Err(error) = written {
             return (seat, Driven::from(error));
         }

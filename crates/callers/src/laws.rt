@@ -1,6 +1,6 @@
 //! What is proved of the answers to lines. Each function does nothing, and its contract is the law.
 
-ghost use Rattle.std.specs.Prelude.{◌≡◌, ◌<◌, ◌⊎◌, ◌++◌, [], ◌∷◌, ⊤, ⊥, List, ℕ, length, Some, Err};
+ghost use Rattle.std.specs.Prelude.{◌≡◌, ◌<◌, ◌⊎◌, ◌++◌, [], ◌∷◌, ⊤, List, ℕ, length, Some, Err};
 ghost use Rattle.wasm_ast.specs.declared.refusal.Refusal.TheVariants as refusal;
 ghost use Rattle.task_board.specs.Step.{Answer};
 ghost use Rattle.request_lines.specs.Lines.{lines_of, joined};

@@ -1,6 +1,7 @@
 //! Lines as they are read.
 
-ghost use Rattle.std.specs.Prelude.{◌≡◌, ◌≢◌, ◌↔◌, ◌<◌, ◌≤◌, ◌++◌, [], List, ℕ, Some, None, Ok, Err, false, true, IfOk, OnOk, IsTrue, length, drop, option_map};
+ghost use Rattle.std.specs.Prelude.{◌≡◌, ◌≢◌, ◌↔◌, ◌==◌, ◌<◌, ◌≤◌, ◌++◌, [], List, ℕ, Some, None, Ok, Err, false, true, IfOk, OnOk, IsTrue, length, drop, option_map};
+ghost use Rattle.std.specs.List.{list_any};
 ghost use Rattle.std.specs.Io.KnownBytes.{Consumes, Keeps, IsAtEnd, prepend_known};
 ghost use Rattle.request_lines.specs.Input.{IsKept, KnowsEnd, TakesLine, chunk_bytes, still_to_read};
 ghost use Rattle.request_lines.specs.Inside.Pieces.{TakesPiece, ReadsPiece};
@@ -305,6 +306,13 @@ impl LineReader {
         ensures { option_map (λ b. b.now) result ≡ self.now.line }
     {
         self.line.bytes()
+    }
+
+    /// Whether the line feed of the next line has been read, so that `next` will not ask the source.
+    pub fn has_line(&self) -> bool
+        ensures { result ≡ list_any (λ b. b == 10) self.now.chunk }
+    {
+        self.chunk.bytes().contains(&b'\n')
     }
 
     /// Reads the next line; false if there is none. `Stream` only if the source has failed.

@@ -3,12 +3,12 @@ use Rattle.request_lines.specs.Input.{KnowsEnd, still_to_read}
 use Rattle.callers.proofs.DriveLemmas.{Driving}
 use Rattle.callers.proofs.caller.drive.Given as goal
 
-abbrev pub invariant-loop : goal.invariant-loop
-invariant-loop g l =
+abbrev pub invariant-loop-spare : goal.invariant-loop-spare
+invariant-loop-spare g l =
     KnowsEnd l.lines.at_end (prepend_known l.lines.chunk (g.R.Source.remaining l.reader))
     × Driving l.fn.seat (g.R.Source.remaining l.fn.reader) (prepend_known l.lines.chunk (g.R.Source.remaining l.reader))
     (g.W.Sink.contents l.fn.writer) (g.W.Sink.contents l.writer) l.seat
 
 -- each line takes something of what there is to read
-abbrev pub decreases-loop : goal.decreases-loop
-decreases-loop g l = still_to_read (g.R.Source.reads_left l.reader) l.lines.chunk
+abbrev pub decreases-loop-spare : goal.decreases-loop-spare
+decreases-loop-spare g l = still_to_read (g.R.Source.reads_left l.reader) l.lines.chunk
