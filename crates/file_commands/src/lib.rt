@@ -12,6 +12,7 @@ mod run_error;
 mod settings;
 mod source;
 mod task_check;
+pub mod worked;
 
 pub use asm::{asm_file, explain_asm};
 pub use check::{check_file, explain_check};
