@@ -61,3 +61,5 @@ pub mod ShownLevels
 pub mod NextCellLemmas
 pub mod SavedFrames
 pub mod FramesTold
+pub mod AheadSteps
+pub mod AheadTurns

@@ -3,6 +3,7 @@
 //! Sections are those of the WebAssembly Core Specification 1.0.
 #![tactic(auto)]
 
+mod ahead;
 mod breaks;
 mod callee;
 mod callees;
