@@ -1,19 +1,26 @@
-//! Files that are refused, and the reasons that are told with them.
+//! What is refused, and the reasons that are told with it.
 //!
-//! A line of standard input is a command (`asm`, `check` or `run`), a file, and the reason that is
-//! wanted, with ` => ` between. The file is in hexadecimal digits or, after `text `, as it is, with
-//! `\n` for a line feed. A line that is empty or begins with `#` says something of the others. `ok
-//! COUNT` is printed at the end: of how many lines the command with `--explain` writes what it
-//! writes without, and then the line of that reason. Each other line is printed with what was
-//! found. Of a line without a reason the refusal and its reason are printed.
+//! A line of standard input is a command, what it is given, and the reason that is wanted, with ` => `
+//! between. The command is that of a command line (`asm`, `check` or `run`, with options and perhaps the
+//! name `m` of the file and arguments after it) for a file; `config` for the text of one; `request` or
+//! `event` for a line of `serve` or `replay`. What it is given is in hexadecimal digits or, after `text `,
+//! as it is, with `\n` for a line feed. A line that is empty or begins with `#` says something of the
+//! others. `ok COUNT` is printed at the end: of how many lines the reason is the one that is wanted, and
+//! the command with `--explain` writes what it writes without, and then the line of that reason. Each
+//! other line is printed with what was found. Of a line without a reason the refusal and its reason are
+//! printed.
 #![tactic(auto)]
 
+mod files;
+
+use crate::files::file_told;
 use anyhow::{Context, Result, bail};
-use file_commands::{
-    Ran, Settings, asm_file, check_file, explain_asm, explain_check, explain_run, run_file,
-};
+use oci_config::read_config;
+use reasons::{Lines, why_config, why_line};
+use request_lines::{event_of, request_of};
 use std::alloc::Global;
-use wasm_ast::Sequence;
+use std::str::from_utf8;
+use wasm_ast::Refusal;
 
 // The bytes of a text as a row writes it.
 fn text_of(alloc: Global, text: &str) -> Result<Vec<u8>> {
@@ -25,8 +32,8 @@ fn text_of(alloc: Global, text: &str) -> Result<Vec<u8>> {
     Ok(bytes)
 }
 
-// The bytes of a file as a row writes it.
-fn file_of(alloc: Global, written: &str) -> Result<Vec<u8>> {
+// What a row gives a command, as the row writes it.
+fn given_of(alloc: Global, written: &str) -> Result<Vec<u8>> {
     if let Some(text) = written.strip_prefix("text ") {
         return text_of(alloc, text);
     }
@@ -36,78 +43,51 @@ fn file_of(alloc: Global, written: &str) -> Result<Vec<u8>> {
     }
 }
 
-// What `run` writes with `--explain`.
-fn explained_run(alloc: Global, bytes: &[u8]) -> Result<Ran> {
-    let mut out = Vec::new(alloc);
-    let mut err = Vec::new(alloc);
-    let status = explain_run(
-        alloc,
-        "m",
-        bytes,
-        &[],
-        &Settings::none(alloc),
-        &mut out,
-        &mut err,
-    )?;
-    Ok(Ran {
-        out: Sequence::new(out),
-        err: Sequence::new(err),
-        status,
-    })
-}
-
-// What a command writes without `--explain`.
-fn plain_of(alloc: Global, command: &str, bytes: &[u8]) -> Result<Ran> {
-    let ran = match command {
-        "asm" => asm_file(alloc, bytes),
-        "check" => check_file(alloc, bytes, true),
-        _ => run_file(alloc, "m", bytes, &[], &Settings::none(alloc)),
-    };
-    match ran {
-        Ok(ran) => Ok(ran),
+// The refusal of a text or a line, if it is refused.
+fn refusal_text<T>(read: &Result<T, Refusal>) -> Result<&'static str> {
+    match read {
+        Ok(_) => Ok("accepted"),
+        Err(Refusal::BadConfig) => Ok("refused 10 BadConfig"),
+        Err(Refusal::BadRequest) => Ok("refused 1 BadRequest"),
         Err(_) => bail!("out of memory"),
     }
 }
 
-// What a command writes with `--explain`.
-fn explained_of(alloc: Global, command: &str, bytes: &[u8]) -> Result<Ran> {
-    let ran = match command {
-        "asm" => explain_asm(alloc, bytes),
-        "check" => explain_check(alloc, bytes, true),
-        _ => return explained_run(alloc, bytes),
-    };
-    match ran {
-        Ok(ran) => Ok(ran),
-        Err(_) => bail!("out of memory"),
+// How a refusal and a reason are told.
+fn told(alloc: Global, refusal: &str, reason: String) -> Result<(String, String)> {
+    if reason.as_str().contains('\n') {
+        bail!("a reason of two lines");
     }
+    let refusal = String::from_str(alloc, refusal)?;
+    if reason.is_empty() {
+        return Ok((refusal, String::from_str(alloc, "none")?));
+    }
+    Ok((refusal, reason))
 }
 
-// The reason in what follows a refusal's line; `none` if there is none.
-fn reason_in(added: &str) -> Result<&str> {
-    if added.is_empty() {
-        return Ok("none");
-    }
-    let reason = added.strip_prefix("why: ").context("no reason")?;
-    reason.strip_suffix('\n').context("no end of the line")
+fn config_told(alloc: Global, bytes: &[u8]) -> Result<(String, String)> {
+    let reason = why_config(alloc, from_utf8(bytes)?)?;
+    told(alloc, refusal_text(&read_config(alloc, bytes))?, reason)
 }
 
-// The refusal and the reason that a command tells, or that it writes or ends otherwise with `--explain`.
+fn request_told(alloc: Global, line: &[u8]) -> Result<(String, String)> {
+    let reason = why_line(alloc, line, Lines::Requests)?;
+    told(alloc, refusal_text(&request_of(alloc, line))?, reason)
+}
+
+fn event_told(alloc: Global, line: &[u8]) -> Result<(String, String)> {
+    let reason = why_line(alloc, line, Lines::Events)?;
+    told(alloc, refusal_text(&event_of(alloc, line))?, reason)
+}
+
+// The refusal and the reason that a command tells.
 fn told_of(alloc: Global, command: &str, bytes: &[u8]) -> Result<(String, String)> {
-    let plain = plain_of(alloc, command, bytes)?;
-    let explained = explained_of(alloc, command, bytes)?;
-    if plain.out.as_slice() != explained.out.as_slice() || plain.status != explained.status {
-        bail!("another answer");
+    match command {
+        "config" => config_told(alloc, bytes),
+        "request" => request_told(alloc, bytes),
+        "event" => event_told(alloc, bytes),
+        _ => file_told(alloc, command, bytes),
     }
-    let Some(added) = explained.err.as_slice().strip_prefix(plain.err.as_slice()) else {
-        bail!("another first line");
-    };
-    let reason = String::from_str(alloc, reason_in(str::from_utf8(added)?)?)?;
-    if plain.status == 0 {
-        return Ok((String::from_str(alloc, "accepted")?, reason));
-    }
-    let refusal = String::from_utf8_lossy(alloc, plain.err.as_slice())?;
-    let line = String::from_str(alloc, refusal.as_str().trim_end())?;
-    Ok((line, reason))
 }
 
 // Whether the reason of a row is the one that is wanted; else it is printed.
@@ -118,7 +98,7 @@ fn is_right(rt: &HostRuntime, row: &str) -> Result<bool> {
         Some((written, wanted)) => (written, wanted),
         None => (rest, ""),
     };
-    let bytes = file_of(alloc, written)?;
+    let bytes = given_of(alloc, written)?;
     let (refusal, reason) = told_of(alloc, command, bytes.as_slice())?;
     if wanted == "" {
         println!(rt; "{refusal}\t{reason}")?;
