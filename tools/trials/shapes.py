@@ -65,14 +65,24 @@ def wide(count: int, unit: bytes, at_block: bytes = b"") -> Make:
                                 functions=[(1, code(UNREACHABLE))] if count <= 1_024 else ())
 
 
-def many_params(unit: bytes, before: bytes = b"", after: bytes = b"", with_table: bool = False) -> Make:
-    """A type with as many parameters as half of the bytes, and a unit that takes them as often as the other half
-    has it."""
+def many_params(unit: bytes, before: bytes = b"", after: bytes = b"", with_table: bool = False,
+                type_count: int = 1) -> Make:
+    """Types of parameters that take an equal share of the bytes each, and a unit that takes operands of these types, as
+    often as the last share has it."""
     def make(size: int) -> bytes:
-        types = [func_type([I32] * (size // 2), ())]
-        body = UNREACHABLE + before + repeated(unit, size // 2 - 100) + after
-        return program(body, types=types, table=limits(1) if with_table else None)
+        share = size // (type_count + 1)
+        body = UNREACHABLE + before + repeated(unit, share - 100) + after
+        return program(body, types=[func_type([I32] * share, ())] * type_count,
+                       table=limits(1) if with_table else None)
     return make
+
+
+def labels_of_loops(size: int) -> bytes:
+    """A br_table of two labels in turn, and of a third one at its end: of three loops in each other, whose type has as
+    many parameters as half of the bytes."""
+    table = b"\x0e" + vector([b"\1", b"\2"] * (size // 4 - 50)) + b"\0"
+    loops = (UNREACHABLE + b"\x03\1") * 3 + UNREACHABLE + table + (END + UNREACHABLE) * 3
+    return program(loops, types=[func_type([I32] * (size // 2), ())])
 
 
 def import_of_many_params(size: int) -> bytes:
@@ -185,6 +195,13 @@ MODULES = [
     Shape("br_if to a loop of parameters by the 10,000", many_params(b"\x0d\0", b"\x03\1\0", b"\0\x0b\0"), 0),
     Shape("call_indirect of parameters by the 10,000", many_params(b"\x11\1\0", with_table=True), 0),
     Shape("calls of an import of parameters by the 10,000", import_of_many_params, 22),
+    Shape("a br_table of three loops of parameters by the 10,000", labels_of_loops, 0),
+    Shape("br_if one operand above parameters by the 10,000",
+          many_params(i32(0) + b"\x0d\0", b"\x03\1" + i32(0), UNREACHABLE + END), 0),
+    Shape("calls in blocks of parameters by the 10,000",
+          many_params(block(i32(0) + b"\x11\1\0", b"\1"), with_table=True), 0),
+    Shape("calls of another type of parameters by the 10,000",
+          many_params(block(i32(0) + b"\x11\2\0", b"\1"), with_table=True, type_count=2), 0),
     Shape("functions of 1,024 parameters and results", wide_functions, 0),
     Shape("functions without code, up to 4,096", functions_without_code, 0),
     Shape("runs of no locals", runs_of_locals, 0),
