@@ -9,6 +9,7 @@ from typing import Any
 
 from reference import wasm
 from reference.execute import Machine
+from reference.system_calls import MOST_OUTPUT
 from trials import scripts
 from trials.modules import digest_of
 from trials.program import OUT_OF_MEMORY, Report, Session, config_of, line_of, told_once
@@ -133,7 +134,10 @@ def wanted_of_run(data: bytes) -> tuple[int, bytes, bytes]:
     machine.run(10**9)
     end: dict[str, Any] = machine.end or {}
     trap = f"trap: {end['trap']}\n" if "trap" in end else ""
-    return end["exit"] % 256, bytes(machine.streams[1]), bytes(machine.streams[2]) + trap.encode()
+    streams = bytes(machine.streams[1]), bytes(machine.streams[2])
+    full = "".join(f"standard {name} is full: {MOST_OUTPUT} bytes\n"
+                   for name, stream in zip(("output", "error"), streams) if len(stream) == MOST_OUTPUT)
+    return end["exit"] % 256, streams[0], streams[1] + (trap + full).encode()
 
 
 def try_runs(program: Path, report: Report) -> None:
