@@ -8,32 +8,54 @@ import time
 from pathlib import Path
 
 from trials import scripts, shapes
-from trials.modules import DROP, I32, NOP, WRITE, block, call, code, digest_of, func_type, i32, limits, program
+from trials.modules import I32, NOP, WRITE, block, call, code, digest_of, func_type, i32, limits, program
 from trials.program import Report, Session, config_of, line_of
 from trials.scripts import LOOP
 
-PAGE = 65_536
+# Bytes of a page, and the pages of a memory whose config has no limit.
+PAGE, PAGES = 65_536, 16
 
 
-def writes_nothing(pages: int) -> bytes:
-    """A module that calls fd_write for ever, with as many buffers of no bytes as its memory has room for."""
+def writes_nothing(pages: int, is_written: bool) -> bytes:
+    """A module that calls fd_write for ever, with as many buffers of no bytes as its memory has room for. A branch to
+    the loop drops the results, so every fifth turn is such a call. Buffers in memory to which nothing was written take
+    longer to read: a zero in the last byte writes all before it."""
     buffers = pages * PAGE // 8
-    once = i32(1) + i32(0) + i32(buffers) + i32(0) + call(0) + DROP
-    return program(block(once * 30 + b"\x0c\0", opcode=3), [WRITE], memory=limits(pages))
+    zero = i32(pages * PAGE - 1) + i32(0) + b"\x3a\0\0"
+    once = i32(1) + i32(0) + i32(buffers) + i32(0) + call(0)
+    return program(zero * is_written + block(once * 60 + b"\x0c\0", opcode=3), [WRITE], memory=limits(pages))
 
 
-def try_slices(program_: Path, report: Report) -> None:
-    """Two tasks that make long turns on two workers: how long a short task waits for its end, and a kill for its
-    effect."""
-    data, short = writes_nothing(1), scripts.long_code(100)
-    session = Session(program_, ("serve", "--workers", "2"))
+def turns_of(session: Session, name: str) -> int:
+    turns: int = json.loads(session.ask(line_of(op="state", id=name)) or b'{"n":0}')["n"]
+    return turns
+
+
+def slice_seconds(session: Session, name: str, workers: int, count: int = 3) -> float:
+    """The processor time of a slice of a task that runs, as others like it do on all workers: the mean of this number
+    of slices. A task's turns are counted at the end of a slice."""
+    turns, used = turns_of(session, name), []
+    while len(used) <= count and session.has_room(1_000):
+        now = turns_of(session, name)
+        if now != turns:
+            turns = now
+            used.append(session.used())
+        time.sleep(0.01)
+    return (used[-1] - used[0]) / count / workers if len(used) > count else 0.0
+
+
+def try_slices(program_: Path, report: Report, workers: int, is_written: bool) -> None:
+    """A task that makes long turns for each worker: how long its slices take, how long a short task waits for its end,
+    and a kill for its effect."""
+    data, short = writes_nothing(PAGES, is_written), scripts.long_code(100)
+    session = Session(program_, ("serve", "--workers", str(workers)))
     session.ask_all([line_of(op="put", hex=data.hex()), line_of(op="put", hex=short.hex())])
-    for name in ("a", "b"):
-        create = line_of(op="create", id=name, config=config_of(digest_of(data)))
-        session.ask_all([create, line_of(op="start", id=name)])
-    time.sleep(0.2)
-    times, killed = [], [line_of(op="kill", id="a", signal=9), line_of(op="wait", id="a")]
-    for lines in (scripts.task("c", digest_of(short)), killed):
+    for at in range(workers):
+        create = line_of(op="create", id=f"long{at}", config=config_of(digest_of(data)))
+        session.ask_all([create, line_of(op="start", id=f"long{at}")])
+    seconds = slice_seconds(session, "long0", workers)
+    times, killed = [], [line_of(op="kill", id="long0", signal=9), line_of(op="wait", id="long0")]
+    for lines in (scripts.task("short", digest_of(short)), killed):
         begun = time.monotonic()
         replies = session.ask_all(lines)
         times.append(time.monotonic() - begun)
@@ -41,16 +63,16 @@ def try_slices(program_: Path, report: Report) -> None:
             report.fault(f"beside long turns: {lines[-1]!r} is answered {replies[-1:]!r}")
     session.process.kill()
     session.close()
-    report.add("waits beside two tasks of long turns", 2)
-    print(f"beside two tasks on two workers that call fd_write with {PAGE // 8:,} buffers: a short task ends after "
-          f"{times[0]:.2f} s, and a kill has its effect after {times[1]:.2f} s; it is 16 times as long with the memory "
-          "of a config without a limit, and 256 times with the most that a config allows")
+    report.add("waits beside tasks of long turns", 2)
+    memory = "memory that is written" if is_written else "memory that is not written"
+    print(f"on each of {workers} workers a task that calls fd_write with {PAGES * PAGE // 8:,} buffers in {memory}: a "
+          f"slice takes {seconds:.2f} s of the processor, a short task ends after {times[0]:.2f} s, and a kill has its "
+          f"effect after {times[1]:.2f} s; it is 16 times as long with the most memory that a config allows")
 
 
 def try_create(program_: Path, report: Report) -> None:
     """A task that never ends, and a create that takes long: the turns of the one during the other."""
-    shape = next(shape for shape in shapes.MODULES if shape.name == "blocks of 1,024 parameters and results")
-    data = shape.make(shapes.MODULE_BYTES // 4)
+    data = shapes.labels_of_loops(shapes.MODULE_BYTES)
     session = Session(program_, ("serve", "--workers", "2"))
     session.ask_all([line_of(op="put", hex=LOOP.hex()), line_of(op="put", hex=data.hex()),
                      line_of(op="create", id="l", config=config_of(digest_of(LOOP))), line_of(op="start", id="l")])
@@ -73,7 +95,7 @@ def try_create(program_: Path, report: Report) -> None:
 
 
 def calls_itself_from_many_places(bytes_before: int, levels: int = 1_000) -> bytes:
-    """A module whose function calls itself from another place at each level, behind that many bytes, and then loops."""
+    """A module whose function calls itself from another place at each level, after that many bytes, and then loops."""
     body = NOP * bytes_before
     for level in range(1, levels + 1):
         body += b"\x20\0" + i32(level) + b"\x46" + block(b"\x20\0" + i32(1) + b"\x6b" + call(1), opcode=4)
@@ -106,7 +128,8 @@ def try_inspect(program_: Path, report: Report) -> None:
 
 
 def try_waits(program_: Path, report: Report) -> None:
-    try_slices(program_, report)
+    for workers, is_written in ((1, True), (1, False), (2, False)):
+        try_slices(program_, report, workers, is_written)
     try_inspect(program_, report)
     try_create(program_, report)
     sys.stdout.flush()
