@@ -83,6 +83,49 @@ is_opened cs (o ∷ os) digest bytes m each h stored =
     (λ n other. is_opened cs os digest bytes m each.1
     (cond_false (bytes_eq o.digest digest) (Some o.module) (module_in os digest) (Some m) n h) stored)
 
+-- ---- some of the modules that were opened
+
+each_by :
+    (P : OpenedModule → Type 0) (o : OpenedModule) (os : List OpenedModule) (b : Bool) → P o → Each P os
+    → Each P (cond b (o ∷ os) os)
+each_by P o os true one each = (one, each)
+each_by P o os false one each = each
+
+pub each_filtered :
+    (P : OpenedModule → Type 0) (test : OpenedModule → Bool) (os : List OpenedModule) → Each P os
+    → Each P (filter test os)
+each_filtered P test [] each = tt
+each_filtered P test (o ∷ os) each =
+    each_by P o (filter test os) (test o) each.0 (each_filtered P test os each.1)
+
+absent_first :
+    (is : Bool) (m : Module) (a b : Option Module) → cond is (Some m) a ≡ None → (a ≡ None → b ≡ None)
+    → cond is (Some m) b ≡ None
+absent_first true m a b none f = none
+absent_first false m a b none f = f none
+
+absent_rest :
+    (is : Bool) (m : Module) (a b : Option Module) → cond is (Some m) a ≡ None → (a ≡ None → b ≡ None) → b ≡ None
+absent_rest true m a b none f = absurd (none_is_not m (sym none))
+absent_rest false m a b none f = f none
+
+absent_by :
+    (digest : List ℕ) (o : OpenedModule) (os left : List OpenedModule) (b : Bool)
+    → cond (bytes_eq o.digest digest) (Some o.module) (module_in os digest) ≡ None
+    → (module_in os digest ≡ None → module_in left digest ≡ None)
+    → module_in (cond b (o ∷ left) left) digest ≡ None
+absent_by digest o os left true none f =
+    absent_first (bytes_eq o.digest digest) o.module (module_in os digest) (module_in left digest) none f
+absent_by digest o os left false none f =
+    absent_rest (bytes_eq o.digest digest) o.module (module_in os digest) (module_in left digest) none f
+
+pub absent_filtered :
+    (test : OpenedModule → Bool) (digest : List ℕ) (os : List OpenedModule) → module_in os digest ≡ None
+    → module_in (filter test os) digest ≡ None
+absent_filtered test digest [] none = none
+absent_filtered test digest (o ∷ os) none =
+    absent_by digest o os (filter test os) (test o) none (absent_filtered test digest os)
+
 -- ---- a change of the store
 
 -- a content that is stored afterwards is the one that was stored before

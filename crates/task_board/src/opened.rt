@@ -1,14 +1,26 @@
 //! The modules of contents that were decoded, validated and made flat code of.
 
-ghost use Rattle.std.specs.Prelude.{◌≡◌, ◌++◌, ◌∷◌, [], None, option_map, filter, is_some, string_bytes, IfOk, OnOk, OnErr};
-ghost use Rattle.content_leases.specs.StoreState.{content_in};
-ghost use Rattle.task_board.specs.Inside.OpenedModules.{module_in};
+ghost use Rattle.std.specs.Prelude.{ℕ, List, ◌≡◌, ◌++◌, ◌∷◌, [], None, option_map, filter, is_some, string_bytes, IfOk, OnOk, OnErr};
+ghost use Rattle.slab.specs.Slab.{entries};
+ghost use Rattle.content_leases.specs.StoreState.{content_in, is_among};
+ghost use Rattle.task_board.specs.BoardState.{used_by};
+ghost use Rattle.task_board.specs.Sound.{Each};
+ghost use Rattle.task_board.specs.Inside.OpenedModules.{module_in, IsOpened};
 
+use crate::task::{Task, is_used};
 use content_leases::Store;
 use indexmap::IndexMap;
+use slab::Slab;
 use std::alloc::{AllocError, Global};
 use std::marker::Model;
 use step_machine::FlatModule;
+
+/// How many bytes the contents may have together whose modules stay open although no task uses them. An
+/// opened module takes up to 65 times the bytes of its content.
+const MAX_IDLE_BYTES: usize = 1 << 20;
+
+/// That number of modules never comes from more bytes: no content that spells a module has more than 262,144.
+const ALWAYS_KEPT: usize = 4;
 
 /// Valid modules with their flat code, by the digests of the contents that spell them.
 #[derive(Drop)]
@@ -71,5 +83,46 @@ impl Opened {
                     × (flat.new ≡ flat.old) }
             { store.content(digest.as_str()).is_some() },
         );
+    }
+
+    // Drops the modules that no task uses.
+    fn keep_used(&mut self, tasks: &Slab<Task>)
+        ensures { self.new
+            ≡ filter (λ o. is_among o.digest (used_by (entries tasks.now))) self.old }
+    {
+        self.map.retain(
+            |digest: &String, flat: &mut FlatModule| -> bool
+                ensures { (result
+                    ≡ is_among (string_bytes digest.now) (used_by (entries tasks.entry.now)))
+                    × (flat.new ≡ flat.old) }
+            { is_used(tasks, digest.as_str()) },
+        );
+    }
+
+    // How many bytes the contents have together whose modules no task uses.
+    fn idle_bytes(&self, store: &Store, tasks: &Slab<Task>) -> usize {
+        let mut bytes: usize = 0;
+        for digest in self.map.keys() {
+            if is_used(tasks, digest.as_str()) {
+                continue;
+            }
+            if let Some(content) = store.content(digest.as_str()) {
+                bytes = bytes.saturating_add(content.len());
+            }
+        }
+        bytes
+    }
+
+    /// Drops the modules that no task uses, if their contents have more than 1 MiB together. No memory is
+    /// taken.
+    pub fn drop_idle(&mut self, store: &Store, tasks: &Slab<Task>)
+        ensures sound { Each (IsOpened store.now.state.contents) self.old
+            → Each (IsOpened store.now.state.contents) self.new }
+        ensures absent { (digest : List ℕ)
+            → module_in self.old digest ≡ None → module_in self.new digest ≡ None }
+    {
+        if self.map.len() > ALWAYS_KEPT && self.idle_bytes(store, tasks) > MAX_IDLE_BYTES {
+            self.keep_used(tasks);
+        }
     }
 }

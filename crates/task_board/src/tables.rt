@@ -151,8 +151,8 @@ impl Tables {
         self.store.content(digest)
     }
 
-    /// The valid module that the content under a digest spells, with its flat code. That is made once. Each
-    /// refusal but `NoMemory` is a reason why there is none.
+    /// The valid module that the content under a digest spells, with its flat code. That is made once, and
+    /// again after it was dropped. Each refusal but `NoMemory` is a reason why there is none.
     pub fn open(
         &mut self,
         alloc: Global,
@@ -169,6 +169,7 @@ impl Tables {
         if let Some(flat) = self.opened.get(digest) {
             return Ok(flat.share()?);
         }
+        self.opened.drop_idle(&self.store, &self.tasks);
         let flat = module_of(alloc, bytes.as_slice())?;
         self.opened.add(alloc, digest, flat.share()?)?;
         Ok(flat)
@@ -468,6 +469,7 @@ impl Tables {
             unreachable!();
         };
         self.waiting.keep_present(&self.tasks);
+        self.opened.drop_idle(&self.store, &self.tasks);
         Reply::Delete(task.state(id))
     }
 

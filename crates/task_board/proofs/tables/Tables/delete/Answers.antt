@@ -52,7 +52,7 @@ invariant_of-self c =
       waiting =
           subst (λ (ws : List Ticket). AreWaiting (entries new) ws) (sym c.keep_present.ensures)
           (filtered (entries new) c.self.inside.waiting c.self.invariant.waiting.once);
-      opened = c.self.invariant.opened;
+      opened = c.drop_idle.ensures.sound c.self.invariant.opened;
       tasks_room = subst (λ (n : ℕ). 64 ≤ n) (sym e.capacity) c.self.invariant.tasks_room;
       sound =
           answers_sound (board_state_of c.self.inside) (request.Delete c.args.id)
