@@ -17,8 +17,9 @@ use std::sync::Wait;
 use task_requests::{Reply, Request};
 use wasm_ast::Refusal;
 
-/// How many bytes are kept for the line of an answer: several times what most lines and their making take.
-const SPARE_BYTES: usize = 16_384;
+/// How many bytes are kept for the line of an answer: twice what the longest output and its making take. They are
+/// address space alone until they are needed.
+const SPARE_BYTES: usize = 1 << 20;
 
 /// How many turns a caller runs of a task that it is about to wait for.
 const SLICE_TURNS: u64 = 10_000;
