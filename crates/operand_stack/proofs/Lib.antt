@@ -1,3 +1,6 @@
+pub mod Crosses
 pub mod ContentLemmas
+pub mod RowLemmas
+pub mod Rows
 pub mod ViewLemmas
 pub mod WordLemmas

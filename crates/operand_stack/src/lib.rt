@@ -2,8 +2,10 @@
 //! the WebAssembly Core Specification 1.0.
 #![tactic(auto)]
 
+mod block;
 pub mod laws;
 mod move_down;
 mod stack;
+mod words;
 
 pub use stack::OperandStack;

@@ -1,17 +1,20 @@
-//! Words moved within a list.
+//! Words moved within a block.
 
-ghost use Rattle.std.specs.Prelude.{◌≡◌, ◌<◌, ◌≤◌, ◌+◌, vec_len, vec_capacity};
+ghost use Rattle.std.specs.Prelude.{◌≡◌, ◌<◌, ◌≤◌, ◌+◌};
+ghost use Rattle.std.specs.Mem.Slots.{slots_items, slots_len, SamePlaces};
+ghost use Rattle.operand_stack.specs.Inside.Blocks.{HasUpTo};
 ghost use Rattle.operand_stack.specs.Inside.Contents.{below, joined};
 
-/// Moves the words after the index `from` down to the indices after `to`, `count` of them.
-pub fn move_down(words: &mut Vec<u64>, from: usize, to: usize, count: usize)
+use core::slots::Slots;
+
+/// Moves the words after the place `from` down to the places after `to`, `count` of them, at once: they may
+/// overlap.
+pub fn move_down(words: &mut Slots<u64>, from: usize, to: usize, count: usize)
     requires down { to ≤ from }
-    requires inside { from + count < vec_len words.old }
-    ensures moved { below words.new.items (to + count) ≡ joined words.old.items to from count }
-    ensures length { vec_len words.new ≡ vec_len words.old }
-    ensures reserved { vec_capacity words.new ≡ vec_capacity words.old }
+    requires written { HasUpTo words.old (from + count + 1) }
+    ensures moved { below (slots_items words.new) (to + count) ≡ joined (slots_items words.old) to from count }
+    ensures written { HasUpTo words.new (to + count + 1) }
+    ensures places { SamePlaces words.old words.new }
 {
-    for t in 0..count {
-        words[to + t + 1] = words[from + t + 1];
-    }
+    words.move_within(from + 1, to + 1, count);
 }
