@@ -1,4 +1,5 @@
-//! A block of memory: a row of places, each empty or with a value, over a raw pointer, and the right to free it.
+//! A block of memory: a row of places, each empty or with a value, over a raw pointer, and the
+//! right to free it.
 
 ghost use Rattle.std.specs.Prelude.{◌≡◌, ℕ, IfOk};
 ghost use Rattle.std.specs.Vec.Ownership.{FitsInBlock};

@@ -1,3 +1,4 @@
+pub mod CurrentSent
 pub mod ListLemmas
 pub mod MarkLemmas
 pub mod ResultLemmas
