@@ -7,7 +7,7 @@ use Rattle.wasm_ast.proofs.sequence.Sequence.TheSendSync as sequence
 use Rattle.step_machine.specs.contracts.flat_module.FlatModule as flats
 use Rattle.step_machine.specs.contracts.machine.Machine as machines
 use Rattle.step_machine.proofs.flat_module.Code.TheSendSync as code
-use Rattle.step_machine.proofs.CurrentSent.{current_send}
+use Rattle.step_machine.proofs.CurrentSent.{current_send, current_field_send}
 use Rattle.step_machine.proofs.kept.Kept.TheSendSync as kept
 use Rattle.step_machine.proofs.ends.End.TheSendSync as end
 use Rattle.step_machine.proofs.breaks.Breaks.TheSendSync as breaks
@@ -33,7 +33,8 @@ flat_sync = search (sendable, std_sent.crosses, valid_sync, code.the_send, code.
 
 machine_send : IsSend machines.the_row
 machine_send =
-    search (sendable, std_sent.crosses, flat_send, current_send, kept.the_send, end.the_send) depth 40 fits 100000
+    search (sendable, std_sent.crosses, flat_send, current_send, current_field_send, kept.the_send, end.the_send)
+    depth 40 fits 100000
 
 shared_send : IsSend shareds.the_row
 shared_send =
