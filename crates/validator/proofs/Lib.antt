@@ -14,3 +14,4 @@ pub mod ExportNames
 pub mod Decided
 pub mod TypingLemmas
 pub mod FaultLemmas
+pub mod PackedLemmas

@@ -18,7 +18,7 @@ never_empty (x ∷ xs) y ys = refl
 none_left : (gs : List Group) → is_empty (Some (types_of gs)) ≡ nat_eq (length gs) 0
 none_left [] = refl
 none_left (g ∷ gs) =
-    never_empty (types_of gs) g.newest (knowns (reverse g.below.now)) ∙ grind (arith, nat_tests)
+    never_empty (types_of gs) g.newest (knowns (reverse g.below)) ∙ grind (arith, nat_tests)
 
 pub empty_above : (gs : List Group) (n : ℕ) → n ≤ length gs
     → nat_eq (length gs) n ≡ is_empty (Some (types_of (drop n gs)))
@@ -32,7 +32,7 @@ no_groups [] h = refl
 no_groups (g ∷ gs) h =
     let none : is_empty (Some (types_of gs ++ group_types g)) ≡ true =
     ap (λ (types : List (Option ValType)). is_empty (Some types)) h in
-    let some = never_empty (types_of gs) g.newest (knowns (reverse g.below.now)) in
+    let some = never_empty (types_of gs) g.newest (knowns (reverse g.below)) in
     cc
 
 pub all_taken : (ts : List ValType) → pops true ts [] ≡ Some []

@@ -5,3 +5,4 @@ pub mod Blocks
 pub mod FunctionContext
 pub mod CheckErrors
 pub mod ModuleTests
+pub mod Packed

@@ -16,14 +16,15 @@ use crate::labels::Labels;
 use crate::operands::{Operands, Outer};
 use crate::places::{count_body, count_instrs};
 use crate::simple::check_simple;
+use crate::type_list::TypeList;
 use std::alloc::AllocError;
 use wasm_ast::{Body, Instr, ValType};
 
 // Begins a block with this label, and with operands of its parameters.
 fn open<'a>(
     labels: &mut Labels<'a>,
-    label: &'a [ValType],
-    params: &'a [ValType],
+    label: &TypeList<'a>,
+    params: &TypeList<'a>,
     operands: &mut Operands<'a>,
 ) -> Result<Outer, AllocError>
     ensures outer { IfOk result (λ outer. IsOuter outer operands.old operands.new.outside) }
@@ -41,7 +42,7 @@ fn open<'a>(
 fn close(
     labels: &mut Labels<'_>,
     outer: Outer,
-    results: &[ValType],
+    results: &TypeList<'_>,
     operands: &mut Operands<'_>,
 ) -> bool
     requires { outer.base ≤ length operands.old.outside }
@@ -82,19 +83,19 @@ pub fn check_instr<'a>(
             let Some(types) = block_types(function.of, *kind) else {
                 return Err(BodyError::Invalid(0));
             };
-            check_block(function, labels, types, types.results, body, operands)
+            check_block(function, labels, &types, &types.results, body, operands)
         }
         Instr::Loop(kind, body) => {
             let Some(types) = block_types(function.of, *kind) else {
                 return Err(BodyError::Invalid(0));
             };
-            check_block(function, labels, types, types.params, body, operands)
+            check_block(function, labels, &types, &types.params, body, operands)
         }
         Instr::If(kind, then_arm, else_arm) => {
             let Some(types) = block_types(function.of, *kind) else {
                 return Err(BodyError::Invalid(0));
             };
-            check_if(function, labels, types, then_arm, else_arm, operands)
+            check_if(function, labels, &types, then_arm, else_arm, operands)
         }
     }
 }
@@ -104,27 +105,27 @@ pub fn check_instr<'a>(
 fn check_block<'a>(
     function: &Function<'a>,
     labels: &mut Labels<'a>,
-    types: BlockTypes<'a>,
-    label: &'a [ValType],
+    types: &BlockTypes<'a>,
+    label: &TypeList<'a>,
     body: &Body,
     operands: &mut Operands<'a>,
 ) -> Result<(), BodyError>
-    ensures ok { OnOk result (let t = func_type_of types.entry in
+    ensures ok { OnOk result (let t = func_type_of types.now in
         let context = context_of function.now (label.now ∷ labels.old) in
         Leads (encloses t (ends t.results (check_ops context body.now (start t.params))))
         operands.old operands.new) }
     ensures labels { OnOk result (labels.new ≡ labels.old) }
-    ensures invalid { (at : ℕ) → result ≡ Err (Invalid at) → let t = func_type_of types.entry in
+    ensures invalid { (at : ℕ) → result ≡ Err (Invalid at) → let t = func_type_of types.now in
         let context = context_of function.now (label.now ∷ labels.old) in
         encloses t (ends t.results (check_ops context body.now (start t.params)))
         operands.old.stack ≡ None }
     ensures place { (at : ℕ) → result ≡ Err (Invalid at) → at < 1 + ops_count body.now }
 {
-    if !operands.pop_all(types.params) {
+    if !operands.pop_all(&types.params) {
         return Err(BodyError::Invalid(0));
     }
     check_arm(function, labels, types, label, body, operands)?;
-    operands.push_all(types.results)?;
+    operands.push_all(&types.results)?;
     Ok(())
 }
 
@@ -133,19 +134,19 @@ fn check_block<'a>(
 fn check_if<'a>(
     function: &Function<'a>,
     labels: &mut Labels<'a>,
-    types: BlockTypes<'a>,
+    types: &BlockTypes<'a>,
     then_arm: &Body,
     else_arm: &Body,
     operands: &mut Operands<'a>,
 ) -> Result<(), BodyError>
-    ensures ok { OnOk result (let t = func_type_of types.entry in
+    ensures ok { OnOk result (let t = func_type_of types.now in
         let context = context_of function.now (t.results ∷ labels.old) in
         Leads (after_i32 (encloses t
         (ends t.results (check_ops context then_arm.now (start t.params))
         && ends t.results (check_ops context else_arm.now (start t.params)))))
         operands.old operands.new) }
     ensures labels { OnOk result (labels.new ≡ labels.old) }
-    ensures invalid { (at : ℕ) → result ≡ Err (Invalid at) → let t = func_type_of types.entry in
+    ensures invalid { (at : ℕ) → result ≡ Err (Invalid at) → let t = func_type_of types.now in
         let context = context_of function.now (t.results ∷ labels.old) in
         after_i32 (encloses t
         (ends t.results (check_ops context then_arm.now (start t.params))
@@ -154,12 +155,12 @@ fn check_if<'a>(
     ensures place { (at : ℕ) → result ≡ Err (Invalid at)
         → at < 1 + ops_count then_arm.now + ops_count else_arm.now }
 {
-    if !operands.pop(ValType::I32) || !operands.pop_all(types.params) {
+    if !operands.pop(ValType::I32) || !operands.pop_all(&types.params) {
         return Err(BodyError::Invalid(0));
     }
-    check_arm(function, labels, types, types.results, then_arm, operands)?;
+    check_arm(function, labels, types, &types.results, then_arm, operands)?;
     check_else(function, labels, types, then_arm, else_arm, operands)?;
-    operands.push_all(types.results)?;
+    operands.push_all(&types.results)?;
     Ok(())
 }
 
@@ -168,23 +169,23 @@ fn check_if<'a>(
 fn check_else<'a>(
     function: &Function<'a>,
     labels: &mut Labels<'a>,
-    types: BlockTypes<'a>,
+    types: &BlockTypes<'a>,
     then_arm: &Body,
     else_arm: &Body,
     operands: &mut Operands<'a>,
 ) -> Result<(), BodyError>
-    ensures ok { OnOk result (let t = func_type_of types.entry in
+    ensures ok { OnOk result (let t = func_type_of types.now in
         let context = context_of function.now (t.results ∷ labels.old) in
         ends t.results (check_ops context else_arm.now (start t.params)) ≡ true) }
     ensures labels { OnOk result (labels.new ≡ labels.old) }
     ensures operands { OnOk result (operands.new ≡ operands.old) }
-    ensures invalid { (at : ℕ) → result ≡ Err (Invalid at) → let t = func_type_of types.entry in
+    ensures invalid { (at : ℕ) → result ≡ Err (Invalid at) → let t = func_type_of types.now in
         let context = context_of function.now (t.results ∷ labels.old) in
         ends t.results (check_ops context else_arm.now (start t.params)) ≡ false }
     ensures place { (at : ℕ) → result ≡ Err (Invalid at)
         → at < 1 + ops_count then_arm.now + ops_count else_arm.now }
 {
-    match check_arm(function, labels, types, types.results, else_arm, operands) {
+    match check_arm(function, labels, types, &types.results, else_arm, operands) {
         Ok(()) => Ok(()),
         Err(BodyError::Invalid(0)) => Err(BodyError::Invalid(0)),
         Err(error) => Err(error.later(count_body(then_arm))),
@@ -196,17 +197,17 @@ fn check_else<'a>(
 fn check_arm<'a>(
     function: &Function<'a>,
     labels: &mut Labels<'a>,
-    types: BlockTypes<'a>,
-    label: &'a [ValType],
+    types: &BlockTypes<'a>,
+    label: &TypeList<'a>,
     body: &Body,
     operands: &mut Operands<'a>,
 ) -> Result<(), BodyError>
-    ensures ok { OnOk result (let t = func_type_of types.entry in
+    ensures ok { OnOk result (let t = func_type_of types.now in
         let context = context_of function.now (label.now ∷ labels.old) in
         ends t.results (check_ops context body.now (start t.params)) ≡ true) }
     ensures labels { OnOk result (labels.new ≡ labels.old) }
     ensures operands { OnOk result (operands.new ≡ operands.old) }
-    ensures invalid { (at : ℕ) → result ≡ Err (Invalid at) → let t = func_type_of types.entry in
+    ensures invalid { (at : ℕ) → result ≡ Err (Invalid at) → let t = func_type_of types.now in
         let context = context_of function.now (label.now ∷ labels.old) in
         ends t.results (check_ops context body.now (start t.params)) ≡ false }
     ensures place { (at : ℕ) → result ≡ Err (Invalid at) → at < 1 + ops_count body.now }
@@ -224,24 +225,24 @@ fn check_arm<'a>(
 pub fn check_body<'a>(
     function: &Function<'a>,
     labels: &mut Labels<'a>,
-    types: BlockTypes<'a>,
-    label: &'a [ValType],
+    types: &BlockTypes<'a>,
+    label: &TypeList<'a>,
     body: &Body,
     operands: &mut Operands<'a>,
 ) -> Result<bool, BodyError>
-    ensures ok { IfOk result (λ passes. let t = func_type_of types.entry in
+    ensures ok { IfOk result (λ passes. let t = func_type_of types.now in
         let context = context_of function.now (label.now ∷ labels.old) in
         ends t.results (check_ops context body.now (start t.params)) ≡ passes) }
     ensures labels { OnOk result (labels.new ≡ labels.old) }
     ensures operands { IfOk result (λ passes. IsTrue passes → operands.new ≡ operands.old) }
-    ensures invalid { (at : ℕ) → result ≡ Err (Invalid at) → let t = func_type_of types.entry in
+    ensures invalid { (at : ℕ) → result ≡ Err (Invalid at) → let t = func_type_of types.now in
         let context = context_of function.now (label.now ∷ labels.old) in
         ends t.results (check_ops context body.now (start t.params)) ≡ false }
     ensures place { (at : ℕ) → result ≡ Err (Invalid at) → at < ops_count body.now }
 {
-    let outer = open(labels, label, types.params, operands)?;
+    let outer = open(labels, label, &types.params, operands)?;
     check_instrs(function, labels, body, operands)?;
-    Ok(close(labels, outer, types.results, operands))
+    Ok(close(labels, outer, &types.results, operands))
 }
 
 // A sequence of instructions.

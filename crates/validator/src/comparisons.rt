@@ -1,6 +1,6 @@
 //! Whether types are the same.
 
-ghost use Rattle.std.specs.Prelude.{◌≡◌};
+ghost use Rattle.std.specs.Prelude.{◌≡◌, IsTrue};
 ghost use Rattle.validator.specs.Inside.Algorithm.{is_same, are_same, can_be};
 
 use wasm_ast::ValType;
@@ -36,6 +36,20 @@ pub fn are_same(types: &[ValType], others: &[ValType]) -> bool
     let mut same = true;
     for (i, val_type) in types.iter().enumerate() {
         same &= is_same(*val_type, others[i]);
+    }
+    same
+}
+
+/// Whether these are surely the same bytes. The loop goes on where two differ, as above.
+pub fn are_same_bytes(bytes: &[u8], others: &[u8]) -> bool
+    ensures { IsTrue result → bytes.now ≡ others.now }
+{
+    if bytes.len() != others.len() {
+        return false;
+    }
+    let mut same = true;
+    for (i, byte) in bytes.iter().enumerate() {
+        same &= *byte == others[i];
     }
     same
 }

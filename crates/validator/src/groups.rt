@@ -6,26 +6,27 @@ ghost use Rattle.wasm_ast.specs.declared.values.ValType.{ValType};
 ghost use Rattle.validator.specs.Inside.Algorithm.{knowns, pops};
 ghost use Rattle.validator.specs.Inside.Blocks.{group_types, LastLeaves};
 
-use crate::comparisons::{are_same, can_be};
+use crate::comparisons::can_be;
+use crate::type_list::TypeList;
 use std::alloc::AllocError;
 use wasm_ast::ValType;
 
 /// Operands that were put on together, at least one.
-#[derive(Clone, Copy)]
+#[derive(Drop)]
 pub struct Group<'a> {
     /// The type of the newest of them, None if it is not known.
     pub newest: Option<ValType>,
     /// Those of the others, which are below it, in written order.
-    pub below: &'a [ValType],
+    pub below: TypeList<'a>,
 }
 
 /// What remains when operands were taken from a group.
-#[derive(Clone, Copy)]
+#[derive(Drop)]
 pub struct Remains<'a> {
     /// How many of the types that are wanted are still to be taken.
     pub wanted: usize,
     /// The types of the group's operands that are left, in written order.
-    pub left: &'a [ValType],
+    pub left: TypeList<'a>,
 }
 
 impl<'a> Group<'a> {
@@ -35,38 +36,38 @@ impl<'a> Group<'a> {
     {
         Group {
             newest: operand,
-            below: &[],
+            below: TypeList::plain(&[]),
         }
     }
 
     /// Operands of these types, which are in written order. None if there are none.
-    pub fn known(types: &'a [ValType]) -> Option<Group<'a>>
+    pub fn known(types: &TypeList<'a>) -> Option<Group<'a>>
         ensures { MatchOption result
             (types.now ≡ [])
             (λ group. group_types group ≡ knowns (reverse types.now)) }
     {
         let (newest, below) = types.split_last()?;
         Some(Group {
-            newest: Some(*newest),
+            newest: Some(newest),
             below,
         })
     }
 
     /// Takes operands of these types, which are in written order, as far as there are some. None if one
     /// cannot be of its type.
-    pub fn take(&self, types: &[ValType]) -> Option<Remains<'a>>
+    pub fn take(&self, types: &TypeList<'_>) -> Option<Remains<'a>>
         requires { 0 < length types.now }
         ensures some { IfSome result (λ r. (unreachable : Bool) (others : List (Option ValType))
             → pops unreachable (reverse types.now) (group_types self.now ++ others)
             ≡ pops unreachable (reverse (take r.wanted types.now))
-            (knowns (reverse r.left.now) ++ others)) }
+            (knowns (reverse r.left) ++ others)) }
         ensures fewer { IfSome result (λ r. r.wanted < length types.now) }
         ensures none { result ≡ None → (unreachable : Bool) (others : List (Option ValType))
             → pops unreachable (reverse types.now) (group_types self.now ++ others) ≡ None }
     {
         let (newest, before) = types.split_last()?;
-        if can_be(*newest, self.newest) {
-            take_known(self.below, before)
+        if can_be(newest, self.newest) {
+            take_known(&self.below, &before)
         } else {
             None
         }
@@ -77,7 +78,7 @@ impl<'a> Group<'a> {
         ensures { OnOk result
             (reverse types.new.items ≡ group_types self.now ++ reverse types.old.items) }
     {
-        for val_type in self.below {
+        for val_type in self.below.as_slice() {
             types.push(Some(*val_type))?;
         }
         types.push(self.newest)?;
@@ -87,11 +88,11 @@ impl<'a> Group<'a> {
 
 // Takes operands of these types from operands of known ones, as far as there are some. None if one is of
 // another type.
-fn take_known<'a>(known: &'a [ValType], types: &[ValType]) -> Option<Remains<'a>>
+fn take_known<'a>(known: &TypeList<'a>, types: &TypeList<'_>) -> Option<Remains<'a>>
     ensures some { IfSome result (λ r. (unreachable : Bool) (others : List (Option ValType))
         → pops unreachable (reverse types.now) (knowns (reverse known.now) ++ others)
         ≡ pops unreachable (reverse (take r.wanted types.now))
-        (knowns (reverse r.left.now) ++ others)) }
+        (knowns (reverse r.left) ++ others)) }
     ensures within { IfSome result (λ r. r.wanted ≤ length types.now) }
     ensures none { result ≡ None → (unreachable : Bool) (others : List (Option ValType))
         → pops unreachable (reverse types.now) (knowns (reverse known.now) ++ others) ≡ None }
@@ -99,10 +100,10 @@ fn take_known<'a>(known: &'a [ValType], types: &[ValType]) -> Option<Remains<'a>
     let count = known.len().min(types.len());
     let wanted = types.len() - count;
     let left = known.len() - count;
-    if are_same(&types[wanted..], &known[left..]) {
+    if types.is_same_from(wanted, known, left) {
         Some(Remains {
             wanted,
-            left: &known[..left],
+            left: known.first(left),
         })
     } else {
         None
@@ -110,7 +111,7 @@ fn take_known<'a>(known: &'a [ValType], types: &[ValType]) -> Option<Remains<'a>
 }
 
 /// Leaves operands of these types, which are in written order, in place of the last group.
-pub fn leave_of_last<'a>(groups: &mut Vec<Group<'a>>, left: &'a [ValType])
+pub fn leave_of_last<'a>(groups: &mut Vec<Group<'a>>, left: &TypeList<'a>)
     requires { 0 < length groups.old.items }
     ensures { LastLeaves left.now groups.old.items groups.new.items }
 {

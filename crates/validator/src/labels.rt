@@ -1,25 +1,25 @@
 //! The labels of the blocks that are open.
 
-ghost use Rattle.std.specs.Prelude.{◌≡◌, ◌∷◌, [], OnOk, option_copied, slice_get, drop, length};
+ghost use Rattle.std.specs.Prelude.{◌≡◌, ◌∷◌, [], OnOk, slice_get, drop, length};
 
+use crate::type_list::TypeList;
 use std::alloc::{AllocError, Global};
 use std::marker::Model;
-use wasm_ast::ValType;
 
 /// For each block that is open the types that a branch to its label takes. Contracts see the
 /// innermost first.
 #[derive(Drop)]
 pub struct Labels<'a> {
-    types: Vec<&'a [ValType]>,
+    types: Vec<TypeList<'a>>,
 }
 
 impl<'a> Model for Labels<'a> {
-    ghost use Rattle.std.specs.Prelude.{List, map, reverse};
+    ghost use Rattle.std.specs.Prelude.{List, reverse};
     ghost use Rattle.wasm_ast.specs.declared.values.ValType.{ValType};
 
     ghost Value = { List (List ValType) };
 
-    ghost view = { λ l. reverse (map (λ types. types.now) l.types.items) };
+    ghost view = { λ l. reverse l.types.items };
 }
 
 impl<'a> Labels<'a> {
@@ -33,10 +33,10 @@ impl<'a> Labels<'a> {
     }
 
     /// Adds the label of a block inside all others.
-    pub fn push(&mut self, types: &'a [ValType]) -> Result<(), AllocError>
+    pub fn push(&mut self, types: &TypeList<'a>) -> Result<(), AllocError>
         ensures { OnOk result (self.new ≡ types.now ∷ self.old) }
     {
-        self.types.push(types)?;
+        self.types.push(types.copy())?;
         Ok(())
     }
 
@@ -55,13 +55,13 @@ impl<'a> Labels<'a> {
     }
 
     /// The types that a branch to this label takes, the innermost one being 0.
-    pub fn get(&self, label: u32) -> Option<&'a [ValType]>
-        ensures { option_copied result ≡ slice_get self.now label }
+    pub fn get(&self, label: u32) -> Option<TypeList<'a>>
+        ensures { result ≡ slice_get self.now label }
     {
         let count = self.types.len();
         let index = label as usize;
         if index < count {
-            Some(self.types[count - 1 - index])
+            Some(self.types[count - 1 - index].copy())
         } else {
             None
         }

@@ -7,6 +7,7 @@ ghost use Rattle.validator.specs.Inside.Blocks.{Blocks, group_types, with_operan
 
 use crate::comparisons::can_be;
 use crate::groups::{Group, leave_of_last};
+use crate::type_list::TypeList;
 use std::alloc::{AllocError, Global};
 use std::marker::Model;
 use wasm_ast::ValType;
@@ -58,7 +59,7 @@ impl<'a> Operands<'a> {
     }
 
     /// Puts operands of these types on top, which are in written order.
-    pub fn push_all(&mut self, types: &'a [ValType]) -> Result<(), AllocError>
+    pub fn push_all(&mut self, types: &TypeList<'a>) -> Result<(), AllocError>
         ensures { OnOk result (self.new
             ≡ with_operands self.old (knowns (reverse types.now) ++ self.old.stack.types)) }
     {
@@ -87,9 +88,11 @@ impl<'a> Operands<'a> {
     {
         let height = self.groups.len();
         if height > self.base {
-            let group = self.groups[height - 1];
-            leave_of_last(&mut self.groups, group.below);
-            Some(group.newest)
+            let group = &self.groups[height - 1];
+            let newest = group.newest;
+            let below = group.below.copy();
+            leave_of_last(&mut self.groups, &below);
+            Some(newest)
         } else if self.unreachable {
             Some(None)
         } else {
@@ -111,14 +114,14 @@ impl<'a> Operands<'a> {
     }
 
     /// Takes operands of these types, which are in written order.
-    pub fn pop_all(&mut self, types: &[ValType]) -> bool
+    pub fn pop_all(&mut self, types: &TypeList<'_>) -> bool
         ensures takes { Takes result (λ unreachable. pops unreachable (reverse types.now))
             self.old self.new }
         ensures rest { KeepsRest self.old self.new }
     {
         let mut left = types.len();
         while left > 0 {
-            let Some(others) = self.pop_group(&types[..left]) else {
+            let Some(others) = self.pop_group(&types.first(left)) else {
                 return false;
             };
             left = others;
@@ -129,7 +132,7 @@ impl<'a> Operands<'a> {
     // Takes operands of these types, as far as there are some in the newest group. Gives how many of
     // the types are still to be taken, or None if an operand cannot be of its type. At an unreachable
     // point where none is known, all are taken.
-    fn pop_group(&mut self, types: &[ValType]) -> Option<usize>
+    fn pop_group(&mut self, types: &TypeList<'_>) -> Option<usize>
         requires { 0 < length types.now }
         ensures some { IfSome result (λ left. let old = self.old.stack in
             pops old.unreachable (reverse types.now) old.types
@@ -144,7 +147,7 @@ impl<'a> Operands<'a> {
             return self.unreachable.then_some(0);
         }
         let remains = self.groups[count - 1].take(types)?;
-        leave_of_last(&mut self.groups, remains.left);
+        leave_of_last(&mut self.groups, &remains.left);
         Some(remains.wanted)
     }
 
@@ -157,7 +160,7 @@ impl<'a> Operands<'a> {
     }
 
     /// Whether a body that ends here has exactly these results, which are taken.
-    pub fn end(&mut self, results: &[ValType]) -> bool
+    pub fn end(&mut self, results: &TypeList<'_>) -> bool
         ensures ends { result ≡ ends results.now (Some self.old.stack) }
         ensures none { IsTrue result → self.new.stack.types ≡ [] }
         ensures rest { KeepsRest self.old self.new }

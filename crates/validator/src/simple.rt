@@ -12,14 +12,13 @@ use crate::access::{
     is_aligned, load_bytes, load_type, source_of, store_bytes, store_type, target_of, type_of,
 };
 use crate::check_error::CheckError;
-use crate::comparisons::are_same;
 use crate::function::Function;
 use crate::labels::Labels;
 use crate::operands::Operands;
+use crate::packed_module::PackedModule;
 use crate::steps::{combine, convert, discard, give, leave, replace, select, take, take_two};
-use wasm_ast::{
-    FuncType, Global, GlobalOp, LoadOp, LocalOp, Module, Mutability, Simple, StoreOp, ValType,
-};
+use crate::type_list::TypeList;
+use wasm_ast::{Global, GlobalOp, LoadOp, LocalOp, Mutability, Simple, StoreOp, ValType};
 
 /// One instruction without a body, in a function and inside these labels.
 pub fn check_simple<'a>(
@@ -48,7 +47,10 @@ pub fn check_simple<'a>(
             *other,
             operands,
         ),
-        Simple::Return => leave(operands, function.func_type.results.as_slice()),
+        Simple::Return => {
+            let results = TypeList::plain(function.func_type.results.as_slice());
+            leave(operands, &results)
+        }
         Simple::Call(func) => check_call(function.of, *func, operands),
         Simple::CallIndirect(index) => check_call_indirect(function, *index, operands),
         Simple::Drop => discard(operands),
@@ -80,7 +82,7 @@ fn check_branch(
     let Some(types) = labels.get(label) else {
         return Err(CheckError::Invalid);
     };
-    leave(operands, types)
+    leave(operands, &types)
 }
 
 fn check_branch_if<'a>(
@@ -98,7 +100,7 @@ fn check_branch_if<'a>(
     if !operands.pop(ValType::I32) {
         return Err(CheckError::Invalid);
     }
-    replace(operands, types, types)
+    replace(operands, &types, &types)
 }
 
 fn check_branch_table(
@@ -115,15 +117,15 @@ fn check_branch_table(
     let Some(types) = labels.get(other) else {
         return Err(CheckError::Invalid);
     };
-    if !are_labels(labels, types, list, other) || !operands.pop(ValType::I32) {
+    if !are_labels(labels, &types, list, other) || !operands.pop(ValType::I32) {
         return Err(CheckError::Invalid);
     }
-    leave(operands, types)
+    leave(operands, &types)
 }
 
 // Whether each of these labels takes these types, as this one does. A label that is there again right
 // after itself is not compared again.
-fn are_labels(labels: &Labels<'_>, types: &[ValType], list: &[u32], takes_them: u32) -> bool
+fn are_labels(labels: &Labels<'_>, types: &TypeList<'_>, list: &[u32], takes_them: u32) -> bool
     requires { IsTrue (is_label labels.now types.now takes_them) }
     ensures { result ≡ are_all (is_label labels.now types.now) list.now }
 {
@@ -137,38 +139,28 @@ fn are_labels(labels: &Labels<'_>, types: &[ValType], list: &[u32], takes_them: 
     true
 }
 
-fn is_label(labels: &Labels<'_>, types: &[ValType], label: u32) -> bool
+fn is_label(labels: &Labels<'_>, types: &TypeList<'_>, label: u32) -> bool
     ensures { result ≡ is_label labels.now types.now label }
 {
     match labels.get(label) {
-        Some(others) => are_same(types, others),
+        Some(others) => types.is_same(&others),
         None => false,
     }
 }
 
-fn check_call<'a>(of: &'a Module, func: u32, operands: &mut Operands<'a>) -> Result<(), CheckError>
+fn check_call<'a>(
+    of: &'a PackedModule,
+    func: u32,
+    operands: &mut Operands<'a>,
+) -> Result<(), CheckError>
     ensures ok { OnOk result (Leads (call (func_types of.now) func) operands.old operands.new) }
     ensures invalid { result ≡ Err CheckError.Invalid
         → call (func_types of.now) func operands.old.stack ≡ None }
 {
-    let Some(func_type) = of.type_of(func) else {
+    let Some(types) = of.type_of(func) else {
         return Err(CheckError::Invalid);
     };
-    apply(func_type, operands)
-}
-
-// Operands of a function's parameters become operands of its results.
-fn apply<'a>(func_type: &'a FuncType, operands: &mut Operands<'a>) -> Result<(), CheckError>
-    ensures ok { OnOk result
-        (Leads (replaced func_type.now.params func_type.now.results) operands.old operands.new) }
-    ensures invalid { result ≡ Err CheckError.Invalid
-        → replaced func_type.now.params func_type.now.results operands.old.stack ≡ None }
-{
-    replace(
-        operands,
-        func_type.params.as_slice(),
-        func_type.results.as_slice(),
-    )
+    replace(operands, &types.params, &types.results)
 }
 
 fn check_call_indirect<'a>(
@@ -181,16 +173,16 @@ fn check_call_indirect<'a>(
     ensures invalid { result ≡ Err CheckError.Invalid → let of = function.now.of.now in
         call_indirect of.types of.tables index operands.old.stack ≡ None }
 {
-    if function.of.tables.len() == 0 {
+    if function.of.module().tables.len() == 0 {
         return Err(CheckError::Invalid);
     }
-    let Some(func_type) = function.of.type_with(index) else {
+    let Some(types) = function.of.type_with(index) else {
         return Err(CheckError::Invalid);
     };
     if !operands.pop(ValType::I32) {
         return Err(CheckError::Invalid);
     }
-    apply(func_type, operands)
+    replace(operands, &types.params, &types.results)
 }
 
 fn check_local(
@@ -258,7 +250,7 @@ fn check_load(
     ensures invalid { result ≡ Err CheckError.Invalid → access function.now.of.now.memories align
         (load_bytes op) (ValType.I32 ∷ []) (load_type op ∷ []) operands.old.stack ≡ None }
 {
-    if function.of.memories.len() == 0 || !is_aligned(align, load_bytes(op)) {
+    if function.of.module().memories.len() == 0 || !is_aligned(align, load_bytes(op)) {
         return Err(CheckError::Invalid);
     }
     convert(operands, ValType::I32, load_type(op))
@@ -275,7 +267,7 @@ fn check_store(
     ensures invalid { result ≡ Err CheckError.Invalid → access function.now.of.now.memories align
         (store_bytes op) (ValType.I32 ∷ store_type op ∷ []) [] operands.old.stack ≡ None }
 {
-    if function.of.memories.len() == 0 || !is_aligned(align, store_bytes(op)) {
+    if function.of.module().memories.len() == 0 || !is_aligned(align, store_bytes(op)) {
         return Err(CheckError::Invalid);
     }
     take_two(operands, ValType::I32, store_type(op))
@@ -287,7 +279,7 @@ fn check_memory_size(function: &Function<'_>, operands: &mut Operands<'_>) -> Re
     ensures invalid { result ≡ Err CheckError.Invalid
         → with_memory function.now.of.now.memories [] (ValType.I32 ∷ []) operands.old.stack ≡ None }
 {
-    if function.of.memories.len() == 0 {
+    if function.of.module().memories.len() == 0 {
         return Err(CheckError::Invalid);
     }
     give(operands, ValType::I32)
@@ -301,7 +293,7 @@ fn check_memory_grow(function: &Function<'_>, operands: &mut Operands<'_>) -> Re
         → with_memory function.now.of.now.memories (ValType.I32 ∷ []) (ValType.I32 ∷ [])
         operands.old.stack ≡ None }
 {
-    if function.of.memories.len() == 0 {
+    if function.of.module().memories.len() == 0 {
         return Err(CheckError::Invalid);
     }
     convert(operands, ValType::I32, ValType::I32)

@@ -7,13 +7,14 @@ ghost use Rattle.validator.specs.Inside.Blocks.{Leads};
 use crate::check_error::CheckError;
 use crate::comparisons::can_be;
 use crate::operands::Operands;
+use crate::type_list::TypeList;
 use wasm_ast::ValType;
 
 /// Operands of the first types, in written order, become operands of the second.
 pub fn replace<'a>(
     operands: &mut Operands<'a>,
-    takes: &[ValType],
-    gives: &'a [ValType],
+    takes: &TypeList<'_>,
+    gives: &TypeList<'a>,
 ) -> Result<(), CheckError>
     ensures ok { OnOk result (Leads (replaced takes.now gives.now) operands.old operands.new) }
     ensures invalid { result ≡ Err CheckError.Invalid
@@ -98,7 +99,7 @@ pub fn take_two(operands: &mut Operands<'_>, below: ValType, top: ValType) -> Re
 }
 
 /// Operands of these types are taken, and what follows is not reached.
-pub fn leave(operands: &mut Operands<'_>, takes: &[ValType]) -> Result<(), CheckError>
+pub fn leave(operands: &mut Operands<'_>, takes: &TypeList<'_>) -> Result<(), CheckError>
     ensures ok { OnOk result (Leads (leaves takes.now) operands.old operands.new) }
     ensures invalid { result ≡ Err CheckError.Invalid → leaves takes.now operands.old.stack ≡ None }
 {

@@ -133,7 +133,10 @@ impl<'a> Types<'a> {
     pub fn label(&self, block: u32) -> Option<&'a [ValType]>
         ensures { option_copied result ≡ slice_get self.now.labels block }
     {
-        self.labels.get(block)
+        match self.labels.get(block) {
+            Some(types) => Some(types.as_slice()),
+            None => None,
+        }
     }
 
     /// What is known of the operands of this block.

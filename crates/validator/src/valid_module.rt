@@ -10,6 +10,7 @@ ghost use Rattle.validator.specs.PlaceTypes.{Point, IsPlace, ReachesAt, PassesAt
 
 use crate::check_error::CheckError;
 use crate::function::own_function;
+use crate::packed_module::PackedModule;
 use crate::types::Types;
 use crate::validation::check_module;
 use crate::walk::known_at;
@@ -21,7 +22,7 @@ use wasm_ast::{Module, Refusal};
 /// A module that is valid, shared by all that hold it. Contracts see the module.
 #[derive(Drop)]
 pub struct Valid {
-    module: Arc<Module>,
+    module: Arc<PackedModule>,
 }
 
 impl Model for Valid {
@@ -44,6 +45,14 @@ impl Model for Valid {
 impl Valid {
     /// The module.
     pub fn module(&self) -> &Module
+        ensures value { result.now ≡ self.now }
+        ensures valid { ValidModule self.now }
+    {
+        self.packed().module()
+    }
+
+    // The module, with its long lists packed.
+    fn packed(&self) -> &PackedModule
         ensures value { result.now ≡ self.now }
         ensures valid { ValidModule self.now }
     {
@@ -79,7 +88,7 @@ impl Valid {
             (λ t. (p : Point) × PassesAt self.now func place p × MatchPoint t p) }
         ensures err { OnErr result (result ≡ Err refusal.NoMemory) }
     {
-        let function = own_function(self.module(), func);
+        let function = own_function(self.packed(), func);
         match known_at(alloc, &function, place) {
             Ok(types) => Ok(types),
             Err(CheckError::Memory) => Err(Refusal::NoMemory),
@@ -101,12 +110,13 @@ pub fn validate(alloc: Global, unchecked: Module) -> Result<Valid, Refusal>
     ensures err { OnErr result (((at : Option Place) × (result ≡ Err (refusal.Invalid at)))
         ⊎ (result ≡ Err refusal.NoMemory)) }
 {
+    let unchecked = PackedModule::new(alloc, unchecked)?;
     check_module(alloc, &unchecked)?;
     let module = shared(alloc, unchecked)?;
     Ok(Valid { module })
 }
 
-fn shared(alloc: Global, checked: Module) -> Result<Arc<Module>, AllocError>
+fn shared(alloc: Global, checked: PackedModule) -> Result<Arc<PackedModule>, AllocError>
     ensures { IfOk result (λ m. arc_value m ≡ checked) }
 {
     let shared = Arc::new(alloc, checked)?;

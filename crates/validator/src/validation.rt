@@ -17,20 +17,22 @@ use crate::function::Function;
 use crate::labels::Labels;
 use crate::module_parts::{declares_validly, defines_validly};
 use crate::operands::Operands;
+use crate::packed_module::PackedModule;
 use crate::places::count_body;
+use crate::type_list::TypeList;
 use std::alloc::{AllocError, Global};
 use std::collections::BTreeMap;
 use wasm_ast::{Export, Func, Module, Place, Refusal};
 
 /// Checks that a module is valid: first what it has outside its functions' bodies, then these in order.
-pub fn check_module(alloc: Global, unchecked: &Module) -> Result<(), Refusal>
+pub fn check_module(alloc: Global, unchecked: &PackedModule) -> Result<(), Refusal>
     ensures valid { OnOk result (ValidModule unchecked.now) }
     ensures invalid { (at : Option Place) → result ≡ Err (refusal.Invalid at)
         → NamesFault unchecked.now at }
     ensures err { OnErr result (((at : Option Place) × (result ≡ Err (refusal.Invalid at)))
         ⊎ (result ≡ Err refusal.NoMemory)) }
 {
-    let passes = check_outside(alloc, unchecked)?;
+    let passes = check_outside(alloc, unchecked.module())?;
     if !passes {
         return Err(Refusal::Invalid(None));
     }
@@ -68,7 +70,7 @@ fn names_differ(alloc: Global, exports: &[Export]) -> Result<bool, AllocError>
 }
 
 // The functions of the module. One list of operands and one of labels serve all of them.
-fn check_funcs(alloc: Global, of: &Module) -> Result<(), Refusal>
+fn check_funcs(alloc: Global, of: &PackedModule) -> Result<(), Refusal>
     ensures valid { OnOk result (All (ValidBody of.now) of.now.funcs) }
     ensures invalid { (at : Option Place) → result ≡ Err (refusal.Invalid at)
         → NamesFault of.now at }
@@ -77,10 +79,10 @@ fn check_funcs(alloc: Global, of: &Module) -> Result<(), Refusal>
 {
     let mut labels = Labels::new(alloc);
     let mut operands = Operands::new(alloc);
-    let funcs = of.funcs.as_slice();
+    let funcs = of.module().funcs.as_slice();
     for (i, func) in funcs.iter().enumerate() {
         if let Err(error) = check_func(of, func, &mut labels, &mut operands) {
-            return Err(refusal_at(of, i, error));
+            return Err(refusal_at(of.module(), i, error));
         }
     }
     Ok(())
@@ -111,7 +113,7 @@ fn index_of(of: &Module, own: usize) -> Option<u32>
 
 // A function's body is a block of its results (3.4.1).
 fn check_func<'a>(
-    of: &'a Module,
+    of: &'a PackedModule,
     func: &'a Func,
     labels: &mut Labels<'a>,
     operands: &mut Operands<'a>,
@@ -122,7 +124,7 @@ fn check_func<'a>(
     ensures invalid { (at : ℕ) → result ≡ Err (Invalid at) → ValidBody of.now func.now → ⊥ }
     ensures place { (at : ℕ) → result ≡ Err (Invalid at) → at ≤ ops_count func.now.body }
 {
-    let Some(func_type) = of.type_with(func.type_index) else {
+    let Some(func_type) = of.module().type_with(func.type_index) else {
         return Ok(());
     };
     let function = Function {
@@ -149,11 +151,11 @@ fn check_whole<'a>(
         → at ≤ ops_count function.now.func.now.body }
 {
     let types = BlockTypes {
-        params: &[],
-        results: function.func_type.results.as_slice(),
+        params: TypeList::plain(&[]),
+        results: TypeList::plain(function.func_type.results.as_slice()),
     };
     let body = &function.func.body;
-    match check_body(function, labels, types, types.results, body, operands) {
+    match check_body(function, labels, &types, &types.results, body, operands) {
         Ok(true) => Ok(()),
         Ok(false) => Err(BodyError::Invalid(count_body(body))),
         Err(error) => Err(error),

@@ -15,6 +15,7 @@ use crate::function::Function;
 use crate::labels::Labels;
 use crate::operands::Operands;
 use crate::places::{past_body, past_instr};
+use crate::type_list::TypeList;
 use crate::types::{Stacks, Types};
 use std::alloc::Global;
 use wasm_ast::{Body, Instr, ValType};
@@ -34,13 +35,13 @@ pub fn known_at<'a>(
 {
     let mut labels = Labels::new(alloc);
     let mut stacks = Stacks::new(alloc);
-    let results = function.func_type.results.as_slice();
+    let results = TypeList::plain(function.func_type.results.as_slice());
     enter_body(
         function,
         &mut labels,
         &mut stacks,
-        results,
-        &[],
+        &results,
+        &TypeList::plain(&[]),
         &function.func.body,
         place,
     )?;
@@ -53,8 +54,8 @@ fn enter_body<'a>(
     function: &Function<'a>,
     labels: &mut Labels<'a>,
     stacks: &mut Stacks,
-    label: &'a [ValType],
-    params: &'a [ValType],
+    label: &TypeList<'a>,
+    params: &TypeList<'a>,
     body: &Body,
     place: u32,
 ) -> Result<(), CheckError>
@@ -135,8 +136,8 @@ fn enter_instr<'a>(
                 function,
                 labels,
                 stacks,
-                types,
-                types.results,
+                &types,
+                &types.results,
                 body,
                 inside,
                 operands,
@@ -150,8 +151,8 @@ fn enter_instr<'a>(
                 function,
                 labels,
                 stacks,
-                types,
-                types.params,
+                &types,
+                &types.params,
                 body,
                 inside,
                 operands,
@@ -162,7 +163,7 @@ fn enter_instr<'a>(
                 return Err(CheckError::Invalid);
             };
             enter_if(
-                function, labels, stacks, types, then_arm, else_arm, inside, operands,
+                function, labels, stacks, &types, then_arm, else_arm, inside, operands,
             )
         }
     }
@@ -174,26 +175,26 @@ fn enter_block<'a>(
     function: &Function<'a>,
     labels: &mut Labels<'a>,
     stacks: &mut Stacks,
-    types: BlockTypes<'a>,
-    label: &'a [ValType],
+    types: &BlockTypes<'a>,
+    label: &TypeList<'a>,
     body: &Body,
     place: u32,
     mut operands: Operands<'a>,
 ) -> Result<(), CheckError>
-    ensures ok { OnOk result (let t = func_type_of types.entry in
+    ensures ok { OnOk result (let t = func_type_of types.now in
         and_then (below t operands.entry.stack)
         (λ u. ops_known (context_of function.now (label.now ∷ labels.old)) (u ∷ stacks.old) body.now
         (start t.params) place) ≡ Some (record { labels = labels.new; stacks = stacks.new })) }
-    ensures invalid { result ≡ Err CheckError.Invalid → let t = func_type_of types.entry in
+    ensures invalid { result ≡ Err CheckError.Invalid → let t = func_type_of types.now in
         and_then (below t operands.entry.stack)
         (λ u. ops_known (context_of function.now (label.now ∷ labels.old)) (u ∷ stacks.old) body.now
         (start t.params) place) ≡ None }
 {
-    if !operands.pop_all(types.params) {
+    if !operands.pop_all(&types.params) {
         return Err(CheckError::Invalid);
     }
     stacks.push(operands)?;
-    enter_body(function, labels, stacks, label, types.params, body, place)
+    enter_body(function, labels, stacks, label, &types.params, body, place)
 }
 
 // From before an `if` of these types, which has the place in one of its arms.
@@ -202,18 +203,18 @@ fn enter_if<'a>(
     function: &Function<'a>,
     labels: &mut Labels<'a>,
     stacks: &mut Stacks,
-    types: BlockTypes<'a>,
+    types: &BlockTypes<'a>,
     then_arm: &Body,
     else_arm: &Body,
     place: u32,
     mut operands: Operands<'a>,
 ) -> Result<(), CheckError>
-    ensures ok { OnOk result (let t = func_type_of types.entry in
+    ensures ok { OnOk result (let t = func_type_of types.now in
         let context = context_of function.now (t.results ∷ labels.old) in
         and_then (after_i32 (below t) operands.entry.stack)
         (λ u. arm_known context t (u ∷ stacks.old) then_arm.now else_arm.now place)
         ≡ Some (record { labels = labels.new; stacks = stacks.new })) }
-    ensures invalid { result ≡ Err CheckError.Invalid → let t = func_type_of types.entry in
+    ensures invalid { result ≡ Err CheckError.Invalid → let t = func_type_of types.now in
         let context = context_of function.now (t.results ∷ labels.old) in
         and_then (after_i32 (below t) operands.entry.stack)
         (λ u. arm_known context t (u ∷ stacks.old) then_arm.now else_arm.now place) ≡ None }
@@ -228,7 +229,7 @@ fn enter_if<'a>(
                 labels,
                 stacks,
                 types,
-                types.results,
+                &types.results,
                 then_arm,
                 place,
                 operands,
@@ -240,7 +241,7 @@ fn enter_if<'a>(
                 labels,
                 stacks,
                 types,
-                types.results,
+                &types.results,
                 else_arm,
                 rest,
                 operands,

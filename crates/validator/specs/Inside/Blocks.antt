@@ -8,7 +8,7 @@ use Rattle.validator.specs.Inside.Algorithm.{knowns, with_types}
 
 -- the types of a group's operands, the newest first
 abbrev pub group_types : Group → List (Option ValType)
-group_types g = g.newest ∷ knowns (reverse g.below.now)
+group_types g = g.newest ∷ knowns (reverse g.below)
 
 -- those of groups, the newest group last
 abbrev pub joined : List (List (Option ValType)) → List (Option ValType)

@@ -23,4 +23,4 @@ passes_func m t f = ends t.results (check_ops (body_context m t f) f.body (start
 
 -- a block's type as the checker holds it
 abbrev pub func_type_of : BlockTypes → FuncType
-func_type_of b = record { params = b.params.now; results = b.results.now }
+func_type_of b = record { params = b.params; results = b.results }

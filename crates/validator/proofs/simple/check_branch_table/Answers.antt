@@ -5,5 +5,5 @@ use Rattle.validator.proofs.simple.check_branch_table.Goals as goal
 
 pub are_labels-requires : goal.are_labels-requires
 are_labels-requires c =
-    let types = c.in-Some.types.now in
+    let types = c.in-Some.types in
     ap (takes_types types) (sym c.in-Some.ensures) ∙ themselves types

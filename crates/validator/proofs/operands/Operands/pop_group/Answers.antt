@@ -54,7 +54,7 @@ returns-clause-some c =
     let whole = with_last items c.len-count.result group (omega (arith, within, count)) count c.index.ensures in
     let before = types_of (drop base (take (length items - 1) items)) in
     let old = sym (ap (λ (o : Blocks). o.stack.types) c.self.view_is) ∙ top_types items base group within whole in
-    let new = last_types remains.left.now items c.leave_of_last.new.groups.items base within c.leave_of_last.ensures in
+    let new = last_types remains.left items c.leave_of_last.new.groups.items base within c.leave_of_last.ensures in
     ap (pops unreachable (reverse c.args.types.now)) old
     ∙ (c.in_ok-remains.ensures.some unreachable before
     ∙ ap (pops unreachable (reverse (take remains.wanted c.args.types.now))) (sym new))

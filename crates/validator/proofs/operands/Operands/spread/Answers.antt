@@ -1,4 +1,5 @@
-use Rattle.std.proofs.Common.{◌-◌, length, take, drop, reverse}
+use Rattle.std.proofs.Common.{◌-◌, length, take, drop, reverse, ◌++◌, ap, ◌∙◌}
+use Rattle.validator.specs.Inside.Blocks.{group_types}
 use Rattle.validator.proofs.GroupLemmas.{types_seen}
 use Rattle.validator.proofs.operands.Operands.spread.Goals as goal
 
@@ -8,6 +9,8 @@ loop-group-preserved c =
     record {
       all = c.loop-group.invariant.all;
       seen =
-          types_seen groups c.loop-group.group-index _ (reverse c.loop-group.types.items)
-          (reverse c.spread.new.types.items) c.loop-group-test.true c.loop-group.invariant.seen c.in_ok-spread.ensures;
+          types_seen groups c.loop-group.group-index c.group-item.result (reverse c.loop-group.types.items)
+          (reverse c.spread.new.types.items) c.loop-group-test.true c.loop-group.invariant.seen
+          (c.in_ok-spread.ensures
+          ∙ ap (λ g. group_types g ++ reverse c.loop-group.types.items) c.group-item.is);
     }
