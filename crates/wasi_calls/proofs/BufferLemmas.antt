@@ -1,7 +1,9 @@
 -- Buffers that are told one after the other, and a stream that they are appended to.
-use Rattle.std.proofs.Common.{◌≡◌, ℕ, zero, suc, ◌+◌, ◌*◌, ◌-◌, ◌<◌, ◌≤◌, List, [], ◌∷◌, ◌++◌, length, take, drop, refl, sym, ap, ◌∙◌, arith, length-append, length-take, length-drop, append_assoc, Bool, true, false, ◌&&◌, min, replicate, Some, None, if◌then◌else◌}
-use Rattle.std.proofs.lemmas.List.{length-replicate, take_all, take_min, take-replicate, replicate-append-replicate}
-use Rattle.linear_memory.specs.Memory.{Memory, is_inside, range, read_at}
+use Rattle.std.proofs.Common.{◌≡◌, All, ℕ, zero, suc, ◌+◌, ◌^◌, ◌*◌, ◌-◌, ◌<◌, ◌≤◌, List, [], ◌∷◌, ◌++◌, length, take, drop, refl, sym, ap, ◌∙◌, arith, length-append, length-take, length-drop, append_assoc, Bool, true, false, ◌&&◌, min, replicate, Some, None, if◌then◌else◌}
+use Rattle.std.proofs.lemmas.List.{length-take-le, drop-drop, length-replicate, take_all, take_min, take-replicate, replicate-append-replicate}
+use Rattle.linear_memory.specs.Memory.{Memory, is_inside, little_endian, range, read_at}
+use Rattle.std.proofs.Math.Seq.{take-add}
+use Rattle.std.proofs.lemmas.List.Elements.{All-take, All-drop}
 use Rattle.oci_config.specs.Limits.{max_output}
 use Rattle.wasi_calls.proofs.RangeLemmas.{within}
 use Rattle.wasi_calls.specs.SystemCalls.{Buffer, buffer_at, buffers_at, are_inside, gathered}
@@ -33,6 +35,41 @@ taken (suc n) (x ∷ xs) ys =
     let rest = taken n xs ys in
     let left : suc n - length (x ∷ xs) ≡ n - length xs = omega arith in
     ap (λ u. x ∷ u) rest ∙ ap (λ k. x ∷ (take n xs ++ take k ys)) (sym left)
+
+-- ---- the two words of a buffer
+
+two_words : (xs ys : List ℕ) → length xs ≡ 4
+    → little_endian (xs ++ ys) ≡ little_endian xs + 2 ^ 32 * little_endian ys
+two_words [] ys h = absurd (omega (arith, h))
+two_words (a ∷ []) ys h = absurd (omega (arith, h))
+two_words (a ∷ b ∷ []) ys h = absurd (omega (arith, h))
+two_words (a ∷ b ∷ c ∷ []) ys h = absurd (omega (arith, h))
+two_words (a ∷ b ∷ c ∷ d ∷ []) ys h = omega arith
+two_words (a ∷ b ∷ c ∷ d ∷ e ∷ xs) ys h = absurd (omega (arith, h))
+
+word_below : (xs : List ℕ) → All (λ b. b < 256) xs → length xs ≡ 4 → little_endian xs < 2 ^ 32
+word_below [] all h = absurd (omega (arith, h))
+word_below (a ∷ []) all h = absurd (omega (arith, h))
+word_below (a ∷ b ∷ []) all h = absurd (omega (arith, h))
+word_below (a ∷ b ∷ c ∷ []) all h = absurd (omega (arith, h))
+word_below (a ∷ b ∷ c ∷ d ∷ []) all h =
+    omega (arith, all 0 0 (omega arith), all 1 0 (omega arith), all 2 0 (omega arith), all 3 0 (omega arith))
+word_below (a ∷ b ∷ c ∷ d ∷ e ∷ xs) all h = absurd (omega (arith, h))
+
+-- a number of eight bytes has the address in its lower half and the size in its upper one
+pub both_words : (m : Memory) (a n : ℕ) → All (λ b. b < 256) m.bytes → is_inside m a 8 ≡ true
+    → n ≡ little_endian (range m a 8)
+    → ((buffer_at m a).address < 2 ^ 32) × (n ≡ (buffer_at m a).address + 2 ^ 32 * (buffer_at m a).size)
+both_words m a n all inside is =
+    let fits = within m a 8 inside in
+    let first = range m a 4 in
+    let second = range m (a + 4) 4 in
+    let count : length first ≡ 4 =
+    length-take-le 4 (drop a m.bytes) (omega (arith, fits, length-drop a m.bytes)) in
+    let parts : range m a 8 ≡ first ++ second =
+    take-add 4 4 (drop a m.bytes) ∙ ap (λ u. first ++ take 4 u) (drop-drop 4 a m.bytes) in
+    let bytes = All-take (λ b. b < 256) 4 (drop a m.bytes) (All-drop (λ b. b < 256) a m.bytes all) in
+    (word_below first bytes count, is ∙ (ap little_endian parts ∙ two_words first second count))
 
 -- as many of these bytes as a stream has room for
 abbrev pub with_bytes : (stream bytes : List ℕ) → List ℕ

@@ -23,18 +23,7 @@ struct Buffer {
     size: u32,
 }
 
-/// The u32 at an address that is inside.
-fn word_at(memory: &LinearMemory, address: u64) -> u32
-    requires { is_inside memory.now address 4 ≡ true }
-    ensures { result ≡ (buffer_at memory.now address).address }
-{
-    match memory.load(address, Width::Four) {
-        Some(number) => number as u32,
-        None => unreachable!(),
-    }
-}
-
-/// The buffer that is told at an address.
+/// The buffer that is told at an address. Its two words are read at once.
 fn buffer_at(memory: &LinearMemory, address: u64) -> Buffer
     requires small { address < 2 ^ 63 }
     requires inside { is_inside memory.now address buffer_bytes ≡ true }
@@ -42,9 +31,13 @@ fn buffer_at(memory: &LinearMemory, address: u64) -> Buffer
     ensures size { result.size ≡ (buffer_at memory.now address).size }
     ensures within { result.size < 2 ^ 32 }
 {
-    Buffer {
-        address: word_at(memory, address),
-        size: word_at(memory, address + 4),
+    memory.ranged();
+    match memory.load(address, Width::Eight) {
+        Some(number) => Buffer {
+            address: (number % 0x1_0000_0000) as u32,
+            size: (number / 0x1_0000_0000) as u32,
+        },
+        None => unreachable!(),
     }
 }
 
@@ -136,7 +129,9 @@ pub fn write_stream(memory: &mut LinearMemory, p: u32, n: u32, q: u32, stream: &
     if asked > 0 && room == 0 {
         return NOSPC;
     }
-    append_all(memory, p, n, stream);
+    if asked > 0 {
+        append_all(memory, p, n, stream);
+    }
     memory.store(q, Width::Four, asked.min(room));
     SUCCESS
 }
