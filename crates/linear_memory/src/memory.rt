@@ -147,6 +147,9 @@ impl LinearMemory {
         ensures range { IfSome result (λ n. n < 2 ^ (8 * byte_count width)) }
     {
         let range = self.read_range(address, width.bytes() as u64)?;
+        if range.written.is_empty() {
+            return Some(0);
+        }
         Some(number_of(range.written))
     }
 
