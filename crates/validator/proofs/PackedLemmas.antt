@@ -1,5 +1,5 @@
 -- Lists of types with eight types in a byte.
-use Rattle.std.proofs.Common.{◌≡◌, ◌≤◌, ◌<◌, ◌⊎◌, inl, inr, ◌+◌, ◌-◌, ◌*◌, ◌/◌, ◌%◌, ℕ, zero, suc, length, List, [], ◌∷◌, ◌++◌, take, drop, get_or, Option, Some, refl, sym, ap, subst, ◌∙◌, arith}
+use Rattle.std.proofs.Common.{◌≡◌, ◌≤◌, ◌<◌, ◌⊎◌, inl, inr, ◌+◌, ◌-◌, ◌*◌, ◌/◌, ◌%◌, ℕ, zero, suc, length, List, [], ◌∷◌, ◌++◌, take, drop, get_or, Some, refl, sym, ap, subst, ◌∙◌, arith}
 use Rattle.std.specs.Prelude.{slice_get}
 use Rattle.std.proofs.lemmas.Bool.{cases_lt}
 use Rattle.std.proofs.lemmas.List.{take_rest, drop-drop, drop_all, take-append-drop, take-append-le, drop-append-le, length-append, length-take-le, length-drop}
@@ -7,7 +7,7 @@ use Rattle.wasm_ast.specs.declared.values.ValType.{ValType}
 use Rattle.wasm_ast.specs.declared.values.ValType.TheVariants.{I32, I64}
 use Rattle.wasm_ast.specs.declared.values.FuncType.{FuncType}
 use Rattle.validator.specs.declared.packed.PackedParams.{PackedParams}
-use Rattle.validator.specs.Inside.Packed.{bit, packed, IsRow, AreRows, AreOfType, AreOfTypes}
+use Rattle.validator.specs.Inside.Packed.{packed, IsRow, AreRows, AreOfType, AreOfTypes}
 
 -- ---- one byte
 

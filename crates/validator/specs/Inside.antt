@@ -6,3 +6,4 @@ pub mod FunctionContext
 pub mod CheckErrors
 pub mod ModuleTests
 pub mod Packed
+pub mod Labels

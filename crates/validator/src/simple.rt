@@ -124,14 +124,17 @@ fn check_branch_table(
 }
 
 // Whether each of these labels takes these types, as this one does. A label that is there again right
-// after itself is not compared again.
+// after itself is not compared again, nor is one that is known to take the types of this one.
 fn are_labels(labels: &Labels<'_>, types: &TypeList<'_>, list: &[u32], takes_them: u32) -> bool
     requires { IsTrue (is_label labels.now types.now takes_them) }
     ensures { result ≡ are_all (is_label labels.now types.now) list.now }
 {
     let mut last = takes_them;
     for label in list {
-        if *label != last && !is_label(labels, types, *label) {
+        if *label != last
+            && !labels.are_alike(*label, takes_them)
+            && !is_label(labels, types, *label)
+        {
             return false;
         }
         last = *label;
