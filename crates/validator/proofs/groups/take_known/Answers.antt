@@ -24,6 +24,14 @@ returns-else-is_same_from-clause-none c = λ none unreachable others.
     let differ : are_same (drop wanted types) (drop left known) ≡ false =
     sym c.is_same_from.ensures ∙ c.if-is_same_from.false in
     let count : length (drop wanted types) ≡ length (drop left known) =
-    omega
-    (arith, length-drop wanted types, length-drop left known, c.min-count.ensures, c.len.ensures, c.len-2.ensures, c.len-3.ensures, c.len-4.ensures) in
+    omega (
+      arith,
+      length-drop wanted types,
+      length-drop left known,
+      c.min-count.ensures,
+      c.len.ensures,
+      c.len-2.ensures,
+      c.len-3.ensures,
+      c.len-4.ensures,
+    ) in
     split_refused unreachable types known wanted left others count differ

@@ -11,7 +11,8 @@ loop-first-preserved c =
     record {
       count = search (rules, length-append);
       rows =
-          subst (λ all. AreRows all types) (sym (c.in_ok-push.ensures.items ∙ ap (λ row. rows ++ (row ∷ [])) c.new-in-loop-first.ensures))
+          subst (λ all. AreRows all types)
+          (sym (c.in_ok-push.ensures.items ∙ ap (λ row. rows ++ (row ∷ [])) c.new-in-loop-first.ensures))
           (rows_pushed rows c.in_ok-row.row.items types c.loop-first.invariant.rows
           (subst (λ n. IsRow c.in_ok-row.row.items (drop n types)) (sym c.loop-first.invariant.count)
           (subst (IsRow c.in_ok-row.row.items) (take_rest types c.loop-first.first) c.in_ok-row.ensures)));

@@ -16,7 +16,8 @@ returns-in-Err-clause-invalid c = λ at is.
     ap (λ (of : Module). slice_get of.funcs c.loop-i.i) (sym c.module.ensures)
     ∙ ap (λ (fs : List Func). slice_get fs c.loop-i.i) (sym c.as_slice-funcs.ensures)
     ∙ get_there c.as_slice-funcs.result.now c.loop-i.i f c.loop-i-test.true ∙ ap Some (sym c.index-funcs-i.is) in
-    own_fault m c.loop-i.i f c.in-Err.error at there (subst (λ (of : Module). IsAt of c.loop-i.i c.in-Err.error at) c.module-in-Err.ensures
+    own_fault m c.loop-i.i f c.in-Err.error at there
+    (subst (λ (of : Module). IsAt of c.loop-i.i c.in-Err.error at) c.module-in-Err.ensures
     (c.refusal_at.ensures.at at (err_refusal c.refusal_at.result at is)))
     (λ k e. c.in-Err.ensures.invalid k (ap Err e)) (λ k e. c.in-Err.ensures.place k (ap Err e))
 

@@ -8,10 +8,12 @@ number c = search rules
 
 pub returns-clause-address : goal.returns-clause-address
 returns-clause-address c =
-    let both = both_words c.args.memory.now c.args.address c.in-Some.number c.ranged.ensures c.requires.inside (number c) in
+    let both =
+    both_words c.args.memory.now c.args.address c.in-Some.number c.ranged.ensures c.requires.inside (number c) in
     omega (arith, both.0, both.1)
 
 pub returns-clause-size : goal.returns-clause-size
 returns-clause-size c =
-    let both = both_words c.args.memory.now c.args.address c.in-Some.number c.ranged.ensures c.requires.inside (number c) in
+    let both =
+    both_words c.args.memory.now c.args.address c.in-Some.number c.ranged.ensures c.requires.inside (number c) in
     omega (arith, both.0, both.1)

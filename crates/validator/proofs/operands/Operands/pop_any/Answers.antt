@@ -15,5 +15,8 @@ returns-then-height-self-clause-some c =
     let within : base < length items = omega (arith, some, count) in
     let before = types_of (drop base (take (length items - 1) items)) in
     let old = sym (ap (λ (o : Blocks). o.stack.types) c.self.view_is) ∙ top_types items base group within whole in
-    let new = last_types c.copy-below.result items c.leave_of_last.new.groups.items base within c.leave_of_last.ensures in
-    ap (pop_any c.args.self.now.stack.unreachable) old ∙ ap (λ types. Some (group.newest, types)) (sym (new ∙ ap (λ ts. knowns (reverse ts) ++ before) c.copy-below.ensures))
+    let new =
+    last_types c.copy-below.result items c.leave_of_last.new.groups.items base within c.leave_of_last.ensures in
+    ap (pop_any c.args.self.now.stack.unreachable) old
+    ∙ ap (λ types. Some (group.newest, types))
+    (sym (new ∙ ap (λ ts. knowns (reverse ts) ++ before) c.copy-below.ensures))

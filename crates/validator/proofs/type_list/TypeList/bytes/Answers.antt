@@ -15,4 +15,5 @@ returns-clause-row c =
     let same : c.as_slice-row.result.now ≡ row = c.as_slice-row.ensures ∙ sym c.index-self-at.is in
     subst (λ (r : List ℕ). IsRow (take n (drop (at / 8) r)) (drop at c.args.self.now)) (sym same)
     (subst (λ ts. IsRow (take n (drop (at / 8) row)) (drop at ts)) c.self.view_is
-    (row_between c.self.inside.rows.now row at (at / 8 + c.args.count - at / 8) c.self.inside.types.now c.self.invariant there))
+    (row_between c.self.inside.rows.now row at (at / 8 + c.args.count - at / 8) c.self.inside.types.now
+    c.self.invariant there))

@@ -14,7 +14,9 @@ returns-then-are_same_bytes c = λ same.
     let row = c.in-Some.ensures.row in
     let count = c.in-Some.ensures.count in
     let n = (length c.self.inside.types.now - c.args.at) / 8 in
-    let fits : 8 * length bytes ≤ length (drop c.args.at types) = omega (arith, count, length-drop c.args.at types, c.requires.at, ap length c.self.view_is) in
+    let fits :
+    8 * length bytes ≤ length (drop c.args.at types) =
+    omega (arith, count, length-drop c.args.at types, c.requires.at, ap length c.self.view_is) in
     let lengths : length (drop c.args.at types) ≡ length (drop c.args.from others) =
     omega (arith, length-drop c.args.at types, length-drop c.args.from others, c.requires.count) in
     let rest : drop (8 * length bytes) (drop c.args.at types) ≡ drop (8 * length bytes) (drop c.args.from others) =
