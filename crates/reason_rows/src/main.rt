@@ -3,8 +3,10 @@
 //! A line of standard input is a command, what it is given, and the reason that is wanted, with ` => `
 //! between. The command is that of a command line (`asm`, `check` or `run`, with options and perhaps the
 //! name `m` of the file and arguments after it) for a file; `config` for the text of one; `request` or
-//! `event` for a line of `serve` or `replay`. What it is given is in hexadecimal digits or, after `text `,
-//! as it is, with `\n` for a line feed. A line that is empty or begins with `#` says something of the
+//! `event` for a line of `serve` or `replay`; `refused NUMBER` for the line of a request that is refused so,
+//! with `at LINE COLUMN` after a number 18, `at FUNC PLACE` after an 8, and `content HEX` if the config of a
+//! create names that content. What it is given is in hexadecimal digits or, after `text `, as it is, with `\n`
+//! for a line feed. A line that is empty or begins with `#` says something of the
 //! others. `ok COUNT` is printed at the end: of how many lines the reason is the one that is wanted, and
 //! the command with `--explain` writes what it writes without, and then the line of that reason. Each
 //! other line is printed with what was found. Of a line without a reason the refusal and its reason are
@@ -12,8 +14,10 @@
 #![tactic(auto)]
 
 mod files;
+mod requests;
 
 use crate::files::file_told;
+use crate::requests::refused_told;
 use anyhow::{Context, Result, bail};
 use oci_config::read_config;
 use reasons::{Lines, why_config, why_line};
@@ -82,6 +86,9 @@ fn event_told(alloc: Global, line: &[u8]) -> Result<(String, String)> {
 
 // The refusal and the reason that a command tells.
 fn told_of(alloc: Global, command: &str, bytes: &[u8]) -> Result<(String, String)> {
+    if let Some(written) = command.strip_prefix("refused ") {
+        return refused_told(alloc, written, bytes);
+    }
     match command {
         "config" => config_told(alloc, bytes),
         "request" => request_told(alloc, bytes),

@@ -10,8 +10,18 @@ use std::str::from_utf8;
 
 const END: &str = "the end of the text: a group or a block is not closed";
 
+const EMPTY: &str = "the text is empty; that of a module is (module ..)";
+
+// What is said of the end of a text.
+fn end_reason(before: &str) -> &'static str {
+    if before.trim().is_empty() { EMPTY } else { END }
+}
+
 // What is said of a word that the place names.
 fn word_reason(before: &str, word: &str) -> &'static str {
+    if before.trim().is_empty() {
+        return "the text of a module begins with (module";
+    }
     if let Some(outside) = before.trim_end().strip_suffix('(') {
         if let Some(hint) = group_hint(outside, word) {
             return hint;
@@ -63,7 +73,7 @@ fn string_reason(before: &str) -> &'static str {
 // The token at the end of `before`, and what is said of it.
 fn token_text(alloc: Global, before: &str, token: Token<'_>) -> Result<String, AllocError> {
     match token {
-        Token::End => String::from_str(alloc, END),
+        Token::End => String::from_str(alloc, end_reason(before)),
         Token::Open(word) => {
             let reason = group_reason(before, word);
             let word = shown(alloc, word)?;
@@ -98,7 +108,7 @@ fn token_text(alloc: Global, before: &str, token: Token<'_>) -> Result<String, A
 // Why a text has its fault at this line and column.
 fn why_utf8(alloc: Global, text: &str, line: u64, column: u64) -> Result<String, AllocError> {
     let Some(at) = offset_at(text, line, column) else {
-        return String::from_str(alloc, END);
+        return String::from_str(alloc, end_reason(text));
     };
     let before = text.get(..at).unwrap_or("");
     let here = text.get(at..).unwrap_or("");

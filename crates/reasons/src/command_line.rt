@@ -1,5 +1,6 @@
 //! What a command line gives a task, and why no process can have it.
 
+use crate::limits::Cap;
 use crate::process_texts::{MOST_TEXT_BYTES, MOST_TEXTS, entry_fault, text_fault, with_text};
 use std::alloc::{AllocError, Global};
 
@@ -22,10 +23,14 @@ pub struct TaskWords<'a> {
 }
 
 /// The most pages of a memory under a limit in bytes, if there is one.
-pub fn pages_under(limit: Option<u64>) -> u64 {
-    match limit {
+pub fn pages_under(limit: Option<u64>) -> Cap {
+    let pages = match limit {
         Some(bytes) => (bytes / PAGE_BYTES).min(MOST_PAGES),
         None => DEFAULT_PAGES,
+    };
+    Cap {
+        pages,
+        raised_by: "--memory",
     }
 }
 

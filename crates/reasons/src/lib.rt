@@ -1,4 +1,5 @@
-//! Why the file of a module, the words of a command line, a config or a line is refused, as a line for a person.
+//! Why the file of a module, the words of a command line, a config, a line or a request is refused, as a line for a
+//! person.
 //!
 //! Nothing here decides what is refused. A reason is looked for after a refusal, in the bytes and with the
 //! readers that the refusal came from.
@@ -26,6 +27,8 @@ mod outside;
 mod parts;
 mod place;
 mod process_texts;
+mod request;
+mod request_facts;
 mod sections;
 mod shown;
 mod spelling;
@@ -40,6 +43,7 @@ pub use config::why_config;
 use invalid::why_invalid;
 use limits::why_limit;
 pub use line::{Lines, why_line};
+pub use request::{Contents, id_in, why_request};
 use spelling::why_bytes;
 use std::alloc::{AllocError, Global};
 use task::{Cause, why_task};

@@ -10,6 +10,13 @@ use wasm_ast::{
     MAX_NESTING, MAX_RESULTS, MAX_TABLE_ENTRIES, Module,
 };
 
+/// How many pages the memory of a task may have, and what can raise that.
+#[derive(Clone, Copy)]
+pub struct Cap {
+    pub pages: u64,
+    pub raised_by: &'static str,
+}
+
 /// A limit that is passed, by what, and how many there are of it.
 #[derive(Clone, Copy)]
 struct Passed {
@@ -151,24 +158,26 @@ fn why_text(alloc: Global, bytes: &[u8]) -> Result<String, AllocError> {
     }
 }
 
-// Why a module within the limits cannot be run by a task that may have this many pages.
-fn why_task(alloc: Global, of: &Module, most: u64) -> Result<String, AllocError> {
+// Why a module within the limits cannot be run by a task whose memory has this cap.
+fn why_task(alloc: Global, of: &Module, cap: Cap) -> Result<String, AllocError> {
     match of.memories.as_slice().first() {
         Some(memory) => {
             let pages = memory.min;
+            let most = cap.pages;
+            let by = cap.raised_by;
             format!(in alloc;
-                "the memory begins with {pages} pages, and the task may have {most}; --memory can raise that"
+                "the memory begins with {pages} pages, and the task may have {most}; {by} can raise that"
             )
         }
         None => Ok(String::new(alloc)),
     }
 }
 
-/// Why a file is refused for a limit: that of the bytes or the text, or else that of a task which
-/// `run` makes, whose memory may have this many pages. An error only if memory runs out.
-pub fn why_limit(alloc: Global, bytes: &[u8], pages: u64) -> Result<String, AllocError> {
+/// Why a file is refused for a limit: that of the bytes or the text, or else that of a task whose memory has
+/// this cap. An error only if memory runs out.
+pub fn why_limit(alloc: Global, bytes: &[u8], cap: Cap) -> Result<String, AllocError> {
     if let Some(of) = module_of(alloc, bytes)? {
-        return why_task(alloc, &of, pages);
+        return why_task(alloc, &of, cap);
     }
     match bytes.first() {
         Some(0) => why_bytes(alloc, bytes),

@@ -141,11 +141,17 @@ fn preamble_text(alloc: Global, bytes: &[u8]) -> Result<String, AllocError> {
     format!(in alloc; "{place}: a module begins with 00 61 73 6d 01 00 00 00")
 }
 
+// That there are too many bytes.
+fn size_text(alloc: Global, found: usize) -> Result<String, AllocError> {
+    format!(in alloc;
+        "the file has {found} bytes, and the limit is {MAX_MODULE_BYTES}; --strip-all of wasm-ld leaves out names and debugging information"
+    )
+}
+
 /// Why these bytes encode no module, or pass a limit; empty if they do neither. An error if memory runs out.
 pub fn why_bytes(alloc: Global, bytes: &[u8]) -> Result<String, AllocError> {
     if bytes.len() > MAX_MODULE_BYTES {
-        let found = bytes.len();
-        return format!(in alloc; "the file has {found} bytes, and the limit is {MAX_MODULE_BYTES}");
+        return size_text(alloc, bytes.len());
     }
     if let Some(kind) = kind_of(bytes) {
         return String::from_str(alloc, kind);
