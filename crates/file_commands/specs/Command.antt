@@ -27,6 +27,10 @@ abbrev pub explain_rule : Rule
 explain_rule =
     record (new_rule (codes "explain")) { long = Some (codes "explain"); action = Some SetTrue }
 
+-- the flag `--log`
+abbrev pub log_rule : Rule
+log_rule = record (new_rule (codes "log")) { long = Some (codes "log"); action = Some SetTrue }
+
 -- the flag `--task`
 abbrev pub task_rule : Rule
 task_rule = record (new_rule (codes "task")) { long = Some (codes "task"); action = Some SetTrue }
@@ -83,11 +87,12 @@ bare_program =
       subs = [];
     }
 
--- `serve [--workers N] [SCRIPT..]`, `replay FILE`, `asm [--explain] FILE`,
+-- `serve [--workers N] [--explain] [--log] [SCRIPT..]`, `replay FILE`, `asm [--explain] FILE`,
 -- `check [--task [--memory BYTES]] [--list] [--explain] FILE` and
 -- `run [--env NAME=VALUE]* [--memory BYTES] [--explain] MODULE [ARG..]`
 abbrev pub serve_shape : Shape
-serve_shape = command_shape (codes "serve") (workers_rule ∷ script_rule ∷ [])
+serve_shape =
+    command_shape (codes "serve") (workers_rule ∷ explain_rule ∷ log_rule ∷ script_rule ∷ [])
 
 abbrev pub replay_shape : Shape
 replay_shape = command_shape (codes "replay") (file_rule ∷ [])
@@ -133,6 +138,10 @@ has_task rows = is_set (first_of (codes "task") rows)
 abbrev pub has_explain : List Row → Bool
 has_explain rows = is_set (first_of (codes "explain") rows)
 
+-- `--log` is among them
+abbrev pub has_log : List Row → Bool
+has_log rows = is_set (first_of (codes "log") rows)
+
 -- how many workers there are: the number given, or else 2
 abbrev pub workers_from : Option Text → ℕ
 workers_from None = 2
@@ -169,11 +178,11 @@ module_in = all_of (codes "MODULE")
 abbrev pub command_in : List Text → Option (Text × List Row)
 command_in = subcommand_of program
 
--- its name with its workers and SCRIPTs; with its FILE; with its FILE, the limit on memory and
--- which flags are there; and with its MODULE and ARGs, the settings of the task and whether
--- `--explain` is there
-abbrev pub with_scripts : Text × List Row → Text × ℕ × List Text
-with_scripts p = (p.0, workers_in p.1, scripts_in p.1)
+-- its name with its workers, its SCRIPTs and which flags are there; with its FILE; with its FILE,
+-- the limit on memory and which flags are there; and with its MODULE and ARGs, the settings of the
+-- task and whether `--explain` is there
+abbrev pub with_scripts : Text × List Row → Text × ℕ × List Text × Bool × Bool
+with_scripts p = (p.0, workers_in p.1, scripts_in p.1, has_explain p.1, has_log p.1)
 
 abbrev pub with_file : Text × List Row → Text × Option Text
 with_file p = (p.0, file_in p.1)
@@ -190,8 +199,9 @@ with_module p = (p.0, module_in p.1, env_in p.1, memory_in p.1, has_explain p.1)
 
 -- this is the command
 abbrev pub IsCommand : Option (Text × List Row) → Command → Type 0
-IsCommand found (Serve workers scripts) =
-    option_map with_scripts found ≡ Some (codes "serve", workers, map string_bytes scripts.items)
+IsCommand found (Serve workers scripts explain log) =
+    option_map with_scripts found
+    ≡ Some (codes "serve", workers, map string_bytes scripts.items, explain, log)
 IsCommand found (Replay file) =
     option_map with_file found ≡ Some (codes "replay", Some (string_bytes file))
 IsCommand found (Asm file explain) =
@@ -227,8 +237,9 @@ lacks_task other = false
 -- the arguments name this command
 abbrev pub Name : List Text → Command → Type 0
 Name arguments (Show text) = AskToShow arguments
-Name arguments (Serve workers scripts) =
-    (faults_in arguments ≡ []) × IsCommand (command_in arguments) (Serve workers scripts)
+Name arguments (Serve workers scripts explain log) =
+    (faults_in arguments ≡ [])
+    × IsCommand (command_in arguments) (Serve workers scripts explain log)
 Name arguments (Replay file) =
     (faults_in arguments ≡ []) × IsCommand (command_in arguments) (Replay file)
 Name arguments (Asm file explain) =

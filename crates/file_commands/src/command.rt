@@ -6,7 +6,7 @@ ghost use Rattle.clap.specs.Simple.{app_of, shape_of, subcommand_rows_of};
 ghost use Rattle.clap.specs.Values.{kind_of};
 ghost use Rattle.clap.specs.Walk.{Row, Text, first_of, all_of, rows_of, rule_of};
 ghost use Rattle.clap.specs.declared.builder.command.Command.TheViews.{out-Command as fields_of};
-ghost use Rattle.file_commands.specs.Command.{file_rule, task_rule, list_rule, explain_rule, workers_rule, env_rule, memory_rule, script_rule, module_rule, command_shape, serve_shape, asm_shape, check_shape, run_shape, workers_in, scripts_in, texts_from, env_in, memory_in, bare_program, line_program, program, file_in, is_set, has_explain, module_in, lacks_task, IsCommand, Name, AreFaulty};
+ghost use Rattle.file_commands.specs.Command.{file_rule, task_rule, list_rule, explain_rule, log_rule, workers_rule, env_rule, memory_rule, script_rule, module_rule, command_shape, serve_shape, asm_shape, check_shape, run_shape, workers_in, scripts_in, texts_from, env_in, memory_in, bare_program, line_program, program, file_in, is_set, has_explain, module_in, lacks_task, IsCommand, Name, AreFaulty};
 ghost use Rattle.file_commands.specs.Inside.Chosen.{IsShown, IsLacking, IsOfArguments};
 
 use crate::settings::Settings;
@@ -20,10 +20,12 @@ use thiserror::Error;
 #[derive(Drop)]
 pub enum Command {
     /// Answers the lines of the files of these names, each a caller of its own, or else those of standard
-    /// input; this many workers run the tasks.
+    /// input; this many workers run the tasks. Refusals are explained and a log is written if that is wanted.
     Serve {
         workers: u64,
         scripts: Vec<String>,
+        explain: bool,
+        log: bool,
     },
     /// Runs the lines of the file of this name, and writes their answers to standard output.
     Replay {
@@ -124,6 +126,19 @@ fn explain_arg<'a>(alloc: Global) -> Arg<'a>
         .help("After a refusal, also say why, in a line on standard error")
 }
 
+// The flag `--log`.
+fn log_arg<'a>(alloc: Global) -> Arg<'a>
+    ensures rule { rule_of result ≡ log_rule }
+    ensures local { result.global ≡ false }
+{
+    Arg::new(alloc, "log")
+        .long("log")
+        .action(ArgAction::SetTrue)
+        .help(
+            "Also say each create, each end of a task and each refusal, in a line on standard error",
+        )
+}
+
 // The option `--workers`.
 fn workers_arg<'a>(alloc: Global) -> Arg<'a>
     ensures rule { rule_of result ≡ workers_rule }
@@ -172,7 +187,7 @@ fn script_arg<'a>(alloc: Global) -> Arg<'a>
     )
 }
 
-// `serve [--workers N] [SCRIPT..]`
+// `serve [--workers N] [--explain] [--log] [SCRIPT..]`
 fn serve_command<'a>(alloc: Global) -> Result<Parser<'a>, AllocError>
     ensures shape { IfOk result (λ p. shape_of p ≡ serve_shape) }
     ensures local { IfOk result (λ p. (fields_of p).has_globals ≡ false) }
@@ -184,7 +199,9 @@ fn serve_command<'a>(alloc: Global) -> Result<Parser<'a>, AllocError>
         "Example: wasm-shim serve < examples/first_run.jsonl",
     );
     let counted = command.arg(workers_arg(alloc))?;
-    counted.arg(script_arg(alloc))
+    let explained = counted.arg(explain_arg(alloc))?;
+    let logged = explained.arg(log_arg(alloc))?;
+    logged.arg(script_arg(alloc))
 }
 
 // The arguments MODULE and ARG. They are one argument with several values, so that after the name of the
@@ -424,7 +441,12 @@ fn serve_of(alloc: Global, found: &ArgMatches<'_>) -> Result<Command, CommandErr
 {
     let workers = workers_of(found)?;
     let scripts = words_of(alloc, found, "SCRIPT")?;
-    Ok(Command::Serve { workers, scripts })
+    Ok(Command::Serve {
+        workers,
+        scripts,
+        explain: has_flag(found, "explain"),
+        log: has_flag(found, "log"),
+    })
 }
 
 // The settings of a task that were found.
@@ -568,8 +590,8 @@ fn whole(alloc: Global, matches: &ArgMatches<'_>) -> Result<Command, CommandErro
 
 /// The command that the arguments name. The first word is the program's own name.
 ///
-/// `serve [--workers N] [SCRIPT..]`, with N from 1 to 16, `replay FILE`, `asm [--explain] FILE`,
-/// `check [--task [--memory BYTES]] [--list] [--explain] FILE` and
+/// `serve [--workers N] [--explain] [--log] [SCRIPT..]`, with N from 1 to 16, `replay FILE`,
+/// `asm [--explain] FILE`, `check [--task [--memory BYTES]] [--list] [--explain] FILE` and
 /// `run [--env NAME=VALUE]* [--memory BYTES] [--explain] MODULE [ARG..]` are the commands, BYTES a number
 /// below 2^64. Every word after MODULE is an ARG, one that begins with a dash
 /// too. `--help` and `--version`, alone or after a command, and `help` are shown. All else is
