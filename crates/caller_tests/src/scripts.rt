@@ -2,7 +2,7 @@
 
 use crate::readers::ChunkedReader;
 use call_journal::{Row, Shim};
-use callers::Driven;
+use callers::{Driven, NoNotes};
 use request_lines::Watched;
 use shim_threads::{Answered, Caller, answer_all};
 use std::alloc::Global;
@@ -10,7 +10,7 @@ use std::sync::Wait;
 use std::thread::Threads;
 
 /// What a script was answered.
-pub type Told<'a, R> = Answered<R, Watched<ChunkedReader<'a>>>;
+pub type Told<'a, R> = Answered<R, Watched<ChunkedReader<'a>>, NoNotes>;
 
 /// The same line, `count` times. None if memory runs out.
 pub fn repeated(alloc: Global, line: &str, count: usize) -> Option<Vec<u8>> {
@@ -28,12 +28,18 @@ fn callers_of<'a, R: Row, W: Wait>(
     alloc: Global,
     shim: &Shim<R>,
     scripts: &[&'a [u8]],
-) -> Option<Vec<Caller<R, Watched<ChunkedReader<'a>>>>> {
+) -> Option<Vec<Caller<R, Watched<ChunkedReader<'a>>, NoNotes>>> {
     let mut callers = Vec::new(alloc);
     for lines in scripts {
         let seat = shim.seat(rt)?;
         let reader = Watched::new(ChunkedReader::new(lines));
-        callers.push(Caller { seat, reader }).ok()?;
+        callers
+            .push(Caller {
+                seat,
+                reader,
+                notes: NoNotes,
+            })
+            .ok()?;
     }
     Some(callers)
 }

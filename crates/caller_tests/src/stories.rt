@@ -7,7 +7,7 @@ use crate::histories::{four_callers, full_journal, two_callers, two_seats};
 use crate::storm::storm;
 use crate::workers::{Meeting, large_output, run_by_two};
 use call_journal::{Cells, MOST_SEATS, Row, Shim};
-use callers::{Driven, drive};
+use callers::{Driven, NoNotes, drive};
 use request_lines::Watched;
 use slice_workers::OpenGate;
 use std::alloc::Global;
@@ -110,7 +110,7 @@ fn driven<J: Row, R: Read, W: Write, H: Wait>(
     let shim: Shim<J> = Shim::new(alloc, cells, blank)?;
     let seat = shim.seat(rt).ok_or(Refusal::NoMemory)?;
     let (mut from, mut to) = (Watched::new(reader), Watched::new(writer));
-    let (_, driven) = drive(rt, alloc, &shim, seat, &mut from, &mut to);
+    let (_, driven) = drive(rt, alloc, &shim, seat, &mut from, &mut to, &mut NoNotes);
     Ok(driven)
 }
 

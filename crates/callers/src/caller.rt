@@ -8,6 +8,7 @@ ghost use Rattle.callers.specs.Answered.{IsAnswered, IsCall, IsServed};
 ghost use Rattle.callers.specs.Driving.{Drives, IsTold};
 ghost use Rattle.callers.specs.Inside.Writing.{Writes};
 
+use crate::notes::Notes;
 use call_journal::{Row, Seat, Shim};
 use request_lines::{
     LineReader, Sink, Source, Stop, answer_line, no_memory_line, read_request_line,
@@ -165,8 +166,8 @@ fn write_answer<W: Sink>(
     }
 }
 
-// Answers a line, and writes the line of the answer.
-fn serve_line<J: Row, W: Sink, H: Wait>(
+// Answers a line, writes the line of the answer, and tells the notes of both.
+fn serve_line<J: Row, W: Sink, H: Wait, N: Notes>(
     rt: &H,
     alloc: Global,
     shim: &Shim<J>,
@@ -174,6 +175,7 @@ fn serve_line<J: Row, W: Sink, H: Wait>(
     line: Option<&[u8]>,
     spare: &mut Option<Vec<u8>>,
     writer: &mut W,
+    notes: &mut N,
 ) -> (Seat<J>, Result<(), WriteError>)
     ensures served { (text : List ℕ) → IsKept (option_map (λ b. b.now) line.entry) text
         → (reply : List ℕ) × IsServed seat text reply result.0
@@ -182,20 +184,23 @@ fn serve_line<J: Row, W: Sink, H: Wait>(
 {
     let (seat, answer) = answer(rt, alloc, shim, seat, line);
     let written = write_answer(alloc, &answer, spare, writer);
+    notes.note(shim, &seat, line, &answer);
     (seat, written)
 }
 
 /// Answers each line of a caller's reader by one line, written and flushed before the next line is waited for,
 /// until the reader is at its end. A line that is no request is answered `BadRequest`. A fault of a stream is told
 /// only if that stream has failed. Workers are woken for the tasks that were started once no next line is at hand. The
-/// seat is that of the caller, and is given back.
-pub fn drive<J: Row, R: Source, W: Sink, H: Wait>(
+/// seat is that of the caller, and is given back. The notes are told each line and its answer, after its reply; what
+/// is answered and written is the same, whatever they do.
+pub fn drive<J: Row, R: Source, W: Sink, H: Wait, N: Notes>(
     rt: &H,
     alloc: Global,
     shim: &Shim<J>,
     seat: Seat<J>,
     reader: &mut R,
     writer: &mut W,
+    notes: &mut N,
 ) -> (Seat<J>, Driven)
     ensures lines { Drives result.1 seat result.0 (R.remaining reader.old) (W.contents writer.old)
         (W.contents writer.new) }
@@ -215,7 +220,16 @@ pub fn drive<J: Row, R: Source, W: Sink, H: Wait>(
             Ok(false) => return (seat, Driven::End),
             Err(stop) => return (seat, Driven::from(stop)),
         }
-        let (next, written) = serve_line(rt, alloc, shim, seat, lines.bytes(), &mut spare, writer);
+        let (next, written) = serve_line(
+            rt,
+            alloc,
+            shim,
+            seat,
+            lines.bytes(),
+            &mut spare,
+            writer,
+            notes,
+        );
         seat = next;
         if written.is_err() || !lines.has_line() {
             shim.wake(rt);

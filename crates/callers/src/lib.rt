@@ -2,6 +2,10 @@
 #![tactic(auto)]
 
 mod caller;
+mod contents;
 pub mod laws;
+mod notes;
 
 pub use caller::{Driven, drive};
+pub use contents::find_content;
+pub use notes::{NoNotes, Notes};

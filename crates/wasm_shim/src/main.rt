@@ -3,9 +3,11 @@
 
 mod report;
 mod serve;
+mod watched;
 
 use crate::report::{failed, stream_failed};
 use crate::serve::serve;
+use crate::watched::Wanted;
 use shim_service::{
     Command, CommandError, Ran, RunError, Settings, asm_file, check_file, check_task, command_of,
     explain_asm, explain_check, explain_check_task, explain_run, replay_lines, run_streams,
@@ -173,7 +175,20 @@ fn main(rt: HostRuntime) -> ExitCode {
         Err(error) => return stream_failed(&rt, "the command line", &error),
     };
     match command_of(rt.alloc(), given.as_slice()) {
-        Ok(Command::Serve { workers, scripts }) => serve(&rt, &rt, workers, scripts.as_slice()),
+        Ok(
+            Command::Serve {
+                workers,
+                scripts,
+                explain,
+                log,
+            },
+        ) => serve(
+            &rt,
+            &rt,
+            workers,
+            scripts.as_slice(),
+            Wanted { explain, log },
+        ),
         Ok(Command::Replay { file }) => replay(&rt, file.as_str()),
         Ok(Command::Asm { file, explain }) => asm(&rt, file.as_str(), explain),
         Ok(

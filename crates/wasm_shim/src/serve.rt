@@ -4,6 +4,7 @@ ghost use Rattle.std.specs.Prelude.{◌≡◌, ◌+◌};
 ghost use Rattle.call_journal.specs.Seats.{most_seats};
 
 use crate::report::{failed, file_failed, stream_failed};
+use crate::watched::{Wanted, Watch};
 use call_journal::{Cells, MOST_SEATS, Row, Shim};
 use callers::{Driven, drive};
 use request_lines::Watched;
@@ -16,8 +17,19 @@ use std::process::ExitCode;
 use std::sync::Wait;
 use std::sync::ledger::Blank;
 use std::thread::Threads;
+use std::time::Instant;
 
 const OUT_OF_MEMORY: &str = "out of memory";
+
+/// What `serve` is to do.
+#[derive(Clone, Copy)]
+struct Service<'a> {
+    workers: u64,
+    scripts: &'a [String],
+    wanted: Wanted,
+    /// When it began; None if the clock failed.
+    start: Option<Instant>,
+}
 
 // Opens the file of each script, in order.
 fn open_all(rt: &HostRuntime, scripts: &[String]) -> Result<Vec<File>, ExitCode> {
@@ -74,7 +86,7 @@ fn serve_stream<J: Row + Send + Sync, H: Threads + Wait + Sync, R: Read + Drop>(
     rt: &HostRuntime,
     threads: &H,
     shim: &Shim<J>,
-    workers: u64,
+    service: Service<'_>,
     name: &str,
     reader: R,
 ) -> ExitCode {
@@ -85,8 +97,10 @@ fn serve_stream<J: Row + Send + Sync, H: Threads + Wait + Sync, R: Read + Drop>(
     let mut input = Watched::new(reader);
     let mut output = Watched::new(rt.stdout());
     let (from, to) = (&mut input, &mut output);
-    let driven = with_workers(threads, alloc, shim, workers, move || {
-        let (_seat, driven) = drive(threads, alloc, shim, seat, from, to);
+    let watch = Watch::new(rt, service.wanted, service.start, "");
+    let driven = with_workers(threads, alloc, shim, service.workers, move || {
+        let mut watch = watch;
+        let (_seat, driven) = drive(threads, alloc, shim, seat, from, to, &mut watch);
         driven
     });
     match driven {
@@ -96,19 +110,24 @@ fn serve_stream<J: Row + Send + Sync, H: Threads + Wait + Sync, R: Read + Drop>(
 }
 
 // A caller for each file.
-fn callers_of<J: Row, H: Wait>(
-    rt: &HostRuntime,
+fn callers_of<'a, J: Row, H: Wait>(
+    rt: &'a HostRuntime,
     threads: &H,
     shim: &Shim<J>,
+    service: Service<'a>,
     files: Vec<File>,
-) -> Result<Vec<Caller<J, Watched<File>>>, ExitCode> {
+) -> Result<Vec<Caller<J, Watched<File>, Watch<'a>>>, ExitCode> {
     let mut callers = Vec::new(rt.alloc());
-    for file in files {
+    for (script, file) in service.scripts.iter().zip(files) {
         let Some(seat) = shim.seat(threads) else {
             return Err(failed(rt, "no seat is left"));
         };
-        let reader = Watched::new(file);
-        if callers.push(Caller { seat, reader }).is_err() {
+        let caller = Caller {
+            seat,
+            reader: Watched::new(file),
+            notes: Watch::new(rt, service.wanted, service.start, script.as_str()),
+        };
+        if callers.push(caller).is_err() {
             return Err(failed(rt, OUT_OF_MEMORY));
         }
     }
@@ -120,7 +139,7 @@ fn callers_of<J: Row, H: Wait>(
 fn tell<J: Row>(
     rt: &HostRuntime,
     name: &str,
-    answered: Option<Answered<J, Watched<File>>>,
+    answered: Option<Answered<J, Watched<File>, Watch<'_>>>,
 ) -> bool {
     let Some(answered) = answered else {
         file_failed(rt, name, "its thread cannot be started");
@@ -148,7 +167,7 @@ fn tell<J: Row>(
 fn tell_all<J: Row>(
     rt: &HostRuntime,
     scripts: &[String],
-    all: Vec<Option<Answered<J, Watched<File>>>>,
+    all: Vec<Option<Answered<J, Watched<File>, Watch<'_>>>>,
 ) -> ExitCode {
     let mut well = true;
     for (script, answered) in scripts.iter().zip(all) {
@@ -166,20 +185,19 @@ fn serve_scripts<J: Row + Send + Sync, H: Threads + Wait + Sync>(
     rt: &HostRuntime,
     threads: &H,
     shim: &Shim<J>,
-    workers: u64,
-    scripts: &[String],
+    service: Service<'_>,
     files: Vec<File>,
 ) -> ExitCode {
     let alloc = rt.alloc();
-    let callers = match callers_of(rt, threads, shim, files) {
+    let callers = match callers_of(rt, threads, shim, service, files) {
         Ok(callers) => callers,
         Err(status) => return status,
     };
-    let done = with_workers(threads, alloc, shim, workers, move || {
+    let done = with_workers(threads, alloc, shim, service.workers, move || {
         answer_all(threads, alloc, shim, callers)
     });
     match done {
-        Ok(Ok(all)) => tell_all(rt, scripts, all),
+        Ok(Ok(all)) => tell_all(rt, service.scripts, all),
         Ok(Err(_)) => failed(rt, OUT_OF_MEMORY),
         Err(error) => not_started(rt, error),
     }
@@ -189,8 +207,7 @@ fn serve_scripts<J: Row + Send + Sync, H: Threads + Wait + Sync>(
 fn serve_callers<J: Row + Send + Sync, H: Threads + Wait + Sync>(
     rt: &HostRuntime,
     threads: &H,
-    workers: u64,
-    scripts: &[String],
+    service: Service<'_>,
     files: Vec<File>,
     cells: Cells,
     blank: Blank,
@@ -203,22 +220,24 @@ fn serve_callers<J: Row + Send + Sync, H: Threads + Wait + Sync>(
         return failed(rt, OUT_OF_MEMORY);
     };
     let mut files = files;
-    if scripts.len() > 1 {
-        return serve_scripts(rt, threads, &shim, workers, scripts, files);
+    if service.scripts.len() > 1 {
+        return serve_scripts(rt, threads, &shim, service, files);
     }
-    match (scripts.first(), files.pop()) {
-        (Some(name), Some(file)) => serve_stream(rt, threads, &shim, workers, name.as_str(), file),
-        _ => serve_stream(rt, threads, &shim, workers, "standard input", rt.stdin()),
+    match (service.scripts.first(), files.pop()) {
+        (Some(name), Some(file)) => serve_stream(rt, threads, &shim, service, name.as_str(), file),
+        _ => serve_stream(rt, threads, &shim, service, "standard input", rt.stdin()),
     }
 }
 
 /// Answers the lines of the files of these names, each a caller of its own, or else those of standard input,
-/// while this many workers run the tasks. Then the shim is closed, and running tasks are left.
+/// while this many workers run the tasks. What is wanted of their lines is said on standard error. Then the shim is
+/// closed, and running tasks are left.
 pub fn serve<H: Threads + Wait + Sync>(
     rt: &HostRuntime,
     threads: &H,
     workers: u64,
     scripts: &[String],
+    wanted: Wanted,
 ) -> ExitCode {
     let files = match open_all(rt, scripts) {
         Ok(files) => files,
@@ -227,6 +246,12 @@ pub fn serve<H: Threads + Wait + Sync>(
     let Some(cells) = Cells::new(rt.alloc()) else {
         return failed(rt, OUT_OF_MEMORY);
     };
+    let service = Service {
+        workers,
+        scripts,
+        wanted,
+        start: Instant::now(rt).ok(),
+    };
     let blank = Blank::new(MOST_SEATS + 1);
-    serve_callers::<Brand, _>(rt, threads, workers, scripts, files, cells, blank)
+    serve_callers::<Brand, _>(rt, threads, service, files, cells, blank)
 }

@@ -65,4 +65,5 @@ spawn_with-requires-send-F g c κs within =
     let k = c.requires.1 in
     let h = c.requires.2 in
     let r = c.requires.3 in
+    let n = c.requires.4 in
     search (sendable, std_sent.crosses, std_sent.send, shim_sync, caller.the_send, seat.the_send) depth 30 fits 100000

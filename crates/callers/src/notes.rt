@@ -1,0 +1,33 @@
+//! What is told the lines of a caller beside its replies.
+
+use call_journal::{Row, Seat, Shim};
+use task_board::Reply;
+use wasm_ast::Refusal;
+
+/// What is told each line of a caller and its answer, in their order. Nothing that it does changes what is answered
+/// or written.
+pub trait Notes {
+    /// A line, of which nothing is there if it is too long, is answered so, and its reply was written if that could
+    /// be. The seat is that of the caller after its call.
+    fn note<J: Row>(
+        &mut self,
+        shim: &Shim<J>,
+        seat: &Seat<J>,
+        line: Option<&[u8]>,
+        answer: &Result<Reply, Refusal>,
+    );
+}
+
+/// Takes no notes.
+#[derive(Clone, Copy, Drop)]
+pub struct NoNotes;
+
+impl Notes for NoNotes {
+    fn note<J: Row>(
+        &mut self,
+        _shim: &Shim<J>,
+        _seat: &Seat<J>,
+        _line: Option<&[u8]>,
+        _answer: &Result<Reply, Refusal>,
+    ) {}
+}
