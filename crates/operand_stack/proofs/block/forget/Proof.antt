@@ -50,18 +50,21 @@ forget_spec 𝓤 𝓛 𝓜 𝓡 wired X L =
     let vss = z.0.4 in
     let κT : Lft = z.0.0.0 in let qT : Share = z.0.1.0 in
     let E :
-        El =
-        record { row = X; laws = L;
-        al =
-        record { row = X; laws = L; g = record { dealloc_token = λ _ _ _. ftrue }; d = dict_at 0; drops = dict_at 0 } }
-        in
+    El =
+    record {
+      row = X;
+      laws = L;
+      al =
+          record { row = X; laws = L; g = record { dealloc_token = λ _ _ _. ftrue }; d = dict_at 0; drops = dict_at 0 };
+    }
+    in
     let r : (Row E).Denot = z.0.3.0 in let n : ℕ = slots_len r in
     let None : Type 0 = n ≡ 0 in
     qed 𝓛
-        (((‵ (flft κT qT) ⊛ ‵ ftrue) ⊛ ‵ (owns (types_at En₀.signature.params z.0.0) z.0.3 vss))
-        ∷ (raw (fact 𝓤 (κT ⊑ X.lives)) ⊛ raw (fact 𝓤 None)) ∷ []) ∵
+    (((‵ (flft κT qT) ⊛ ‵ ftrue) ⊛ ‵ (owns (types_at En₀.signature.params z.0.0) z.0.3 vss))
+    ∷ (raw (fact 𝓤 (κT ⊑ X.lives)) ⊛ raw (fact 𝓤 None)) ∷ []) ∵
     move ! (1 ∷ []) $ split ! $ heard ! (κT ⊑ X.lives)
-        (λ inT. drop ! $ split ! $ split ! $ move ! (2 ∷ []) $ fsplit ! $ keep ! (0 ∷ 2 ∷ []) $
+    (λ inT. drop ! $ split ! $ split ! $ move ! (2 ∷ []) $ fsplit ! $ keep ! (0 ∷ 2 ∷ []) $
     row_had (el E) ! r vss.0 (λ b o at e₁ fk small. row_made (el E) ! r b o at fk small $
     let words : WT (row_val b o n) = (tt, (record { fits = fk }, tt)) in
     regoal ! (λ (us : List Val). prop (WpFn 𝓤 H C Λ fn us Post)) (λ i. e₁ i ++ []) refl $
@@ -72,14 +75,14 @@ forget_spec 𝓤 𝓛 𝓜 𝓡 wired X L =
     first ! $ blocks ! $ sets ! (of_opd ! (get ! refl)) refl (tt, words) $
     use2 𝓛 (raw ((Into E 𝓛 𝓜.mem 𝓡.returns).pre y)) (Into-goes E 𝓛 𝓜.mem 𝓡.returns κT qT r b o inT) $
     calls_at_last ! (fm 𝓛 𝓜 𝓡) (Into E 𝓛 𝓜.mem 𝓡.returns)
-        (callee.met 𝓤 𝓛 𝓜 𝓡 (compiled.calls-core::slots::Slots::into_raw_parts 𝓡.env wired) X L) y
-        (and_then ! (get ! refl) (no_more !)) (λ v.
+    (callee.met 𝓤 𝓛 𝓜 𝓡 (compiled.calls-core::slots::Slots::into_raw_parts 𝓡.env wired) X L) y
+    (and_then ! (get ! refl) (no_more !)) (λ v.
     use1 𝓛 (later (given (v ≡ row_val b o n) (‵ (all E b o (slots_items r) (slots_filled r)) ⊛ ‵ (flft κT qT))))
-        (Into-gives E 𝓛 𝓜.mem 𝓡.returns κT qT r b o v at) $ await ! tt $ learn ! (λ e. split ! $
+    (Into-gives E 𝓛 𝓜.mem 𝓡.returns κT qT r b o v at) $ await ! tt $ learn ! (λ e. split ! $
     lands_last ! refl (parts_typed v b o n e fk) $ exec ! C Λ En (after 1 fn.body) (at_ret En Post) $
     sets ! (of_opd ! (get ! refl)) refl (parts_typed v b o n e fk) $
     sets ! (of_opd ! (unit_lit !)) refl (tt, tt) $ returns ! (look_at ! 0 refl) $ free_all ! refl $ keep ! (1 ∷ []) $
     nothing ! $ move ! (1 ∷ 0 ∷ []) $ join ! $
     nothing ! $ feq_i ! (List Val) (vunit ∷ []) (vunit ∷ []) refl $ nothing ! $ nothing ! $ fjoin ! $ move !
-        (3 ∷ 0 ∷ 1 ∷ 2 ∷ []) $
+    (3 ∷ 0 ∷ 1 ∷ 2 ∷ []) $
     by ! (leaves 𝓛 En₀ stays c z vunit tt (tt, tt) (tt, tt))))))))

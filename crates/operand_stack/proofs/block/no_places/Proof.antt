@@ -54,16 +54,19 @@ no_places_spec 𝓤 𝓛 𝓜 𝓡 wired T L =
     let b = a.0.ref_ptr.0 in
     let o = a.0.ref_ptr.1 in
     let E :
-        El =
-        record { row = T; laws = L;
-        al =
-        record { row = T; laws = L; g = record { dealloc_token = λ _ _ _. ftrue }; d = dict_at 0; drops = dict_at 0 } }
-        in
+    El =
+    record {
+      row = T;
+      laws = L;
+      al =
+          record { row = T; laws = L; g = record { dealloc_token = λ _ _ _. ftrue }; d = dict_at 0; drops = dict_at 0 };
+    }
+    in
     let none : 0 < 2 ^ 64 = lit< tt in
     let fit : 0 * sz E < 2 ^ 63 = subst (λ (k : ℕ). k < 2 ^ 63) (sym (zero-mul (sz E))) (lit< tt) in
     qed 𝓛
-        (((‵ (flft κ q) ⊛ ‵ (flft κT qT) ⊛ ‵ ftrue) ⊛ ‵ (owns (types_at En₀.signature.params z.0.0) a vss))
-        ∷ (raw (fact 𝓤 (κT ⊑ T.lives)) ⊛ ‵ ftrue) ∷ []) ∵
+    (((‵ (flft κ q) ⊛ ‵ (flft κT qT) ⊛ ‵ ftrue) ⊛ ‵ (owns (types_at En₀.signature.params z.0.0) a vss))
+    ∷ (raw (fact 𝓤 (κT ⊑ T.lives)) ⊛ ‵ ftrue) ∷ []) ∵
     move ! (1 ∷ []) $ split ! $ heard ! (κT ⊑ T.lives) (λ le. drop ! $ split ! $ split3 ! $ keep ! (0 ∷ 1 ∷ []) $
     let y = at_from E 𝓛 𝓜.mem 𝓡.returns κT qT b o 0 [] [] in
     regoal ! (λ (us : List Val). prop (WpFn 𝓤 H C Λ fn us Post)) (λ i. are.0.0 i ++ []) refl $
@@ -73,27 +76,27 @@ no_places_spec 𝓤 𝓛 𝓜 𝓡 wired T L =
     first ! $ blocks ! $
     nothing ! $ move ! (0 ∷ 2 ∷ []) $
     use2 𝓛 (raw ((From E 𝓛 𝓜.mem 𝓡.returns).pre y))
-        (from_goes E 𝓛 𝓜.mem 𝓡.returns κT qT b o 0 [] [] le refl refl none fit) $
+    (from_goes E 𝓛 𝓜.mem 𝓡.returns κT qT b o 0 [] [] le refl refl none fit) $
     calls_at_last ! (fm 𝓛 𝓜 𝓡) (From E 𝓛 𝓜.mem 𝓡.returns)
-        (callee.met 𝓤 𝓛 𝓜 𝓡 (compiled.calls-core::slots::Slots::from_raw_parts 𝓡.env wired) T L) y
-        (and_then ! (get ! refl) (and_then ! (lit ! tt) (no_more !))) (λ v.
+    (callee.met 𝓤 𝓛 𝓜 𝓡 (compiled.calls-core::slots::Slots::from_raw_parts 𝓡.env wired) T L) y
+    (and_then ! (get ! refl) (and_then ! (lit ! tt) (no_more !))) (λ v.
     use1 𝓛
-        (later
-        (some
-        (λ (r : (Row E).Denot). given ((v ≡ row_val b o 0) × Made E 𝓛 𝓜.mem 𝓡.returns κT qT b o 0 [] [] r)
-        (‵ ((Row E).own_val r (row_val b o 0 ∷ [])) ⊛ ‵ (flft κT qT)))))
-        (from_gives E 𝓛 𝓜.mem 𝓡.returns κT qT b o 0 [] [] v) $
+    (later
+    (some
+    (λ (r : (Row E).Denot). given ((v ≡ row_val b o 0) × Made E 𝓛 𝓜.mem 𝓡.returns κT qT b o 0 [] [] r)
+    (‵ ((Row E).own_val r (row_val b o 0 ∷ [])) ⊛ ‵ (flft κT qT)))))
+    (from_gives E 𝓛 𝓜.mem 𝓡.returns κT qT b o 0 [] [] v) $
     await ! tt $ pick !
-        (λ r. learn !
-        (λ made. split ! $ regoal !
-        (λ (u : Val). settles En (place 3 []) u
-        (out_of_block 𝓛 (then_runs 𝓛 C Λ En (after 2 fn.body) (at_ret En Post)))) (made.0) refl $ lands_last ! refl
-        (tt, (tt, (record { fits = none }, tt))) $
+    (λ r. learn !
+    (λ made. split ! $ regoal !
+    (λ (u : Val). settles En (place 3 []) u
+    (out_of_block 𝓛 (then_runs 𝓛 C Λ En (after 2 fn.body) (at_ret En Post)))) (made.0) refl $ lands_last ! refl
+    (tt, (tt, (record { fits = none }, tt))) $
     exec ! C Λ En (after 2 fn.body) (at_ret En Post) $
     sets ! (of_opd ! (get ! refl)) refl (tt, (tt, (record { fits = none }, tt))) $
     returns ! (look_at ! 0 refl) $ free_all ! refl $
     -- [the row; T's token; the reference's token]
     nothing ! $ move ! (2 ∷ 0 ∷ []) $ join ! $ move ! (2 ∷ 0 ∷ []) $ join ! $
     use0 𝓛 (raw (fact 𝓤 (r.len ≡ 0))) (fact_i 𝓤 (r.len ≡ 0) (emp 𝓤) made.1.1) $ nothing ! $ nothing ! $ fjoin ! $ move !
-        (2 ∷ 0 ∷ 3 ∷ 1 ∷ []) $
+    (2 ∷ 0 ∷ 3 ∷ 1 ∷ []) $
     by ! (leaves 𝓛 En₀ stays c z (row_val b o 0) r (tt, tt) (tt, tt))))))))
