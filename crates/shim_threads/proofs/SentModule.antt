@@ -29,6 +29,8 @@ use Rattle.wasm_ast.proofs.module.Export.TheSendSync as export_
 use Rattle.wasm_ast.proofs.module.Limits.TheSendSync as limits
 use Rattle.wasm_ast.proofs.module.Mutability.TheSendSync as mutability
 use Rattle.validator.specs.contracts.valid_module.Valid as valids
+use Rattle.validator.specs.contracts.packed_module.PackedModule as packed_modules
+use Rattle.validator.proofs.packed.PackedParams.TheSendSync as packed_params
 
 simple_send : IsSend simples.the_row
 simple_send = simples_cross.the_send
@@ -110,8 +112,20 @@ module_send = search (sendable, std_sent.crosses, body_send, func_send, global_s
 module_sync : IsSync modules.the_row
 module_sync = search (sendable, std_sent.crosses, body_sync, func_sync, global_sync, element_sync, segment_sync, func_type.the_sync, import_.the_sync, export_.the_sync, limits.the_sync, sequence.the_sync) depth 40
 
+module_field_send : IsSend (modules.the_field).row
+module_field_send = search (sendable, std_sent.crosses, body_send, func_send, global_send, element_send, segment_send, func_type.the_send, import_.the_send, export_.the_send, limits.the_send, sequence.the_send) depth 40
+
+module_field_sync : IsSync (modules.the_field).row
+module_field_sync = search (sendable, std_sent.crosses, body_sync, func_sync, global_sync, element_sync, segment_sync, func_type.the_sync, import_.the_sync, export_.the_sync, limits.the_sync, sequence.the_sync) depth 40
+
+packed_send : IsSend packed_modules.the_row
+packed_send = search (sendable, std_sent.crosses, module_send, module_field_send, packed_params.the_send) depth 40 fits 100000
+
+packed_sync : IsSync packed_modules.the_row
+packed_sync = search (sendable, std_sent.crosses, module_sync, module_field_sync, packed_params.the_sync) depth 40 fits 100000
+
 pub valid_send : IsSend valids.the_row
-valid_send = search (sendable, std_sent.crosses, module_send, module_sync) depth 40
+valid_send = search (sendable, std_sent.crosses, packed_send, packed_sync) depth 40
 
 pub valid_sync : IsSync valids.the_row
-valid_sync = search (sendable, std_sent.crosses, module_send, module_sync) depth 40
+valid_sync = search (sendable, std_sent.crosses, packed_send, packed_sync) depth 40
