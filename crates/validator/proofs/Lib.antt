@@ -15,3 +15,4 @@ pub mod Decided
 pub mod TypingLemmas
 pub mod FaultLemmas
 pub mod PackedLemmas
+pub mod UncheckedTypes

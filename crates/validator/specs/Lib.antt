@@ -1,5 +1,6 @@
 pub mod Typing
 pub mod PlaceTypes
+pub mod SequenceTypes
 pub mod Faults
 pub mod Worked
 pub mod Inside

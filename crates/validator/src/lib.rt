@@ -19,9 +19,12 @@ mod simple;
 mod steps;
 mod type_list;
 mod types;
+mod unchecked;
 mod valid_module;
 mod validation;
 mod walk;
 
+pub use access::{is_aligned, load_bytes, source_of, store_bytes, store_type};
 pub use types::{KnownOperands, Types};
+pub use unchecked::{EndTypes, Unchecked};
 pub use valid_module::{Valid, validate};
