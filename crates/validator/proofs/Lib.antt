@@ -16,3 +16,5 @@ pub mod TypingLemmas
 pub mod FaultLemmas
 pub mod PackedLemmas
 pub mod UncheckedTypes
+pub mod EachLemmas
+pub mod EachOfModules

@@ -1,6 +1,7 @@
 -- What only private clauses and the checker's types name.
 pub mod Algorithm
 pub mod PlaceWalk
+pub mod EachPlace
 pub mod Blocks
 pub mod FunctionContext
 pub mod CheckErrors

@@ -1,6 +1,6 @@
 //! The labels of the blocks that are open.
 
-ghost use Rattle.std.specs.Prelude.{◌≡◌, ◌∷◌, ◌⊎◌, [], IsTrue, OnOk, Some, slice_get, drop, length};
+ghost use Rattle.std.specs.Prelude.{◌≡◌, ◌∷◌, ◌⊎◌, [], IsTrue, IfOk, OnOk, Some, slice_get, drop, length};
 ghost use Rattle.validator.specs.declared.labels.Label.{Label as LabelValue};
 
 use crate::type_list::TypeList;
@@ -44,6 +44,20 @@ impl<'a> Labels<'a> {
         Labels {
             labels: Vec::new(alloc),
         }
+    }
+
+    /// The same labels.
+    pub fn copy(&self, alloc: Global) -> Result<Labels<'a>, AllocError>
+        ensures { IfOk result (λ l. l ≡ self.now) }
+    {
+        let mut labels = Vec::with_capacity(alloc, self.labels.len())?;
+        for label in &self.labels {
+            labels.push_reserved(Label {
+                types: label.types.copy(),
+                alike: label.alike,
+            });
+        }
+        Ok(Labels { labels })
     }
 
     /// Adds the label of a block inside all others.

@@ -6,6 +6,7 @@ mod block_types;
 mod bodies;
 mod check_error;
 mod comparisons;
+mod each_place;
 mod function;
 mod groups;
 mod labels;

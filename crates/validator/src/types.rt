@@ -56,8 +56,8 @@ impl Stacks {
     }
 
     /// Adds the operands of a block inside all others.
-    pub fn push(&mut self, operands: Operands<'_>) -> Result<(), AllocError>
-        ensures { OnOk result (self.new ≡ operands.entry.stack ∷ self.old) }
+    pub fn push(&mut self, operands: &Operands<'_>) -> Result<(), AllocError>
+        ensures { OnOk result (self.new ≡ operands.now.stack ∷ self.old) }
     {
         let block = OpenBlock {
             types: operands.spread(self.alloc)?,

@@ -1,14 +1,17 @@
 //! Modules that are valid (3).
 
-ghost use Rattle.std.specs.Prelude.{◌≡◌, ◌⊎◌, ◌↔◌, Option, IfOk, OnOk, OnErr, Err};
+ghost use Rattle.std.specs.Prelude.{◌≡◌, ◌⊎◌, ◌↔◌, ℕ, All, Option, IfOk, OnOk, OnErr, Err};
 ghost use Rattle.std.specs.Arc.{arc_value};
+ghost use Rattle.std.specs.List.Sorted.{IsStrictlyIncreasing};
 ghost use Rattle.wasm_ast.specs.declared.refusal.Refusal.TheVariants as refusal;
 ghost use Rattle.wasm_ast.specs.declared.place.Place.{Place};
 ghost use Rattle.validator.specs.Typing.{ValidModule};
 ghost use Rattle.validator.specs.Faults.{NamesFault};
+ghost use Rattle.validator.specs.EachPlace.{AtEach};
 ghost use Rattle.validator.specs.PlaceTypes.{Point, IsPlace, ReachesAt, PassesAt, MatchPoint};
 
 use crate::check_error::CheckError;
+use crate::each_place::known_at_each;
 use crate::function::own_function;
 use crate::packed_module::PackedModule;
 use crate::types::Types;
@@ -90,6 +93,35 @@ impl Valid {
     {
         let function = own_function(self.packed(), func);
         match known_at(alloc, &function, place) {
+            Ok(types) => Ok(types),
+            Err(CheckError::Memory) => Err(Refusal::NoMemory),
+            Err(CheckError::Invalid) => unreachable!(),
+        }
+    }
+
+    /// What `types_at` answers for each of these places of a function's body, which are in rising order. The body
+    /// is walked once: the time is linear in it up to the last place, and in what is known at the places.
+    pub fn types_at_each<'a>(
+        &'a self,
+        alloc: Global,
+        func: u32,
+        places: &[u32],
+    ) -> Result<Vec<Types<'a>>, Refusal>
+        requires rising { IsStrictlyIncreasing places.now }
+        requires places { All (IsPlace self.now func) places.now }
+        ensures exact { IfOk result (λ types. AtEach (λ place t.
+            (p : Point) → MatchPoint t p ↔ ReachesAt self.now func place p) places.now types.items) }
+        ensures every { IfOk result (λ types. AtEach (λ place t.
+            (p : Point) → PassesAt self.now func place p → MatchPoint t p) places.now types.items) }
+        ensures some { IfOk result (λ types. AtEach (λ place t.
+            (p : Point) × PassesAt self.now func place p × MatchPoint t p) places.now types.items) }
+        ensures err { OnErr result (result ≡ Err refusal.NoMemory) }
+    {
+        if places.is_empty() {
+            return Ok(Vec::new(alloc));
+        }
+        let function = own_function(self.packed(), func);
+        match known_at_each(alloc, &function, places) {
             Ok(types) => Ok(types),
             Err(CheckError::Memory) => Err(Refusal::NoMemory),
             Err(CheckError::Invalid) => unreachable!(),

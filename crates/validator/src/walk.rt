@@ -123,7 +123,7 @@ fn enter_instr<'a>(
         place ≡ None }
 {
     let Some(inside) = place.checked_sub(1) else {
-        stacks.push(operands)?;
+        stacks.push(&operands)?;
         return Ok(());
     };
     match instr {
@@ -193,7 +193,7 @@ fn enter_block<'a>(
     if !operands.pop_all(&types.params) {
         return Err(CheckError::Invalid);
     }
-    stacks.push(operands)?;
+    stacks.push(&operands)?;
     enter_body(function, labels, stacks, label, &types.params, body, place)
 }
 
