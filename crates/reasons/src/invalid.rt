@@ -4,12 +4,16 @@ ghost use Rattle.std.specs.Prelude.{IsTrue};
 ghost use Rattle.wasm_ast.specs.View.{op_of};
 ghost use Rattle.text_assembler.specs.Lines.{IsAligned};
 
+use crate::ends::{block_text, body_end_text};
 use crate::fields::find_field;
 use crate::find_instr::instr_at;
 use crate::module::module_of;
+use crate::operands::{OTHERS, simple_text};
+use crate::shown::shown;
 use std::alloc::{AllocError, Global};
 use text_assembler::instr_text;
-use wasm_ast::{Func, GlobalOp, Instr, Module, Mutability, Place, Simple};
+use validator::Unchecked;
+use wasm_ast::{BlockType, Func, GlobalOp, Instr, Module, Mutability, Place, Simple};
 
 /// What an instruction names that is not there.
 #[derive(Clone, Copy)]
@@ -30,12 +34,18 @@ fn is_aligned(instr: &Instr) -> bool
     }
 }
 
-// An instruction as text.
+// An instruction as text, of a `br_table` its first labels.
 fn text_of(alloc: Global, instr: &Instr) -> Result<String, AllocError> {
     if !is_aligned(instr) {
         return String::from_str(alloc, "an access whose alignment is over 2^31");
     }
-    instr_text(alloc, instr).map_err(|_| AllocError)
+    let Ok(text) = instr_text(alloc, instr) else {
+        return Err(AllocError);
+    };
+    match instr {
+        Instr::Simple(Simple::BrTable(_, _)) => shown(alloc, text.as_str()),
+        _ => Ok(text),
+    }
 }
 
 // That there are no more than this many.
@@ -102,65 +112,83 @@ fn lacking(of: &Module, func: &Func, simple: &Simple) -> Option<Missing> {
     }
 }
 
-// What is said of an instruction that lacks nothing but a label or its operands.
-fn operand_reason(simple: &Simple) -> &'static str {
-    match simple {
-        Simple::Br(_) | Simple::BrIf(_) | Simple::BrTable(_, _) => {
-            "no such label is open, or it finds other operands than it or the label needs"
-        }
-        Simple::Load(_, _) | Simple::Store(_, _) => {
-            "its alignment is over its width, or it finds other operands than it needs"
-        }
-        _ => "it finds other operands than it needs",
+// The type that a block names by an index.
+fn block_type(of: &Module, kind: BlockType) -> Option<Missing> {
+    match kind {
+        BlockType::Index(at) => index("types", of.types.len(), at),
+        _ => None,
     }
 }
 
-// What is said of an instruction at fault.
-fn instr_reason(
+// What an instruction of this function names that is not there, but for labels.
+fn not_there(of: &Module, func: &Func, instr: &Instr) -> Option<Missing> {
+    match instr {
+        Instr::Simple(simple) => lacking(of, func, simple),
+        Instr::Block(kind, _) | Instr::Loop(kind, _) | Instr::If(kind, _, _) => {
+            block_type(of, *kind)
+        }
+    }
+}
+
+// What is said of an instruction at fault at this place that names nothing that is not there, but perhaps a
+// label.
+fn operand_text(
     alloc: Global,
-    of: &Module,
+    of: &Unchecked,
     func: &Func,
+    at: Place,
     instr: &Instr,
 ) -> Result<String, AllocError> {
-    let Instr::Simple(simple) = instr else {
-        return String::from_str(
-            alloc,
-            "it finds other operands than it needs, or its body ends with others than its results",
-        );
+    let Some(types) = of.types_before(alloc, at.func, at.instr)? else {
+        return String::from_str(alloc, OTHERS);
     };
-    match lacking(of, func, simple) {
+    match instr {
+        Instr::Simple(simple) => simple_text(alloc, of.module(), func, &types, simple),
+        _ => block_text(alloc, of, at.func, &types, instr),
+    }
+}
+
+// What is said of an instruction at fault at this place.
+fn instr_reason(
+    alloc: Global,
+    of: &Unchecked,
+    func: &Func,
+    at: Place,
+    instr: &Instr,
+) -> Result<String, AllocError> {
+    match not_there(of.module(), func, instr) {
         Some(Missing::Index { what, count }) => format!(in alloc; "of {what} there are {count}"),
         Some(Missing::Fact(fact)) => String::from_str(alloc, fact),
-        None => String::from_str(alloc, operand_reason(simple)),
+        None => operand_text(alloc, of, func, at, instr),
     }
 }
 
 // What is said of a place of this function.
-fn body_text(alloc: Global, of: &Module, func: &Func, at: Place) -> Result<String, AllocError> {
+fn body_text(alloc: Global, of: &Unchecked, func: &Func, at: Place) -> Result<String, AllocError> {
     let number = at.func;
     let place = at.instr;
     match instr_at(&func.body, place) {
         Some(instr) => {
             let text = text_of(alloc, instr)?;
-            let reason = instr_reason(alloc, of, func, instr)?;
+            let reason = instr_reason(alloc, of, func, at, instr)?;
             format!(in alloc; "function {number}, instruction {place}, {text}: {reason}")
         }
         None => {
-            format!(in alloc;
-                "function {number}, after its last instruction: the operands are not its results"
-            )
+            let reason = body_end_text(alloc, of, func, number)?;
+            format!(in alloc; "function {number}, after its last instruction: {reason}")
         }
     }
 }
 
+// The module's own function with this index, imports counted first.
+fn own_func(of: &Module, func: u32) -> Option<&Func> {
+    let own = (func as usize).checked_sub(of.imports.len())?;
+    of.funcs.as_slice().get(own)
+}
+
 // What is said of a place.
-fn place_text(alloc: Global, of: &Module, at: Place) -> Result<String, AllocError> {
-    let own = (at.func as usize).checked_sub(of.imports.len());
-    let func = match own {
-        Some(own) => of.funcs.as_slice().get(own),
-        None => None,
-    };
-    match func {
+fn place_text(alloc: Global, of: &Unchecked, at: Place) -> Result<String, AllocError> {
+    match own_func(of.module(), at.func) {
         Some(func) => body_text(alloc, of, func, at),
         None => Ok(String::new(alloc)),
     }
@@ -186,7 +214,10 @@ pub fn why_invalid(alloc: Global, bytes: &[u8], at: Option<Place>) -> Result<Str
         return Ok(String::new(alloc));
     };
     match at {
-        Some(at) => place_text(alloc, &of, at),
+        Some(at) => {
+            let of = Unchecked::new(alloc, of)?;
+            place_text(alloc, &of, at)
+        }
         None => outside_text(alloc, &of),
     }
 }

@@ -7,10 +7,12 @@
 
 mod bad_text;
 mod body;
+mod branches;
 mod code;
 mod command_line;
 mod config;
 mod config_texts;
+mod ends;
 mod fields;
 mod find_instr;
 mod first_bytes;
@@ -23,6 +25,7 @@ mod limits;
 mod line;
 mod line_keys;
 mod module;
+mod operands;
 mod outside;
 mod parts;
 mod place;
@@ -35,6 +38,7 @@ mod spelling;
 mod stop;
 mod task;
 mod token;
+mod type_names;
 
 use bad_text::why_text;
 pub use command_line::TaskWords;
