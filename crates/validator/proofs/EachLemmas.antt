@@ -10,7 +10,7 @@ use Rattle.wasm_ast.specs.declared.values.ValType.TheVariants.{I32}
 use Rattle.wasm_ast.specs.declared.values.FuncType.{FuncType}
 use Rattle.wasm_ast.specs.declared.instr.BlockType.{BlockType}
 use Rattle.wasm_ast.specs.declared.instr.Instr.{Instr}
-use Rattle.wasm_ast.specs.Syntax.{Op, block, loop, Ops, stop, next, count, ops_count, ops_of}
+use Rattle.wasm_ast.specs.Syntax.{Op, block, loop, Ops, next, count, ops_count, ops_of}
 use Rattle.wasm_ast.specs.View.{op_of}
 use Rattle.wasm_ast.specs.Types.{block_type}
 use Rattle.validator.specs.Typing.{Context, under}

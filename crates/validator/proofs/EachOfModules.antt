@@ -1,11 +1,11 @@
 -- Several places of a valid module's function: what the algorithm knows at each.
-use Rattle.std.proofs.Common.{◌≡◌, ℕ, ◌<◌, true, false, true≢false, nat_lt, is_some, List, [], ◌∷◌, All, Option, Some, None, refl, sym, ap, subst, ◌∙◌, arith}
+use Rattle.std.proofs.Common.{◌≡◌, ℕ, ◌<◌, true, false, true≢false, nat_lt, is_some, List, [], ◌∷◌, All, Some, refl, sym, ap, subst, ◌∙◌, arith}
 use Rattle.std.proofs.lemmas.Bool.Decides.{nat_tests}
 use Rattle.std.proofs.lemmas.List.Elements.{All-head, All-tail, All-weaker}
 use Rattle.wasm_ast.specs.declared.values.FuncType.{FuncType}
 use Rattle.wasm_ast.specs.declared.module.Func.{Func}
 use Rattle.wasm_ast.specs.declared.module.Module.{Module}
-use Rattle.wasm_ast.specs.Syntax.{Ops, ops_count, ops_at}
+use Rattle.wasm_ast.specs.Syntax.{ops_count, ops_at}
 use Rattle.wasm_ast.proofs.PlaceLemmas.{ops_counted}
 use Rattle.validator.specs.Typing.{ValidModule}
 use Rattle.validator.specs.PlaceTypes.{IsOwn, IsPlace}

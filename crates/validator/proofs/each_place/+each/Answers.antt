@@ -1,19 +1,16 @@
-use Rattle.std.proofs.Common.{◌≡◌, ℕ, suc, ◌+◌, List, ◌∷◌, refl, ap, sym, subst, ◌∙◌, arith, rules, map, drop, Some, Option, length, get_or}
-use Rattle.std.specs.Prelude.{if◌then◌else◌, nat_lt}
+use Rattle.std.proofs.Common.{◌≡◌, suc, ◌+◌, List, ◌∷◌, refl, ap, sym, subst, ◌∙◌, arith, rules, map, drop, Some}
 use Rattle.std.proofs.lemmas.Result.{on_ok_weaker}
 use Rattle.wasm_ast.specs.declared.values.ValType.{ValType}
 use Rattle.wasm_ast.specs.declared.instr.Instr.{Instr}
-use Rattle.wasm_ast.specs.Syntax.{Op, Ops, block, loop, if', count, ops_count, ops_of, next}
+use Rattle.wasm_ast.specs.Syntax.{Op, Ops, block, loop, if', count, ops_count, ops_of}
 use Rattle.wasm_ast.specs.View.{op_of}
-use Rattle.validator.specs.PlaceTypes.{Stack, Known}
 use Rattle.validator.specs.Inside.Algorithm.{after_i32, start, check_op}
-use Rattle.validator.specs.Inside.Blocks.{Blocks}
 use Rattle.validator.specs.Inside.FunctionContext.{context_of, func_type_of}
-use Rattle.validator.specs.Inside.PlaceWalk.{below, ops_known, op_known, arm_known}
-use Rattle.validator.specs.Inside.EachPlace.{FoundAt, Follows, stacks_of, IsKnown}
+use Rattle.validator.specs.Inside.PlaceWalk.{below, ops_known, op_known}
+use Rattle.validator.specs.Inside.EachPlace.{Follows, stacks_of}
 use Rattle.validator.proofs.CountLemmas.{item_le_count}
 use Rattle.validator.proofs.PlaceExact.{known_in_if}
-use Rattle.validator.proofs.EachLemmas.{finds_inside, known_in_block, known_in_loop, finds_same, finds_arms, if_opens, left_is, none_left, follows_first, follows_others, checked_others}
+use Rattle.validator.proofs.EachLemmas.{finds_inside, known_in_block, known_in_loop, finds_same, finds_arms, if_opens, left_is, follows_first, follows_others, checked_others}
 use Rattle.validator.proofs.each_place.+each.Goals as goal
 
 pub each_in-each_instr-requires : goal.each_in-each_instr-requires

@@ -1,4 +1,4 @@
-use Rattle.std.proofs.Common.{◌≡◌, ℕ, length, Some, subst, sym, ◌∙◌, rules}
+use Rattle.std.proofs.Common.{◌≡◌, length, Some, rules}
 use Rattle.std.specs.Prelude.{slice_get}
 use Rattle.validator.proofs.EachLemmas.{found_here, next_from}
 use Rattle.validator.proofs.each_place.add_here.Goals as goal

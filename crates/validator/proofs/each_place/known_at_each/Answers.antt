@@ -1,6 +1,5 @@
-use Rattle.std.proofs.Common.{[], ◌∷◌, List}
+use Rattle.std.proofs.Common.{[], ◌∷◌}
 use Rattle.wasm_ast.specs.Syntax.{ops_count}
-use Rattle.wasm_ast.specs.declared.values.ValType.{ValType}
 use Rattle.validator.specs.Inside.Algorithm.{start}
 use Rattle.validator.specs.Inside.FunctionContext.{context_of}
 use Rattle.validator.specs.Inside.PlaceWalk.{ops_known}

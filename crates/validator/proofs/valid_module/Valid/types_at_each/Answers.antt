@@ -1,7 +1,7 @@
-use Rattle.std.proofs.Common.{◌≡◌, ℕ, Err, ap, ◌∙◌, rules, [], ◌∷◌}
-use Rattle.validator.specs.PlaceTypes.{Known, IsPlace}
-use Rattle.validator.proofs.PlacesOfModules.{known, answers_there}
-use Rattle.validator.proofs.EachOfModules.{each_there, never_fails, inside_body, own_there}
+use Rattle.std.proofs.Common.{Err, ap, ◌∙◌}
+use Rattle.validator.specs.PlaceTypes.{IsPlace}
+use Rattle.validator.proofs.PlacesOfModules.{answers_there}
+use Rattle.validator.proofs.EachOfModules.{each_there, never_fails, inside_body}
 use Rattle.validator.proofs.valid_module.Valid.types_at_each.Goals as goal
 
 pub known_at_each-requires-clause-inside : goal.known_at_each-requires-clause-inside
