@@ -8,7 +8,7 @@ ghost use Rattle.step_machine.specs.MachineView.{state_of};
 ghost use Rattle.step_machine.specs.Shown.{shown};
 ghost use Rattle.debugger.specs.Inside.KnownPlaces.{IsThere};
 
-use crate::known_places::{KnownPlace, known_at};
+use crate::known_places::{KnownPlace, known_at, known_of_frames};
 use crate::shown::Shown;
 use crate::values::values_from;
 use std::alloc::{AllocError, Global};
@@ -16,15 +16,15 @@ use step_machine::{FrameWords, Machine, ShownFrame};
 use wasm_ast::{Refusal, Sequence};
 
 /// The frames of a machine, the innermost first; none if it has ended. `NoMemory` if memory for them
-/// cannot be allocated. The open blocks and the types of the operands are found once for each place at
-/// which there are frames, by walks of its function's body up to it: the time is linear in these walks,
-/// again in each block that is open there, and in the values.
+/// cannot be allocated. The open blocks and the types of the operands are found by two walks of the body of each
+/// function that has frames: the time is linear in these bodies, in the blocks that are open where the frames are,
+/// and in the values.
 pub fn inspect(alloc: Global, machine: &Machine) -> Result<Shown, Refusal>
     ensures frames { IfOk result (λ s. s.frames ≡ shown (state_of machine.now)) }
     ensures err { OnErr result (result ≡ Err refusal.NoMemory) }
 {
     let count = machine.frame_count();
-    let mut known = Vec::new(alloc);
+    let mut known = known_of_frames(alloc, machine)?;
     let mut frames = Vec::with_capacity(alloc, count)?;
     for index in 0..count {
         let Some(words) = machine.frame(index) else {

@@ -2,6 +2,7 @@
 //! has. Sections are those of the WebAssembly Core Specification 1.0.
 #![tactic(auto)]
 
+mod frame_places;
 mod frames;
 mod known_places;
 pub mod laws;

@@ -1,17 +1,16 @@
 //! The types of a frame's words.
 
-ghost use Rattle.std.specs.Prelude.{◌≡◌, ◌≤◌, ◌^◌, ◌++◌, ◌↔◌, IfOk, OnOk, OnErr, Err, Some, length, slice_get, reverse};
-ghost use Rattle.wasm_ast.specs.declared.refusal.Refusal.TheVariants as refusal;
+ghost use Rattle.std.specs.Prelude.{◌≡◌, ◌≤◌, ◌^◌, ◌++◌, ◌↔◌, IfOk, OnOk, Some, length, slice_get, reverse};
 ghost use Rattle.wasm_ast.specs.declared.module.Func.{Func as FuncValue};
 ghost use Rattle.wasm_ast.specs.declared.values.FuncType.{FuncType as FuncTypeValue};
-ghost use Rattle.validator.specs.PlaceTypes.{Point, IsOwn, IsPlace, ReachesAt};
+ghost use Rattle.validator.specs.PlaceTypes.{Point, IsOwn, ReachesAt};
 ghost use Rattle.step_machine.specs.Frames.{joined};
-ghost use Rattle.debugger.specs.Inside.Typed.{known_of, oldest_first};
+ghost use Rattle.debugger.specs.Inside.Typed.{AreTypesAt, known_of, oldest_first};
 
 use std::alloc::{AllocError, Global};
 use step_machine::FlatModule;
 use validator::Types;
-use wasm_ast::{Func, Module, Refusal, ValType};
+use wasm_ast::{Func, Module, ValType};
 
 /// The function with this index of a module's own, imports counted first.
 pub fn own_func(of: &Module, func: u32) -> &Func
@@ -36,23 +35,22 @@ pub fn local_types(alloc: Global, of: &Module, own: &Func) -> Result<Vec<ValType
     Ok(types)
 }
 
-/// The types of the operands before the instruction at a place of a function's body, the oldest
-/// first, if the instructions before it lead to one point. `NoMemory` if memory runs out. The time
-/// is linear in the body up to the place, and again in each block that is open there.
+/// The types of the operands before the instruction at a place of a function's body, the oldest first, by what is
+/// known there, if the instructions before it lead to one point. An error if memory runs out.
 pub fn operand_types(
     alloc: Global,
     of: &FlatModule,
     func: u32,
     place: u32,
-) -> Result<Vec<ValType>, Refusal>
-    requires { IsPlace of.now func place }
-    ensures types { IfOk result (λ v. (point : Point)
+    types: &Types<'_>,
+) -> Result<Vec<ValType>, AllocError>
+    requires { AreTypesAt of.now func place types.now }
+    ensures { IfOk result (λ v. (point : Point)
         → ((p : Point) → ReachesAt of.now func place p ↔ (p ≡ point))
         → v.items ≡ reverse (joined point.stacks)) }
-    ensures err { OnErr result (result ≡ Err refusal.NoMemory) }
 {
-    let types = of.valid().types_at(alloc, func, place)?;
-    Ok(known_types(alloc, &types)?)
+    let known = known_types(alloc, types)?;
+    Ok(known)
 }
 
 // The types that are known of the operands of all blocks, the oldest first. An error if memory runs

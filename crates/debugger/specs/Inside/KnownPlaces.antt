@@ -1,9 +1,9 @@
 -- What is known of a place, and what it says of a frame that is there.
-use Rattle.std.specs.Prelude.{◌≡◌, ◌++◌, ◌↔◌, [], reverse, Some, slice_get}
+use Rattle.std.specs.Prelude.{◌≡◌, ℕ, ◌++◌, ◌↔◌, [], reverse, Some, slice_get}
 use Rattle.wasm_ast.specs.declared.values.FuncType.{FuncType}
 use Rattle.wasm_ast.specs.declared.module.Func.{Func}
 use Rattle.wasm_ast.specs.declared.module.Module.{Module}
-use Rattle.validator.specs.PlaceTypes.{Point, ReachesAt, IsOwn}
+use Rattle.validator.specs.PlaceTypes.{Point, ReachesAt, IsOwn, IsPlace}
 use Rattle.step_machine.specs.Frames.{FrameValue, joined, Tells}
 use Rattle.step_machine.specs.Places.{opens_at}
 use Rattle.step_machine.specs.declared.shown.ShownFrame.{ShownFrame}
@@ -26,3 +26,11 @@ pub record IsThere (m : Module) (k : KnownPlace) (w : FrameValue) (f : ShownFram
   pub told : Tells m w f
   pub func : k.func ≡ w.func
   pub place : k.place ≡ w.place
+
+-- a frame may be at this place of a function, which has a type
+pub record HasFrame (m : Module) (func place : ℕ) : Type 0 where
+  pub own : Func
+  pub type : FuncType
+  pub is_own : IsOwn m func own
+  pub is_type : slice_get m.types own.type_index ≡ Some type
+  pub is_place : IsPlace m func place

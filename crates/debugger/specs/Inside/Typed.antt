@@ -1,10 +1,11 @@
 -- Numbers as values of their types, and the operands that are known of open blocks.
-use Rattle.std.specs.Prelude.{ℕ, List, [], ◌∷◌, ◌++◌, reverse, Option, Some, None}
+use Rattle.std.specs.Prelude.{◌↔◌, ℕ, List, [], ◌∷◌, ◌++◌, reverse, Option, Some, None}
 use Rattle.wasm_ast.specs.declared.values.ValType.{ValType}
 use Rattle.wasm_ast.specs.declared.values.ValType.TheVariants as type
 use Rattle.wasm_ast.specs.declared.values.Value.{Value}
 use Rattle.wasm_ast.specs.declared.values.Value.TheVariants.{I32, I64}
-use Rattle.validator.specs.PlaceTypes.{Stack}
+use Rattle.wasm_ast.specs.declared.module.Module.{Module}
+use Rattle.validator.specs.PlaceTypes.{Stack, Known, Point, ReachesAt, MatchPoint}
 
 abbrev pub value_of : ValType → (number : ℕ) → Value
 value_of type.I32 n = I32 n
@@ -26,3 +27,9 @@ known_of (Some t ∷ ts) = t ∷ known_of ts
 abbrev pub oldest_first : List Stack → List ValType
 oldest_first [] = []
 oldest_first (s ∷ ss) = oldest_first ss ++ known_of (reverse s.types)
+
+-- what is known matches the points that the instructions before a place lead to, and no others, and there is one
+pub record AreTypesAt (m : Module) (func place : ℕ) (t : Known) : Type 0 where
+  pub exact : (p : Point) → MatchPoint t p ↔ ReachesAt m func place p
+  pub some : Point
+  pub matches : MatchPoint t some
