@@ -11,7 +11,8 @@ use Rattle.text_assembler.specs.declared.token.Lexeme.{Lexeme}
 use Rattle.text_assembler.specs.Reading.{Read, ◌>>=◌, read_some, read_parts}
 use Rattle.text_assembler.specs.Names.{Ids, Name}
 use Rattle.text_assembler.specs.Phrases.{Tokens, take_word, id_of, after_id, begins_word, skip_word}
-use Rattle.text_assembler.specs.Instructions.{Bodies, read_block_type, skip_label, skip_end, read_enclosed, read_else, read_if, opens_block, read_nested, read_op, one_op, is_end, read_body, inner_of}
+use Rattle.text_assembler.specs.Instructions.{Bodies, read_block_type, skip_label, skip_end, read_enclosed, read_else, read_if, opens_block, read_nested, read_op, one_op, is_end, read_body}
+use Rattle.text_assembler.specs.Inside.Bodies.{inner_of}
 use Rattle.text_assembler.proofs.OpenBlocks.{body_is}
 
 -- ---- two readings that agree, unless the first is too deep

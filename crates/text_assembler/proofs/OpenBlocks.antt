@@ -5,7 +5,8 @@ use Rattle.text_assembler.specs.declared.scopes.Scopes.{Scopes}
 use Rattle.text_assembler.specs.Reading.{read_parts}
 use Rattle.text_assembler.specs.Names.{Ids}
 use Rattle.text_assembler.specs.Phrases.{Tokens, take_word}
-use Rattle.text_assembler.specs.Instructions.{opens_block, read_nested, read_op, one_op, is_end, read_body, inner_of}
+use Rattle.text_assembler.specs.Instructions.{opens_block, read_nested, read_op, one_op, is_end, read_body}
+use Rattle.text_assembler.specs.Inside.Bodies.{inner_of}
 
 -- a body is read with what may be inside
 pub body_is :

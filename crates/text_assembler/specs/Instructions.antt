@@ -240,8 +240,3 @@ unfoldable pub read_body : Scopes → (locals : Ids) → (more : ℕ) → Bodies
 read_body s locals zero labels ts = read_parts is_end (one_op s locals (Err TooDeep) labels) ts
 read_body s locals (suc more) labels ts =
     read_parts is_end (one_op s locals (Ok (read_body s locals more)) labels) ts
-
--- how bodies inside are read
-unfoldable pub inner_of : Scopes → (locals : Ids) → (more : ℕ) → Result Bodies Fault
-inner_of s locals zero = Err TooDeep
-inner_of s locals (suc more) = Ok (read_body s locals more)

@@ -6,7 +6,8 @@ ghost use Rattle.wasm_ast.specs.Syntax.{ops_of};
 ghost use Rattle.text_assembler.specs.Inside.Answers.{Gives, with_front};
 ghost use Rattle.text_assembler.specs.Inside.Steps.{made};
 ghost use Rattle.text_assembler.specs.Phrases.{after_id, id_of};
-ghost use Rattle.text_assembler.specs.Instructions.{read_block_type, skip_label, skip_end, read_enclosed, read_else, read_if, opens_block, read_nested, read_simple, read_op, one_op, is_end, read_body, inner_of};
+ghost use Rattle.text_assembler.specs.Instructions.{read_block_type, skip_label, skip_end, read_enclosed, read_else, read_if, opens_block, read_nested, read_simple, read_op, one_op, is_end, read_body};
+ghost use Rattle.text_assembler.specs.Inside.Bodies.{inner_of};
 
 use crate::fault::ReadError;
 use crate::ids::{Ids, is_id, is_named};

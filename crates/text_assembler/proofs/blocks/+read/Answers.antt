@@ -3,7 +3,8 @@ use Rattle.std.proofs.lemmas.Result.{err_from_is_err_and}
 use Rattle.wasm_ast.specs.View.{op_of}
 use Rattle.text_assembler.specs.Inside.Answers.{with_front}
 use Rattle.text_assembler.specs.Names.{Ids}
-use Rattle.text_assembler.specs.Instructions.{inner_of, is_end, one_op, read_body}
+use Rattle.text_assembler.specs.Instructions.{is_end, one_op, read_body}
+use Rattle.text_assembler.specs.Inside.Bodies.{inner_of}
 use Rattle.text_assembler.proofs.PartLoops.{starts_after, goes_on, fails, is_done, runs_out}
 use Rattle.text_assembler.proofs.OpenBlocks.{body_is, block_deep, block_read}
 use Rattle.text_assembler.proofs.blocks.+read.Goals as goal

@@ -2,7 +2,8 @@ use Rattle.std.proofs.Common.{◌≡◌, ◌-◌, ◌+◌, ◌*◌, map, length}
 use Rattle.wasm_ast.specs.View.{op_of}
 use Rattle.text_assembler.specs.Reading.{read_some}
 use Rattle.text_assembler.specs.Inside.Answers.{with_front}
-use Rattle.text_assembler.specs.Instructions.{inner_of, is_end, one_op, read_body}
+use Rattle.text_assembler.specs.Instructions.{is_end, one_op, read_body}
+use Rattle.text_assembler.specs.Inside.Bodies.{inner_of}
 use Rattle.text_assembler.proofs.blocks.+read.Given as goal
 
 abbrev pub decreases-read_instr : goal.decreases-read_instr
