@@ -20,7 +20,8 @@ last_is (j ∷ ks) k = last_is ks k
 pub all_with :
     (m : Module) (ks more : List KnownPlace) (k : KnownPlace) → All (IsKnown m) ks → IsKnown m k → more ≡ ks ++ k ∷ []
     → All (IsKnown m) more
-all_with m ks more k all known is = subst (λ (l : List KnownPlace). All (IsKnown m) l) (sym is) (All-push (IsKnown m) ks k all known)
+all_with m ks more k all known is =
+    subst (λ (l : List KnownPlace). All (IsKnown m) l) (sym is) (All-push (IsKnown m) ks k all known)
 
 pub there_at :
     (ks more : List KnownPlace) (k : KnownPlace) (func place at : ℕ) → more ≡ ks ++ k ∷ [] → at ≡ length ks

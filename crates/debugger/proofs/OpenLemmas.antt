@@ -100,7 +100,8 @@ follows_others o os all_os at after outer all is past follows =
     (subst (λ (xs : Ops). Follows all at (ops_count xs) (opens_at xs at outer)) is follows))
 
 -- the innermost block comes last
-pub one_inside : (blocks more : List ℕ) (number : ℕ) → more ≡ blocks ++ number ∷ [] → reverse more ≡ number ∷ reverse blocks
+pub one_inside :
+    (blocks more : List ℕ) (number : ℕ) → more ≡ blocks ++ number ∷ [] → reverse more ≡ number ∷ reverse blocks
 one_inside blocks more number is = ap (λ (xs : List ℕ). reverse xs) is ∙ reverse-append blocks (number ∷ [])
 
 pub finds_with :

@@ -16,9 +16,9 @@ use step_machine::{FrameWords, Machine, ShownFrame};
 use wasm_ast::{Refusal, Sequence};
 
 /// The frames of a machine, the innermost first; none if it has ended. `NoMemory` if memory for them
-/// cannot be allocated. The open blocks and the types of the operands are found by two walks of the body of each
-/// function that has frames: the time is linear in these bodies, in the blocks that are open where the frames are,
-/// and in the values.
+/// cannot be allocated. The open blocks and the types of the operands are found by two walks of the
+/// body of each function that has frames: the time is linear in these bodies, in the blocks that
+/// are open where the frames are, and in the values.
 pub fn inspect(alloc: Global, machine: &Machine) -> Result<Shown, Refusal>
     ensures frames { IfOk result (λ s. s.frames ≡ shown (state_of machine.now)) }
     ensures err { OnErr result (result ≡ Err refusal.NoMemory) }

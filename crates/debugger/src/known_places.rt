@@ -1,4 +1,5 @@
-//! What is known of the places that frames are at: found once for each place, whatever the number of its frames.
+//! What is known of the places that frames are at: found once for each place, whatever the number
+//! of its frames.
 
 ghost use Rattle.std.specs.Prelude.{◌≡◌, ◌++◌, ◌∷◌, ◌↔◌, [], All, IfOk, IfSome, OnOk, OnErr, Err, Some, slice_get, length};
 ghost use Rattle.std.specs.List.Sorted.{IsStrictlyIncreasing};
@@ -35,9 +36,10 @@ pub struct KnownPlace {
     pub blocks: Vec<u32>,
 }
 
-/// What is known of the places of a machine's frames: functions come one after the other, and the places of each
-/// in their order. `NoMemory` if memory runs out. The body of each function that has frames is walked twice, once
-/// for the types and once for the blocks: the time is linear in these bodies, and in what is known.
+/// What is known of the places of a machine's frames: functions come one after the other, and the
+/// places of each in their order. `NoMemory` if memory runs out. The body of each function that has
+/// frames is walked twice, once for the types and once for the blocks: the time is linear in these
+/// bodies, and in what is known.
 pub fn known_of_frames(alloc: Global, machine: &Machine) -> Result<Vec<KnownPlace>, Refusal>
     ensures all { IfOk result (λ known. All (IsKnown machine.now.module) known.items) }
     ensures err { OnErr result (result ≡ Err refusal.NoMemory) }
@@ -197,8 +199,8 @@ fn known_place(
     })
 }
 
-// What is known of one place. `NoMemory` if memory runs out. The time is linear in the body up to the place, and
-// again in each block that is open there.
+// What is known of one place. `NoMemory` if memory runs out. The time is linear in the body up to
+// the place, and again in each block that is open there.
 fn look_at(alloc: Global, of: &FlatModule, func: u32, place: u32) -> Result<KnownPlace, Refusal>
     requires own { (f : FuncValue) × (t : FuncTypeValue) × IsOwn of.now func f
         × (slice_get of.now.types f.type_index ≡ Some t) }

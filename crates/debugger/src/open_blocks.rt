@@ -105,8 +105,8 @@ fn stop_here(
     }
 }
 
-// Walks a sequence that is numbered from `first`, with the blocks that are open round it, of which the innermost
-// comes last. Gives the number that follows it, or None as soon as no place is left.
+// Walks a sequence that is numbered from `first`, with the blocks that are open round it, of which
+// the innermost comes last. Gives the number that follows it, or None as soon as no place is left.
 #[cycle(walk)]
 fn walk_body(
     stops: &Stops<'_>,
@@ -153,7 +153,8 @@ fn walk_instr(
         number stops.now.places.now found.old.items found.new.items) }
     ensures done { IfOk result (λ r. IfNone r
         (length stops.now.places.now ≤ length found.new.items)) }
-    ensures after { IfOk result (λ r. IfSome r (λ after. after ≡ number + count (op_of instr.now))) }
+    ensures after { IfOk result
+        (λ r. IfSome r (λ after. after ≡ number + count (op_of instr.now))) }
     ensures from { IfOk result (λ r. IfSome r (λ after.
         NextFrom stops.now.places.now found.new.items after)) }
     ensures blocks { IfOk result (λ r. IfSome r (λ after. blocks.new.items ≡ blocks.old.items)) }

@@ -35,8 +35,9 @@ pub fn local_types(alloc: Global, of: &Module, own: &Func) -> Result<Vec<ValType
     Ok(types)
 }
 
-/// The types of the operands before the instruction at a place of a function's body, the oldest first, by what is
-/// known there, if the instructions before it lead to one point. An error if memory runs out.
+/// The types of the operands before the instruction at a place of a function's body, the oldest
+/// first, by what is known there, if the instructions before it lead to one point. An error if
+/// memory runs out.
 pub fn operand_types(
     alloc: Global,
     of: &FlatModule,

@@ -59,10 +59,12 @@ next_after places n place later rising here there =
 -- ---- parts of a body
 
 below_is : {B : Type 0} (k n : ℕ) (x y : B) → k < n → (if nat_lt k n then x else y) ≡ x
-below_is k n x y h = let test : nat_lt k n ≡ true = grind (arith, nat_tests) in ap (λ (b : Bool). if b then x else y) test
+below_is k n x y h =
+    let test : nat_lt k n ≡ true = grind (arith, nat_tests) in ap (λ (b : Bool). if b then x else y) test
 
 past_is : {B : Type 0} (k n : ℕ) (x y : B) → n ≤ k → (if nat_lt k n then x else y) ≡ y
-past_is k n x y h = let test : nat_lt k n ≡ false = grind (arith, nat_tests) in ap (λ (b : Bool). if b then x else y) test
+past_is k n x y h =
+    let test : nat_lt k n ≡ false = grind (arith, nat_tests) in ap (λ (b : Bool). if b then x else y) test
 
 -- two parts in one
 abbrev pub joined_parts : {B : Type 0} → (n : ℕ) → (one two : ℕ → B) → ℕ → B

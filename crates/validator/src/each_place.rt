@@ -72,7 +72,8 @@ pub fn known_at_each<'a>(
 
 // What is open where a function's body begins.
 fn whole_body<'a>(alloc: Global, function: &Function<'a>) -> Result<Opened<'a>, AllocError>
-    ensures labels { IfOk result (λ opened. opened.labels ≡ function.now.func_type.now.results ∷ []) }
+    ensures labels { IfOk result
+        (λ opened. opened.labels ≡ function.now.func_type.now.results ∷ []) }
     ensures outer { IfOk result (λ opened. opened.outer.items ≡ []) }
     ensures operands { IfOk result (λ opened. opened.operands.stack ≡ start []) }
 {
@@ -206,7 +207,8 @@ fn each_in<'a>(
     requires rising { IsStrictlyIncreasing stops.now.places.now }
     requires from { NextFrom stops.now.places.now found.old.items first }
     ensures found { OnOk result (Finds IsKnown
-        (ops_known (context_of stops.now.function opened.old.labels) (stacks_of opened.old.outer.items)
+        (ops_known (context_of stops.now.function opened.old.labels)
+        (stacks_of opened.old.outer.items)
         body.now opened.old.operands.stack)
         (ops_count body.now) first stops.now.places.now found.old.items found.new.items) }
     ensures done { IfOk result (λ r. IfNone r
@@ -221,7 +223,8 @@ fn each_in<'a>(
     ensures outer { IfOk result (λ r. IfSome r (λ after.
         opened.new.outer.items ≡ opened.old.outer.items)) }
     ensures invalid { result ≡ Err CheckError.Invalid
-        → check_ops (context_of stops.now.function opened.old.labels) body.now opened.old.operands.stack
+        → check_ops (context_of stops.now.function opened.old.labels) body.now
+        opened.old.operands.stack
         ≡ None }
 {
     let mut next = first;
@@ -246,12 +249,14 @@ fn each_instr<'a>(
     requires rising { IsStrictlyIncreasing stops.now.places.now }
     requires from { NextFrom stops.now.places.now found.old.items number }
     ensures found { OnOk result (Finds IsKnown
-        (op_known (context_of stops.now.function opened.old.labels) (stacks_of opened.old.outer.items)
+        (op_known (context_of stops.now.function opened.old.labels)
+        (stacks_of opened.old.outer.items)
         (op_of instr.now) opened.old.operands.stack)
         (count (op_of instr.now)) number stops.now.places.now found.old.items found.new.items) }
     ensures done { IfOk result (λ r. IfNone r
         (length stops.now.places.now ≤ length found.new.items)) }
-    ensures after { IfOk result (λ r. IfSome r (λ after. after ≡ number + count (op_of instr.now))) }
+    ensures after { IfOk result
+        (λ r. IfSome r (λ after. after ≡ number + count (op_of instr.now))) }
     ensures from { IfOk result (λ r. IfSome r (λ after.
         NextFrom stops.now.places.now found.new.items after)) }
     ensures leads { IfOk result (λ r. IfSome r (λ after.
@@ -434,7 +439,8 @@ fn each_arm<'a>(
     ensures ends { IfOk result (λ r. IfSome r (λ after. let t = func_type_of types.now in
         let context = context_of stops.now.function (label.now ∷ opened.old.labels) in
         ends t.results (check_ops context body.now (start t.params)) ≡ true)) }
-    ensures operands { IfOk result (λ r. IfSome r (λ after. opened.new.operands ≡ opened.old.operands)) }
+    ensures operands { IfOk result
+        (λ r. IfSome r (λ after. opened.new.operands ≡ opened.old.operands)) }
     ensures labels { IfOk result (λ r. IfSome r (λ after. opened.new.labels ≡ opened.old.labels)) }
     ensures outer { IfOk result (λ r. IfSome r (λ after.
         opened.new.outer.items ≡ opened.old.outer.items)) }

@@ -99,8 +99,9 @@ impl Valid {
         }
     }
 
-    /// What `types_at` answers for each of these places of a function's body, which are in rising order. The body
-    /// is walked once: the time is linear in it up to the last place, and in what is known at the places.
+    /// What `types_at` answers for each of these places of a function's body, which are in rising
+    /// order. The body is walked once: the time is linear in it up to the last place, and in what
+    /// is known at the places.
     pub fn types_at_each<'a>(
         &'a self,
         alloc: Global,
@@ -110,7 +111,8 @@ impl Valid {
         requires rising { IsStrictlyIncreasing places.now }
         requires places { All (IsPlace self.now func) places.now }
         ensures exact { IfOk result (λ types. AtEach (λ place t.
-            (p : Point) → MatchPoint t p ↔ ReachesAt self.now func place p) places.now types.items) }
+            (p : Point) → MatchPoint t p ↔ ReachesAt self.now func place p)
+            places.now types.items) }
         ensures every { IfOk result (λ types. AtEach (λ place t.
             (p : Point) → PassesAt self.now func place p → MatchPoint t p) places.now types.items) }
         ensures some { IfOk result (λ types. AtEach (λ place t.
@@ -132,8 +134,9 @@ impl Valid {
 /// Takes a module that is valid. `Invalid` only if it is not: with a place, whose function has a body
 /// without a typing, or without one, if the fault is outside the bodies; of several faults it is one of
 /// those outside, or else the first one. `NoMemory` if memory for the check or for sharing the module
-/// cannot be allocated, or if the index of a function at fault has more than 32 bits. Blocks may be nested to any depth: recursion is
-/// as deep as they are, which is as deep as that of dropping the module.
+/// cannot be allocated, or if the index of a function at fault has more than 32 bits. Blocks may be
+/// nested to any depth: recursion is as deep as they are, which is as deep as that of dropping the
+/// module.
 pub fn validate(alloc: Global, unchecked: Module) -> Result<Valid, Refusal>
     ensures ok { IfOk result (λ v. v ≡ unchecked) }
     ensures valid { OnOk result (ValidModule unchecked) }

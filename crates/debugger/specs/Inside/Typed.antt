@@ -28,7 +28,8 @@ abbrev pub oldest_first : List Stack → List ValType
 oldest_first [] = []
 oldest_first (s ∷ ss) = oldest_first ss ++ known_of (reverse s.types)
 
--- what is known matches the points that the instructions before a place lead to, and no others, and there is one
+-- what is known matches the points that the instructions before a place lead to, and no others, and
+-- there is one
 pub record AreTypesAt (m : Module) (func place : ℕ) (t : Known) : Type 0 where
   pub exact : (p : Point) → MatchPoint t p ↔ ReachesAt m func place p
   pub some : Point

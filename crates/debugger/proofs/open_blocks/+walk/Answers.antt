@@ -62,7 +62,8 @@ walk_body-loop-instr-preserved t c =
                 c.loop-instr.blocks.items (count (op_of i)) c.loop-instr.next c.args.stops.now.places.now
                 c.loop-instr.found.items c.walk_instr.new.found.items c.loop-instr.invariant.blocks
                 c.in_ok-after.ensures.found all
-                (follows_first (op_of i) os (ops_of (map op_of (drop k items))) c.loop-instr.next outer all left found.0)
+                (follows_first (op_of i) os (ops_of (map op_of (drop k items))) c.loop-instr.next outer
+                all left found.0)
                 found.1,
           );
     }

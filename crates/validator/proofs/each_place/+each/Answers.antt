@@ -89,7 +89,8 @@ each_in-loop-instr-preserved t c =
       finds = λ all follows before.
           let found = c.loop-instr.invariant.finds all follows before in (
             follows_others (context_of f labels) (stacks_of outer) (op_of i) os (ops_of (map op_of (drop k items)))
-                o.stack c.each_instr.new.opened.operands.stack all c.loop-instr.next c.in-Some.after left after leads_here
+                o.stack c.each_instr.new.opened.operands.stack all c.loop-instr.next c.in-Some.after left
+                after leads_here
                 found.0,
             finds all
                 (follows_first (context_of f labels) (stacks_of outer) (op_of i) os

@@ -7,7 +7,8 @@ use Rattle.validator.proofs.valid_module.Valid.types_at_each.Goals as goal
 pub known_at_each-requires-clause-inside : goal.known_at_each-requires-clause-inside
 known_at_each-requires-clause-inside c =
     let f = c.own_function-function in
-    inside_body c.packed.result.now c.args.self.now c.args.func f.result.func.now c.args.places.now c.packed.ensures.value
+    inside_body c.packed.result.now c.args.self.now c.args.func f.result.func.now c.args.places.now
+    c.packed.ensures.value
     f.ensures.own c.requires.places
 
 pub unreachable-requires : goal.unreachable-requires
