@@ -1,5 +1,5 @@
 -- Several places of a valid module's function: what the algorithm knows at each.
-use Rattle.std.proofs.Common.{◌≡◌, ℕ, ◌<◌, true, false, true≢false, nat_lt, is_some, List, [], ◌∷◌, All, Some, refl, sym, ap, subst, ◌∙◌, arith}
+use Rattle.std.proofs.Common.{◌≡◌, ℕ, ◌+◌, ◌<◌, true, false, true≢false, nat_lt, is_some, List, [], ◌∷◌, All, Some, refl, sym, ap, subst, ◌∙◌, arith}
 use Rattle.std.proofs.lemmas.Bool.Decides.{nat_tests}
 use Rattle.std.proofs.lemmas.List.Elements.{All-head, All-tail, All-weaker}
 use Rattle.wasm_ast.specs.declared.values.FuncType.{FuncType}
@@ -57,3 +57,20 @@ own_there l m func [] same some all = absurd (some refl)
 own_there l m func (p ∷ places) same some all =
     let there = All-head (IsPlace m func) p places all in
     (there.0, subst (λ (x : Module). IsOwn x func there.0) (sym same) there.2)
+
+-- ---- an instance of what is so at each place
+
+abbrev Next : ℕ → ℕ → Type 0
+Next place n = n ≡ place + 1
+
+pub each_is : (ns : List ℕ) → AtEach Next (3 ∷ 5 ∷ []) ns → ns ≡ 4 ∷ 6 ∷ []
+each_is [] h = absurd h
+each_is (a ∷ []) h = absurd h.1
+each_is (a ∷ b ∷ []) h =
+    let one : a ≡ 4 = h.0 in
+    let two : b ≡ 6 = h.1.0 in
+    cc
+each_is (a ∷ b ∷ d ∷ ns) h = absurd h.1.1
+
+pub is_each : (ns : List ℕ) → ns ≡ 4 ∷ 6 ∷ [] → AtEach Next (3 ∷ 5 ∷ []) ns
+is_each ns is = subst (λ (l : List ℕ). AtEach Next (3 ∷ 5 ∷ []) l) (sym is) (refl, (refl, tt))
