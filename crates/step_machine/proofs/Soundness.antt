@@ -4,6 +4,7 @@ use Rattle.std.specs.Prelude.{not, fold, slice_get, option_to_list}
 use Rattle.std.proofs.lemmas.Bool.Decides.{nat_tests}
 use Rattle.std.proofs.lemmas.List.Elements.{All-replicate, All-head, All-tail}
 use Rattle.std.proofs.lemmas.Option.{slice_get_within}
+use Rattle.wasm_ast.specs.declared.values.Value.{Value}
 use Rattle.wasm_ast.specs.declared.trap.Trap.TheVariants as trap
 use Rattle.wasm_ast.specs.declared.module.Limits.{Limits}
 use Rattle.wasm_ast.specs.declared.module.Segment.{Segment}
@@ -20,12 +21,13 @@ use Rattle.step_machine.specs.declared.ends.End.TheVariants as end
 use Rattle.step_machine.specs.HostCalls.{all_known}
 use Rattle.step_machine.specs.Limits.{last_turn}
 use Rattle.step_machine.specs.Program.{program}
-use Rattle.step_machine.specs.Configuration.{stuck, Configuration}
+use Rattle.step_machine.specs.Configuration.{seq, Items, more, Item, items_of, State, running, stuck, Configuration}
 use Rattle.step_machine.specs.Reduction.{host_state}
 use Rattle.step_machine.specs.Instantiation.{entry, offset_of, zero_memory, empty_table, with_segment, first_memory, first_store, can_enter, are_pages_within, are_elements_inside, are_segments_inside, instantiation_refusal, after, ended}
+use Rattle.step_machine.specs.Inside.Levels.{Level, framed_by, nest}
 use Rattle.step_machine.specs.Inside.FlatState.{Flat, Stepped, goes, ends, word_of, callees, begin, takes_turn, flat_turn, flat_end}
 use Rattle.step_machine.specs.Inside.Stands.{cell_in}
-use Rattle.step_machine.specs.Inside.Simulates.{Stored}
+use Rattle.step_machine.specs.Inside.Simulates.{Stored, tail_of}
 use Rattle.step_machine.specs.Inside.Going.{Runnable, HasTexts, Going, Waiting, Over, Stopped}
 use Rattle.step_machine.proofs.TurnLemmas.{numbered-stays}
 use Rattle.step_machine.proofs.LastTurn.{early}
@@ -40,6 +42,17 @@ use Rattle.step_machine.proofs.SliceLemmas.{has_halted, one_turn}
 use Rattle.step_machine.proofs.MachineLemmas.{shows, never, last_trap}
 use Rattle.step_machine.proofs.StartLemmas.{going_first, begins_so}
 use Rattle.step_machine.proofs.RunTurns.{skip_smaller, fewer_smaller}
+
+-- ---- what is outside all frames
+
+abbrev outermost_operands : State → List Value
+outermost_operands (running (seq vs is)) = vs
+outermost_operands _ = []
+
+outside_frames :
+    (ls : List Level) (tail : Items) (i : Item) → outermost_operands (running (nest ls tail i)) ≡ []
+outside_frames [] tail i = refl
+outside_frames (l ∷ ls) tail i = outside_frames ls tail (framed_by l (more i (items_of l.place l.rest)))
 
 -- ---- what is known of a module that is not refused
 
@@ -259,3 +272,21 @@ module _ (m : Module) (pr : ProcessConfig) (valid : ValidModule m) (ranged : Ran
   never_stuck n =
       let s = always_stops m pr facts (first_stops m.start refl) n in
       never m pr s.1 n s.0 s.2
+
+  -- while an instruction is next, there are no operands outside all frames
+  pub nothing_outside :
+      (n : ℕ) (v : Value) (vs : List Value) (i : Item) (is : Items)
+      → (after m pr n).state ≡ running (seq (v ∷ vs) (more i is)) → ⊥
+  nothing_outside n v vs i is h =
+      let s = always_stops m pr facts (first_stops m.start refl) n in
+      by_end s.0 s.1 s.2
+    where
+      by_end : (o : Option End) (x : Flat) → Stopped m pr o x n → ⊥
+      by_end None x w =
+          let clash : [] ≡ v ∷ vs =
+          sym (outside_frames w.callers (tail_of x.pending) (framed_by w.level (items_of w.level.place w.level.rest)))
+          ∙ ap outermost_operands (sym (ap (λ (c : Configuration). c.state) w.is) ∙ h) in
+          cc
+      by_end (Some e) x over =
+          let clash : None ≡ Some e = sym (ap ended h) ∙ over.ended_so in
+          cc
