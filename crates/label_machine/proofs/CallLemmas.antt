@@ -1,5 +1,5 @@
 -- What calls make of the machine's data.
-use Rattle.std.proofs.Common.{◌≡◌, ℕ, ◌+◌, ◌<◌, List, ◌∷◌, map, take, drop, reverse, length, Some, subst, sym, ap, ◌∙◌, inl, inr, arith}
+use Rattle.std.proofs.Common.{◌≡◌, ◌≢◌, ℕ, ◌+◌, ◌<◌, List, ◌∷◌, map, take, drop, reverse, length, Option, Some, None, true, subst, refl, sym, ap, ◌∙◌, inl, inr, arith}
 use Rattle.std.specs.Prelude.{slice_get, ◌⊎◌, option_to_list}
 use Rattle.wasm_ast.specs.declared.values.Value.{Value}
 use Rattle.wasm_ast.specs.declared.values.Value.TheVariants.{I32}
@@ -13,28 +13,103 @@ use Rattle.wasi_calls.specs.HostCalls.{host_type}
 use Rattle.wasi_calls.specs.SystemCalls.{HostState, HostDone}
 use Rattle.oci_config.specs.declared.process.ProcessConfig.{ProcessConfig}
 use Rattle.wasi_calls.specs.SystemCalls as system
-use Rattle.step_machine.specs.Program.{host, own, Program}
-use Rattle.step_machine.specs.Reduction.{host_state, with_host_state}
-use Rattle.step_machine.specs.Configuration.{Store, Items, more, invoke, items_of, running, exited, trapped, Configuration}
+use Rattle.step_machine.specs.Program.{Function, host, own, unknown, type_of_function, Program}
+use Rattle.step_machine.specs.Effects.{Env}
+use Rattle.step_machine.specs.Reduction.{Reduced, ends, host_state, with_host_state, by_host, call_function, of_reduced}
+use Rattle.step_machine.specs.declared.ends.End.TheVariants as end
+use Rattle.step_machine.specs.Configuration.{Store, Items, more, invoke, items_of, State, running, exited, trapped, stuck, is_settled, Configuration}
 use Rattle.step_machine.specs.Turns.{settled}
 use Rattle.step_machine.specs.Inside.Levels.{Level, tree_with, all_values}
-use Rattle.step_machine.proofs.LevelSettling.{conf, invokes, exhausts, host_goes, host_exhausts, host_leaves}
+use Rattle.step_machine.proofs.LevelSettling.{conf, unsettled, settled_stays, is_unsettled, invokes, exhausts, host_goes, host_exhausts, host_leaves}
+use Rattle.step_machine.proofs.LevelReductions.{env, level_ends}
 use Rattle.step_machine.proofs.FlatEnds.{tail_values, tail_frames}
 use Rattle.label_machine.specs.declared.run.Run.{Run}
 use Rattle.label_machine.specs.declared.run.Step.{Step}
+use Rattle.label_machine.specs.declared.run.Doing.{Doing}
 use Rattle.label_machine.specs.declared.run.Doing.TheVariants.{Next, Calls}
 use Rattle.label_machine.specs.Inside.View.{level_of}
 use Rattle.label_machine.specs.Inside.Callees.{called_with}
 use Rattle.label_machine.specs.Inside.Runs.{store_of, tail_from, config, configured, IsWithin, IsBeyond, values, frames, IsOf, LeadsTo, Limited}
-use Rattle.label_machine.proofs.SettleLemmas.{config_is, same_levels, fits_in}
+use Rattle.label_machine.specs.Inside.Weights.{weight, IsLighter}
+use Rattle.label_machine.proofs.SettleLemmas.{ends_at, config_is, same_levels, fits_in}
+use Rattle.label_machine.proofs.HostLemmas.{is_made}
+use Rattle.wasm_ast.specs.Types.{type_of}
+
+abbrev call_env : Program → Run → Env
+call_env p x = env p (store_of x.store) x.top.locals.items
+
+-- a call that ends the execution
+call_ends :
+    (p : Program) (x : Run) (func : ℕ) (s : State) → is_settled s ≡ true
+    → call_function p (call_env p x) x.top.operands func (slice_get p.functions func)
+    (items_of x.top.ahead.place (level_of x.top).rest)
+    ≡ ends (call_env p x) s
+    → settled p (config x (Calls func)) ≡ conf (store_of x.store) s
+call_ends p x func s over h =
+    let k = level_of x.top in
+    let ks = map level_of x.callers in
+    let tail = tail_from x.pending in
+    let items = more (invoke func) (items_of k.place k.rest) in
+    unsettled p (config x (Calls func)) (is_unsettled p (store_of x.store) k ks tail items refl)
+    ∙ (ap (λ (y : Reduced). settled p (of_reduced y))
+    (level_ends p k ks tail (store_of x.store) (call_env p x) items s refl h)
+    ∙ settled_stays p (conf (store_of x.store) s) over)
+
+-- a call is one with arguments of its types
+no_call :
+    (c : ProcessConfig) (h : HostCall) (vs : List Value) (s : HostState) → map type_of vs ≢ (host_type h).params
+    → system.host c h vs s ≡ None
+no_call c h vs s other = by_answer (system.host c h vs s) refl
+  where
+    by_answer : (o : Option HostDone) → system.host c h vs s ≡ o → o ≡ None
+    by_answer None e = refl
+    by_answer (Some d) e = let made = is_made c h vs s d e in absurd (other made.typed)
 
 -- data that go on or have passed a limit are where the configuration goes on or is exhausted
 pub limited_leads :
-    (p : Program) (c : Configuration) (x : Run) (s : Step) → Limited x s → IsOf p x.store
-    → (IsWithin x → c ≡ settled p (config x Next))
+    (p : Program) (c : Configuration) (x : Run) (d : Doing) (s : Step) → Limited x d s → IsOf p x.pending x.store
+    → (IsWithin x → c ≡ settled p (config x d))
     → (IsBeyond x → c ≡ configured x.store (trapped trap.Exhausted)) → LeadsTo p c s
-limited_leads p c x s (inl h) o goes stops = subst (LeadsTo p c) (sym h.0) (goes h.1, h.1, o)
-limited_leads p c x s (inr h) o goes stops = subst (LeadsTo p c) (sym h.0) (stops h.1, o)
+limited_leads p c x d s (inl h) o goes stops = subst (LeadsTo p c) (sym h.0) (goes h.1, h.1, o)
+limited_leads p c x d s (inr h) o goes stops =
+    subst (LeadsTo p c) (sym h.0)
+    (ends_at c (end.Trapped trap.Exhausted) x.store (stops h.1), o.process)
+
+-- what goes on is lighter, and so is an end
+pub limited_lighter : (n : ℕ) (x : Run) (d : Doing) (s : Step) → Limited x d s → weight x d < n → IsLighter n s
+limited_lighter n x d s (inl h) less = subst (IsLighter n) (sym h.0) less
+limited_lighter n x d s (inr h) less = subst (IsLighter n) (sym h.0) tt
+
+-- there is no function to be called
+pub calls_none :
+    (p : Program) (x : Run) (func : ℕ) → type_of_function (slice_get p.functions func) ≡ None
+    → settled p (config x (Calls func)) ≡ conf (store_of x.store) stuck
+calls_none p x func none =
+    call_ends p x func stuck refl
+    (fails_so (slice_get p.functions func) none)
+  where
+    fails_so :
+        (o : Option Function) → type_of_function o ≡ None
+        → call_function p (call_env p x) x.top.operands func o
+        (items_of x.top.ahead.place (level_of x.top).rest)
+        ≡ ends (call_env p x) stuck
+    fails_so None h = refl
+    fails_so (Some (host h)) e = cc
+    fails_so (Some (own t zeros body)) e = cc
+    fails_so (Some unknown) h = refl
+
+-- its arguments are not there
+pub calls_without :
+    (p : Program) (x : Run) (func : ℕ) (h : HostCall) → slice_get p.functions func ≡ Some (host h)
+    → map type_of (reverse (take (length (host_type h).params) x.top.operands)) ≢ (host_type h).params
+    → settled p (config x (Calls func)) ≡ conf (store_of x.store) stuck
+calls_without p x func h is other =
+    let k = level_of x.top in
+    let rest = items_of k.place k.rest in
+    call_ends p x func stuck refl
+    (ap (λ (o : Option Function). call_function p (call_env p x) k.operands func o rest) is
+    ∙ ap (λ (o : Option HostDone). by_host (call_env p x) o (drop (length (host_type h).params) k.operands) rest)
+    (no_call p.process h (reverse (take (length (host_type h).params) k.operands)) (host_state (store_of x.store)) other))
 
 -- a call of an own function: the data before it, and after
 pub record Called (p : Program) (x y : Run) (func : ℕ) (t : FuncType) (zeros : List Value) (body : Ops) : Type 0 where

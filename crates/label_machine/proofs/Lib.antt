@@ -2,7 +2,12 @@ pub mod PileLemmas
 pub mod NumericLemmas
 pub mod RoomLemmas
 pub mod SettleLemmas
+pub mod HostLemmas
 pub mod CallLemmas
+pub mod OutermostLemmas
 pub mod TurnLemmas
 pub mod MachineLemmas
 pub mod ShownLemmas
+pub mod SoundLemmas
+pub mod WeightLemmas
+pub mod PlaceLemmas

@@ -6,9 +6,9 @@ use Rattle.std.proofs.lemmas.List.Sums.{sum_by-append, sum_by-cons}
 use Rattle.wasm_ast.specs.declared.values.Value.{Value}
 use Rattle.wasm_ast.specs.declared.instr.Instr.{Instr}
 use Rattle.step_machine.specs.Inside.Levels.{below_all, values_of, all_values}
-use Rattle.label_machine.specs.declared.frame.Target.{Target}
-use Rattle.label_machine.specs.declared.frame.Target.TheVariants.{After, Again}
-use Rattle.label_machine.specs.declared.frame.Label.{Label}
+use Rattle.label_machine.specs.declared.label.Target.{Target}
+use Rattle.label_machine.specs.declared.label.Target.TheVariants.{After, Again}
+use Rattle.label_machine.specs.declared.label.Label.{Label}
 use Rattle.label_machine.specs.declared.frame.Frame.{Frame}
 use Rattle.label_machine.specs.Inside.View.{looped, opened, open_of, level_of}
 use Rattle.label_machine.specs.Inside.Runs.{values_below, values_in}

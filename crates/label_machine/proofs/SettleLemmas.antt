@@ -1,5 +1,5 @@
 -- What administrative reductions make of the machine's data.
-use Rattle.std.proofs.Common.{◌≡◌, ◌==◌, true, false, ℕ, suc, ◌≤◌, List, [], ◌∷◌, ◌++◌, map, take, length, Option, Ok, Err, IfOk, OnOk, subst, refl, sym, ap, ◌∙◌, arith}
+use Rattle.std.proofs.Common.{◌≡◌, ◌==◌, true, false, ℕ, zero, suc, ◌<◌, ◌≤◌, List, [], ◌∷◌, ◌++◌, map, take, length, Option, Some, Ok, Err, IfOk, OnOk, subst, refl, sym, ap, ◌∙◌, arith}
 use Rattle.std.specs.Prelude.{Result, option_to_list}
 use Rattle.wasm_ast.specs.declared.values.Value.{Value}
 use Rattle.wasm_ast.specs.declared.values.FuncType.{FuncType}
@@ -9,12 +9,13 @@ use Rattle.wasm_ast.specs.Syntax.{Ops}
 use Rattle.wasm_ast.specs.View.{op_of}
 use Rattle.step_machine.specs.Limits.{max_frames, max_values}
 use Rattle.step_machine.specs.Program.{Program, program}
-use Rattle.step_machine.specs.Configuration.{Store, seq, Items, done, more, invoke, branch, ret, items_of, running, Configuration, items_values, items_frames}
+use Rattle.step_machine.specs.Configuration.{Store, seq, Items, done, more, invoke, branch, ret, items_of, running, stuck, Configuration, items_values, items_frames}
+use Rattle.step_machine.specs.Reduction.{reduce, of_reduced}
 use Rattle.step_machine.specs.Turns.{settled}
-use Rattle.step_machine.specs.Inside.Levels.{Open, Level, tree_with, tree_of, below_all, all_values}
+use Rattle.step_machine.specs.Inside.Levels.{Open, Level, framed_by, tree_with, tree_of, below_all, values_of, all_values}
 use Rattle.step_machine.proofs.LevelSettling.{conf, Fits, label_end, branch_out, return_out, branch_onward, branch_again, frame_end, frame_returns, frame_branches}
-use Rattle.step_machine.proofs.LevelSettling.{settled_stays}
-use Rattle.step_machine.proofs.LevelReductions.{waits_with}
+use Rattle.step_machine.proofs.LevelSettling.{unsettled, is_unsettled, settled_stays}
+use Rattle.step_machine.proofs.LevelReductions.{env, level_ends, waits_with}
 use Rattle.std.proofs.lemmas.Bool.Decides.{nat_tests}
 use Rattle.std.proofs.lemmas.List.{length-append, length-take}
 use Rattle.wasm_ast.specs.declared.instr.Instr.{Instr}
@@ -23,16 +24,20 @@ use Rattle.step_machine.proofs.FlatEnds.{tail_values, tail_frames}
 use Rattle.step_machine.proofs.FlatOutermost.{outermost, outermost_invokes, outermost_end, outermost_returns, outermost_branches}
 use Rattle.label_machine.specs.declared.run.Run.{Run}
 use Rattle.label_machine.specs.declared.run.Step.{Step}
-use Rattle.label_machine.specs.declared.run.Step.TheVariants.{Goes, Waits, Ends}
+use Rattle.label_machine.specs.declared.run.Step.TheVariants.{Goes, Waits, Ends, Stuck}
 use Rattle.label_machine.specs.declared.run.Doing.{Doing}
 use Rattle.label_machine.specs.declared.run.Doing.TheVariants.{Next, Branches, Returns}
-use Rattle.label_machine.specs.declared.frame.Target.{Target}
-use Rattle.label_machine.specs.declared.frame.Target.TheVariants.{After, Again}
-use Rattle.label_machine.specs.declared.frame.Label.{Label}
+use Rattle.label_machine.specs.declared.label.Target.{Target}
+use Rattle.label_machine.specs.declared.label.Target.TheVariants.{After, Again}
+use Rattle.label_machine.specs.declared.label.Label.{Label}
 use Rattle.label_machine.specs.declared.frame.Frame.{Frame}
+use Rattle.label_machine.specs.declared.store.Store.{Store as StoreValue}
+use Rattle.step_machine.specs.declared.ends.End.{End}
+use Rattle.step_machine.specs.declared.ends.End.TheVariants as end
+use Rattle.step_machine.specs.Instantiation.{ended}
 use Rattle.label_machine.specs.Inside.View.{ops_in, looped, opened, open_of, goes_to, level_of}
 use Rattle.label_machine.specs.Inside.Callees.{IsCallOf}
-use Rattle.label_machine.specs.Inside.Runs.{store_of, levels, items_for, tail_from, config, configured, IsWithin, IsOf, HasNext, IsSettled, Leads, given}
+use Rattle.label_machine.specs.Inside.Runs.{store_of, levels, items_for, tail_from, config, configured, IsWithin, HasNext, IsSettled, end_state, HasEnded, IsInvalid, no_rule, Leads, GivesWithin, given}
 
 -- what is so of an answer follows from what is known of it
 pub on_ok :
@@ -51,12 +56,17 @@ fits p r l ls pending v f = record {
   no_frames = tail_frames (option_to_list pending);
 }
 
-module _ (p : Program) where
-  -- data that go on, within the limits
-  pub goes_on :
-      (x : Run) (d : Doing) (s : Step) (c : Configuration) → settled p c ≡ settled p (config x d) → IsOf p x.store
-      → (s ≡ Goes x d) × IsWithin x → Leads p c s
-  goes_on x d s c h o g = subst (Leads p c) (sym g.0) (h, g.1, o)
+-- an end is that of its state
+pub ends_so : (e : End) → ended (end_state e) ≡ Some e
+ends_so end.Returned = refl
+ends_so (end.Exited n) = refl
+ends_so (end.Trapped t) = refl
+
+pub ends_at : (c : Configuration) (e : End) (s : StoreValue) → c ≡ configured s (end_state e) → HasEnded c e s
+ends_at c e s h = record {
+  store = ap (λ (d : Configuration). d.store) h;
+  ended = ap (λ (d : Configuration). ended d.state) h ∙ ends_so e;
+}
 
 -- at the end of a sequence
 pub at_end :
@@ -181,6 +191,53 @@ module _ (p : Program) (t : Frame) (b : Label) (bs : List Label) (x : Run) (r : 
       ∙ (return_out p r after_all inner (open_of b) (map open_of bs) others is fit
       ∙ ap (settled p) (config_is x r out others is_out refl left.store (λ l. more ret (items_of l.place l.rest))))
 
+-- operands that are let go are within the limits, and so are those below a label
+pub pops_within :
+    (x : Run) (b : Label) (bs : List Label) (f : Frame) (us : List Value) (k : ℕ) (os : Ops)
+    → length us ≤ length x.top.operands → x.top.labels ≡ b ∷ bs
+    → level_of f
+    ≡ record (level_of (record x.top { labels = bs })) { operands = us ++ b.below; place = k; rest = os }
+    → IsWithin x → IsWithin (record x { top = f })
+pops_within x b bs f us k os few labels is w =
+    let rest = below_all (map open_of bs) in
+    let v = w.values in
+    let now = ap values_of is in
+    let before = ap (λ cs. values_of (level_of (record x.top { labels = cs }))) labels in
+    let same = ap (length {A = Value}) (below_is b) in
+    let a = length-append (us ++ b.below) rest in
+    let a2 = length-append us b.below in
+    let c = length-append x.top.operands ((open_of b).below ++ rest) in
+    let d = length-append (open_of b).below rest in
+    record { values = omega (arith, v, now, before, same, a, a2, c, d, few); frames = w.frames }
+
+-- a frame that ends gives no more than it has
+pub gives_within :
+    (x : Run) (vs : List Value) → length vs ≤ length x.top.operands → IsWithin x
+    → GivesWithin vs (map level_of x.callers)
+gives_within x vs few w =
+    let v = w.values in
+    let f = w.frames in
+    let a = length-append x.top.operands (below_all (map open_of x.top.labels)) in
+    record { values = omega (arith, v, a, few); frames = omega (arith, f) }
+
+-- the frame that called is within the limits with what it is given
+pub given_within :
+    (x : Run) (vs : List Value) (k : Frame) (ks : List Level) → level_of x.top ≡ record (level_of k) { operands = vs ++ k.operands }
+    → map level_of x.callers ≡ ks → GivesWithin vs (level_of k ∷ ks) → IsWithin x
+given_within x vs k ks top callers w =
+    let v = w.values in
+    let f = w.frames in
+    let now = ap values_of top in
+    let others = ap all_values callers in
+    let many = ap (length {A = Level}) callers in
+    let a = length-append (vs ++ k.operands) (below_all (map open_of k.labels)) in
+    let b = length-append vs k.operands in
+    let c = length-append k.operands (below_all (map open_of k.labels)) in
+    record {
+      values = omega (arith, v, now, others, a, b, c);
+      frames = omega (arith, f, many);
+    }
+
 -- the data before and after a branch to the innermost label
 pub record Landed (t : Frame) (b : Label) (bs : List Label) (x : Run) (r : Store) : Type 0 where
   pub labels : t.labels ≡ b ∷ bs
@@ -256,7 +313,9 @@ waits_on p x i is h =
 pub leads_from : (p : Program) (c d : Configuration) (s : Step) → settled p c ≡ settled p d → Leads p d s → Leads p c s
 leads_from p c d (Goes x doing) h g = (h ∙ g.0, g.1, g.2)
 leads_from p c d (Waits x) h g = (h ∙ g.0, g.1, g.2, g.3)
-leads_from p c d (Ends e store) h g = (h ∙ g.0, g.1)
+leads_from p c d (Ends e store) h g =
+    (subst (λ k. HasEnded k e store) (sym h) g.0, g.1)
+leads_from p c d Stuck h g = subst IsInvalid (sym h) g
 
 pub waits_here :
     (p : Program) (x : Run) (is : List Instr) → x.top.ahead.rest.now ≡ is → (length is == 0) ≡ false
@@ -399,6 +458,34 @@ module _ (p : Program) (x : Run) (vs : List Value) (few : length vs ≤ length x
       (subst (λ (us : List Value). Fits p here (record k { operands = us ++ k.operands }) ks after_frames) some fit)))
       (map level_of x.callers) refl
 
+-- a branch out of a frame has no rule
+branch_fails :
+    (p : Program) (r : Store) (l : Level) (ls : List Level) (tail : Items) (k : ℕ) (is : Items)
+    → of_reduced (reduce p (env p r []) (tree_with (record l { opens = [] }) ls tail (more (branch (suc k)) is)))
+    ≡ conf r stuck
+branch_fails p r l [] rest k is = refl
+branch_fails p r l (j ∷ js) rest k is =
+    ap of_reduced
+    (level_ends p j js rest r (env p r j.locals)
+    (more (framed_by (record l { opens = [] }) (more (branch (suc k)) is)) (items_of j.place j.rest)) stuck refl refl)
+
+pub branches_nowhere :
+    (p : Program) (x : Run) (k : ℕ) → x.top.labels ≡ [] → 0 < k → IsInvalid (settled p (config x (Branches k)))
+branches_nowhere p x zero none some = absurd (omega (arith, some))
+branches_nowhere p x (suc k) none some =
+    let r = store_of x.store in
+    let ls = map level_of x.callers in
+    let tail = tail_from x.pending in
+    let is = items_of x.top.ahead.place (level_of x.top).rest in
+    let l : Level = record (level_of x.top) { opens = [] } in
+    let c = conf r (running (tree_with l ls tail (more (branch (suc k)) is))) in
+    let bare = ap (λ cs. config (record x { top = record x.top { labels = cs } }) (Branches (suc k))) none in
+    let fails =
+    ap (settled p) bare
+    ∙ (unsettled p c (is_unsettled p r l ls tail (more (branch (suc k)) is) refl)
+    ∙ (ap (settled p) (branch_fails p r l ls tail k is) ∙ settled_stays p (conf r stuck) refl)) in
+    no_rule (ap (λ (d : Configuration). d.state) fails)
+
 -- some of the values are no more than all
 pub few_taken : (n : ℕ) (vs ws : List Value) → ws ≡ take n vs → length ws ≤ length vs
 few_taken n vs ws h = let a = ap (length {A = Value}) h in let b = length-take n vs in omega (arith, a, b)
@@ -408,6 +495,7 @@ pub settled_so : (s : Step) → ((x : Run) (d : Doing) → s ≡ Goes x d → �
 settled_so (Goes x d) h = h x d refl
 settled_so (Waits x) h = tt
 settled_so (Ends e store) h = tt
+settled_so Stuck h = tt
 
 -- what holds anyway holds of an answer
 pub anyway : {A : Type 0} {B : Type 0} (P : Type 0) (r : Result A B) → P → OnOk r P

@@ -7,22 +7,21 @@ use Rattle.wasm_ast.specs.declared.module.Module.{Module}
 use Rattle.oci_config.specs.declared.process.ProcessConfig.{ProcessConfig}
 use Rattle.step_machine.specs.declared.shown.ShownFrame.{ShownFrame}
 use Rattle.step_machine.specs.declared.ends.End.{End}
-use Rattle.step_machine.specs.declared.ends.End.TheVariants as end
-use Rattle.step_machine.specs.Configuration.{Configuration, items_of}
-use Rattle.step_machine.specs.Instantiation.{after}
+use Rattle.step_machine.specs.Configuration.{seq, done, more, running, exited, trapped, stuck, Configuration, items_of}
+use Rattle.step_machine.specs.Configuration.{State as State_}
+use Rattle.step_machine.specs.Instantiation.{ended, after}
 use Rattle.step_machine.specs.Shown.{next_of, shown}
-use Rattle.step_machine.specs.Inside.Levels.{Open, Level, below_all}
+use Rattle.step_machine.specs.Inside.Levels.{Open, below_all}
 use Rattle.step_machine.specs.Inside.ShownLevels.{level_frame}
 use Rattle.step_machine.proofs.ShownLevels.{shown_levels}
 use Rattle.wasm_ast.specs.declared.instr.Instr.{Instr}
-use Rattle.label_machine.specs.declared.frame.Target.{Target}
-use Rattle.label_machine.specs.declared.frame.Target.TheVariants.{After, Again}
-use Rattle.label_machine.specs.declared.frame.Label.{Label}
-use Rattle.label_machine.specs.declared.run.Run.{Run}
+use Rattle.label_machine.specs.declared.label.Target.{Target}
+use Rattle.label_machine.specs.declared.label.Target.TheVariants.{After, Again}
+use Rattle.label_machine.specs.declared.label.Label.{Label}
 use Rattle.label_machine.specs.declared.machine.State.{State}
 use Rattle.label_machine.specs.declared.machine.State.TheVariants.{Going, Ended}
 use Rattle.label_machine.specs.Inside.View.{ops_in, looped, opened, open_of, level_of}
-use Rattle.label_machine.specs.Inside.Runs.{levels, tail_from, end_state}
+use Rattle.label_machine.specs.Inside.Runs.{levels, tail_from}
 use Rattle.label_machine.specs.Inside.Reached.{Reached}
 
 abbrev pub opens_of : List Label → List Open
@@ -103,14 +102,16 @@ abbrev pub frames_of : State → List ShownFrame
 frames_of (Going x) = map level_frame (levels x)
 frames_of (Ended e s) = []
 
-ends_with_none : (e : End) → shown (end_state e) ≡ []
-ends_with_none end.Returned = refl
-ends_with_none (end.Exited n) = refl
-ends_with_none (end.Trapped t) = refl
+ends_with_none : (s : State_) (e : End) → ended s ≡ Some e → shown s ≡ []
+ends_with_none (running (seq vs done)) e h = refl
+ends_with_none (running (seq vs (more i is))) e h = cc
+ends_with_none (exited n) e h = refl
+ends_with_none (trapped t) e h = refl
+ends_with_none stuck e h = cc
 
 pub shown_by :
     (m : Module) (p : ProcessConfig) (n : ℕ) (s : State) → Reached m p n s → shown (after m p n).state ≡ frames_of s
 shown_by m p n (Going x) h =
     ap (λ (c : Configuration). shown c.state) h.0
     ∙ shown_levels (level_of x.top) (map level_of x.callers) (tail_from x.pending)
-shown_by m p n (Ended e s) h = ap (λ (c : Configuration). shown c.state) h.0 ∙ ends_with_none e
+shown_by m p n (Ended e s) h = ends_with_none (after m p n).state e h.0.ended

@@ -1,6 +1,9 @@
 pub mod Effects
+pub mod Places
 pub mod View
 pub mod Runs
+pub mod Weights
 pub mod Callees
 pub mod Turns
 pub mod Reached
+pub mod Sound

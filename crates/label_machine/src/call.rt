@@ -6,6 +6,7 @@ ghost use Rattle.oci_config.specs.declared.process.ProcessConfig.{ProcessConfig}
 ghost use Rattle.step_machine.specs.Program.{Program, own, host as system, program};
 ghost use Rattle.label_machine.specs.declared.run.Doing.TheVariants as doing;
 ghost use Rattle.label_machine.specs.Inside.Runs.{config, IsWithin, IsOf, Leads, Limited};
+ghost use Rattle.label_machine.specs.Inside.Weights.{weight, IsLighter};
 
 use crate::callee::{Callee, called, function_at};
 use crate::room::is_within;
@@ -13,31 +14,33 @@ use crate::run::{Doing, Run, Step};
 use std::alloc::{AllocError, Global};
 use step_machine::End;
 use wasi_calls::{HostCall, HostEnd, host};
-use wasm_ast::{Func, FuncType, Module, Refusal, Trap, ValType, Value};
+use wasm_ast::{Func, FuncType, Module, Trap, ValType, Value};
 
-/// Data that go on, or that have passed a limit: then the execution traps.
-pub fn limited(run: Run) -> Step
-    ensures { Limited run.entry result }
+/// Data that go on so, or that have passed a limit: then the execution traps.
+pub fn limited(run: Run, doing: Doing) -> Step
+    ensures { Limited run.entry doing result }
 {
     if is_within(&run) {
-        Step::Goes(run, Doing::Next)
+        Step::Goes(run, doing)
     } else {
         Step::Ends(End::Trapped(Trap::Exhausted), run.store)
     }
 }
 
-/// A call of a function of the module's own: a frame more. `Invalid` if there are too few arguments.
+/// A call of a function of the module's own: a frame more.
 fn call_own<'m>(
     alloc: Global,
     run: Run<'m>,
     func: u32,
     func_type: &FuncType,
     found: &'m Func,
-) -> Result<Step<'m>, Refusal>
-    ensures { IfOk result (λ s. (p : Program) → IsWithin run.entry → IsOf p run.entry.store
+) -> Result<Step<'m>, AllocError>
+    ensures leads { IfOk result (λ s. (p : Program) → IsWithin run.entry
+        → IsOf p run.entry.pending run.entry.store
         → slice_get p.functions func
         ≡ Some (own func_type.now (map zero_of found.now.locals) found.now.body)
         → Leads p (config run.entry (doing.Calls func)) s) }
+    ensures lighter { IfOk result (IsLighter (weight run.entry (doing.Calls func))) }
 {
     let Run {
         mut top,
@@ -53,7 +56,7 @@ fn call_own<'m>(
         pending,
         store,
     };
-    Ok(limited(run))
+    Ok(limited(run, Doing::Next))
 }
 
 /// The types of values.
@@ -70,12 +73,14 @@ fn types_of(alloc: Global, values: &[Value]) -> Result<Vec<ValType>, AllocError>
     Ok(types)
 }
 
-/// A system call, which is made at once and may end the task. `Invalid` if its arguments are not there.
-fn call_system<'m>(alloc: Global, run: Run<'m>, call: HostCall) -> Result<Step<'m>, Refusal>
-    ensures { IfOk result
-        (λ s. (p : Program) (func : ℕ) → IsWithin run.entry → IsOf p run.entry.store
+/// A system call, which is made at once and may end the task; stuck if its arguments are not there.
+fn call_system<'m>(alloc: Global, run: Run<'m>, call: HostCall) -> Result<Step<'m>, AllocError>
+    ensures leads { IfOk result (λ s. (p : Program) (func : ℕ) → IsWithin run.entry
+        → IsOf p run.entry.pending run.entry.store
         → slice_get p.functions func ≡ Some (system call)
         → Leads p (config run.entry (doing.Calls func)) s) }
+    ensures lighter { (func : ℕ) → IfOk result
+        (IsLighter (weight run.entry (doing.Calls func))) }
 {
     let Run {
         mut top,
@@ -88,7 +93,7 @@ fn call_system<'m>(alloc: Global, run: Run<'m>, call: HostCall) -> Result<Step<'
         .take(alloc, call.params().len())?
         .into_oldest_first();
     if types_of(alloc, args.as_slice())?.as_slice() != call.params() {
-        return Err(Refusal::Invalid(None));
+        return Ok(Step::Stuck);
     }
     match host(
         call,
@@ -104,23 +109,29 @@ fn call_system<'m>(alloc: Global, run: Run<'m>, call: HostCall) -> Result<Step<'
                 pending,
                 store,
             };
-            Ok(limited(run))
+            Ok(limited(run, Doing::Next))
         }
-        HostEnd::Nothing => Err(Refusal::Invalid(None)),
+        // No call answers so.
+        HostEnd::Nothing => unreachable!(),
         HostEnd::Exit(number) => Ok(Step::Ends(End::Exited(number), store)),
     }
 }
 
-/// A call of a function, imports counted first (4.4.7). `Invalid` if there is none or its arguments are
-/// not there.
-pub fn call<'m>(alloc: Global, of: &'m Module, run: Run<'m>, func: u32) -> Result<Step<'m>, Refusal>
-    ensures { (p : ProcessConfig) → IfOk result (λ s. IsWithin run.entry
-        → IsOf (program of.now p) run.entry.store
+/// A call of a function, imports counted first (4.4.7); stuck if there is none.
+pub fn call<'m>(
+    alloc: Global,
+    of: &'m Module,
+    run: Run<'m>,
+    func: u32,
+) -> Result<Step<'m>, AllocError>
+    ensures leads { (p : ProcessConfig) → IfOk result (λ s. IsWithin run.entry
+        → IsOf (program of.now p) run.entry.pending run.entry.store
         → Leads (program of.now p) (config run.entry (doing.Calls func)) s) }
+    ensures lighter { IfOk result (IsLighter (weight run.entry (doing.Calls func))) }
 {
     match function_at(of, func) {
         Some(Callee::System(call)) => call_system(alloc, run, call),
         Some(Callee::Own(func_type, found)) => call_own(alloc, run, func, func_type, found),
-        None => Err(Refusal::Invalid(None)),
+        None => Ok(Step::Stuck),
     }
 }

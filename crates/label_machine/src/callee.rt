@@ -1,18 +1,18 @@
 //! What calls find (4.2.6).
 
-ghost use Rattle.std.specs.Prelude.{◌≡◌, ◌++◌, [], IfOk, IfSome, OnOk, Some, map, slice_get};
+ghost use Rattle.std.specs.Prelude.{◌≡◌, ◌++◌, IfOk, OnOk, MatchOption, None, Some, map, slice_get};
 ghost use Rattle.wasm_ast.specs.Types.{zero_of};
-ghost use Rattle.step_machine.specs.Program.{import_of, func_of, functions};
-ghost use Rattle.label_machine.specs.Inside.Callees.{function_of, called_with, IsCallOf};
+ghost use Rattle.step_machine.specs.Program.{type_of_function, import_of, func_of, functions};
+ghost use Rattle.label_machine.specs.Inside.Callees.{function_of, called_with};
 ghost use Rattle.label_machine.specs.Inside.View.{level_of};
-ghost use Rattle.wasm_ast.specs.declared.values.FuncType.{FuncType as AnyType};
 
-use crate::frame::{Ahead, Frame};
+use crate::frame::Frame;
+use crate::label::Ahead;
 use crate::pile::Pile;
 use std::alloc::{AllocError, Global};
 use step_machine::known;
 use wasi_calls::HostCall;
-use wasm_ast::{Func, FuncType, Import, Module, Refusal, ValType, Value};
+use wasm_ast::{Func, FuncType, Import, Module, ValType, Value};
 
 /// A function: a system call, or one of the module's own, with its type.
 #[derive(Clone, Copy)]
@@ -22,13 +22,17 @@ pub enum Callee<'m> {
 }
 
 fn system_call<'m>(of: &'m Module, import: &Import) -> Option<Callee<'m>>
-    ensures { IfSome result (λ c. import_of of.now.types import.now ≡ function_of c) }
+    ensures { MatchOption result
+        (type_of_function (Some (import_of of.now.types import.now)) ≡ None)
+        (λ c. import_of of.now.types import.now ≡ function_of c) }
 {
     Some(Callee::System(known(of.types.as_slice(), import)?))
 }
 
 fn own_function<'m>(of: &'m Module, func: &'m Func) -> Option<Callee<'m>>
-    ensures { IfSome result (λ c. func_of of.now.types func.now ≡ function_of c) }
+    ensures { MatchOption result
+        (type_of_function (Some (func_of of.now.types func.now)) ≡ None)
+        (λ c. func_of of.now.types func.now ≡ function_of c) }
 {
     let func_type = of.types.as_slice().get(func.type_index as usize)?;
     Some(Callee::Own(func_type, func))
@@ -37,7 +41,9 @@ fn own_function<'m>(of: &'m Module, func: &'m Func) -> Option<Callee<'m>>
 /// The function with this index, imports counted first; None if there is none, or it is no system call
 /// or has no type.
 pub fn function_at(of: &Module, func: u32) -> Option<Callee>
-    ensures { IfSome result (λ c. slice_get (functions of.now) func ≡ Some (function_of c)) }
+    ensures { MatchOption result
+        (type_of_function (slice_get (functions of.now) func) ≡ None)
+        (λ c. slice_get (functions of.now) func ≡ Some (function_of c)) }
 {
     let imports = of.imports.as_slice();
     let index = func as usize;
@@ -90,18 +96,4 @@ pub fn called<'m>(
             rest: found.body.as_slice(),
         },
     })
-}
-
-/// The frame of a function that is invoked outside all frames (4.4.7): one of the module's own that takes
-/// nothing. `Invalid` if it is another, and `NoMemory`.
-pub fn first_frame(alloc: Global, of: &Module, func: u32) -> Result<Frame, Refusal>
-    ensures { IfOk result (λ f. (t : AnyType) × (t.params ≡ [])
-        × IsCallOf of.now func t [] (level_of f)) }
-{
-    match function_at(of, func) {
-        Some(Callee::Own(func_type, found)) if func_type.params.len() == 0 => {
-            Ok(called(alloc, func, func_type, found, Vec::new(alloc))?)
-        }
-        _ => Err(Refusal::Invalid(None)),
-    }
 }

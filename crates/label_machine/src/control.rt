@@ -1,6 +1,6 @@
 //! What branches and indirect calls come to (4.4.5).
 
-ghost use Rattle.std.specs.Prelude.{◌≡◌, IfOk, List, Some, slice_get};
+ghost use Rattle.std.specs.Prelude.{◌≡◌, List, Some, slice_get};
 ghost use Rattle.flat_code.specs.TypeClasses.{is_of_type};
 ghost use Rattle.wasm_ast.specs.declared.values.Value.{Value as AnyValue};
 ghost use Rattle.oci_config.specs.declared.process.ProcessConfig.{ProcessConfig};
@@ -13,19 +13,19 @@ use crate::effect::Effect;
 use crate::numeric::take_i32;
 use crate::pile::Pile;
 use step_machine::are_same_types;
-use wasm_ast::{FuncType, Module, Refusal, Trap, ValType, Value};
+use wasm_ast::{FuncType, Module, Trap, ValType, Value};
 
 /// `br_if` (4.4.5).
-pub fn branch_if(operands: &mut Pile<Value>, label: u32) -> Result<Effect, Refusal>
-    ensures { IfOk result (λ e. (env : Env) → branch_if env operands.old label
-        ≡ effect_of e env operands.new) }
+#[tactic(auto, using(crate::proofs::NumericLemmas::branches_by_none))]
+pub fn branch_if(operands: &mut Pile<Value>, label: u32) -> Effect
+    ensures { (env : Env) → branch_if env operands.old label
+        ≡ effect_of result env operands.new }
 {
-    let condition = take_i32(operands)?;
-    Ok(if condition == 0 {
-        Effect::Done
-    } else {
-        Effect::Branches(label)
-    })
+    match take_i32(operands) {
+        Some(0) => Effect::Done,
+        Some(_) => Effect::Branches(label),
+        None => Effect::Stuck,
+    }
 }
 
 /// The label with this index, or the other.
@@ -39,12 +39,15 @@ fn label_for(labels: &[u32], index: u32, other: u32) -> u32
 }
 
 /// `br_table` (4.4.5).
-pub fn branch_by(operands: &mut Pile<Value>, labels: &[u32], other: u32) -> Result<Effect, Refusal>
-    ensures { IfOk result (λ e. (env : Env) → branch_by operands.old labels.now other
-        ≡ effect_of e env operands.new) }
+#[tactic(auto, using(crate::proofs::NumericLemmas::takes_none))]
+pub fn branch_by(operands: &mut Pile<Value>, labels: &[u32], other: u32) -> Effect
+    ensures { (env : Env) → branch_by operands.old labels.now other
+        ≡ effect_of result env operands.new }
 {
-    let index = take_i32(operands)?;
-    Ok(Effect::Branches(label_for(labels, index, other)))
+    match take_i32(operands) {
+        Some(index) => Effect::Branches(label_for(labels, index, other)),
+        None => Effect::Stuck,
+    }
 }
 
 fn has_type(expected: &FuncType, params: &[ValType], results: &[ValType]) -> bool
@@ -55,61 +58,57 @@ fn has_type(expected: &FuncType, params: &[ValType], results: &[ValType]) -> boo
         && are_same_types(expected.results.as_slice(), results)
 }
 
-/// Whether a function is of a type. `Invalid` if there is no such function.
-fn is_function_of(of: &Module, expected: &FuncType, func: u32) -> Result<bool, Refusal>
-    ensures { IfOk result (λ b. b ≡ is_of_type expected.now
-        (type_of_function (slice_get (functions of.now) func))) }
+/// Whether there is a function and it is of a type.
+fn is_function_of(of: &Module, expected: &FuncType, func: u32) -> bool
+    ensures { result ≡ is_of_type expected.now
+        (type_of_function (slice_get (functions of.now) func)) }
 {
     match function_at(of, func) {
-        Some(Callee::System(call)) => Ok(has_type(expected, call.params(), call.results())),
-        Some(Callee::Own(found, _)) => Ok(has_type(
+        Some(Callee::System(call)) => has_type(expected, call.params(), call.results()),
+        Some(Callee::Own(found, _)) => has_type(
             expected,
             found.params.as_slice(),
             found.results.as_slice(),
-        )),
-        None => Err(Refusal::Invalid(None)),
-    }
-}
-
-/// The type with this index. `Invalid` if there is none.
-pub fn type_with(of: &Module, index: u32) -> Result<&FuncType, Refusal>
-    ensures { IfOk result (λ t. slice_get of.now.types index ≡ Some t.now) }
-{
-    match of.type_with(index) {
-        Some(found) => Ok(found),
-        None => Err(Refusal::Invalid(None)),
+        ),
+        None => false,
     }
 }
 
 /// What a call of this entry of the table comes to, with this type expected.
-fn call_entry(of: &Module, index: u32, entry: Option<Option<u32>>) -> Result<Effect, Refusal>
-    ensures { IfOk result (λ e. (p : ProcessConfig) (env : Env) (rest : List AnyValue)
+fn call_entry(of: &Module, index: u32, entry: Option<Option<u32>>) -> Effect
+    ensures { (p : ProcessConfig) (env : Env) (rest : List AnyValue)
         → call_entry (program of.now p) (slice_get of.now.types index) entry rest
-        ≡ effect_of e env rest) }
+        ≡ effect_of result env rest }
 {
     let func = match entry {
-        None => return Ok(Effect::Traps(Trap::UndefinedElement)),
-        Some(None) => return Ok(Effect::Traps(Trap::UninitializedElement)),
+        None => return Effect::Traps(Trap::UndefinedElement),
+        Some(None) => return Effect::Traps(Trap::UninitializedElement),
         Some(Some(func)) => func,
     };
-    if is_function_of(of, type_with(of, index)?, func)? {
-        Ok(Effect::Calls(func))
+    let Some(expected) = of.type_with(index) else {
+        return Effect::Stuck;
+    };
+    if is_function_of(of, expected, func) {
+        Effect::Calls(func)
     } else {
-        Ok(Effect::Traps(Trap::IndirectCallTypeMismatch))
+        Effect::Traps(Trap::IndirectCallTypeMismatch)
     }
 }
 
 /// `call_indirect` (4.4.5).
+#[tactic(auto, using(crate::proofs::NumericLemmas::takes_none))]
 pub fn call_indirect(
     of: &Module,
     operands: &mut Pile<Value>,
     table: &[Option<u32>],
     index: u32,
-) -> Result<Effect, Refusal>
-    ensures { IfOk result (λ e. (p : ProcessConfig) (env : Env) → env.store.table ≡ table.now
+) -> Effect
+    ensures { (p : ProcessConfig) (env : Env) → env.store.table ≡ table.now
         → call_indirect (program of.now p) env operands.old index
-        ≡ effect_of e env operands.new) }
+        ≡ effect_of result env operands.new }
 {
-    let entry = take_i32(operands)?;
-    call_entry(of, index, table.get(entry as usize).copied())
+    match take_i32(operands) {
+        Some(entry) => call_entry(of, index, table.get(entry as usize).copied()),
+        None => Effect::Stuck,
+    }
 }

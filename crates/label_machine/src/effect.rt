@@ -15,4 +15,6 @@ pub enum Effect {
     Returns,
     /// The execution ends.
     Traps(Trap),
+    /// There is no rule, to which no valid module comes.
+    Stuck,
 }

@@ -1,8 +1,8 @@
 //! One turn: the instruction that is next (4.4).
 
-ghost use Rattle.std.specs.Prelude.{◌≡◌, ◌+◌, ◌∷◌, ℕ, IfOk};
+ghost use Rattle.std.specs.Prelude.{◌≡◌, ◌+◌, ◌<◌, ◌^◌, ◌∷◌, [], ℕ, IfOk, MatchOption, None};
 ghost use Rattle.oci_config.specs.declared.process.ProcessConfig.{ProcessConfig};
-ghost use Rattle.wasm_ast.specs.Syntax.{Op, simple, if', count};
+ghost use Rattle.wasm_ast.specs.Syntax.{Op, simple, if', count, ops_count};
 ghost use Rattle.wasm_ast.specs.View.{op_of};
 ghost use Rattle.wasm_ast.specs.Types.{block_type as type_of_block};
 ghost use Rattle.wasm_ast.specs.declared.instr.BlockType.{BlockType as AnyBlockType};
@@ -11,42 +11,45 @@ ghost use Rattle.step_machine.specs.Turns.{turn};
 ghost use Rattle.label_machine.specs.declared.run.Run.{Run as AnyRun};
 ghost use Rattle.label_machine.specs.declared.run.Step.TheVariants as step;
 ghost use Rattle.label_machine.specs.declared.run.Doing.TheVariants as doing;
+ghost use Rattle.label_machine.specs.Inside.Places.{first_end, repeated};
 ghost use Rattle.label_machine.specs.Inside.Turns.{HasCounts, Does, Enters};
-ghost use Rattle.label_machine.specs.Inside.Runs.{about_to, config, IsWithin, IsOf, LeadsTo};
+ghost use Rattle.label_machine.specs.Inside.Runs.{about_to, config, IsWithin, IsOf, LeadsTo, Limited};
 
 use crate::call::limited;
-use crate::control::type_with;
 use crate::effect::Effect;
-use crate::frame::{Ahead, Frame, Label, Target};
+use crate::frame::Frame;
+use crate::label::{Ahead, Label, Target};
 use crate::numeric::take_i32;
-use crate::places::{places_in, places_of, sum};
+use crate::places::{places_in, places_of};
 use crate::run::{Doing, Run, Step};
-use crate::settle::goes;
 use crate::simple::do_simple;
-use std::alloc::Global;
+use std::alloc::{AllocError, Global};
 use step_machine::End;
-use wasm_ast::{BlockType, Body, Instr, Module, Refusal, Simple};
+use wasm_ast::{BlockType, Body, Instr, Module, Simple};
 
 /// What follows once an instruction has done what it does by itself: calls, branches and returns are on
 /// their way from here.
-fn after_effect(run: Run, effect: Effect) -> Result<Step, Refusal>
-    ensures { IfOk result (λ s. (p : Program) (x : AnyRun) (place : ℕ) (o : Op)
-        → Does p x run.entry place o effect → IsWithin x → IsOf p run.entry.store
-        → LeadsTo p (turn p (about_to x place o)) s) }
+fn after_effect(run: Run, effect: Effect) -> Step
+    ensures { (p : Program) (x : AnyRun) (place : ℕ) (o : Op)
+        → Does p x run.entry place o effect → IsWithin x
+        → IsOf p run.entry.pending run.entry.store
+        → LeadsTo p (turn p (about_to x place o)) result }
 {
     match effect {
-        Effect::Done => Ok(limited(run)),
-        Effect::Calls(func) => goes(run, Doing::Calls(func)),
-        Effect::Branches(label) => goes(run, Doing::Branches(label)),
-        Effect::Returns => goes(run, Doing::Returns),
-        Effect::Traps(trap) => Ok(Step::Ends(End::Trapped(trap), run.store)),
+        Effect::Done => limited(run, Doing::Next),
+        Effect::Calls(func) => limited(run, Doing::Calls(func)),
+        Effect::Branches(label) => limited(run, Doing::Branches(label)),
+        Effect::Returns => limited(run, Doing::Returns),
+        Effect::Traps(trap) => Step::Ends(End::Trapped(trap), run.store),
+        Effect::Stuck => Step::Stuck,
     }
 }
 
 /// The turn of an instruction without a body, after which the data go on at the next one.
-fn run_simple<'m>(of: &'m Module, run: Run<'m>, instr: &Simple) -> Result<Step<'m>, Refusal>
+fn run_simple<'m>(of: &'m Module, run: Run<'m>, instr: &Simple) -> Result<Step<'m>, AllocError>
     ensures { (p : ProcessConfig) (place : ℕ) → run.entry.top.ahead.place ≡ place + 1
-        → IfOk result (λ s. IsWithin run.entry → IsOf (program of.now p) run.entry.store
+        → IfOk result (λ s. IsWithin run.entry
+        → IsOf (program of.now p) run.entry.pending run.entry.store
         → LeadsTo (program of.now p)
         (turn (program of.now p) (about_to run.entry place (simple instr.now))) s) }
 {
@@ -78,7 +81,7 @@ fn run_simple<'m>(of: &'m Module, run: Run<'m>, instr: &Simple) -> Result<Step<'
         pending,
         store,
     };
-    after_effect(run, effect)
+    Ok(after_effect(run, effect))
 }
 
 /// How many values a block takes and gives.
@@ -88,24 +91,25 @@ struct Counts {
     results: usize,
 }
 
-/// What a block of this type takes and gives (2.4.5; by index Core 2.0, 2.4.8). `Invalid` if the index
-/// names no type.
-fn counts_of(of: &Module, block_type: BlockType) -> Result<Counts, Refusal>
-    ensures { IfOk result
+/// What a block of this type takes and gives (2.4.5; by index Core 2.0, 2.4.8); None if the index names no
+/// type.
+fn counts_of(of: &Module, block_type: BlockType) -> Option<Counts>
+    ensures { MatchOption result
+        (type_of_block of.now.types block_type ≡ None)
         (λ c. HasCounts (type_of_block of.now.types block_type) c.params c.results) }
 {
     match block_type {
-        BlockType::Empty => Ok(Counts {
+        BlockType::Empty => Some(Counts {
             params: 0,
             results: 0,
         }),
-        BlockType::One(_) => Ok(Counts {
+        BlockType::One(_) => Some(Counts {
             params: 0,
             results: 1,
         }),
         BlockType::Index(index) => {
-            let found = type_with(of, index)?;
-            Ok(Counts {
+            let found = of.type_with(index)?;
+            Some(Counts {
                 params: found.params.len(),
                 results: found.results.len(),
             })
@@ -114,18 +118,19 @@ fn counts_of(of: &Module, block_type: BlockType) -> Result<Counts, Refusal>
 }
 
 /// Enters a body, of which the first instruction has this place. It takes this many of the newest operands;
-/// the others stay below its label. `Invalid` if there are not as many.
+/// the others stay below its label.
 fn enter<'m>(
     alloc: Global,
     run: Run<'m>,
     taken: usize,
     arity: usize,
-    place: u64,
+    place: u32,
     target: Target<'m>,
-    first: u64,
+    first: u32,
     body: &'m Body,
-) -> Result<Step<'m>, Refusal>
-    ensures { IfOk result (λ s. (y : AnyRun) × (s ≡ step.Goes y doing.Next) × IsWithin y
+) -> Result<Step<'m>, AllocError>
+    requires fits { first_end place (repeated target) < 2 ^ 32 }
+    ensures { IfOk result (λ s. (y : AnyRun) × Limited y doing.Next s
         × Enters run.entry y taken arity place target.entry first body.now) }
 {
     let Run {
@@ -165,23 +170,24 @@ fn enter<'m>(
         pending,
         store,
     };
-    goes(run, Doing::Next)
+    Ok(limited(run, Doing::Next))
 }
 
 /// An if (4.4.5), after which the data go on at the next instruction: enters the arm that its condition
-/// chooses. `Invalid` if there is no condition or there are too few operands.
+/// chooses; stuck if there is no condition.
 fn choose<'m>(
     alloc: Global,
     run: Run<'m>,
     counts: Counts,
-    place: u64,
+    place: u32,
     then_arm: &'m Body,
     else_arm: &'m Body,
-) -> Result<Step<'m>, Refusal>
+) -> Result<Step<'m>, AllocError>
+    requires counted { run.top.ahead.place
+        ≡ place + (1 + ops_count then_arm.now + ops_count else_arm.now) }
     ensures { IfOk result (λ s. (p : Program) (b : AnyBlockType)
         → HasCounts (type_of_block p.types b) counts.params counts.results
-        → run.entry.top.ahead.place ≡ place + count (if' b then_arm.now else_arm.now)
-        → IsOf p run.entry.store
+        → IsOf p run.entry.pending run.entry.store
         → LeadsTo p (turn p (about_to run.entry place (if' b then_arm.now else_arm.now))) s) }
 {
     let Run {
@@ -190,8 +196,12 @@ fn choose<'m>(
         pending,
         store,
     } = run;
-    let condition = take_i32(&mut top.operands)?;
     let after = Target::After(top.ahead);
+    let first = place + 1;
+    let second = first + places_in(then_arm).unwrap();
+    let Some(condition) = take_i32(&mut top.operands) else {
+        return Ok(Step::Stuck);
+    };
     let run = Run {
         top,
         callers,
@@ -199,56 +209,59 @@ fn choose<'m>(
         store,
     };
     let Counts { params, results } = counts;
-    let first = sum(place, 1)?;
     if condition > 0 {
-        return enter(alloc, run, params, results, place, after, first, then_arm);
+        enter(alloc, run, params, results, place, after, first, then_arm)
+    } else {
+        enter(alloc, run, params, results, place, after, second, else_arm)
     }
-    let second = sum(first, places_in(then_arm)?)?;
-    enter(alloc, run, params, results, place, after, second, else_arm)
 }
 
-/// The turn of a block, a loop or an if (4.4.5), after which the data go on at the next instruction. `from`
-/// are the instructions from it on. `Invalid` if it has no type or there are too few operands.
-fn run_block<'m>(
+/// The turn of an instruction at this place, after which the data go on at the next one. `from` are the
+/// instructions from it on. Stuck if it is a block that has no type.
+fn run_instr<'m>(
     alloc: Global,
     of: &'m Module,
     run: Run<'m>,
-    place: u64,
+    place: u32,
     from: &'m [Instr],
     instr: &'m Instr,
-) -> Result<Step<'m>, Refusal>
-    ensures { IfOk result (λ s. (p : Program) → p.types ≡ of.now.types
-        → run.entry.top.ahead.place ≡ place + count (op_of instr.now)
-        → from.now ≡ instr.now ∷ run.entry.top.ahead.rest.now → IsOf p run.entry.store
-        → LeadsTo p (turn p (about_to run.entry place (op_of instr.now))) s) }
+) -> Result<Step<'m>, AllocError>
+    requires counted { run.top.ahead.place ≡ place + count (op_of instr.now) }
+    requires from { from.now ≡ instr.now ∷ run.top.ahead.rest.now }
+    ensures { (p : ProcessConfig) → IfOk result (λ s. IsWithin run.entry
+        → IsOf (program of.now p) run.entry.pending run.entry.store
+        → LeadsTo (program of.now p)
+        (turn (program of.now p) (about_to run.entry place (op_of instr.now))) s) }
 {
     let after = Target::After(run.top.ahead);
-    let first = sum(place, 1)?;
     match instr {
+        Instr::Simple(simple) => run_simple(of, run, simple),
         Instr::Block(t, body) => {
-            let counts = counts_of(of, *t)?;
-            let Counts { params, results } = counts;
-            enter(alloc, run, params, results, place, after, first, body)
+            let Some(Counts { params, results }) = counts_of(of, *t) else {
+                return Ok(Step::Stuck);
+            };
+            enter(alloc, run, params, results, place, after, place + 1, body)
         }
         Instr::Loop(t, body) => {
-            let counts = counts_of(of, *t)?;
-            let params = counts.params;
+            let Some(Counts { params, .. }) = counts_of(of, *t) else {
+                return Ok(Step::Stuck);
+            };
             let again = Target::Again(from);
-            enter(alloc, run, params, params, place, again, first, body)
+            enter(alloc, run, params, params, place, again, place + 1, body)
         }
-        Instr::If(t, then_arm, else_arm) => {
-            choose(alloc, run, counts_of(of, *t)?, place, then_arm, else_arm)
-        }
-        Instr::Simple(_) => Err(Refusal::Invalid(None)),
+        Instr::If(t, then_arm, else_arm) => match counts_of(of, *t) {
+            Some(counts) => choose(alloc, run, counts, place, then_arm, else_arm),
+            None => Ok(Step::Stuck),
+        },
     }
 }
 
 /// A turn: the instruction that is next (4.4), up to the next one or to what is on its way from it.
-/// `Invalid` where no rule is, to which no valid module comes, `Limit` if its place is 2^64 or more, and
-/// `NoMemory`.
-pub fn execute<'m>(alloc: Global, of: &'m Module, run: Run<'m>) -> Result<Step<'m>, Refusal>
+pub fn execute<'m>(alloc: Global, of: &'m Module, run: Run<'m>) -> Result<Step<'m>, AllocError>
+    requires next { (run.top.ahead.rest.now ≡ []) → ⊥ }
+    requires fits { first_end run.top.ahead.place run.top.ahead.rest.now < 2 ^ 32 }
     ensures { (p : ProcessConfig) → IfOk result (λ s. IsWithin run.entry
-        → IsOf (program of.now p) run.entry.store
+        → IsOf (program of.now p) run.entry.pending run.entry.store
         → LeadsTo (program of.now p)
         (turn (program of.now p) (config run.entry doing.Next)) s) }
 {
@@ -260,10 +273,10 @@ pub fn execute<'m>(alloc: Global, of: &'m Module, run: Run<'m>) -> Result<Step<'
     } = run;
     let Ahead { place, rest: from } = top.ahead;
     let Some((instr, rest)) = from.split_first() else {
-        return Err(Refusal::Invalid(None));
+        unreachable!();
     };
     top.ahead = Ahead {
-        place: sum(place, places_of(instr)?)?,
+        place: place + places_of(instr).unwrap(),
         rest,
     };
     let run = Run {
@@ -272,8 +285,5 @@ pub fn execute<'m>(alloc: Global, of: &'m Module, run: Run<'m>) -> Result<Step<'
         pending,
         store,
     };
-    match instr {
-        Instr::Simple(simple) => run_simple(of, run, simple),
-        _ => run_block(alloc, of, run, place, from, instr),
-    }
+    run_instr(alloc, of, run, place, from, instr)
 }

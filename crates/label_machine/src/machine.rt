@@ -1,26 +1,31 @@
 //! The machine.
 
 ghost use Rattle.label_machine.specs.declared.machine.State.TheVariants.{Going as going};
-ghost use Rattle.std.specs.Prelude.{◌≡◌, ◌+◌, ◌&&◌, ℕ, IfOk, OnOk, Err, Some, None, [], length, true};
+ghost use Rattle.std.specs.Prelude.{◌≡◌, ◌≢◌, ◌+◌, ◌&&◌, ℕ, IfOk, OnOk, Err, Some, None, is_some, [], length, true};
 ghost use Rattle.wasm_ast.specs.declared.refusal.Refusal.{Refusal as Reason};
+ghost use Rattle.wasm_ast.specs.declared.refusal.Refusal.TheVariants as refusal;
 ghost use Rattle.oci_config.specs.Processes.{config_of};
 ghost use Rattle.oci_config.specs.declared.process.ProcessConfig.{ProcessConfig};
 ghost use Rattle.step_machine.specs.Instantiation.{ended, instantiation_refusal, initial, entry as entry_of, zero_memory, empty_table, are_pages_within, are_elements_inside, are_segments_inside};
+ghost use Rattle.step_machine.specs.HostCalls.{all_known};
 ghost use Rattle.step_machine.specs.MachineView.{state_of, output_of};
 ghost use Rattle.step_machine.specs.Program.{program};
 ghost use Rattle.step_machine.specs.Shown.{shown};
-ghost use Rattle.label_machine.specs.Inside.Runs.{IsSettled, LeadsTo};
+ghost use Rattle.label_machine.specs.Inside.Runs.{LeadsTo};
 ghost use Rattle.label_machine.specs.Inside.Reached.{state_from, kept_by, Reached as reached_by, IsFirst};
+ghost use Rattle.label_machine.specs.Inside.Sound.{IsSound, AreInvoked};
 
 use crate::execute::execute;
 use crate::first_store::first_store;
-use crate::places::sum;
+use crate::numbered::number_all;
+use crate::outermost::begin;
 use crate::run::{Run, Step};
-use crate::settle::{begin, settle};
+use crate::settle::settle;
 use crate::shown::shown_frames;
+use crate::sound::sound;
 use crate::store::Store;
 use oci_config::{Process, Stream};
-use std::alloc::Global;
+use std::alloc::{AllocError, Global};
 use std::marker::Model;
 use step_machine::{End, LAST_TURN, ShownFrame, find_entry};
 use validator::Valid;
@@ -53,20 +58,23 @@ impl<'m> Model for LabelMachine<'m> {
     ghost coded = { machine_code };
 
     ghost use Rattle.label_machine.specs.Inside.Reached.{process_of, Reached};
+    ghost use Rattle.label_machine.specs.Inside.Sound.{IsSound};
 
     ghost view = { λ m. record { «module» = m.of.now; process = process_of m.state; turns = m.turns } };
 
-    ghost invariant = { λ m. Reached m.of.now (process_of m.state) m.turns m.state };
+    ghost invariant = { λ m. Reached m.of.now (process_of m.state) m.turns m.state
+        × IsSound m.of.now (process_of m.state) };
 }
 
-/// What data that are settled have come to. `Invalid` if they are not.
-fn state_from(step: Step) -> Result<State, Refusal>
-    ensures { IfOk result (λ s. state_from step.entry ≡ Some s) }
+/// What data that are settled have come to.
+fn state_from(step: Step) -> State
+    requires { is_some (state_from step) ≡ true }
+    ensures { state_from step.entry ≡ Some result }
 {
     match step {
-        Step::Waits(run) => Ok(State::Going(run)),
-        Step::Ends(end, store) => Ok(State::Ended(end, store)),
-        Step::Goes(_, _) => Err(Refusal::Invalid(None)),
+        Step::Waits(run) => State::Going(run),
+        Step::Ends(end, store) => State::Ended(end, store),
+        Step::Goes(_, _) | Step::Stuck => unreachable!(),
     }
 }
 
@@ -76,9 +84,9 @@ fn first_step<'m>(
     of: &'m Module,
     entry: u32,
     store: Store,
-) -> Result<Step<'m>, Refusal>
+) -> Result<Step<'m>, AllocError>
     ensures { (p : ProcessConfig) → IfOk result (λ s. entry_of of.now ≡ Some entry
-        → IsFirst of.now p store
+        → IsFirst of.now p store → AreInvoked of.now p
         → LeadsTo (program of.now p) (initial of.now p) s) }
 {
     match of.start {
@@ -103,7 +111,9 @@ fn next_state<'m>(
     of: &'m Module,
     run: Run<'m>,
     number: u64,
-) -> Result<State<'m>, Refusal>
+) -> Result<State<'m>, AllocError>
+    requires reached { (p : ProcessConfig) × (n : ℕ) × (number ≡ n + 1)
+        × reached_by of.now p n (going run) × IsSound of.now p }
     ensures { (p : ProcessConfig) (n : ℕ) → number ≡ n + 1
         → IfOk result
         (λ s. reached_by of.now p n (going run.entry) → reached_by of.now p number s) }
@@ -111,14 +121,15 @@ fn next_state<'m>(
     if number == LAST_TURN {
         return Ok(State::Ended(End::Trapped(Trap::TurnLimit), run.store));
     }
-    state_from(settle(alloc, of, execute(alloc, of, run)?)?)
+    let step = settle(alloc, of, execute(alloc, of, run)?)?;
+    Ok(state_from(step))
 }
 
 impl<'m> LabelMachine<'m> {
     /// Instantiates a module as a task under a process that has written nothing (4.5.4), with no turn made.
     /// The first of these refusals that holds: `NoEntry`, `BadImport`, `Limit` and `SegmentOutOfBounds`,
-    /// as of any machine. If none holds, `NoMemory` if memory cannot be allocated, and `Invalid` or `Limit`
-    /// where no rule is or a place is 2^64 or more, to which no valid module comes; no clause says which.
+    /// as of any machine. If none holds, `NoMemory` if memory cannot be allocated, or if a body has more
+    /// instructions than 32 bits can number.
     pub fn new(
         alloc: Global,
         valid: &'m Valid,
@@ -130,10 +141,12 @@ impl<'m> LabelMachine<'m> {
         ensures opens { OnOk result (instantiation_refusal valid.now (config_of process) ≡ None) }
         ensures first { (e : Reason) → instantiation_refusal valid.now (config_of process) ≡ Some e
             → result ≡ Err e }
+        ensures refused { (e : Reason) → result ≡ Err e → e ≢ refusal.NoMemory
+            → instantiation_refusal valid.now (config_of process) ≡ Some e }
     {
         let of = valid.module();
         let entry = find_entry(of, of.is_within_limits(), process.cap)?;
-        LabelMachine::from_entry(alloc, valid, entry, process)
+        Ok(LabelMachine::from_entry(alloc, valid, entry, process)?)
     }
 
     // A machine of a module that can be instantiated, with this entry.
@@ -142,7 +155,7 @@ impl<'m> LabelMachine<'m> {
         valid: &'m Valid,
         entry: u32,
         process: Process,
-    ) -> Result<LabelMachine<'m>, Refusal>
+    ) -> Result<LabelMachine<'m>, AllocError>
         requires entry { entry_of valid.now ≡ Some entry }
         requires nothing_written { (process.out ≡ []) × (process.err ≡ []) }
         requires pages { are_pages_within valid.now.memories process.cap ≡ true }
@@ -150,17 +163,21 @@ impl<'m> LabelMachine<'m> {
             valid.now.elements
             && are_segments_inside (zero_memory valid.now.memories process.cap) valid.now.segments
             ≡ true }
+        requires opens { instantiation_refusal valid.now (config_of process) ≡ None }
+        requires known { all_known valid.now.types valid.now.imports ≡ true }
         ensures { IfOk result (λ m. m
             ≡ record { «module» = valid.now; process = config_of process; turns = 0 }) }
     {
         let of = valid.module();
+        number_all(of.funcs.as_slice())?;
+        sound(valid, &process);
         let store = first_store(alloc, of, process)?;
         let first = first_step(alloc, of, entry, store)?;
         let settled = settle(alloc, of, first)?;
         Ok(LabelMachine {
             alloc,
             of,
-            state: state_from(settled)?,
+            state: state_from(settled),
             turns: 0,
         })
     }
@@ -193,9 +210,9 @@ impl<'m> LabelMachine<'m> {
         }
     }
 
-    /// Its frames, the innermost first; none if it has ended. `NoMemory` if memory for them cannot be
-    /// allocated; `Limit` if a place is 2^32 or more, to which no valid module comes.
-    pub fn frames(&self, alloc: Global) -> Result<Vec<ShownFrame>, Refusal>
+    /// Its frames, the innermost first; none if it has ended. An error if memory for them cannot be
+    /// allocated.
+    pub fn frames(&self, alloc: Global) -> Result<Vec<ShownFrame>, AllocError>
         ensures { IfOk result (λ v. v.items ≡ shown (state_of self.now)) }
     {
         match &self.state {
@@ -204,9 +221,8 @@ impl<'m> LabelMachine<'m> {
         }
     }
 
-    /// Makes one turn. `NoMemory` if memory runs out: then the machine is lost. `Invalid` or `Limit` where no
-    /// rule is or a place is 2^64 or more, to which no valid module comes.
-    pub fn turn(self) -> Result<LabelMachine<'m>, Refusal>
+    /// Makes one turn. An error if memory runs out: then the machine is lost.
+    pub fn turn(self) -> Result<LabelMachine<'m>, AllocError>
         requires { ended (state_of self) ≡ None }
         ensures { IfOk result (λ m. m ≡ record self.entry { turns = self.entry.turns + 1 }) }
     {
@@ -217,9 +233,9 @@ impl<'m> LabelMachine<'m> {
             turns,
         } = self;
         let State::Going(run) = state else {
-            return Err(Refusal::Invalid(None));
+            unreachable!();
         };
-        let turns = sum(turns, 1)?;
+        let turns = turns + 1;
         Ok(LabelMachine {
             alloc,
             of,

@@ -4,7 +4,7 @@ ghost use Rattle.std.specs.Prelude.{◌≡◌, ◌∷◌, ◌++◌, [], OnOk, If
 
 use std::alloc::{AllocError, Global};
 use std::marker::Model;
-use wasm_ast::{Refusal, Value};
+use wasm_ast::Value;
 
 /// A list of which the newest item is at hand. Contracts see the newest first.
 #[derive(Drop)]
@@ -63,18 +63,14 @@ impl<T> Pile<T> {
 }
 
 impl Pile<Value> {
-    /// Takes the newest of the values, this many, as a pile of their own. `Invalid` if there are not
-    /// as many, and `NoMemory`.
-    pub fn take(&mut self, alloc: Global, count: usize) -> Result<Pile<Value>, Refusal>
+    /// Takes the newest of the values, this many, as a pile of their own; all of them if there are not as
+    /// many.
+    pub fn take(&mut self, alloc: Global, count: usize) -> Result<Pile<Value>, AllocError>
         ensures taken { IfOk result (λ top. top ≡ take count self.old) }
         ensures left { OnOk result (self.new ≡ drop count self.old) }
-        ensures count { IfOk result (λ top. length top ≡ count) }
     {
         let items = self.items.as_slice();
-        if items.len() < count {
-            return Err(Refusal::Invalid(None));
-        }
-        let left = items.len() - count;
+        let left = items.len().saturating_sub(count);
         let top = Vec::from_slice(alloc, &items[left..])?;
         self.items.truncate(left);
         Ok(Pile { items: top })

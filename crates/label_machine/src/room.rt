@@ -7,7 +7,8 @@ ghost use Rattle.step_machine.specs.Inside.Levels.{values_of, all_values};
 ghost use Rattle.label_machine.specs.Inside.View.{level_of};
 ghost use Rattle.label_machine.specs.Inside.Runs.{values_below, values_in, levels};
 
-use crate::frame::{Frame, Label};
+use crate::frame::Frame;
+use crate::label::Label;
 use crate::run::Run;
 use step_machine::{MAX_FRAMES, MAX_VALUES};
 

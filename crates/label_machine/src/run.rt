@@ -45,4 +45,6 @@ pub enum Step<'m> {
     Waits(Run<'m>),
     /// It has ended.
     Ends(End, Store),
+    /// There is no rule, to which no valid module comes.
+    Stuck,
 }

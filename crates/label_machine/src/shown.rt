@@ -8,12 +8,13 @@ ghost use Rattle.step_machine.specs.Inside.ShownLevels.{next_outside, level_fram
 ghost use Rattle.label_machine.specs.Inside.Runs.{levels};
 ghost use Rattle.label_machine.specs.Inside.View.{open_of, level_of, ops_in};
 
-use crate::frame::{Ahead, Frame, Label};
+use crate::frame::Frame;
+use crate::label::{Ahead, Label};
 use crate::pile::Pile;
 use crate::run::Run;
 use std::alloc::{AllocError, Global};
 use step_machine::ShownFrame;
-use wasm_ast::{Refusal, Sequence, Value};
+use wasm_ast::{Sequence, Value};
 
 fn push<T>(list: &mut Vec<T>, item: T) -> Result<(), AllocError>
 where
@@ -24,22 +25,15 @@ where
     Ok(())
 }
 
-// A place as it is shown. `Limit` if it is 2^32 or more, which no body comes to.
-fn shown_place(place: u64) -> Result<u32, Refusal>
-    ensures { IfOk result (λ n. n ≡ place) }
-{
-    u32::try_from(place).map_err(|_| Refusal::Limit)
-}
-
 // The places of open blocks, the innermost first, of labels that have the outermost first.
-fn places_of<'m>(alloc: Global, labels: &[Label<'m>]) -> Result<Vec<u32>, Refusal>
+fn places_of<'m>(alloc: Global, labels: &[Label<'m>]) -> Result<Vec<u32>, AllocError>
     ensures { IfOk result (λ v. v.items
         ≡ map (λ (o : Open). o.place) (map open_of (reverse labels.now))) }
 {
     let mut places = Vec::new(alloc);
     let mut left = labels;
     while let [outer @ .., label] = left {
-        push(&mut places, shown_place(label.place())?)?;
+        push(&mut places, label.place())?;
         left = outer;
     }
     Ok(places)
@@ -75,26 +69,26 @@ fn operands_of<'m>(
 }
 
 // The place of the instruction that is next, found through the ends of blocks; None at the frame's end.
-fn next_place<'m>(ahead: Ahead<'m>, labels: &[Label<'m>]) -> Result<Option<u32>, Refusal>
-    ensures { IfOk result (λ n. n ≡ next_of (items_of ahead.entry.place (ops_in ahead.entry.rest.now))
-        (next_outside (map open_of (reverse labels.now)))) }
+fn next_place<'m>(ahead: Ahead<'m>, labels: &[Label<'m>]) -> Option<u32>
+    ensures { result ≡ next_of (items_of ahead.entry.place (ops_in ahead.entry.rest.now))
+        (next_outside (map open_of (reverse labels.now))) }
 {
     if !ahead.rest.is_empty() {
-        return Ok(Some(shown_place(ahead.place)?));
+        return Some(ahead.place);
     }
     match labels.split_last() {
-        Some((label, outer)) => next_place(label.after()?, outer),
-        None => Ok(None),
+        Some((label, outer)) => next_place(label.after(), outer),
+        None => None,
     }
 }
 
 // A frame as it is shown.
-fn shown_frame<'m>(alloc: Global, frame: &Frame<'m>) -> Result<ShownFrame, Refusal>
+fn shown_frame<'m>(alloc: Global, frame: &Frame<'m>) -> Result<ShownFrame, AllocError>
     ensures { IfOk result (λ s. s ≡ level_frame (level_of frame.now)) }
 {
     let labels = frame.labels.as_slice();
     let operands = operands_of(alloc, labels, &frame.operands)?;
-    let next = next_place(frame.ahead, labels)?;
+    let next = next_place(frame.ahead, labels);
     let places = places_of(alloc, labels)?;
     let locals = Vec::from_slice(alloc, frame.locals.as_slice())?;
     Ok(ShownFrame {
@@ -106,9 +100,8 @@ fn shown_frame<'m>(alloc: Global, frame: &Frame<'m>) -> Result<ShownFrame, Refus
     })
 }
 
-/// The frames of an execution, the innermost first. `Limit` if a place is 2^32 or more, which no body comes
-/// to; `NoMemory` if memory for them cannot be allocated.
-pub fn shown_frames<'m>(alloc: Global, run: &Run<'m>) -> Result<Vec<ShownFrame>, Refusal>
+/// The frames of an execution, the innermost first. An error if memory for them cannot be allocated.
+pub fn shown_frames<'m>(alloc: Global, run: &Run<'m>) -> Result<Vec<ShownFrame>, AllocError>
     ensures { IfOk result (λ v. v.items ≡ map level_frame (levels run.now)) }
 {
     let mut frames = Vec::new(alloc);

@@ -8,9 +8,8 @@ ghost use Rattle.step_machine.specs.Shown.{shown};
 use crate::machine::LabelMachine;
 use debugger::inspect;
 use oci_config::Stream;
-use std::alloc::Global;
+use std::alloc::{AllocError, Global};
 use step_machine::{End, Machine, ShownFrame};
-use wasm_ast::Refusal;
 
 /// A machine by how it makes turns (4.2.13, 4.4): with targets that are found before it runs, or with
 /// labels that it keeps. The contract of each is the reduction's: its store, its frames, its outputs and its
@@ -31,12 +30,12 @@ pub trait Control: Sized {
     fn output(&self, stream: Stream) -> &[u8]
         ensures { result.now ≡ output_of (seen self.now) stream };
 
-    /// Its frames, the innermost first; none if it has ended.
-    fn frames(&self, alloc: Global) -> Result<Vec<ShownFrame>, Refusal>
+    /// Its frames, the innermost first; none if it has ended. An error if memory for them runs out.
+    fn frames(&self, alloc: Global) -> Result<Vec<ShownFrame>, AllocError>
         ensures { IfOk result (λ v. v.items ≡ shown (state_of (seen self.now))) };
 
-    /// Makes one turn. A machine that takes memory for it may answer `NoMemory`, and is lost then.
-    fn turn(self) -> Result<Self, Refusal>
+    /// Makes one turn. An error if memory runs out: then the machine is lost.
+    fn turn(self) -> Result<Self, AllocError>
         requires { ended (state_of (seen self)) ≡ None }
         ensures { IfOk result
             (λ m. seen m ≡ record (seen self) { turns = (seen self).turns + 1 }) };
@@ -57,11 +56,14 @@ impl Control for Machine {
         Machine::output(self, stream)
     }
 
-    fn frames(&self, alloc: Global) -> Result<Vec<ShownFrame>, Refusal> {
-        Ok(inspect(alloc, self)?.frames.into_vec())
+    fn frames(&self, alloc: Global) -> Result<Vec<ShownFrame>, AllocError> {
+        match inspect(alloc, self) {
+            Ok(shown) => Ok(shown.frames.into_vec()),
+            Err(_) => Err(AllocError),
+        }
     }
 
-    fn turn(self) -> Result<Machine, Refusal> {
+    fn turn(self) -> Result<Machine, AllocError> {
         let mut machine = self;
         Machine::turn(&mut machine);
         Ok(machine)
@@ -83,11 +85,11 @@ impl<'m> Control for LabelMachine<'m> {
         LabelMachine::output(self, stream)
     }
 
-    fn frames(&self, alloc: Global) -> Result<Vec<ShownFrame>, Refusal> {
+    fn frames(&self, alloc: Global) -> Result<Vec<ShownFrame>, AllocError> {
         LabelMachine::frames(self, alloc)
     }
 
-    fn turn(self) -> Result<LabelMachine<'m>, Refusal> {
+    fn turn(self) -> Result<LabelMachine<'m>, AllocError> {
         LabelMachine::turn(self)
     }
 }

@@ -23,6 +23,7 @@ abbrev pub state_from : Step → Option State
 state_from (step.Goes x d) = None
 state_from (step.Waits x) = Some (Going x)
 state_from (step.Ends e s) = Some (Ended e s)
+state_from step.Stuck = None
 
 abbrev pub kept_by : State → Store
 kept_by (Going x) = x.store

@@ -1,24 +1,26 @@
 -- Which configurations the machine's data represent.
-use Rattle.std.specs.Prelude.{◌≡◌, ◌⊎◌, ℕ, ◌+◌, ◌<◌, ◌≤◌, List, [], ◌∷◌, ◌++◌, map, length, Option, option_to_list}
+use Rattle.std.specs.Prelude.{◌≡◌, ◌⊎◌, ℕ, ◌+◌, ◌<◌, ◌≤◌, List, [], ◌∷◌, ◌++◌, map, length, Option, Some, None, option_to_list, slice_get}
 use Rattle.std.specs.List.{sum_by}
 use Rattle.wasm_ast.specs.declared.values.Value.{Value}
 use Rattle.wasm_ast.specs.declared.trap.Trap.TheVariants.{Exhausted}
+use Rattle.wasm_ast.specs.declared.values.FuncType.{FuncType}
 use Rattle.wasm_ast.specs.Syntax.{Op, Ops, next}
 use Rattle.oci_config.specs.Processes.{config_of}
 use Rattle.step_machine.specs.declared.ends.End.{End}
 use Rattle.step_machine.specs.declared.ends.End.TheVariants.{Returned, Exited, Trapped}
 use Rattle.step_machine.specs.Limits.{max_frames, max_values}
-use Rattle.step_machine.specs.Program.{Program}
-use Rattle.step_machine.specs.Configuration.{Store, Tree, seq, Items, done, more, invoke, branch, ret, items_of, State, running, exited, trapped, Configuration}
+use Rattle.step_machine.specs.Program.{Program, own}
+use Rattle.step_machine.specs.Configuration.{Store, Tree, seq, Items, done, more, Item, invoke, branch, ret, items_of, State, running, exited, trapped, stuck, Configuration}
 use Rattle.step_machine.specs.Turns.{settled}
+use Rattle.step_machine.specs.Instantiation.{ended}
 use Rattle.step_machine.specs.Inside.Levels.{Level, tree_with, tree_of, all_values}
 use Rattle.step_machine.specs.Inside.Simulates.{tail_of}
 use Rattle.label_machine.specs.declared.frame.Frame.{Frame}
-use Rattle.label_machine.specs.declared.frame.Label.{Label}
+use Rattle.label_machine.specs.declared.label.Label.{Label}
 use Rattle.label_machine.specs.declared.store.Store.{Store as StoreValue}
 use Rattle.label_machine.specs.declared.run.Run.{Run}
 use Rattle.label_machine.specs.declared.run.Step.{Step}
-use Rattle.label_machine.specs.declared.run.Step.TheVariants.{Goes, Waits, Ends}
+use Rattle.label_machine.specs.declared.run.Step.TheVariants.{Goes, Waits, Ends, Stuck}
 use Rattle.label_machine.specs.declared.run.Doing.{Doing}
 use Rattle.label_machine.specs.declared.run.Doing.TheVariants.{Next, Calls, Branches, Returns}
 use Rattle.label_machine.specs.Inside.View.{level_of}
@@ -72,6 +74,11 @@ abbrev pub given : (results : List Value) → (callers : List Level) → (tail :
 given vs [] tail = seq vs tail
 given vs (k ∷ ks) tail = tree_of (record k { operands = vs ++ k.operands }) ks tail
 
+-- and is within the limits then
+pub record GivesWithin (results : List Value) (callers : List Level) : Type 0 where
+  pub values : length results + all_values callers ≤ max_values
+  pub frames : length callers ≤ max_frames
+
 abbrev pub end_state : End → State
 end_state Returned = running (seq [] done)
 end_state (Exited number) = exited number
@@ -86,15 +93,44 @@ pub record HasNext (x : Run) : Type 0 where
   pub rest : Ops
   pub is : (level_of x.top).rest ≡ next op rest
 
+-- the execution has ended so, with this store
+pub record HasEnded (c : Configuration) (e : End) (s : StoreValue) : Type 0 where
+  pub store : c.store ≡ store_of s
+  pub ended : ended c.state ≡ Some e
+
+-- a valid module does not come here: there is no rule, or an instruction is next while there are operands
+-- outside all frames
+pub data IsInvalid (c : Configuration) : Type 0 where
+  no_rule : c.state ≡ stuck → IsInvalid c
+  outside : (v : Value) (vs : List Value) (i : Item) (is : Items)
+      → c.state ≡ running (seq (v ∷ vs) (more i is)) → IsInvalid c
+
 module _ (p : Program) where
-  abbrev pub IsOf : StoreValue → Type 0
-  IsOf s = config_of s.process ≡ p.process
+  -- a function of the module's own that takes nothing
+  pub record IsPending (func : ℕ) : Type 0 where
+    pub type : FuncType
+    pub zeros : List Value
+    pub body : Ops
+    pub is : slice_get p.functions func ≡ Some (own type zeros body)
+    pub takes_nothing : type.params ≡ []
+
+  abbrev pub MayBePending : Option ℕ → Type 0
+  MayBePending None = Unit {0}
+  MayBePending (Some func) = IsPending func
+
+  abbrev pub HasProcess : StoreValue → Type 0
+  HasProcess s = config_of s.process ≡ p.process
+
+  pub record IsOf (pending : Option ℕ) (s : StoreValue) : Type 0 where
+    pub process : HasProcess s
+    pub invoked_later : MayBePending pending
 
   -- a configuration is what these data settle to, or that in which the execution waits or has ended
   abbrev pub LeadsTo : Configuration → Step → Type 0
-  LeadsTo c (Goes x d) = (c ≡ settled p (config x d)) × IsWithin x × IsOf x.store
-  LeadsTo c (Waits x) = (c ≡ config x Next) × IsWithin x × IsOf x.store × HasNext x
-  LeadsTo c (Ends e s) = (c ≡ configured s (end_state e)) × IsOf s
+  LeadsTo c (Goes x d) = (c ≡ settled p (config x d)) × IsWithin x × IsOf x.pending x.store
+  LeadsTo c (Waits x) = (c ≡ config x Next) × IsWithin x × IsOf x.pending x.store × HasNext x
+  LeadsTo c (Ends e s) = HasEnded c e s × HasProcess s
+  LeadsTo c Stuck = IsInvalid c
 
   -- administrative reductions lead there
   abbrev pub Leads : Configuration → Step → Type 0
@@ -105,10 +141,10 @@ pub data IsBeyond (x : Run) : Type 0 where
   values : max_values < all_values (levels x) → IsBeyond x
   frames : max_frames < length (levels x) → IsBeyond x
 
--- data that go on, or that have passed a limit
-abbrev pub Limited : Run → Step → Type 0
-Limited x s =
-    ((s ≡ Goes x Next) × IsWithin x) ⊎ ((s ≡ Ends (Trapped Exhausted) x.store) × IsBeyond x)
+-- data that go on so, or that have passed a limit
+abbrev pub Limited : Run → Doing → Step → Type 0
+Limited x d s =
+    ((s ≡ Goes x d) × IsWithin x) ⊎ ((s ≡ Ends (Trapped Exhausted) x.store) × IsBeyond x)
 
 -- the instruction at this place is next, and what follows is what the data have next
 abbrev pub about_to : Run → (place : ℕ) → Op → Configuration
@@ -125,3 +161,4 @@ abbrev pub IsSettled : Step → Type 0
 IsSettled (Goes x d) = ⊥
 IsSettled (Waits x) = Unit {0}
 IsSettled (Ends e s) = Unit {0}
+IsSettled Stuck = Unit {0}

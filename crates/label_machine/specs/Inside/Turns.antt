@@ -6,10 +6,10 @@ use Rattle.oci_config.specs.Processes.{config_of}
 use Rattle.step_machine.specs.Program.{Program}
 use Rattle.step_machine.specs.Effects.{Env, effect}
 use Rattle.label_machine.specs.declared.effect.Effect.{Effect as Answer}
-use Rattle.label_machine.specs.declared.frame.Target.{Target}
+use Rattle.label_machine.specs.declared.label.Target.{Target}
 use Rattle.label_machine.specs.declared.run.Run.{Run}
 use Rattle.label_machine.specs.Inside.View.{opened, open_of, level_of}
-use Rattle.label_machine.specs.Inside.Effects.{effect_of, is_done}
+use Rattle.label_machine.specs.Inside.Effects.{effect_of, may_change}
 use Rattle.label_machine.specs.Inside.Runs.{store_of}
 
 abbrev pub env_of : Run → Env
@@ -22,7 +22,7 @@ pub record Does (p : Program) (x y : Run) (place : ℕ) (o : Op) (e : Answer) : 
   pub effect :
       effect p (env_of x) x.top.operands place o ≡ effect_of e (env_of y) y.top.operands
   pub kept :
-      is_done e ≡ false
+      may_change e ≡ false
       → (store_of y.store ≡ store_of x.store) × (y.top.locals.items ≡ x.top.locals.items)
   pub top :
       level_of y.top

@@ -6,9 +6,9 @@ use Rattle.wasm_ast.specs.Syntax.{Ops, stop, ops_of, count}
 use Rattle.wasm_ast.specs.View.{op_of}
 use Rattle.step_machine.specs.Configuration.{onward, again}
 use Rattle.step_machine.specs.Inside.Levels.{Open, Level}
-use Rattle.label_machine.specs.declared.frame.Target.{Target}
-use Rattle.label_machine.specs.declared.frame.Target.TheVariants.{After, Again}
-use Rattle.label_machine.specs.declared.frame.Label.{Label}
+use Rattle.label_machine.specs.declared.label.Target.{Target}
+use Rattle.label_machine.specs.declared.label.Target.TheVariants.{After, Again}
+use Rattle.label_machine.specs.declared.label.Label.{Label}
 use Rattle.label_machine.specs.declared.frame.Frame.{Frame}
 
 abbrev pub ops_in : List Instr → Ops

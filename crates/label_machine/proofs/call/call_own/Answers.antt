@@ -3,16 +3,19 @@ use Rattle.wasm_ast.specs.declared.values.Value.{Value}
 use Rattle.wasm_ast.specs.Types.{zero_of}
 use Rattle.step_machine.specs.Turns.{settled}
 use Rattle.label_machine.specs.declared.run.Run.{Run}
-use Rattle.label_machine.specs.declared.run.Doing.TheVariants.{Calls}
+use Rattle.label_machine.specs.declared.run.Doing.TheVariants.{Next, Calls}
 use Rattle.label_machine.specs.Inside.View.{level_of}
 use Rattle.label_machine.specs.Inside.Callees.{called_with}
 use Rattle.label_machine.specs.Inside.Runs.{config}
-use Rattle.label_machine.proofs.CallLemmas.{limited_leads, Called, call_goes, call_exhausts}
+use Rattle.label_machine.proofs.CallLemmas.{limited_leads, limited_lighter, Called, call_goes, call_exhausts}
+use Rattle.step_machine.specs.Inside.Levels.{Level}
+use Rattle.label_machine.specs.Inside.Weights.{weight}
+use Rattle.label_machine.proofs.WeightLemmas.{called_lighter}
 use Rattle.label_machine.proofs.call.call_own.Goals as goal
 
 -- src/call.rt:30:1
-pub returns : goal.returns
-returns c p within of is =
+pub returns-clause-leads : goal.returns-clause-leads
+returns-clause-leads c p within of is =
     let x = c.args.run in
     let t = c.args.func_type.now in
     let zeros = map zero_of c.args.found.now.locals in
@@ -37,5 +40,18 @@ returns c p within of is =
       pending = refl;
       store = refl;
     } in
-    limited_leads p (settled p (config x (Calls c.args.func))) y c.limited.result c.limited.ensures of
+    limited_leads p (settled p (config x (Calls c.args.func))) y Next c.limited.result c.limited.ensures of
     (call_goes p x y c.args.func t zeros body called) (call_exhausts p x y c.args.func t zeros body called)
+
+pub returns-clause-lighter : goal.returns-clause-lighter
+returns-clause-lighter c =
+    let x = c.args.run in
+    let y : Run = record {
+      top = c.in_ok-called.field-0;
+      callers = c.push.new.self;
+      pending = x.pending;
+      store = x.store;
+    } in
+    limited_lighter (weight x (Calls c.args.func)) y Next c.limited.result c.limited.ensures
+    (called_lighter x y c.args.func (record (level_of x.top) { operands = c.take.new.self }) refl
+    (ap (map level_of) c.in_ok-push.ensures) refl (ap (λ (l : Level). length l.opens) c.in_ok-called.ensures))

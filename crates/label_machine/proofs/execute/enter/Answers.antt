@@ -1,13 +1,9 @@
-use Rattle.std.proofs.Common.{◌≡◌, List, ◌∷◌, map, take, drop, refl, ap, ◌∙◌}
+use Rattle.std.proofs.Common.{List, ◌∷◌, map, take, drop, refl, ap, ◌∙◌}
 use Rattle.wasm_ast.specs.declared.values.Value.{Value}
 use Rattle.wasm_ast.specs.Syntax.{Ops}
 use Rattle.label_machine.specs.declared.run.Run.{Run}
-use Rattle.label_machine.specs.declared.run.Step.TheVariants as step
-use Rattle.label_machine.specs.declared.run.Doing.TheVariants as doing
 use Rattle.label_machine.specs.Inside.View.{ops_in, opened, open_of, level_of}
 use Rattle.label_machine.specs.Inside.Turns.{Enters}
-use Rattle.label_machine.specs.Inside.Runs.{IsWithin}
-use Rattle.label_machine.proofs.SettleLemmas.{on_ok}
 use Rattle.label_machine.proofs.execute.enter.Goals as goal
 
 pub returns : goal.returns
@@ -59,7 +55,4 @@ returns c =
       store = refl;
       process = refl;
     } in
-    on_ok (λ s. (s ≡ step.Goes y doing.Next) × IsWithin y)
-    (λ s. (z : Run) × (s ≡ step.Goes z doing.Next) × IsWithin z
-    × Enters x z a.taken a.arity a.place a.target a.first a.body.now) c.goes.result
-    (λ s g. (y, g.0, g.1, enters)) c.goes.ensures
+    (y, c.limited.ensures, enters)

@@ -1,12 +1,9 @@
-use Rattle.std.proofs.Common.{ℕ, refl, ap, ◌∙◌}
+use Rattle.std.proofs.Common.{refl, ap, ◌∙◌}
 use Rattle.oci_config.specs.Processes.{config_of}
-use Rattle.wasm_ast.specs.Syntax.{Op, simple}
-use Rattle.step_machine.specs.Program.{Program, program}
-use Rattle.step_machine.specs.Turns.{turn}
+use Rattle.wasm_ast.specs.Syntax.{simple}
+use Rattle.step_machine.specs.Program.{program}
 use Rattle.label_machine.specs.declared.run.Run.{Run}
 use Rattle.label_machine.specs.Inside.Turns.{Does}
-use Rattle.label_machine.specs.Inside.Runs.{about_to, IsWithin, IsOf, LeadsTo}
-use Rattle.label_machine.proofs.SettleLemmas.{on_ok}
 use Rattle.label_machine.proofs.execute.run_simple.Goals as goal
 
 -- src/execute.rt:38:1
@@ -31,12 +28,5 @@ returns c p place at =
       callers = refl;
       pending = refl;
     } in
-    on_ok
-    (λ s. (p' : Program) (x' : Run) (k : ℕ) (o : Op) → Does p' x' y k o c.in_ok-effect.effect → IsWithin x'
-    → IsOf p' y.store
-    → LeadsTo p' (turn p' (about_to x' k o)) s)
-    (λ s. IsWithin x → IsOf q x.store → LeadsTo q (turn q (about_to x place (simple c.args.instr.now))) s)
-    c.after_effect.result
-    (λ s leads within of. leads q x place (simple c.args.instr.now) does within
-    (ap config_of c.in_ok-effect.ensures.process ∙ of))
-    c.after_effect.ensures
+    λ within of. c.after_effect.ensures q x place (simple c.args.instr.now) does within
+    (record { process = ap config_of c.in_ok-effect.ensures.process ∙ of.process; invoked_later = of.invoked_later })

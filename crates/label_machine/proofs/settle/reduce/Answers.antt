@@ -1,17 +1,25 @@
 use Rattle.label_machine.proofs.settle.reduce.Goals as goal
 
--- src/settle.rt:228:1
-pub returns-in-Next : goal.returns-in-Next
-returns-in-Next c p = rw c.in-Next.is (c.next.ensures p)
+pub returns-in-Next-clause-leads : goal.returns-in-Next-clause-leads
+returns-in-Next-clause-leads c p = rw c.in-Next.is (c.next.ensures.leads p)
 
--- src/settle.rt:228:1
-pub returns-in-Calls : goal.returns-in-Calls
-returns-in-Calls c p = rw c.in-Calls.is (c.call.ensures p)
+pub returns-in-Next-clause-lighter : goal.returns-in-Next-clause-lighter
+returns-in-Next-clause-lighter c = rw c.in-Next.is c.next.ensures.lighter
 
--- src/settle.rt:228:1
-pub returns-in-Branches : goal.returns-in-Branches
-returns-in-Branches c p = rw c.in-Branches.is (c.branch-alloc.ensures p)
+pub returns-in-Calls-clause-leads : goal.returns-in-Calls-clause-leads
+returns-in-Calls-clause-leads c p = rw c.in-Calls.is (c.call.ensures.leads p)
 
--- src/settle.rt:228:1
-pub returns-in-Returns : goal.returns-in-Returns
-returns-in-Returns c p = rw c.in-Returns.is (c.return_from.ensures p)
+pub returns-in-Calls-clause-lighter : goal.returns-in-Calls-clause-lighter
+returns-in-Calls-clause-lighter c = rw c.in-Calls.is c.call.ensures.lighter
+
+pub returns-in-Branches-clause-leads : goal.returns-in-Branches-clause-leads
+returns-in-Branches-clause-leads c p = rw c.in-Branches.is (c.branch-alloc.ensures.leads p)
+
+pub returns-in-Branches-clause-lighter : goal.returns-in-Branches-clause-lighter
+returns-in-Branches-clause-lighter c = rw c.in-Branches.is c.branch-alloc.ensures.lighter
+
+pub returns-in-Returns-clause-leads : goal.returns-in-Returns-clause-leads
+returns-in-Returns-clause-leads c p = rw c.in-Returns.is (c.return_from.ensures.leads p)
+
+pub returns-in-Returns-clause-lighter : goal.returns-in-Returns-clause-lighter
+returns-in-Returns-clause-lighter c = rw c.in-Returns.is c.return_from.ensures.lighter

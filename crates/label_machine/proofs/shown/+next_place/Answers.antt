@@ -1,4 +1,4 @@
-use Rattle.std.proofs.Common.{◌≡◌, ◌<◌, Some, length, ap, ◌∙◌, arith}
+use Rattle.std.proofs.Common.{◌<◌, length, arith}
 use Rattle.std.proofs.lemmas.Bool.Decides.{nat_tests}
 use Rattle.label_machine.proofs.ShownLemmas.{first_is_next}
 use Rattle.label_machine.proofs.shown.+next_place.Goals as goal
@@ -6,4 +6,4 @@ use Rattle.label_machine.proofs.shown.+next_place.Goals as goal
 pub returns-then-not-is_empty : goal.returns-then-not-is_empty
 returns-then-not-is_empty t c =
     let some : 0 < length c.args.ahead.rest.now = grind (arith, nat_tests, c.if-not-is_empty.ensures, c.is_empty.ensures) in
-    ap Some c.in_ok-shown_place.ensures ∙ first_is_next c.args.ahead.place c.args.ahead.rest.now _ some
+    first_is_next c.args.ahead.place c.args.ahead.rest.now _ some

@@ -1,4 +1,4 @@
-use Rattle.std.proofs.Common.{◌≡◌, ℕ, ◌++◌, map, length}
+use Rattle.std.proofs.Common.{◌≡◌, ◌++◌, map, length}
 use Rattle.step_machine.specs.Inside.Levels.{Open}
 use Rattle.label_machine.proofs.ShownLemmas.{opens_of}
 use Rattle.label_machine.proofs.shown.places_of.Given as goal

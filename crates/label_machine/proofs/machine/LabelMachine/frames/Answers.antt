@@ -11,7 +11,7 @@ returns-in-Going c =
     let i = c.self.inside in
     let same =
     sym (ap frames_of c.in-Going.is)
-    ∙ (sym (shown_by i.of.now (process_of i.state) i.turns i.state c.self.invariant)
+    ∙ (sym (shown_by i.of.now (process_of i.state) i.turns i.state c.self.invariant.0)
     ∙ ap (λ (v : MachineView). shown (state_of v)) c.self.view_is) in
     subst (λ (fs : List ShownFrame). IfOk c.shown_frames.result (λ v. v.items ≡ fs)) same c.shown_frames.ensures
 
@@ -20,5 +20,5 @@ returns-in-Ended c =
     let i = c.self.inside in
     c.new.ensures.items
     ∙ (sym (ap frames_of c.in-Ended.is)
-    ∙ (sym (shown_by i.of.now (process_of i.state) i.turns i.state c.self.invariant)
+    ∙ (sym (shown_by i.of.now (process_of i.state) i.turns i.state c.self.invariant.0)
     ∙ ap (λ (v : MachineView). shown (state_of v)) c.self.view_is))

@@ -9,12 +9,12 @@ pub returns-in-Going : goal.returns-in-Going
 returns-in-Going c =
     let i = c.self.inside in
     sym (ap end_of c.in-Going.is)
-    ∙ (sym (ended_by i.of.now (process_of i.state) i.turns i.state c.self.invariant)
+    ∙ (sym (ended_by i.of.now (process_of i.state) i.turns i.state c.self.invariant.0)
     ∙ ap (λ (v : MachineView). ended (state_of v)) c.self.view_is)
 
 pub returns-in-Ended : goal.returns-in-Ended
 returns-in-Ended c =
     let i = c.self.inside in
     sym (ap end_of c.in-Ended.is)
-    ∙ (sym (ended_by i.of.now (process_of i.state) i.turns i.state c.self.invariant)
+    ∙ (sym (ended_by i.of.now (process_of i.state) i.turns i.state c.self.invariant.0)
     ∙ ap (λ (v : MachineView). ended (state_of v)) c.self.view_is)

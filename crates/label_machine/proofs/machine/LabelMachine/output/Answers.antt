@@ -12,7 +12,7 @@ returns-in-Out c =
     let i = c.self.inside in
     c.as_slice.ensures
     ∙ (ap (λ (s : StoreValue). s.process.out) c.store_of.ensures
-    ∙ (sym (ap (λ (r : Store). r.out) (output_by i.of.now (process_of i.state) i.turns i.state c.self.invariant))
+    ∙ (sym (ap (λ (r : Store). r.out) (output_by i.of.now (process_of i.state) i.turns i.state c.self.invariant.0))
     ∙ (ap (λ (v : MachineView). output_of v stream.Out) c.self.view_is
     ∙ ap (output_of c.args.self.now) (sym c.in-Out.is))))
 
@@ -21,6 +21,6 @@ returns-in-Err c =
     let i = c.self.inside in
     c.as_slice-in-Err.ensures
     ∙ (ap (λ (s : StoreValue). s.process.err) c.store_of.ensures
-    ∙ (sym (ap (λ (r : Store). r.err) (output_by i.of.now (process_of i.state) i.turns i.state c.self.invariant))
+    ∙ (sym (ap (λ (r : Store). r.err) (output_by i.of.now (process_of i.state) i.turns i.state c.self.invariant.0))
     ∙ (ap (λ (v : MachineView). output_of v stream.Err) c.self.view_is
     ∙ ap (output_of c.args.self.now) (sym c.in-Err.is))))
