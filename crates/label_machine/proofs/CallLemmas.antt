@@ -109,7 +109,8 @@ calls_without p x func h is other =
     call_ends p x func stuck refl
     (ap (λ (o : Option Function). call_function p (call_env p x) k.operands func o rest) is
     ∙ ap (λ (o : Option HostDone). by_host (call_env p x) o (drop (length (host_type h).params) k.operands) rest)
-    (no_call p.process h (reverse (take (length (host_type h).params) k.operands)) (host_state (store_of x.store)) other))
+    (no_call p.process h (reverse (take (length (host_type h).params) k.operands))
+    (host_state (store_of x.store)) other))
 
 -- a call of an own function: the data before it, and after
 pub record Called (p : Program) (x y : Run) (func : ℕ) (t : FuncType) (zeros : List Value) (body : Ops) : Type 0 where

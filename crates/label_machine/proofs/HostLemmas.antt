@@ -25,7 +25,8 @@ number n e = cc
 writes : (s : HostState) (fd p n q : ℕ) → Answers (fd_write s fd p n q)
 writes s fd p n q =
     one_of_three (fd == 1) (fd == 2) (done_out s (write_stream s.memory s.out p n q))
-    (done_err s (write_stream s.memory s.err p n q)) (record { answer = Number badf; state = s }) (number _) (number _) (number _)
+    (done_err s (write_stream s.memory s.err p n q)) (record { answer = Number badf; state = s }) (number _)
+    (number _) (number _)
 
 pub record IsMade (h : HostCall) (vs : List Value) (d : HostDone) : Type 0 where
   pub typed : map type_of vs ≡ (host_type h).params

@@ -10,4 +10,3 @@ pub mod MachineLemmas
 pub mod ShownLemmas
 pub mod SoundLemmas
 pub mod WeightLemmas
-pub mod PlaceLemmas

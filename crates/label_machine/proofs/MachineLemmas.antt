@@ -155,5 +155,6 @@ numbered_next m p n x h numbered =
     by_list : (is : List Instr) → x.top.ahead.rest.now ≡ is → first_end x.top.ahead.place is < 2 ^ 32
     by_list [] none = absurd (something_next x h.3 none)
     by_list (i ∷ is) e =
-        next_numbered m p n (level_of x.top) (map level_of x.callers) (tail_from x.pending) (op_of i) (ops_in is) numbered
+        next_numbered m p n (level_of x.top) (map level_of x.callers) (tail_from x.pending) (op_of i)
+        (ops_in is) numbered
         (ap (λ (c : Configuration). c.state) h.0) (ap ops_in e)

@@ -4,13 +4,11 @@ use Rattle.std.specs.Prelude.{slice_get}
 use Rattle.wasm_ast.specs.declared.values.Value.{Value}
 use Rattle.wasm_ast.specs.declared.values.FuncType.{FuncType}
 use Rattle.wasm_ast.specs.declared.trap.Trap.TheVariants as trap
-use Rattle.wasm_ast.specs.Syntax.{Op, Ops, stop, next}
-use Rattle.step_machine.specs.declared.ends.End.TheVariants as end
+use Rattle.wasm_ast.specs.Syntax.{Op, Ops, next}
 use Rattle.step_machine.specs.Limits.{max_values}
 use Rattle.wasm_ast.specs.declared.module.Module.{Module}
 use Rattle.oci_config.specs.declared.process.ProcessConfig.{ProcessConfig}
 use Rattle.step_machine.specs.Program.{own, Program, program}
-use Rattle.step_machine.specs.Instantiation.{ended}
 use Rattle.step_machine.specs.Configuration.{Store, Tree, seq, Items, done, more, frame, invoke, items_of, running, trapped, Configuration, items_values, items_frames}
 use Rattle.step_machine.specs.Reduction.{Reduced, to, reduce, of_reduced}
 use Rattle.step_machine.specs.Turns.{settled}
@@ -20,14 +18,13 @@ use Rattle.step_machine.proofs.LevelReductions.{env}
 use Rattle.step_machine.proofs.LevelSettling.{conf, unsettled, steps_to, settled_stays, too_much}
 use Rattle.label_machine.specs.declared.frame.Frame.{Frame}
 use Rattle.label_machine.specs.declared.run.Run.{Run}
-use Rattle.label_machine.specs.declared.run.Step.TheVariants.{Ends, Stuck}
+use Rattle.label_machine.specs.declared.run.Step.TheVariants.{Stuck}
 use Rattle.label_machine.specs.declared.store.Store.{Store as StoreValue}
 use Rattle.wasm_ast.specs.declared.instr.Instr.{Instr}
 use Rattle.wasm_ast.specs.View.{op_of}
 use Rattle.label_machine.specs.Inside.View.{ops_in, level_of}
 use Rattle.label_machine.specs.Inside.Callees.{IsCallOf}
 use Rattle.label_machine.specs.Inside.Runs.{store_of, tail_from, configured, IsBeyond, values, frames, IsInvalid, outside, HasProcess, Leads}
-use Rattle.label_machine.proofs.SettleLemmas.{ends_at}
 
 -- a function that takes nothing is invoked above these operands
 module _ (p : Program) (r : Store) (tail : Items) (f : ℕ) (t : FuncType) (zeros : List Value) (body : Ops)
@@ -67,33 +64,8 @@ module _ (p : Program) (s : StoreValue) (f : ℕ) (t : FuncType) (zeros : List V
   abbrev pub calling : Configuration
   calling = configured s (running (seq vs (more (invoke f) done)))
 
-  pub above_over :
-      (body : Ops) → slice_get p.functions f ≡ Some (own t zeros body) → max_values < length vs + length zeros
-      → Leads p calling (Ends (end.Trapped trap.Exhausted) s)
-  above_over body is over =
-      (ends_at (settled p calling) (end.Trapped trap.Exhausted) s (invoked_over p r done f t zeros body is none vs over), has)
-
   abbrev before : Ops → Tree
   before body = seq vs (more (frame (length t.results) f zeros (seq [] (items_of 0 body))) done)
-
-  ends_empty : length vs ≤ max_values → settled p (conf r (running (before stop))) ≡ conf r (running (seq vs done))
-  ends_empty few =
-      unsettled p (conf r (running (before stop))) refl
-      ∙ (ap (settled p) (steps_to p r r (before stop) (seq vs done) refl (omega arith) (omega (arith, few)))
-      ∙ settled_stays p (conf r (running (seq vs done))) refl)
-
-  pub above_empty :
-      slice_get p.functions f ≡ Some (own t zeros stop) → length vs + length zeros ≤ max_values
-      → Leads p calling (Ends end.Returned s)
-  above_empty is few =
-      let over : settled p calling ≡ conf r (running (seq vs done)) =
-      invoked_within p r done f t zeros stop is none vs few refl refl ∙ ends_empty (omega (arith, few)) in (
-        record {
-          store = ap (λ (c : Configuration). c.store) over;
-          ended = ap (λ (c : Configuration). ended c.state) over;
-        },
-        has,
-      )
 
   pub above_waits :
       (o : Op) (os : Ops) → slice_get p.functions f ≡ Some (own t zeros (next o os))
@@ -143,21 +115,6 @@ module _ (m : Module) (pr : ProcessConfig) (s : StoreValue) (func : ℕ) (t : Fu
   abbrev start : Configuration
   start = calling (program m pr) s func t call.zeros none vs has
 
-  pub above_limit :
-      max_values < length vs + length f.locals.items → Leads (program m pr) start (Ends (end.Trapped trap.Exhausted) s)
-  above_limit over =
-      let same = same_locals in
-      above_over (program m pr) s func t call.zeros none vs has call.body call.is (omega (arith, over, same))
-
-  pub above_nothing :
-      length vs + length f.locals.items ≤ max_values → f.ahead.rest.now ≡ []
-      → Leads (program m pr) start (Ends end.Returned s)
-  above_nothing few rest =
-      let same = same_locals in
-      let body : call.body ≡ stop = sym (ap (λ (l : Level). l.rest) call.level) ∙ ap ops_in rest in
-      above_empty (program m pr) s func t call.zeros none vs has
-      (call.is ∙ ap (λ (b : Ops). Some (own t call.zeros b)) body) (omega (arith, few, same))
-
   pub above_something :
       length vs + length f.locals.items ≤ max_values → 0 < length vs → 0 < length f.ahead.rest.now
       → Leads (program m pr) start Stuck
@@ -171,19 +128,6 @@ module _ (m : Module) (pr : ProcessConfig) (s : StoreValue) (func : ℕ) (t : Fu
           sym (ap (λ (l : Level). l.rest) call.level) ∙ ap ops_in e in
           above_waits (program m pr) s func t call.zeros none vs has (op_of i) (ops_in is)
           (call.is ∙ ap (λ (b : Ops). Some (own t call.zeros b)) body) (omega (arith, few, same)) some
-
--- nothing is pending
-pub outside_ends :
-    (p : Program) (s : StoreValue) (vs : List Value) → HasProcess p s
-    → Leads p (configured s (running (seq vs done))) (Ends end.Returned s)
-outside_ends p s vs has =
-    let over = settled_stays p (configured s (running (seq vs done))) refl in (
-      record {
-        store = ap (λ (c : Configuration). c.store) over;
-        ended = ap (λ (c : Configuration). ended c.state) over;
-      },
-      has,
-    )
 
 pub nothing_there : {X : Type 0} (xs : List X) → length xs ≡ 0 → xs ≡ []
 nothing_there [] h = refl

@@ -1,5 +1,5 @@
 -- What administrative reductions make of the machine's data.
-use Rattle.std.proofs.Common.{◌≡◌, ◌==◌, true, false, ℕ, zero, suc, ◌<◌, ◌≤◌, List, [], ◌∷◌, ◌++◌, map, take, length, Option, Some, Ok, Err, IfOk, OnOk, subst, refl, sym, ap, ◌∙◌, arith}
+use Rattle.std.proofs.Common.{◌≡◌, ◌==◌, true, false, ℕ, zero, suc, ◌<◌, ◌≤◌, List, [], ◌∷◌, ◌++◌, map, take, length, Option, Some, Ok, Err, IfOk, subst, refl, sym, ap, ◌∙◌, arith}
 use Rattle.std.specs.Prelude.{Result, option_to_list}
 use Rattle.wasm_ast.specs.declared.values.Value.{Value}
 use Rattle.wasm_ast.specs.declared.values.FuncType.{FuncType}
@@ -116,10 +116,6 @@ begins m pr r func t x none call alone same within =
     outermost_invokes p r (tail_from x.pending) func t call.zeros call.body call.is none fit
     ∙ ap (settled p) (config_is x r l [] call.level no_callers same (λ k. items_of k.place k.rest))
 
-pub no_items : {X : Type 0} (xs : List X) → length xs ≤ 0 → xs ≡ []
-no_items [] h = refl
-no_items (x ∷ xs) h = absurd (omega (arith, h))
-
 -- the data before and after the innermost block is left: by its end, or by a branch or a return that goes further out
 pub record Left (t : Frame) (b : Label) (bs : List Label) (x : Run) (r : Store) : Type 0 where
   pub labels : t.labels ≡ b ∷ bs
@@ -222,7 +218,8 @@ gives_within x vs few w =
 
 -- the frame that called is within the limits with what it is given
 pub given_within :
-    (x : Run) (vs : List Value) (k : Frame) (ks : List Level) → level_of x.top ≡ record (level_of k) { operands = vs ++ k.operands }
+    (x : Run) (vs : List Value) (k : Frame) (ks : List Level)
+    → level_of x.top ≡ record (level_of k) { operands = vs ++ k.operands }
     → map level_of x.callers ≡ ks → GivesWithin vs (level_of k ∷ ks) → IsWithin x
 given_within x vs k ks top callers w =
     let v = w.values in
@@ -496,8 +493,3 @@ settled_so (Goes x d) h = h x d refl
 settled_so (Waits x) h = tt
 settled_so (Ends e store) h = tt
 settled_so Stuck h = tt
-
--- what holds anyway holds of an answer
-pub anyway : {A : Type 0} {B : Type 0} (P : Type 0) (r : Result A B) → P → OnOk r P
-anyway P (Ok a) h = h
-anyway P (Err b) h = tt

@@ -266,7 +266,8 @@ module _ (p : Program) (x : Run) (vs : List Value) where
           ∙ (turn_becomes p store_x tail_y at_it others o rest_x vs (enter m n place first t body) eff refl refl
           (record { values = before; frames = fit.frames; no_values = fit.no_values; no_frames = fit.no_frames })
           ∙ (enters p store_x tail_y past_it others m n place first t body fit
-          ∙ ap (settled p) (config_is y store_x in_body others inside e.callers e.store (λ k. items_of k.place k.rest))))
+          ∙ ap (settled p)
+          (config_is y store_x in_body others inside e.callers e.store (λ k. items_of k.place k.rest))))
 
       enters_over : effect p (env_of x) x.top.operands place o ≡ becomes vs (enter m n place first t body)
           → opened n place (drop m vs) g ≡ around_body x.top.ahead.place → IsBeyond y
@@ -283,10 +284,12 @@ module _ (p : Program) (x : Run) (vs : List Value) where
         where
           over :
               level_of y.top ≡ in_body → IsBeyond y
-              → (max_frames < length (at_it ∷ others)) ⊎ (max_values < all_values (record at_it { operands = vs } ∷ others))
+              → (max_frames < length (at_it ∷ others))
+              ⊎ (max_values < all_values (record at_it { operands = vs } ∷ others))
           over inside (values v) =
               let w =
-              subst (λ ks. max_values < all_values ks) (same_levels y store_x in_body others inside e.callers e.store) v in
+              subst (λ ks. max_values < all_values ks) (same_levels y store_x in_body others inside e.callers e.store) v
+              in
               inr
               (subst (λ (us : List Value). max_values < (length x.top.locals.items + length us) + all_values others)
               same_operands w)

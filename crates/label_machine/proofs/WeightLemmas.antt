@@ -1,5 +1,5 @@
 -- Administrative reductions leave fewer labels and frames.
-use Rattle.std.proofs.Common.{◌≡◌, ℕ, suc, ◌+◌, ◌<◌, ◌≤◌, List, [], ◌∷◌, map, length, ap, arith}
+use Rattle.std.proofs.Common.{◌≡◌, ℕ, ◌+◌, ◌<◌, ◌≤◌, List, [], ◌∷◌, map, length, ap, arith}
 use Rattle.step_machine.specs.Inside.Levels.{Level}
 use Rattle.label_machine.specs.declared.label.Label.{Label}
 use Rattle.label_machine.specs.declared.frame.Frame.{Frame}
@@ -9,19 +9,13 @@ use Rattle.label_machine.specs.declared.run.Doing.TheVariants.{Next, Calls}
 use Rattle.label_machine.specs.declared.run.Step.{Step}
 use Rattle.label_machine.specs.declared.run.Step.TheVariants.{Goes, Waits, Ends, Stuck}
 use Rattle.label_machine.specs.Inside.View.{open_of, level_of}
-use Rattle.label_machine.specs.Inside.Weights.{levels_weight, pending_weight, doing_weight, weight, IsLighter, step_weight}
+use Rattle.label_machine.specs.Inside.Weights.{levels_weight, pending_weight, doing_weight, weight, IsLighter}
 
 pub lighter_than : (n k : ℕ) (s : Step) → n ≤ k → IsLighter n s → IsLighter k s
 lighter_than n k (Goes x d) le h = omega (arith, le, h)
 lighter_than n k (Waits x) le h = tt
 lighter_than n k (Ends e r) le h = tt
 lighter_than n k Stuck le h = tt
-
-pub goes_lighter : (n : ℕ) (s : Step) → IsLighter n s → step_weight s < suc n
-goes_lighter n (Goes x d) h = omega (arith, h)
-goes_lighter n (Waits x) h = omega arith
-goes_lighter n (Ends e r) h = omega arith
-goes_lighter n Stuck h = omega arith
 
 -- a frame that ends leaves those that called
 pub frame_lighter :
@@ -49,7 +43,8 @@ given_lighter y fs k are same =
 
 -- a function that is called
 pub called_lighter :
-    (x y : Run) (func : ℕ) (outer : Level) → y.pending ≡ x.pending → map level_of y.callers ≡ outer ∷ map level_of x.callers
+    (x y : Run) (func : ℕ) (outer : Level) → y.pending ≡ x.pending
+    → map level_of y.callers ≡ outer ∷ map level_of x.callers
     → length outer.opens ≡ length (map open_of x.top.labels) → length (map open_of y.top.labels) ≡ 0
     → weight y Next < weight x (Calls func)
 called_lighter x y func outer pending callers opens none =

@@ -67,7 +67,8 @@ pub fn begin(
 /// A function that takes nothing is invoked above operands outside all frames, with nothing pending after
 /// it: where it has not ended by then, no valid module comes.
 fn begin_above(count: usize, top: Frame, store: Store) -> Step
-    ensures leads { (p : ProcessConfig) (m : AnyModule) (func : ℕ) (t : AnyType) (vs : List AnyValue)
+    ensures leads { (p : ProcessConfig) (m : AnyModule) (func : ℕ) (t : AnyType)
+        (vs : List AnyValue)
         → length vs ≡ count → 0 < count → t.params ≡ []
         → IsCallOf m func t [] (level_of top.entry) → IsOf (program m p) None store
         → Leads (program m p)

@@ -39,7 +39,8 @@ fn places_of<'m>(alloc: Global, labels: &[Label<'m>]) -> Result<Vec<u32>, AllocE
     Ok(places)
 }
 
-// Pushes the operands below the blocks that are open, the oldest first, of labels that have the outermost first.
+// Pushes the operands below the blocks that are open, the oldest first, of labels that have the
+// outermost first.
 fn push_below<'m>(out: &mut Vec<Value>, labels: &[Label<'m>]) -> Result<(), AllocError>
     ensures { OnOk result (out.new.items
         ≡ out.old.items ++ reverse (below_all (map open_of (reverse labels.now)))) }

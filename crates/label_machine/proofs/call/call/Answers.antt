@@ -38,7 +38,8 @@ returns-in-Some-Own-clause-leads c p =
     → Leads p' (config x (Calls c.args.func)) s)
     (λ s. IsWithin x → IsOf q x.pending x.store → Leads q (config x (Calls c.args.func)) s) c.call_own.result
     (λ s h within of. h q within of
-    (c.in-Some-Own.ensures ∙ ap (λ (f : Callee). Some (function_of f)) c.in-Some-Own.field-0-is)) c.call_own.ensures.leads
+    (c.in-Some-Own.ensures ∙ ap (λ (f : Callee). Some (function_of f)) c.in-Some-Own.field-0-is))
+    c.call_own.ensures.leads
 
 pub returns-clause-leads : goal.returns-clause-leads
 returns-clause-leads c p within of =

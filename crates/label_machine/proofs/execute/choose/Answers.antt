@@ -63,7 +63,8 @@ returns-else-condition-gt0 c =
     on_ok
     (λ s. (y : Run) × Limited y doing.Next s × Enters (with_operands x vs) y m n place after start second)
     (λ s. (p : Program) (b : BlockType) → HasCounts (block_type p.types b) m n
-    → IsOf p x.pending x.store → LeadsTo p (turn p (about_to x place (if' b first second))) s) c.enter-else-condition-gt0.result
+    → IsOf p x.pending x.store → LeadsTo p (turn p (about_to x place (if' b first second))) s)
+    c.enter-else-condition-gt0.result
     (λ s g p b counts of. leads_into p x vs g.0 place (if' b first second) m n start after onward
     second c.requires.counted g.2 refl
     (let none = c.if-condition-gt0.false in

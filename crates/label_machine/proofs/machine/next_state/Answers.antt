@@ -19,7 +19,8 @@ returns-then-number-eq-LAST_TURN c p n is h =
     let last :
     (n + 1 == last_turn) ≡ true =
     ap (λ k. k == last_turn) (sym is) ∙ ap (λ k. k == last_turn) c.if-number-eq-LAST_TURN.true in (
-      ends_at (after m p c.args.number) (Trapped trap.TurnLimit) x.store (ap (after m p) is ∙ last_turn_traps m p n x h last),
+      ends_at (after m p c.args.number) (Trapped trap.TurnLimit) x.store
+          (ap (after m p) is ∙ last_turn_traps m p n x h last),
       h.2.process,
     )
 

@@ -15,9 +15,11 @@ returns-clause-always c n =
     let small : p.cap < 2 ^ 32 = omega (arith, few) in
     let same = c.module-of.ensures.value in
     let bytes =
-    subst (All (λ (s : Segment). All (λ b. b < 256) s.bytes)) (c.as_slice.ensures ∙ ap (λ (m : Module). m.segments) same)
+    subst (All (λ (s : Segment). All (λ b. b < 256) s.bytes))
+    (c.as_slice.ensures ∙ ap (λ (m : Module). m.segments) same)
     c.segments_ranged.ensures in
-    never_invalid c.args.valid.now p c.module-of.ensures.valid (subst Ranged same c.ranged.ensures) bytes c.process_ranged.ensures small c.requires.opens n
+    never_invalid c.args.valid.now p c.module-of.ensures.valid (subst Ranged same c.ranged.ensures) bytes
+    c.process_ranged.ensures small c.requires.opens n
 
 pub returns-clause-invoked : goal.returns-clause-invoked
 returns-clause-invoked c =

@@ -19,7 +19,8 @@ state_from-requires c =
     let led = c.in_ok-first.ensures p entry c.in_ok-store.ensures invoked in
     let done = c.in_ok-settled.ensures p (initial m p) led in
     let never =
-    subst (λ (k : Module). (n : ℕ) → IsInvalid (after k p n) → ⊥) (sym c.module-of.ensures.value) c.sound.ensures.always in
+    subst (λ (k : Module). (n : ℕ) → IsInvalid (after k p n) → ⊥) (sym c.module-of.ensures.value) c.sound.ensures.always
+    in
     settled_state m p (initial m p) c.in_ok-settled.settled done.0 done.1 (never 0)
 
 pub invariant_of-result : goal.invariant_of-result
@@ -31,7 +32,8 @@ invariant_of-result c =
     let led = c.in_ok-first.ensures p entry c.in_ok-store.ensures invoked in
     let done = c.in_ok-settled.ensures p (initial m p) led in
     let never =
-    subst (λ (k : Module). (n : ℕ) → IsInvalid (after k p n) → ⊥) (sym c.module-of.ensures.value) c.sound.ensures.always in
+    subst (λ (k : Module). (n : ℕ) → IsInvalid (after k p n) → ⊥) (sym c.module-of.ensures.value) c.sound.ensures.always
+    in
     held_by m p 0 c.state_from.result
     (first_reached m p c.in_ok-settled.settled c.state_from.result c.state_from.ensures done.1)
     (record { always = never; numbered = subst (All IsNumbered) c.as_slice.ensures c.in_ok-number_all.ensures })
