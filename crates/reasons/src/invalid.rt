@@ -6,7 +6,7 @@ ghost use Rattle.text_assembler.specs.Lines.{IsAligned};
 
 use crate::ends::{block_text, body_end_text};
 use crate::fields::find_field;
-use crate::find_instr::instr_at;
+use crate::find_instr::{Found, instr_at};
 use crate::module::module_of;
 use crate::operands::{OTHERS, simple_text};
 use crate::shown::shown;
@@ -14,6 +14,9 @@ use std::alloc::{AllocError, Global};
 use text_assembler::instr_text;
 use validator::Unchecked;
 use wasm_ast::{BlockType, Func, GlobalOp, Instr, Module, Mutability, Place, Simple};
+
+// How many instructions may be counted for the types before one: more would take longer than the refusal itself.
+const MOST_COUNTED: u64 = 1 << 19;
 
 /// What an instruction names that is not there.
 #[derive(Clone, Copy)]
@@ -130,6 +133,12 @@ fn not_there(of: &Module, func: &Func, instr: &Instr) -> Option<Missing> {
     }
 }
 
+// Whether the types before an instruction are found in little time: the instructions before it are counted again in
+// each block that is open there.
+fn is_near(found: Found<'_>, place: u32) -> bool {
+    u64::from(place).saturating_mul(u64::from(found.depth)) <= MOST_COUNTED
+}
+
 // What is said of an instruction at fault at this place that names nothing that is not there, but perhaps a
 // label.
 fn operand_text(
@@ -137,14 +146,17 @@ fn operand_text(
     of: &Unchecked,
     func: &Func,
     at: Place,
-    instr: &Instr,
+    found: Found<'_>,
 ) -> Result<String, AllocError> {
+    if !is_near(found, at.instr) {
+        return String::from_str(alloc, OTHERS);
+    }
     let Some(types) = of.types_before(alloc, at.func, at.instr)? else {
         return String::from_str(alloc, OTHERS);
     };
-    match instr {
+    match found.instr {
         Instr::Simple(simple) => simple_text(alloc, of.module(), func, &types, simple),
-        _ => block_text(alloc, of, at.func, &types, instr),
+        _ => block_text(alloc, of, at.func, &types, found.instr),
     }
 }
 
@@ -154,12 +166,12 @@ fn instr_reason(
     of: &Unchecked,
     func: &Func,
     at: Place,
-    instr: &Instr,
+    found: Found<'_>,
 ) -> Result<String, AllocError> {
-    match not_there(of.module(), func, instr) {
+    match not_there(of.module(), func, found.instr) {
         Some(Missing::Index { what, count }) => format!(in alloc; "of {what} there are {count}"),
         Some(Missing::Fact(fact)) => String::from_str(alloc, fact),
-        None => operand_text(alloc, of, func, at, instr),
+        None => operand_text(alloc, of, func, at, found),
     }
 }
 
@@ -168,9 +180,9 @@ fn body_text(alloc: Global, of: &Unchecked, func: &Func, at: Place) -> Result<St
     let number = at.func;
     let place = at.instr;
     match instr_at(&func.body, place) {
-        Some(instr) => {
-            let text = text_of(alloc, instr)?;
-            let reason = instr_reason(alloc, of, func, at, instr)?;
+        Some(found) => {
+            let text = text_of(alloc, found.instr)?;
+            let reason = instr_reason(alloc, of, func, at, found)?;
             format!(in alloc; "function {number}, instruction {place}, {text}: {reason}")
         }
         None => {
