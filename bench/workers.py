@@ -108,9 +108,10 @@ def callers(count):
         for file in files:
             with open(file, "wb") as script:
                 script.write(b'{"op":"state","id":"zz"}\n' * CALLS)
-        took, replies = timed(files)
-        assert replies.count(b"\n") == count * CALLS
-        return count * CALLS / (took - timed([])[0])
+        runs = [timed(files) for _ in range(ROUNDS)]
+        assert all(replies.count(b"\n") == count * CALLS for _, replies in runs)
+        start = min(timed([])[0] for _ in range(ROUNDS))
+        return count * CALLS / (min(took for took, _ in runs) - start)
 
 
 def in_replay(file):
@@ -146,7 +147,7 @@ def main():
     print("a state while 4 workers run: median %.3f ms, 99th percentile %.3f ms" % latency())
     print("a task from create to delete %8.2f microseconds" % min(whole_tasks() for _ in range(ROUNDS)))
     for count in (1, 2, 4):
-        print("%d callers %10.0f calls a second" % (count, max(callers(count) for _ in range(ROUNDS))))
+        print("%d callers %10.0f calls a second" % (count, callers(count)))
     states = [b'{"op":"state","id":"zz"}\n'] * 16_000
     print("a state: serve %.2f, replay %.2f microseconds" % journal(states))
     print("a put of 256 KB: serve %.1f, replay %.1f microseconds" % journal(puts()))
