@@ -75,6 +75,20 @@ impl Model for JournalledBoard {
         × (vec_len b.journal ≤ most_entries) };
 }
 
+/// What was prepared, with its entry, and the entry itself.
+fn with_entry(prepared: Prepared, entry: Entry) -> (Entry, PreparedCall)
+    ensures given { result.0 ≡ entry }
+    ensures prepared { result.1.prepared ≡ prepared }
+    ensures known { result.1.entry.value ≡ entry }
+{
+    let known = Snapshot::of(&entry);
+    let call = PreparedCall {
+        prepared,
+        entry: known,
+    };
+    (entry, call)
+}
+
 impl JournalledBoard {
     /// An empty board with an empty journal. `NoMemory` if it cannot be allocated.
     pub fn new(alloc: Global) -> Result<JournalledBoard, Refusal>
@@ -133,17 +147,12 @@ impl JournalledBoard {
         ensures call { IfOk result (λ p. PreparesCall self.new seat request p.1) }
         ensures err { OnErr result (result ≡ Err Refusal.NoMemory) }
     {
-        let entry = self.entry_of(seat, &request)?;
         if self.journal.reserve(1).is_err() {
             return Err(Refusal::NoMemory);
         }
+        let entry = self.entry_of(seat, &request)?;
         let prepared = self.board.prepare(request)?;
-        let known = Snapshot::of(&entry);
-        let call = PreparedCall {
-            prepared,
-            entry: known,
-        };
-        Ok((entry, call))
+        Ok(with_entry(prepared, entry))
     }
 
     // The entry of a seat's call.
