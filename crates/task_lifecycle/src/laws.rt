@@ -5,7 +5,7 @@ ghost use Rattle.task_lifecycle.specs.declared.lifecycle.Situation.{Situation as
 ghost use Rattle.task_lifecycle.specs.declared.lifecycle.TaskCall.{TaskCall as CallValue};
 ghost use Rattle.task_lifecycle.specs.declared.status.Signal.{Signal as SignalValue};
 ghost use Rattle.task_lifecycle.specs.declared.status.Status.{Status as StatusValue};
-ghost use Rattle.task_lifecycle.specs.Lifecycle.{allowed, after, takes_turns};
+ghost use Rattle.task_lifecycle.specs.Lifecycle.{allowed, after, takes_turns, is_going};
 ghost use Rattle.task_lifecycle.specs.Names.{exit_status, signal_number, signal_of};
 
 use crate::lifecycle::TaskCall;
@@ -26,6 +26,13 @@ pub fn signals_have_their_numbers()
 pub fn stopped_tasks_stay_stopped()
     ensures { (c : CallValue) (at : SituationValue) → allowed c Status.Stopped ≡ true
         → after c at Status.Stopped ≡ Status.Stopped }
+{}
+
+/// A task that goes on is not started again, nor removed, and may always be killed.
+pub fn going_tasks_are_started()
+    ensures start { (s : StatusValue) → is_going s ≡ true → allowed TaskCall.Start s ≡ false }
+    ensures delete { (s : StatusValue) → is_going s ≡ true → allowed TaskCall.Delete s ≡ false }
+    ensures kill { (s : StatusValue) → is_going s ≡ true → allowed TaskCall.Kill s ≡ true }
 {}
 
 /// A kill in flight leaves the status; a pause in flight leads to a status in which turns are still made.
