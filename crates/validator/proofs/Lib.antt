@@ -15,6 +15,7 @@ pub mod Decided
 pub mod TypingLemmas
 pub mod FaultLemmas
 pub mod PackedLemmas
+pub mod PeriodLemmas
 pub mod UncheckedTypes
 pub mod EachLemmas
 pub mod EachOfModules

@@ -7,4 +7,5 @@ pub mod FunctionContext
 pub mod CheckErrors
 pub mod ModuleTests
 pub mod Packed
+pub mod Periods
 pub mod Labels

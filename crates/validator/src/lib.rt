@@ -16,6 +16,7 @@ mod operands;
 mod packed;
 mod packed_module;
 mod places;
+mod rows;
 mod simple;
 mod steps;
 mod type_list;

@@ -4,8 +4,9 @@
 ghost use Rattle.std.specs.Prelude.{◌≡◌, ◌+◌, ◌≤◌, ◌<◌, IfOk, OnOk, length, take, drop};
 ghost use Rattle.validator.specs.Inside.Packed.{bit, packed, IsRow, AreRows, AreOfType, AreOfTypes};
 
+use crate::rows::Row;
 use std::alloc::{AllocError, Global};
-use wasm_ast::{FuncType, Sequence, ValType};
+use wasm_ast::{FuncType, ValType};
 
 /// The types in a byte.
 pub const PACKED: usize = 8;
@@ -19,7 +20,7 @@ pub struct PackedParams {
     /// The index of the type.
     pub of: usize,
     /// The parameters from the first one on, from the second one on, and so on.
-    pub rows: Vec<Sequence<u8>>,
+    pub rows: Vec<Row>,
 }
 
 // The bit of a type.
@@ -64,7 +65,7 @@ fn row_of(alloc: Global, types: &[ValType]) -> Result<Vec<u8>, AllocError>
 }
 
 // The rows of a list; none if it is short. An error if memory runs out.
-fn rows_of(alloc: Global, types: &[ValType]) -> Result<Vec<Sequence<u8>>, AllocError>
+fn rows_of(alloc: Global, types: &[ValType]) -> Result<Vec<Row>, AllocError>
     ensures { IfOk result (λ rows. AreRows rows.items types.now) }
 {
     if types.len() < LONG {
@@ -73,7 +74,7 @@ fn rows_of(alloc: Global, types: &[ValType]) -> Result<Vec<Sequence<u8>>, AllocE
     let mut rows = Vec::with_capacity(alloc, PACKED)?;
     for first in 0..PACKED {
         let row = row_of(alloc, &types[first..])?;
-        rows.push(Sequence::new(row))?;
+        rows.push(Row::new(row))?;
     }
     Ok(rows)
 }

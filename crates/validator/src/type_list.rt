@@ -4,17 +4,18 @@ ghost use Rattle.std.specs.Prelude.{◌≡◌, ◌≤◌, ◌-◌, ◌+◌, ◌*
 ghost use Rattle.validator.specs.Inside.Algorithm.{are_same};
 ghost use Rattle.validator.specs.Inside.Packed.{AreRows, IsRow};
 
-use crate::comparisons::{are_same, are_same_bytes};
+use crate::comparisons::are_same;
 use crate::packed::PACKED;
+use crate::rows::{Part, Row};
 use std::marker::Model;
-use wasm_ast::{Sequence, ValType};
+use wasm_ast::ValType;
 
 /// A list of types, in written order. Contracts see the list.
 #[derive(Drop)]
 pub struct TypeList<'a> {
     types: &'a [ValType],
     /// Rows of bytes of a packed list that begins with these types; none if it is not packed.
-    rows: &'a [Sequence<u8>],
+    rows: &'a [Row],
 }
 
 impl<'a> Model for TypeList<'a> {
@@ -38,7 +39,7 @@ impl<'a> TypeList<'a> {
     }
 
     /// A list with its rows of bytes.
-    pub fn packed(types: &'a [ValType], rows: &'a [Sequence<u8>]) -> TypeList<'a>
+    pub fn packed(types: &'a [ValType], rows: &'a [Row]) -> TypeList<'a>
         requires { AreRows rows.now types.now }
         ensures { result ≡ types.now }
     {
@@ -136,7 +137,7 @@ impl<'a> TypeList<'a> {
         let Some(others) = other.bytes(from, count) else {
             return false;
         };
-        are_same_bytes(bytes, others)
+        bytes.is_known_same(&others)
             && are_same(
                 &self.types[at + PACKED * count..],
                 &other.types[from + PACKED * count..],
@@ -144,18 +145,18 @@ impl<'a> TypeList<'a> {
     }
 
     // The bytes of the types from an index on, if there are that many.
-    fn bytes(&self, at: usize, count: usize) -> Option<&'a [u8]>
-        ensures row { IfSome result (λ bytes. IsRow bytes.now (drop at self.now)) }
-        ensures count { IfSome result (λ bytes. length bytes.now ≡ count) }
+    fn bytes(&self, at: usize, count: usize) -> Option<Part<'a>>
+        ensures row { IfSome result (λ bytes. IsRow bytes (drop at self.now)) }
+        ensures count { IfSome result (λ bytes. length bytes ≡ count) }
     {
         if self.rows.len() <= at % PACKED {
             return None;
         }
-        let row = self.rows[at % PACKED].as_slice();
+        let row = &self.rows[at % PACKED];
         let first = at / PACKED;
         if row.len() < first || row.len() - first < count {
             return None;
         }
-        Some(&row[first..first + count])
+        Some(row.part(first, count))
     }
 }

@@ -5,12 +5,12 @@ use Rattle.validator.proofs.StackMatching.{all_same}
 use Rattle.validator.proofs.PackedLemmas.{same_rows, same_rest}
 use Rattle.validator.proofs.type_list.TypeList.has_same_bytes.Goals as goal
 
-pub returns-then-are_same_bytes : goal.returns-then-are_same_bytes
-returns-then-are_same_bytes c = λ same.
+pub returns-then-is_known_same : goal.returns-then-is_known_same
+returns-then-is_known_same c = λ same.
     let types = c.args.self.now in
     let others = c.args.other.now in
-    let bytes = c.in-Some.bytes.now in
-    let equal : bytes ≡ c.in-Some-bytes.others.now = c.if-are_same_bytes.ensures refl in
+    let bytes = c.in-Some.bytes in
+    let equal : bytes ≡ c.in-Some-bytes.others = c.if-is_known_same.ensures refl in
     let row = c.in-Some.ensures.row in
     let count = c.in-Some.ensures.count in
     let n = (length c.self.inside.types.now - c.args.at) / 8 in
