@@ -69,7 +69,8 @@ same_frame f g func next labels locals operands =
 -- ---- of what is known of the place where it is
 
 own_there :
-    (m : Module) (k : KnownPlace) (w : FrameValue) (f : ShownFrame) (there : IsThere m k w f) → IsOwn m k.func there.told.own
+    (m : Module) (k : KnownPlace) (w : FrameValue) (f : ShownFrame) (there : IsThere m k w f)
+    → IsOwn m k.func there.told.own
 own_there m k w f there =
     subst (λ (n : ℕ). IsOwn m n there.told.own) (sym (there.func ∙ there.told.func)) there.told.is_own
 

@@ -35,7 +35,8 @@ get_there (x ∷ xs) zero d h = refl
 get_there (x ∷ xs) (suc k) d h = get_there xs k d (omega arith)
 
 -- the error of the body of a module's own function names a fault
-pub own_fault : (m : Module) (own : ℕ) (f : Func) (error : BodyError) (at : Option Place) → slice_get m.funcs own ≡ Some f
+pub own_fault :
+    (m : Module) (own : ℕ) (f : Func) (error : BodyError) (at : Option Place) → slice_get m.funcs own ≡ Some f
     → IsAt m own error at → ((k : ℕ) → error ≡ Invalid k → ValidBody m f → ⊥)
     → ((k : ℕ) → error ≡ Invalid k → k ≤ ops_count f.body) → NamesFault m at
 own_fault m own f error None is at fails fits = absurd at

@@ -34,7 +34,8 @@ pub own_type : (m : Module) (func : ℕ) (f : Func) → ValidModule m → IsOwn 
     → (t : FuncType) × (slice_get m.types f.type_index ≡ Some t)
 own_type m func f valid own =
     there_at m.types f.type_index
-    (element (λ (g : Func). g.type_index < length m.types) m.funcs (func - length m.imports) f valid.outside.funcs own.1)
+    (element (λ (g : Func). g.type_index < length m.types) m.funcs (func - length m.imports) f
+    valid.outside.funcs own.1)
 
 abbrev pub HasType : Module → Func → FuncType → Type 0
 HasType m f t = slice_get m.types f.type_index ≡ Some t

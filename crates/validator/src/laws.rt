@@ -333,25 +333,35 @@ pub fn blocks_by_index_are_typed()
         (convert Wrap ∷ binary I32 Add ∷ convert ExtendU ∷ []) ∷ []) }
     ensures block_without_parameters { Types (I32 ∷ I64 ∷ []) (I64 ∷ []) (block_of (One I64)
         (convert Wrap ∷ binary I32 Add ∷ convert ExtendU ∷ []) ∷ []) → ⊥ }
-    ensures parameter_left_over { Types (I32 ∷ I64 ∷ []) (I64 ∷ []) (block_of (Index 3) [] ∷ []) → ⊥ }
-    ensures parameters_out_of_order { Types (I64 ∷ I32 ∷ []) (I64 ∷ []) (block_of (Index 3) (br 0 ∷ []) ∷ []) → ⊥ }
-    ensures parameter_not_there { Types (I64 ∷ []) (I64 ∷ []) (block_of (Index 3) (br 0 ∷ []) ∷ []) → ⊥ }
-    ensures below_the_parameters { Types (I64 ∷ I32 ∷ []) [] (block_of (Index 1) (drop' ∷ drop' ∷ []) ∷ []) → ⊥ }
+    ensures parameter_left_over { Types (I32 ∷ I64 ∷ []) (I64 ∷ []) (block_of (Index 3) [] ∷ [])
+        → ⊥ }
+    ensures parameters_out_of_order { Types (I64 ∷ I32 ∷ []) (I64 ∷ [])
+        (block_of (Index 3) (br 0 ∷ []) ∷ []) → ⊥ }
+    ensures parameter_not_there { Types (I64 ∷ []) (I64 ∷ []) (block_of (Index 3) (br 0 ∷ []) ∷ [])
+        → ⊥ }
+    ensures below_the_parameters { Types (I64 ∷ I32 ∷ []) []
+        (block_of (Index 1) (drop' ∷ drop' ∷ []) ∷ []) → ⊥ }
     ensures no_type { Gives [] (block_of (Index 4) [] ∷ []) → ⊥ }
     ensures branch_to_a_block { Types (I32 ∷ []) [] (block_of (Index 1) (drop' ∷ br 0 ∷ []) ∷ []) }
-    ensures branch_to_a_loop { Types (I32 ∷ I64 ∷ []) (I64 ∷ []) (loop_of (Index 3) (br 0 ∷ []) ∷ []) }
-    ensures branch_to_a_loop_without_parameters { Types (I32 ∷ []) [] (loop_of (Index 1) (drop' ∷ br 0 ∷ []) ∷ []) → ⊥ }
-    ensures two_results { Gives (I32 ∷ I64 ∷ []) (block_of (Index 0) (i32_const 1 ∷ i64_const 1 ∷ []) ∷ []) }
+    ensures branch_to_a_loop { Types (I32 ∷ I64 ∷ []) (I64 ∷ [])
+        (loop_of (Index 3) (br 0 ∷ []) ∷ []) }
+    ensures branch_to_a_loop_without_parameters { Types (I32 ∷ []) []
+        (loop_of (Index 1) (drop' ∷ br 0 ∷ []) ∷ []) → ⊥ }
+    ensures two_results { Gives (I32 ∷ I64 ∷ [])
+        (block_of (Index 0) (i32_const 1 ∷ i64_const 1 ∷ []) ∷ []) }
     ensures branch_with_two { Gives (I32 ∷ I64 ∷ []) (block_of (Index 0)
         (i32_const 1 ∷ i64_const 1 ∷ br 0 ∷ []) ∷ []) }
-    ensures branch_with_one_of_two { Gives (I32 ∷ I64 ∷ []) (block_of (Index 0) (i64_const 1 ∷ br 0 ∷ []) ∷ []) → ⊥ }
-    ensures if_without_else { Types (I32 ∷ []) (I32 ∷ []) (i32_const 1 ∷ if_of (Index 0) [] [] ∷ []) }
-    ensures if_without_else_of_other_results { Types (I32 ∷ []) [] (i32_const 1 ∷ if_of (Index 1) (drop' ∷ []) []
-        ∷ []) → ⊥ }
-    ensures if_with_else { Types (I32 ∷ []) [] (i32_const 1 ∷ if_of (Index 1) (drop' ∷ []) (drop' ∷ []) ∷ []) }
+    ensures branch_with_one_of_two { Gives (I32 ∷ I64 ∷ [])
+        (block_of (Index 0) (i64_const 1 ∷ br 0 ∷ []) ∷ []) → ⊥ }
+    ensures if_without_else { Types (I32 ∷ []) (I32 ∷ [])
+        (i32_const 1 ∷ if_of (Index 0) [] [] ∷ []) }
+    ensures if_without_else_of_other_results { Types (I32 ∷ []) []
+        (i32_const 1 ∷ if_of (Index 1) (drop' ∷ []) [] ∷ []) → ⊥ }
+    ensures if_with_else { Types (I32 ∷ []) []
+        (i32_const 1 ∷ if_of (Index 1) (drop' ∷ []) (drop' ∷ []) ∷ []) }
     ensures call { Gives (I32 ∷ I64 ∷ []) (call 1 ∷ []) }
-    ensures tables_of_unequal_labels { Gives (I32 ∷ I64 ∷ []) (block_of (One I64) (i32_const 1 ∷ i64_const 1
-        ∷ i32_const 0 ∷ br_table (0 ∷ []) 1 ∷ []) ∷ []) → ⊥ }
+    ensures tables_of_unequal_labels { Gives (I32 ∷ I64 ∷ []) (block_of (One I64)
+        (i32_const 1 ∷ i64_const 1 ∷ i32_const 0 ∷ br_table (0 ∷ []) 1 ∷ []) ∷ []) → ⊥ }
 {}
 
 /// Blocks, loops and ifs (3.3.5): a body begins with no operands and ends with the results.

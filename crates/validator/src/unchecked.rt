@@ -84,9 +84,9 @@ impl Unchecked {
 
     /// What is known of the operands at the end of a sequence of instructions (3.3.6), which begins with
     /// operands of these types alone, in a function and inside these labels, the outermost first. It
-    /// represents the stacks that typings of the sequence lead to, and no others. None if they lead to none. An error
-    /// only if memory runs out. Recursion is as deep as blocks are nested, which is as deep as that of
-    /// dropping the sequence.
+    /// represents the stacks that typings of the sequence lead to, and no others. None if they lead
+    /// to none. An error only if memory runs out. Recursion is as deep as blocks are nested, which
+    /// is as deep as that of dropping the sequence.
     pub fn types_after<'a>(
         &'a self,
         alloc: Global,

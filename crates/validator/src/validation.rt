@@ -92,7 +92,8 @@ fn check_funcs(alloc: Global, of: &PackedModule) -> Result<(), Refusal>
 // function's index has more than 32 bits.
 fn refusal_at(of: &Module, own: usize, error: BodyError) -> Refusal
     ensures at { (at : Option Place) → result ≡ refusal.Invalid at → IsAt of.now own error at }
-    ensures err { ((at : Option Place) × (result ≡ refusal.Invalid at)) ⊎ (result ≡ refusal.NoMemory) }
+    ensures err { ((at : Option Place) × (result ≡ refusal.Invalid at))
+        ⊎ (result ≡ refusal.NoMemory) }
 {
     let BodyError::Invalid(instr) = error else {
         return Refusal::NoMemory;

@@ -31,5 +31,6 @@ returns-in-Err-Invalid c =
           → LeadsIn a.self.now a.func within a.body.now (reverse a.params.now) new → ⊥) c.in_ok-labels.ensures
           (after_none_there f.of.now c.self.inside.packed a.self.now a.func f.func.now f.func_type.now
           c.in-Some.ensures.of c.self.view_is c.in-Some.ensures.own c.in-Some.ensures.is_type c.in_ok-labels.labels
-          a.body.now a.params.now (c.end_of.ensures.invalid (c.in-Err-Invalid.is ∙ ap Err c.in-Err-Invalid.field-0-is)));
+          a.body.now a.params.now
+          (c.end_of.ensures.invalid (c.in-Err-Invalid.is ∙ ap Err c.in-Err-Invalid.field-0-is)));
     }
