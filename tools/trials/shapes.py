@@ -2,6 +2,7 @@
 from __future__ import annotations
 
 import json
+import random
 from collections.abc import Callable
 from dataclasses import dataclass
 from typing import Any
@@ -75,6 +76,13 @@ def many_params(unit: bytes, before: bytes = b"", after: bytes = b"", with_table
         return program(body, types=[func_type([I32] * share, ())] * type_count,
                        table=limits(1) if with_table else None)
     return make
+
+
+def loops_in_each_other(size: int) -> bytes:
+    """Chains of 250 loops in each other that take parameters in no order, as many as half of the bytes."""
+    params = random.Random(size).choices([I32, I64], k=size // 2)
+    chain = b"\x03\1" * 250 + UNREACHABLE + END * 250
+    return program(UNREACHABLE + repeated(chain, size // 2 - 100), types=[func_type(params, ())])
 
 
 def labels_of_loops(size: int) -> bytes:
@@ -193,6 +201,7 @@ MODULES = [
     Shape("blocks of 1,024 parameters and results", wide(1_024, block(b"", b"\1")), 0),
     Shape("blocks of parameters by the 10,000", many_params(block(UNREACHABLE, b"\1")), 0),
     Shape("br_if to a loop of parameters by the 10,000", many_params(b"\x0d\0", b"\x03\1\0", b"\0\x0b\0"), 0),
+    Shape("loops of parameters by the 10,000 in each other", loops_in_each_other, 0),
     Shape("call_indirect of parameters by the 10,000", many_params(b"\x11\1\0", with_table=True), 0),
     Shape("calls of an import of parameters by the 10,000", import_of_many_params, 22),
     Shape("a br_table of three loops of parameters by the 10,000", labels_of_loops, 0),
