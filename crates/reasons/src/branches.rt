@@ -1,5 +1,7 @@
 //! Which labels a branch names, and what they take.
 
+ghost use Rattle.std.specs.Prelude.{◌≡◌, IfSome, Some, slice_get};
+
 use crate::operands::{Taken, taken_text};
 use crate::type_names::types_text;
 use std::alloc::{AllocError, Global};
@@ -31,7 +33,9 @@ pub fn branch_text(
 }
 
 /// The types that a branch takes to the label with this number, the innermost one being 0, if it is open.
-pub fn open_label<'a>(types: &Types<'a>, label: usize) -> Option<&'a [ValType]> {
+pub fn open_label<'a>(types: &Types<'a>, label: usize) -> Option<&'a [ValType]>
+    ensures { IfSome result (λ found. slice_get types.now.labels label ≡ Some found.now) }
+{
     types.label(u32::try_from(label).ok()?)
 }
 

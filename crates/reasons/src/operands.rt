@@ -1,5 +1,8 @@
 //! Which operands an instruction takes, and which are there.
 
+ghost use Rattle.std.specs.Prelude.{◌≡◌, ◌∷◌, [], Some, slice_get};
+ghost use Rattle.wasm_ast.specs.declared.values.FuncType.{FuncType as FuncTypeValue};
+
 use crate::branches::{branch_text, table_text};
 use crate::type_names::{there_text, types_text};
 use std::alloc::{AllocError, Global};
@@ -22,7 +25,9 @@ pub struct Taken<'a> {
 // ---- lists of types
 
 /// One operand of a type.
-pub fn one(val_type: ValType) -> &'static [ValType] {
+pub fn one(val_type: ValType) -> &'static [ValType]
+    ensures { result.now ≡ val_type ∷ [] }
+{
     match val_type {
         ValType::I32 => &[ValType::I32],
         ValType::I64 => &[ValType::I64],
@@ -70,7 +75,10 @@ fn params_of(of: &Module, func: u32) -> &[ValType] {
 }
 
 /// The results of a function.
-pub fn results_of<'a>(of: &'a Module, func: &Func) -> &'a [ValType] {
+pub fn results_of<'a>(of: &'a Module, func: &Func) -> &'a [ValType]
+    ensures { (t : FuncTypeValue) → slice_get of.now.types func.now.type_index ≡ Some t
+        → result.now ≡ t.results }
+{
     match of.type_with(func.type_index) {
         Some(found) => found.results.as_slice(),
         None => &[],
