@@ -12,8 +12,8 @@ const MOST_PAGES: u64 = 256;
 
 const DEFAULT_PAGES: u64 = 16;
 
-/// What a command line gives a task: the name of its file, the words after it, the entries of its environment,
-/// and the limit on its memory in bytes, if there is one.
+/// What a command line gives a task: the name of its file, the words after it, the entries of its
+/// environment, and the limit on its memory in bytes, if there is one.
 #[derive(Clone, Copy)]
 pub struct TaskWords<'a> {
     pub name: &'a str,
@@ -105,8 +105,9 @@ fn why_bytes(alloc: Global, words: &TaskWords<'_>) -> Result<String, AllocError>
     )
 }
 
-/// Why no process can have these words, in one line without its line feed; an empty text if one can. Arguments
-/// are counted from 0, the name of the file, and entries from 1. An error only if memory runs out.
+/// Why no process can have these words, in one line without its line feed; an empty text if one
+/// can. Arguments are counted from 0, the name of the file, and entries from 1. An error only if
+/// memory runs out.
 pub fn why_words(alloc: Global, words: &TaskWords<'_>) -> Result<String, AllocError> {
     let text = why_args(alloc, words.name, words.args)?;
     if !text.is_empty() {

@@ -229,9 +229,9 @@ fn why_refused(alloc: Global, text: &str) -> Result<String, AllocError>
     }
 }
 
-/// Why a text is no config that the profile takes, in one line without its line feed: the path of the property,
-/// what is there, and what has to be; an empty text exactly if it is one. Items of lists are counted from 0. An
-/// error only if memory runs out.
+/// Why a text is no config that the profile takes, in one line without its line feed: the path of
+/// the property, what is there, and what has to be; an empty text exactly if it is one. Items of
+/// lists are counted from 0. An error only if memory runs out.
 pub fn why_config(alloc: Global, text: &str) -> Result<String, AllocError>
     ensures accepted { IfOk result
         (λ s. string_bytes s ≡ [] → is_some (process_read text.now) ≡ true) }

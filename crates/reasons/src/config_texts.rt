@@ -59,7 +59,8 @@ fn why_texts(alloc: Global, list: &str, items: &Vec<Value>) -> Result<String, Al
     why_item(alloc, list, items, Test::Plain)
 }
 
-/// Why the part that tells of a process has no arguments as the profile demands them; an empty text if it has.
+/// Why the part that tells of a process has no arguments as the profile demands them; an empty text
+/// if it has.
 pub fn why_args(alloc: Global, process: &Value) -> Result<String, AllocError> {
     match process.get("args") {
         Some(Value::Array(items)) => if items.is_empty() {

@@ -15,7 +15,8 @@ use text_assembler::instr_text;
 use validator::Unchecked;
 use wasm_ast::{BlockType, Func, GlobalOp, Instr, Module, Mutability, Place, Simple};
 
-// How many instructions may be counted for the types before one: more would take longer than the refusal itself.
+// How many instructions may be counted for the types before one: more would take longer than the
+// refusal itself.
 const MOST_COUNTED: u64 = 1 << 19;
 
 /// What an instruction names that is not there.
@@ -133,8 +134,8 @@ fn not_there(of: &Module, func: &Func, instr: &Instr) -> Option<Missing> {
     }
 }
 
-// Whether the types before an instruction are found in little time: the instructions before it are counted again in
-// each block that is open there.
+// Whether the types before an instruction are found in little time: the instructions before it are
+// counted again in each block that is open there.
 fn is_near(found: Found<'_>, place: u32) -> bool {
     u64::from(place).saturating_mul(u64::from(found.depth)) <= MOST_COUNTED
 }

@@ -1,5 +1,5 @@
-//! Why the file of a module, the words of a command line, a config, a line or a request is refused, as a line for a
-//! person.
+//! Why the file of a module, the words of a command line, a config, a line or a request is refused,
+//! as a line for a person.
 //!
 //! Nothing here decides what is refused. A reason is looked for after a refusal, in the bytes and with the
 //! readers that the refusal came from.
@@ -68,8 +68,9 @@ pub fn why_file(alloc: Global, bytes: &[u8], refusal: Refusal) -> Result<String,
     }
 }
 
-/// Why no task can be made of a file with these bytes and what a command line gives it, in one line without its
-/// line feed; an empty text if there is nothing to add to the refusal. An error only if memory runs out.
+/// Why no task can be made of a file with these bytes and what a command line gives it, in one line
+/// without its line feed; an empty text if there is nothing to add to the refusal. An error only if
+/// memory runs out.
 pub fn why_run(
     alloc: Global,
     bytes: &[u8],

@@ -208,9 +208,9 @@ fn why_text(alloc: Global, text: &str, lines: Lines) -> Result<String, AllocErro
     }
 }
 
-/// Why a line, given without its line feed, is no request, or no event of a replay, in one line without its line
-/// feed: what is missing, what is there that cannot be, or where it is no JSON; an empty text if it is one. An
-/// error only if memory runs out.
+/// Why a line, given without its line feed, is no request, or no event of a replay, in one line
+/// without its line feed: what is missing, what is there that cannot be, or where it is no JSON; an
+/// empty text if it is one. An error only if memory runs out.
 pub fn why_line(alloc: Global, line: &[u8], lines: Lines) -> Result<String, AllocError> {
     let count = line.len();
     if count > MAX_LINE_BYTES {

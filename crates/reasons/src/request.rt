@@ -235,9 +235,9 @@ fn find_reason<C: Contents>(
     }
 }
 
-/// Why the request of a line is refused so, in one line without its line feed, which is never empty: what has to
-/// be another, by its key, and why. Of the line nothing is there if it is too long. For a create the bytes of the
-/// content are looked up. An error only if memory runs out.
+/// Why the request of a line is refused so, in one line without its line feed, which is never
+/// empty: what has to be another, by its key, and why. Of the line nothing is there if it is too
+/// long. For a create the bytes of the content are looked up. An error only if memory runs out.
 pub fn why_request<C: Contents>(
     alloc: Global,
     line: Option<&[u8]>,
@@ -265,7 +265,8 @@ fn id_of(alloc: Global, text: &str) -> Result<Option<String>, AllocError>
     }
 }
 
-/// The id that the request of a line names, if it names one that is well-formed. An error only if memory runs out.
+/// The id that the request of a line names, if it names one that is well-formed. An error only if
+/// memory runs out.
 pub fn id_in(alloc: Global, line: &[u8]) -> Result<Option<String>, AllocError>
     ensures { IfOk result (λ found. IfSome found (λ s. is_id (string_bytes s) ≡ true)) }
 {

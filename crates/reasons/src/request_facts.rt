@@ -1,5 +1,5 @@
-//! What is said of a refused request whose reason is not in a content, a text or a config, as docs/PROTOCOL.md has
-//! it.
+//! What is said of a refused request whose reason is not in a content, a text or a config, as
+//! docs/PROTOCOL.md has it.
 
 /// What is said of requests that are refused with one number.
 struct Fact {
