@@ -5,52 +5,41 @@ use Rattle.std.specs.Prelude.{ℕ, ◌-◌, Bool, ◌&&◌, ◌||◌, not, nat_l
 abbrev pub is_between : (low high : ℕ) → ℕ → Bool
 is_between low high c = nat_le low c && nat_le c high
 
--- ---- characters with a meaning of their own
+-- ---- characters with a meaning of their own: a line feed, and `" ( ) ; \ { } _ + - $`
 
 abbrev pub line_feed : ℕ
 line_feed = 0x0A
 
--- `"`
 abbrev pub quote : ℕ
 quote = 0x22
 
--- `(`
 abbrev pub open_paren : ℕ
 open_paren = 0x28
 
--- `)`
 abbrev pub close_paren : ℕ
 close_paren = 0x29
 
--- `;`
 abbrev pub semicolon : ℕ
 semicolon = 0x3B
 
--- `\`
 abbrev pub backslash : ℕ
 backslash = 0x5C
 
--- `{`
 abbrev pub open_brace : ℕ
 open_brace = 0x7B
 
--- `}`
 abbrev pub close_brace : ℕ
 close_brace = 0x7D
 
--- `_`
 abbrev pub underscore : ℕ
 underscore = 0x5F
 
--- `+`
 abbrev pub plus : ℕ
 plus = 0x2B
 
--- `-`
 abbrev pub minus : ℕ
 minus = 0x2D
 
--- `$`
 abbrev pub dollar : ℕ
 dollar = 0x24
 

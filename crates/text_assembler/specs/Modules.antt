@@ -1,6 +1,6 @@
 -- Fields and modules (6.6), read from the front of the tokens. A field may name what a later one
 -- declares: so all declarations are collected first.
-use Rattle.std.specs.Prelude.{◌≡◌, ℕ, zero, suc, ◌+◌, ◌-◌, List, [], ◌∷◌, ◌++◌, length, Bool, ◌&&◌, ◌==◌, if◌then◌else◌, Result, Ok, Err, Option, Some, None, is_none, codes, bytes_eq}
+use Rattle.std.specs.Prelude.{◌≡◌, ◌≤◌, ℕ, zero, suc, ◌+◌, ◌-◌, List, [], ◌∷◌, ◌++◌, length, take, fold, Bool, ◌&&◌, ◌==◌, if◌then◌else◌, Result, Ok, Err, Some, None, is_none, codes, bytes_eq}
 use Rattle.wasm_ast.specs.declared.values.ValType.{ValType}
 use Rattle.wasm_ast.specs.declared.values.FuncType.{FuncType}
 use Rattle.wasm_ast.specs.declared.module.Limits.{Limits}
@@ -25,6 +25,7 @@ use Rattle.text_assembler.specs.declared.token.Lexeme.TheVariants.{Open, Close, 
 use Rattle.text_assembler.specs.declared.field.Field.{Field}
 use Rattle.text_assembler.specs.declared.field.Field.TheVariants as field
 use Rattle.text_assembler.specs.declared.scopes.Scopes.{Scopes}
+use Rattle.text_assembler.specs.Characters.{line_feed, is_between}
 use Rattle.text_assembler.specs.Reading.{◌>>=◌, need, read_parts}
 use Rattle.text_assembler.specs.Tokens.{tokens_of}
 use Rattle.text_assembler.specs.Names.{Ids, with_id}
@@ -194,65 +195,19 @@ declare_as s word ts =
     if bytes_eq word (codes "type") then (do
       ids ← with_id s.types (id_of ts)
       t ← read_type ts
-      Ok (record {
-        types = ids;
-        signatures = s.signatures ++ t.0 ∷ [];
-        funcs = s.funcs;
-        tables = s.tables;
-        memories = s.memories;
-        globals = s.globals;
-      }))
+      Ok (record s { types = ids; signatures = s.signatures ++ t.0 ∷ [] }))
     else if bytes_eq word (codes "import") then (do
       names ← read_imported ts
       ids ← with_id s.funcs (id_of names.1)
-      Ok (record {
-        types = s.types;
-        signatures = s.signatures;
-        funcs = ids;
-        tables = s.tables;
-        memories = s.memories;
-        globals = s.globals;
-      }))
-    else if bytes_eq word (codes "func") then (do
-      ids ← with_id s.funcs (id_of ts)
-      Ok (record {
-        types = s.types;
-        signatures = s.signatures;
-        funcs = ids;
-        tables = s.tables;
-        memories = s.memories;
-        globals = s.globals;
-      }))
-    else if bytes_eq word (codes "table") then (do
-      ids ← with_id s.tables (id_of ts)
-      Ok (record {
-        types = s.types;
-        signatures = s.signatures;
-        funcs = s.funcs;
-        tables = ids;
-        memories = s.memories;
-        globals = s.globals;
-      }))
-    else if bytes_eq word (codes "memory") then (do
-      ids ← with_id s.memories (id_of ts)
-      Ok (record {
-        types = s.types;
-        signatures = s.signatures;
-        funcs = s.funcs;
-        tables = s.tables;
-        memories = ids;
-        globals = s.globals;
-      }))
-    else if bytes_eq word (codes "global") then (do
-      ids ← with_id s.globals (id_of ts)
-      Ok (record {
-        types = s.types;
-        signatures = s.signatures;
-        funcs = s.funcs;
-        tables = s.tables;
-        memories = s.memories;
-        globals = ids;
-      }))
+      Ok (record s { funcs = ids }))
+    else if bytes_eq word (codes "func")
+    then (with_id s.funcs (id_of ts) >>= λ ids. Ok (record s { funcs = ids }))
+    else if bytes_eq word (codes "table")
+    then (with_id s.tables (id_of ts) >>= λ ids. Ok (record s { tables = ids }))
+    else if bytes_eq word (codes "memory")
+    then (with_id s.memories (id_of ts) >>= λ ids. Ok (record s { memories = ids }))
+    else if bytes_eq word (codes "global")
+    then (with_id s.globals (id_of ts) >>= λ ids. Ok (record s { globals = ids }))
     else Ok s
 
 -- what the field that begins here declares, after its `(`
@@ -275,24 +230,19 @@ no_scopes =
 
 -- ---- modules
 
--- a module from its parts
-abbrev pub module_from : List FuncType → List Import → List Func → List Limits → List Limits →
-    List declared_global.Global → List Export → Option ℕ → List Element → List Segment → Module
-module_from types imports funcs tables memories globals exports start elements segments = record {
-  types = types;
-  imports = imports;
-  funcs = funcs;
-  tables = tables;
-  memories = memories;
-  globals = globals;
-  exports = exports;
-  start = start;
-  elements = elements;
-  segments = segments;
-}
-
 abbrev pub no_fields : Module
-no_fields = module_from [] [] [] [] [] [] [] None [] []
+no_fields = record {
+  types = [];
+  imports = [];
+  funcs = [];
+  tables = [];
+  memories = [];
+  globals = [];
+  exports = [];
+  start = None;
+  elements = [];
+  segments = [];
+}
 
 -- no function, table, memory or global is defined yet
 abbrev pub is_undefined : Module → Bool
@@ -302,37 +252,17 @@ is_undefined m =
 -- One more field, at the end of those of its kind. Imports come before functions, tables, memories
 -- and globals, and there is at most one start function (6.6.13).
 unfoldable pub add_field : Module → Field → Result Module Fault
-add_field m (field.Type t) =
-    Ok (module_from (m.types ++ t ∷ []) m.imports m.funcs m.tables m.memories m.globals
-    m.exports m.start m.elements m.segments)
+add_field m (field.Type t) = Ok (record m { types = m.types ++ t ∷ [] })
 add_field m (field.Import i) =
-    need (is_undefined m)
-    (Ok (module_from m.types (m.imports ++ i ∷ []) m.funcs m.tables m.memories m.globals
-    m.exports m.start m.elements m.segments))
-add_field m (field.Func f) =
-    Ok (module_from m.types m.imports (m.funcs ++ f ∷ []) m.tables m.memories m.globals
-    m.exports m.start m.elements m.segments)
-add_field m (field.Table t) =
-    Ok (module_from m.types m.imports m.funcs (m.tables ++ t ∷ []) m.memories m.globals
-    m.exports m.start m.elements m.segments)
-add_field m (field.Memory l) =
-    Ok (module_from m.types m.imports m.funcs m.tables (m.memories ++ l ∷ []) m.globals
-    m.exports m.start m.elements m.segments)
-add_field m (field.Global g) =
-    Ok (module_from m.types m.imports m.funcs m.tables m.memories (m.globals ++ g ∷ [])
-    m.exports m.start m.elements m.segments)
-add_field m (field.Export e) =
-    Ok (module_from m.types m.imports m.funcs m.tables m.memories m.globals
-    (m.exports ++ e ∷ []) m.start m.elements m.segments)
-add_field m (field.Start f) =
-    need (is_none m.start) (Ok (module_from m.types m.imports m.funcs m.tables m.memories m.globals
-    m.exports (Some f) m.elements m.segments))
-add_field m (field.Element e) =
-    Ok (module_from m.types m.imports m.funcs m.tables m.memories m.globals
-    m.exports m.start (m.elements ++ e ∷ []) m.segments)
-add_field m (field.Segment d) =
-    Ok (module_from m.types m.imports m.funcs m.tables m.memories m.globals
-    m.exports m.start m.elements (m.segments ++ d ∷ []))
+    need (is_undefined m) (Ok (record m { imports = m.imports ++ i ∷ [] }))
+add_field m (field.Func f) = Ok (record m { funcs = m.funcs ++ f ∷ [] })
+add_field m (field.Table t) = Ok (record m { tables = m.tables ++ t ∷ [] })
+add_field m (field.Memory l) = Ok (record m { memories = m.memories ++ l ∷ [] })
+add_field m (field.Global g) = Ok (record m { globals = m.globals ++ g ∷ [] })
+add_field m (field.Export e) = Ok (record m { exports = m.exports ++ e ∷ [] })
+add_field m (field.Start f) = need (is_none m.start) (Ok (record m { start = Some f }))
+add_field m (field.Element e) = Ok (record m { elements = m.elements ++ e ∷ [] })
+add_field m (field.Segment d) = Ok (record m { segments = m.segments ++ d ∷ [] })
 
 -- a field, added to a module
 unfoldable pub one_field : (nesting : ℕ) → Scopes → Module → Reader Module
@@ -368,6 +298,23 @@ Denotes text m = (nesting : ℕ) × (read_text nesting text ≡ Ok m)
 -- more than 256 blocks are open at one word
 abbrev pub IsTooDeep : List ℕ → Type 0
 IsTooDeep text = read_text max_nesting text ≡ Err TooDeep
+
+-- the line and the column after one more byte: a line feed ends a line, and a character has one
+-- first byte, as the others of a character in UTF-8 are from 80 to BF
+abbrev pub passed_byte : ℕ × ℕ → ℕ → ℕ × ℕ
+passed_byte at b =
+    if b == line_feed then (at.0 + 1, 1)
+    else if is_between 0x80 0xBF b then at
+    else (at.0, at.1 + 1)
+
+-- the line and the column, both from 1, where these bytes of a text end
+abbrev pub place_after : List ℕ → ℕ × ℕ
+place_after bytes = fold passed_byte (1, 1) bytes
+
+-- they are those of a place in the text, or of its end
+abbrev pub IsPlaceIn : (text : List ℕ) → (line column : ℕ) → Type 0
+IsPlaceIn text line column =
+    (n : ℕ) × (n ≤ length text) × (place_after (take n text) ≡ (line, column))
 
 -- a refusal of a text, wherever its fault is
 abbrev pub IsBadText : Refusal → Type 0

@@ -1,5 +1,5 @@
 -- The words of instructions without bodies (6.5): each is a keyword, which what it needs beside it follows.
-use Rattle.std.specs.Prelude.{ℕ, List, [], ◌∷◌, ◌++◌, codes, Option, Some, None, bytes_eq, if◌then◌else◌}
+use Rattle.std.specs.Prelude.{ℕ, List, [], ◌∷◌, ◌++◌, map, codes, Option, Some, None, bytes_eq, if◌then◌else◌}
 use Rattle.wasm_ast.specs.declared.values.ValType.{ValType}
 use Rattle.wasm_ast.specs.declared.values.ValType.TheVariants as type
 use Rattle.wasm_ast.specs.declared.instr.LocalOp.{LocalOp}
@@ -20,6 +20,7 @@ use Rattle.wasm_ast.specs.declared.operators.RelationOp.{RelationOp}
 use Rattle.wasm_ast.specs.declared.operators.RelationOp.TheVariants as relation
 use Rattle.wasm_ast.specs.declared.operators.ConvertOp.{ConvertOp}
 use Rattle.wasm_ast.specs.declared.operators.ConvertOp.TheVariants as convert
+use Rattle.wasm_binary.specs.Tables.{all_loads, all_stores, all_unary, all_binary, all_relations, all_conversions}
 use Rattle.text_assembler.specs.declared.keyword.Keyword.{Keyword}
 use Rattle.text_assembler.specs.declared.keyword.Keyword.TheVariants as keyword
 
@@ -154,38 +155,16 @@ controls =
 
 -- memory
 abbrev pub accesses : List Keyword
-accesses =
-    keyword.Load load.I32 ∷ keyword.Load load.I64 ∷ keyword.Load load.I32From8S ∷
-    keyword.Load load.I32From8U ∷ keyword.Load load.I32From16S ∷ keyword.Load load.I32From16U ∷
-    keyword.Load load.I64From8S ∷ keyword.Load load.I64From8U ∷ keyword.Load load.I64From16S ∷
-    keyword.Load load.I64From16U ∷ keyword.Load load.I64From32S ∷ keyword.Load load.I64From32U ∷
-    keyword.Store store.I32 ∷ keyword.Store store.I64 ∷ keyword.Store store.I32To8 ∷
-    keyword.Store store.I32To16 ∷ keyword.Store store.I64To8 ∷ keyword.Store store.I64To16 ∷
-    keyword.Store store.I64To32 ∷ []
+accesses = map keyword.Load all_loads ++ map keyword.Store all_stores
 
 -- constants, operators, tests and comparisons of a type
 abbrev pub numerics : ValType → List Keyword
 numerics t =
-    keyword.Const t ∷ keyword.Unary t unary.Clz ∷ keyword.Unary t unary.Ctz ∷
-    keyword.Unary t unary.Popcnt ∷ keyword.Binary t binary.Add ∷ keyword.Binary t binary.Sub ∷
-    keyword.Binary t binary.Mul ∷ keyword.Binary t binary.DivS ∷ keyword.Binary t binary.DivU ∷
-    keyword.Binary t binary.RemS ∷ keyword.Binary t binary.RemU ∷ keyword.Binary t binary.And ∷
-    keyword.Binary t binary.Or ∷ keyword.Binary t binary.Xor ∷ keyword.Binary t binary.Shl ∷
-    keyword.Binary t binary.ShrS ∷ keyword.Binary t binary.ShrU ∷ keyword.Binary t binary.Rotl ∷
-    keyword.Binary t binary.Rotr ∷ keyword.Test t test.Eqz ∷ keyword.Compare t relation.Eq ∷
-    keyword.Compare t relation.Ne ∷ keyword.Compare t relation.LtS ∷
-    keyword.Compare t relation.LtU ∷ keyword.Compare t relation.GtS ∷
-    keyword.Compare t relation.GtU ∷ keyword.Compare t relation.LeS ∷
-    keyword.Compare t relation.LeU ∷ keyword.Compare t relation.GeS ∷
-    keyword.Compare t relation.GeU ∷ []
+    keyword.Const t ∷ map (keyword.Unary t) all_unary ++ map (keyword.Binary t) all_binary
+    ++ keyword.Test t test.Eqz ∷ map (keyword.Compare t) all_relations
 
--- conversions
 abbrev pub conversions : List Keyword
-conversions =
-    keyword.Convert convert.Wrap ∷ keyword.Convert convert.ExtendS ∷
-    keyword.Convert convert.ExtendU ∷ keyword.Convert convert.I32From8S ∷
-    keyword.Convert convert.I32From16S ∷ keyword.Convert convert.I64From8S ∷
-    keyword.Convert convert.I64From16S ∷ keyword.Convert convert.I64From32S ∷ []
+conversions = map keyword.Convert all_conversions
 
 abbrev pub keywords : List Keyword
 keywords = controls ++ accesses ++ numerics type.I32 ++ numerics type.I64 ++ conversions

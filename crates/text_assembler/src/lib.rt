@@ -2,13 +2,13 @@
 //! extensions and types of blocks by index).
 #![tactic(auto)]
 
-ghost use Rattle.std.specs.Prelude.{◌≡◌, ◌⊎◌, IfOk, IfErr, string_bytes};
+ghost use Rattle.std.specs.Prelude.{◌≡◌, ◌⊎◌, ℕ, Err, IfOk, IfErr, string_bytes};
 ghost use Rattle.wasm_ast.specs.declared.module.Module.{Module};
 ghost use Rattle.wasm_ast.specs.declared.refusal.Refusal.TheVariants as Refusals;
 ghost use Rattle.wasm_binary.specs.Canonical.{canon, FitsLimits};
 ghost use Rattle.wasm_binary.specs.Grammar.{Spells};
 ghost use Rattle.wasm_ast.specs.View.{op_of};
-ghost use Rattle.text_assembler.specs.Modules.{Denotes, IsTooDeep, IsBadText};
+ghost use Rattle.text_assembler.specs.Modules.{Denotes, IsTooDeep, IsBadText, IsPlaceIn};
 ghost use Rattle.text_assembler.specs.Lines.{line_of, IsAligned};
 
 use fault::ReadError;
@@ -72,6 +72,9 @@ pub fn assemble(alloc: Global, text: &str) -> Result<Vec<u8>, Refusal>
         (m : Module) → Denotes text.now m → FitsLimits m → e ≡ Refusals.NoMemory) }
     ensures bad { IfErr result (λ e.
         IsBadText e → (m : Module) → Denotes text.now m → ⊥) }
+    // The line and the column are those of a place in the text.
+    ensures place { (line column : ℕ) → result ≡ Err (Refusals.BadText line column)
+        → IsPlaceIn text.now line column }
     ensures limit { IfErr result (λ e. e ≡ Refusals.Limit
         → (m : Module) → Denotes text.now m → FitsLimits m → ⊥) }
     ensures over { IfErr result (λ e. e ≡ Refusals.Limit

@@ -1,9 +1,17 @@
 -- The module that collected parts are.
 use Rattle.wasm_ast.specs.declared.module.Module.{Module}
 use Rattle.text_assembler.specs.declared.parts.Parts.{Parts}
-use Rattle.text_assembler.specs.Modules.{module_from}
 
 abbrev pub parts_of : Parts → Module
-parts_of p =
-    module_from p.types.items p.imports.items p.funcs.items p.tables.items p.memories.items
-    p.globals.items p.exports.items p.start p.elements.items p.segments.items
+parts_of p = record {
+  types = p.types.items;
+  imports = p.imports.items;
+  funcs = p.funcs.items;
+  tables = p.tables.items;
+  memories = p.memories.items;
+  globals = p.globals.items;
+  exports = p.exports.items;
+  start = p.start;
+  elements = p.elements.items;
+  segments = p.segments.items;
+}

@@ -54,14 +54,7 @@ abbrev pub declare_type : Scopes → Tokens → Result Scopes Fault
 declare_type s ts = do
   ids ← with_id s.types (id_of ts)
   t ← read_type ts
-  Ok (record {
-    types = ids;
-    signatures = s.signatures ++ t.0 ∷ [];
-    funcs = s.funcs;
-    tables = s.tables;
-    memories = s.memories;
-    globals = s.globals;
-  })
+  Ok (record s { types = ids; signatures = s.signatures ++ t.0 ∷ [] })
 
 -- the functions with one that is imported
 abbrev pub declare_import : Ids → Tokens → Result Ids Fault
