@@ -42,6 +42,19 @@ const BOTH_IN_TURN: &str = "
   loop br 0 end
 ";
 
+/// Bodies that write to both streams in one slice, in each order.
+const OUTPUT_FIRST: &str = "i32.const 1 call $put i32.const 2 call $put unreachable";
+
+const ERROR_FIRST: &str = "i32.const 2 call $put i32.const 1 call $put unreachable";
+
+/// One that writes in its turns 7 and 1,000,001.
+const TWO_SLICES: &str = "
+  i32.const 1 call $put
+  i32.const 166664 local.set 0
+  loop local.get 0 i32.const 1 i32.sub local.tee 0 br_if 0 end
+  i32.const 1 call $put
+";
+
 /// A task whose stream fails after some bytes, and what was written before that.
 struct Failure {
     body: &'static str,
@@ -71,6 +84,31 @@ const FAILURES: &[Failure] = &[
     },
     Failure {
         body: BOTH_IN_TURN,
+        out_room: 1,
+        err_room: 0,
+        cause: "standard error",
+        out: "x",
+        err: "",
+    },
+    // Standard output comes first, whichever the task wrote to first.
+    Failure {
+        body: OUTPUT_FIRST,
+        out_room: 0,
+        err_room: 1,
+        cause: "standard output",
+        out: "",
+        err: "",
+    },
+    Failure {
+        body: ERROR_FIRST,
+        out_room: 0,
+        err_room: 1,
+        cause: "standard output",
+        out: "",
+        err: "",
+    },
+    Failure {
+        body: ERROR_FIRST,
         out_room: 1,
         err_room: 0,
         cause: "standard error",
@@ -127,6 +165,7 @@ fn check_failure(rt: &impl Abort, alloc: Global, at: usize, row: &Failure) -> Re
     );
     check_text(rt, row.body, cause(&ran), row.cause);
     check_bytes(rt, at, out.as_slice(), row.out.as_bytes());
+    assert!(rt; out.is_flushed(), "{at}");
     check_bytes(rt, at, err.as_slice(), row.err.as_bytes());
     Ok(())
 }
@@ -155,6 +194,29 @@ fn check_ran(rt: &impl Abort, alloc: Global, file: &str, wanted: &Ran) -> Result
     assert_eq!(rt; status, wanted.status, "{file}");
     check_bytes(rt, 0, out.as_slice(), wanted.out.as_slice());
     check_bytes(rt, 0, err.as_slice(), wanted.err.as_slice());
+    assert!(rt; out.is_flushed() && err.is_flushed(), "{file}");
+    Ok(())
+}
+
+// A slice has at most 1,000,000 turns: what is written after them comes by itself.
+#[test]
+fn a_slice_of_a_run_ends(rt: HostRuntime) -> Result<(), Fail> {
+    let alloc = rt.alloc();
+    let file = framed(alloc, TWO_SLICES)?;
+    let mut out = FailingWriter::new(alloc, usize::MAX);
+    let mut err = FailingWriter::new(alloc, usize::MAX);
+    let status = run_streams(
+        alloc,
+        "m",
+        file.as_bytes(),
+        &[],
+        &Settings::none(alloc),
+        &mut out,
+        &mut err,
+    )?;
+    assert_eq!(rt; status, 0);
+    check_bytes(&rt, 0, out.as_slice(), b"xx");
+    assert_eq!(rt; out.writes(), 2);
     Ok(())
 }
 
