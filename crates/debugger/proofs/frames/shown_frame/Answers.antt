@@ -56,6 +56,6 @@ returns c = λ m f there.
     ∙ operands_there m k w f c.as_slice-2.result.now c.len.result there count c.as_slice-2.ensures.value in
     let labels =
     labels_there m k w f c.in_ok-labels.labels.items there (c.in_ok-labels.ensures.items ∙ c.as_slice-3.ensures.value)
-        in
+    in
     same_frame _ f (there.func ∙ there.told.func) (c.next.ensures ∙ there.told.next) (c.new.ensures ∙ labels)
     (c.new-2.ensures ∙ locals) (c.new-3.ensures ∙ operands)
