@@ -151,9 +151,6 @@ def main():
     program, _ = arguments(0)
     names, data = variants(), read_only(program)
     for name, code in functions(program):
-        # Others jump by the tag of a cell too, but not from turn to turn.
-        if "run_loop" not in name:
-            continue
         where = {it[0]: index for index, it in enumerate(code)}
         entries = table_in(code, where, data, len(names))
         if not entries:
