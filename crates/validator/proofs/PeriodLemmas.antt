@@ -1,4 +1,4 @@
--- Bytes that are there again after so many.
+-- Bytes that are there again after a period.
 use Rattle.std.proofs.Common.{◌≡◌, ◌≤◌, ◌<◌, ◌⊎◌, inl, inr, ◌+◌, ◌-◌, ℕ, zero, suc, length, List, take, drop, get_or, get_or-take, get_or-drop, ext_get_or, sym, ap, ◌∙◌, arith}
 use Rattle.std.proofs.lemmas.Bool.{cases_lt}
 use Rattle.std.proofs.lemmas.List.{length-take, length-drop, take_rest}
@@ -11,7 +11,7 @@ at_place bytes d m n same = ap (λ k. get_or bytes k d) same
 pub not_known : (bytes : List ℕ) → Repeats 0 bytes
 not_known bytes = λ i d within. at_place bytes d (0 + i) i (omega arith)
 
--- the bytes from so many on are the first ones
+-- the bytes from the period on are the first ones
 pub again : (period : ℕ) (bytes : List ℕ)
     → take (length bytes - period) (drop period bytes) ≡ take (length bytes - period) bytes
     → Repeats period bytes
@@ -63,7 +63,8 @@ same_at (suc n) period bytes others i d some repeats other count begin few withi
     (omega (arith, within)))
     (cases_lt i period)
 
-pub same_bytes : (period : ℕ) (bytes others : List ℕ) → 0 < period → Repeats period bytes → Repeats period others
+pub same_bytes : (period : ℕ) (bytes others : List ℕ) → 0 < period
+    → Repeats period bytes → Repeats period others
     → length bytes ≡ length others → take period bytes ≡ take period others → bytes ≡ others
 same_bytes period bytes others some repeats other count begin =
     ext_get_or 0 bytes others count

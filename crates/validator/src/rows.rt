@@ -45,7 +45,7 @@ impl Row {
         self.bytes.len()
     }
 
-    /// So many bytes from one on.
+    /// This number of bytes, from one on.
     pub fn part(&self, first: usize, count: usize) -> Part<'_>
         requires { first + count ≤ length self.now }
         ensures { result ≡ take count (drop first self.now) }
@@ -104,7 +104,7 @@ fn period_of(bytes: &[u8]) -> usize
     0
 }
 
-// Whether each of these bytes is there again after so many.
+// Whether each of these bytes is there again after that number of them.
 fn is_period(bytes: &[u8], period: usize) -> bool
     ensures { IsTrue result → Repeats period bytes.now }
 {
