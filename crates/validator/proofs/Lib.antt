@@ -16,6 +16,7 @@ pub mod TypingLemmas
 pub mod FaultLemmas
 pub mod PackedLemmas
 pub mod PeriodLemmas
+pub mod LabelLemmas
 pub mod UncheckedTypes
 pub mod EachLemmas
 pub mod EachOfModules

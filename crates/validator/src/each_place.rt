@@ -276,7 +276,7 @@ fn each_instr<'a>(
         Instr::Simple(simple) => {
             check_simple(
                 &stops.function,
-                &opened.labels,
+                &mut opened.labels,
                 simple,
                 &mut opened.operands,
             )?;

@@ -1,7 +1,9 @@
 //! The labels of the blocks that are open.
 
-ghost use Rattle.std.specs.Prelude.{◌≡◌, ◌∷◌, ◌⊎◌, [], IsTrue, IfOk, OnOk, Some, slice_get, drop, length};
-ghost use Rattle.validator.specs.declared.labels.Label.{Label as LabelValue};
+ghost use Rattle.std.specs.Prelude.{◌≡◌, ◌∷◌, ◌<◌, ◌≤◌, [], List, IfOk, OnOk, Some, slice_get, drop, length};
+ghost use Rattle.wasm_ast.specs.declared.values.ValType.{ValType};
+ghost use Rattle.validator.specs.Inside.Algorithm.{is_label};
+ghost use Rattle.validator.specs.Inside.Labels.{AreAlike, HaveSameTypes, taken_by};
 
 use crate::type_list::TypeList;
 use std::alloc::{AllocError, Global};
@@ -12,7 +14,7 @@ use std::marker::Model;
 pub struct Label<'a> {
     /// The types that a branch to it takes.
     pub types: TypeList<'a>,
-    /// The outermost label that is known to take the same types, by its number from the outermost on.
+    /// A label that is known to take the same types, by its number from the outermost on: one outside it, or itself.
     pub alike: usize,
 }
 
@@ -24,14 +26,14 @@ pub struct Labels<'a> {
 }
 
 impl<'a> Model for Labels<'a> {
-    ghost use Rattle.std.specs.Prelude.{List, map, reverse};
+    ghost use Rattle.std.specs.Prelude.{List, reverse};
     ghost use Rattle.wasm_ast.specs.declared.values.ValType.{ValType};
 
     ghost Value = { List (List ValType) };
 
-    ghost use Rattle.validator.specs.Inside.Labels.{AreAlike};
+    ghost use Rattle.validator.specs.Inside.Labels.{AreAlike, taken_by};
 
-    ghost view = { λ l. reverse (map (λ x. x.types) l.labels.items) };
+    ghost view = { λ l. reverse (taken_by l.labels.items) };
 
     ghost invariant = { λ l. AreAlike l.labels.items };
 }
@@ -64,7 +66,7 @@ impl<'a> Labels<'a> {
     pub fn push(&mut self, types: &TypeList<'a>) -> Result<(), AllocError>
         ensures { OnOk result (self.new ≡ types.now ∷ self.old) }
     {
-        let alike = find_alike(self.labels.as_slice(), types);
+        let alike = self.labels.len();
         self.labels.push(Label {
             types: types.copy(),
             alike,
@@ -99,31 +101,90 @@ impl<'a> Labels<'a> {
         }
     }
 
-    /// Whether two labels are known to take the same types.
-    pub fn are_alike(&self, label: u32, other: u32) -> bool
-        ensures { IsTrue result → slice_get self.now label ≡ slice_get self.now other }
+    /// Whether both labels are there and take the same types. They are compared only while that is not known.
+    pub fn take_same(&mut self, label: u32, other: u32) -> bool
+        ensures same { (types : List ValType) → slice_get self.old other ≡ Some types
+            → result ≡ is_label self.old types label }
+        ensures labels { self.new ≡ self.old }
     {
         let count = self.labels.len();
-        let index = label as usize;
-        let other = other as usize;
-        index < count
-            && other < count
-            && self.labels[count - 1 - index].alike == self.labels[count - 1 - other].alike
+        let first = label as usize;
+        let second = other as usize;
+        first < count
+            && second < count
+            && are_alike(&mut self.labels, count - 1 - first, count - 1 - second)
     }
 }
 
-// The outermost of these labels that takes these types, if they are packed; else the number of labels.
-fn find_alike(labels: &[Label<'_>], types: &TypeList<'_>) -> usize
-    ensures { (result ≡ length labels.now) ⊎ ((l : LabelValue)
-        × (slice_get labels.now result ≡ Some l) × (l.types ≡ types.now)) }
+// Labels are counted from the outermost on here.
+
+// Whether two labels take the same types. If they do, it is noted.
+fn are_alike(labels: &mut Vec<Label<'_>>, index: usize, other: usize) -> bool
+    requires index { index < length labels.old.items }
+    requires other { other < length labels.old.items }
+    requires alike { AreAlike labels.old.items }
+    ensures alike { AreAlike labels.new.items }
+    ensures types { taken_by labels.new.items ≡ taken_by labels.old.items }
+    ensures same { HaveSameTypes labels.old.items index other result }
 {
-    if !types.is_packed() {
-        return labels.len();
+    let first = outermost(labels.as_slice(), index);
+    let second = outermost(labels.as_slice(), other);
+    if !have_same_types(labels.as_slice(), first, second) {
+        return false;
     }
-    for i in 0..labels.len() {
-        if labels[i].alike == i && labels[i].types.is_known_same(types) {
-            return i;
-        }
+    set_alike(labels, index, first);
+    set_alike(labels, other, second);
+    if first < second {
+        set_alike(labels, second, first);
+    } else {
+        set_alike(labels, first, second);
     }
-    labels.len()
+    true
+}
+
+// The outermost label that this one is known to be like.
+fn outermost(labels: &[Label<'_>], index: usize) -> usize
+    requires index { index < length labels.now }
+    requires alike { AreAlike labels.now }
+    ensures within { result ≤ index }
+    ensures same { slice_get (taken_by labels.now) result ≡ slice_get (taken_by labels.now) index }
+{
+    let mut outermost = index;
+    while labels[outermost].alike < outermost {
+        outermost = labels[outermost].alike;
+    }
+    outermost
+}
+
+// Whether two labels take the same types. They are compared if they are not one label.
+fn have_same_types(labels: &[Label<'_>], index: usize, other: usize) -> bool
+    requires index { index < length labels.now }
+    requires other { other < length labels.now }
+    ensures { HaveSameTypes labels.now index other result }
+{
+    if index == other {
+        return true;
+    }
+    compare(labels, index, other)
+}
+
+fn compare(labels: &[Label<'_>], index: usize, other: usize) -> bool
+    requires index { index < length labels.now }
+    requires other { other < length labels.now }
+    ensures { HaveSameTypes labels.now index other result }
+{
+    labels[other].types.is_same(&labels[index].types)
+}
+
+// Notes that a label takes the same types as one that is not inside it.
+fn set_alike(labels: &mut Vec<Label<'_>>, index: usize, alike: usize)
+    requires index { index < length labels.old.items }
+    requires within { alike ≤ index }
+    requires same { slice_get (taken_by labels.old.items) alike
+        ≡ slice_get (taken_by labels.old.items) index }
+    requires alike { AreAlike labels.old.items }
+    ensures alike { AreAlike labels.new.items }
+    ensures types { taken_by labels.new.items ≡ taken_by labels.old.items }
+{
+    labels[index].alike = alike;
 }

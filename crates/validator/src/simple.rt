@@ -1,6 +1,7 @@
 //! The check of instructions without bodies (3.3.1 to 3.3.5).
 
-ghost use Rattle.std.specs.Prelude.{◌≡◌, ◌∷◌, [], IsTrue, OnOk, Err, Some, None};
+ghost use Rattle.std.specs.Prelude.{◌≡◌, ◌∷◌, [], List, OnOk, Err, Some, None, slice_get};
+ghost use Rattle.wasm_ast.specs.declared.values.ValType.{ValType as ValTypeValue};
 ghost use Rattle.wasm_ast.specs.Limits.{are_all};
 ghost use Rattle.wasm_ast.specs.Types.{func_types};
 ghost use Rattle.wasm_ast.specs.Access.{load_type, load_bytes, store_type, store_bytes};
@@ -23,15 +24,16 @@ use wasm_ast::{Global, GlobalOp, LoadOp, LocalOp, Mutability, Simple, StoreOp, V
 /// One instruction without a body, in a function and inside these labels.
 pub fn check_simple<'a>(
     function: &Function<'a>,
-    labels: &Labels<'a>,
+    labels: &mut Labels<'a>,
     simple: &Simple,
     operands: &mut Operands<'a>,
 ) -> Result<(), CheckError>
     ensures ok { OnOk result
-        (Leads (check_simple (context_of function.now labels.now) simple.now)
+        (Leads (check_simple (context_of function.now labels.old) simple.now)
         operands.old operands.new) }
+    ensures labels { labels.new ≡ labels.old }
     ensures invalid { result ≡ Err CheckError.Invalid
-        → check_simple (context_of function.now labels.now) simple.now operands.old.stack ≡ None }
+        → check_simple (context_of function.now labels.old) simple.now operands.old.stack ≡ None }
 {
     match simple {
         Simple::Unreachable => {
@@ -104,51 +106,41 @@ fn check_branch_if<'a>(
 }
 
 fn check_branch_table(
-    labels: &Labels<'_>,
+    labels: &mut Labels<'_>,
     list: &[u32],
     other: u32,
     operands: &mut Operands<'_>,
 ) -> Result<(), CheckError>
     ensures ok { OnOk result
-        (Leads (branch_table labels.now list.now other) operands.old operands.new) }
+        (Leads (branch_table labels.old list.now other) operands.old operands.new) }
+    ensures labels { labels.new ≡ labels.old }
     ensures invalid { result ≡ Err CheckError.Invalid
-        → branch_table labels.now list.now other operands.old.stack ≡ None }
+        → branch_table labels.old list.now other operands.old.stack ≡ None }
 {
     let Some(types) = labels.get(other) else {
         return Err(CheckError::Invalid);
     };
-    if !are_labels(labels, &types, list, other) || !operands.pop(ValType::I32) {
+    if !are_labels(labels, list, other) || !operands.pop(ValType::I32) {
         return Err(CheckError::Invalid);
     }
     leave(operands, &types)
 }
 
-// Whether each of these labels takes these types, as this one does. A label that is there again right
-// after itself is not compared again, nor is one that is known to take the types of this one.
-fn are_labels(labels: &Labels<'_>, types: &TypeList<'_>, list: &[u32], takes_them: u32) -> bool
-    requires { IsTrue (is_label labels.now types.now takes_them) }
-    ensures { result ≡ are_all (is_label labels.now types.now) list.now }
+// Whether each of these labels takes the types that this one takes. A label that is there again right after
+// itself is not looked at again.
+fn are_labels(labels: &mut Labels<'_>, list: &[u32], takes_them: u32) -> bool
+    ensures same { (types : List ValTypeValue) → slice_get labels.old takes_them ≡ Some types
+        → result ≡ are_all (is_label labels.old types) list.now }
+    ensures labels { labels.new ≡ labels.old }
 {
     let mut last = takes_them;
     for label in list {
-        if *label != last
-            && !labels.are_alike(*label, takes_them)
-            && !is_label(labels, types, *label)
-        {
+        if *label != last && !labels.take_same(*label, takes_them) {
             return false;
         }
         last = *label;
     }
     true
-}
-
-fn is_label(labels: &Labels<'_>, types: &TypeList<'_>, label: u32) -> bool
-    ensures { result ≡ is_label labels.now types.now label }
-{
-    match labels.get(label) {
-        Some(others) => types.is_same(&others),
-        None => false,
-    }
 }
 
 fn check_call<'a>(

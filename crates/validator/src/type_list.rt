@@ -91,18 +91,6 @@ impl<'a> TypeList<'a> {
         Some((*last, self.first(before.len())))
     }
 
-    /// Whether the list is packed.
-    pub fn is_packed(&self) -> bool {
-        !self.rows.is_empty()
-    }
-
-    /// Whether both lists are known to be the same by their bytes. False says nothing.
-    pub fn is_known_same(&self, other: &TypeList<'_>) -> bool
-        ensures { IsTrue result → self.now ≡ other.now }
-    {
-        self.len() == other.len() && self.has_same_bytes(0, other, 0)
-    }
-
     /// Whether both lists are the same.
     pub fn is_same(&self, other: &TypeList<'_>) -> bool
         ensures { result ≡ are_same self.now other.now }
