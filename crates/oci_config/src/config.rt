@@ -225,6 +225,7 @@ pub fn read_config(alloc: Global, bytes: &[u8]) -> Result<Process, Refusal>
     ensures process { IfOk result (λ p. process_read bytes.now ≡ Some (config_of p)) }
     ensures nothing_written { IfOk result (λ p. (p.out ≡ []) × (p.err ≡ [])) }
     ensures bad { result ≡ Err refusal.BadConfig → process_read bytes.now ≡ None }
+    ensures no_text { is_utf8 bytes.now ≡ false → result ≡ Err refusal.BadConfig }
     ensures err { OnErr result
         ((result ≡ Err refusal.BadConfig) ⊎ (result ≡ Err refusal.NoMemory)) }
 {
