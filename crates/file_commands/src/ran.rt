@@ -1,10 +1,14 @@
 //! What a command writes, and the status that it ends with.
 
 ghost use Rattle.std.specs.Prelude.{◌≡◌, ◌≢◌, ◌++◌, ◌∷◌, [], Some, IfOk, IfErr, OnOk, string_bytes};
+ghost use Rattle.std.specs.Io.KnownBytes.{Appends};
 ghost use Rattle.wasm_ast.specs.declared.refusal.Refusal.TheVariants as refusals;
 ghost use Rattle.file_commands.specs.Ran.{line, succeeded, refusal_text, place_text, fault_text, refused, refused_run};
 
+use crate::run_error::RunError;
 use std::alloc::{AllocError, Global};
+use std::io;
+use std::io::Write;
 use text_assembler::push_decimal;
 use wasm_ast::{Bytes, Place, Refusal, Sequence};
 
@@ -23,6 +27,19 @@ pub struct Ran {
 }
 
 impl Ran {
+    /// Writes to both streams what the command writes, to `out` first, and flushes them. The answer is the
+    /// status that it ends with. `StandardOutput` or `StandardError` if that stream failed; what was written
+    /// stays written.
+    pub fn write<O: Write, E: Write>(&self, out: &mut O, err: &mut E) -> Result<u8, RunError>
+        ensures { IfOk result (λ status. Appends (O.contents out.old) (O.contents out.new) self.now.out
+            × Appends (E.contents err.old) (E.contents err.new) self.now.err
+            × (status ≡ self.now.status)) }
+    {
+        write_some(self.out.as_slice(), out).map_err(RunError::StandardOutput)?;
+        write_some(self.err.as_slice(), err).map_err(RunError::StandardError)?;
+        Ok(self.status)
+    }
+
     // Of a command that has done what it was asked to.
     pub(crate) fn succeeded(alloc: Global, out: String) -> Ran
         ensures { result ≡ succeeded (string_bytes out) }
@@ -65,6 +82,17 @@ impl Ran {
         text.push_str("\n")?;
         Ok(without_out(alloc, text, NO_TASK))
     }
+}
+
+/// Writes these bytes, if there are any, and flushes.
+pub(crate) fn write_some<W: Write>(bytes: &[u8], writer: &mut W) -> io::Result<()>
+    ensures { OnOk result (Appends (W.contents writer.old) (W.contents writer.new) bytes.now) }
+{
+    if bytes.is_empty() {
+        return Ok(());
+    }
+    writer.write_all(bytes)?;
+    writer.flush()
 }
 
 // Of a command that writes to standard error alone.

@@ -15,7 +15,7 @@ ghost use Rattle.file_commands.specs.TaskRun.{given, can_have, process_given, tr
 ghost use Rattle.file_commands.specs.Inside.Written.{CannotStart, IsOpened, HasEnded};
 
 use crate::explain::{refused_run_why, task_reason};
-use crate::ran::Ran;
+use crate::ran::{Ran, write_some};
 use crate::run_error::RunError;
 use crate::settings::Settings;
 use crate::source::module_of;
@@ -112,17 +112,6 @@ pub(crate) fn task_of(
 }
 
 // ---- what it writes
-
-// Writes these bytes, if there are any, and flushes.
-fn write_some<W: Write>(bytes: &[u8], writer: &mut W) -> io::Result<()>
-    ensures { OnOk result (Appends (W.contents writer.old) (W.contents writer.new) bytes.now) }
-{
-    if bytes.is_empty() {
-        return Ok(());
-    }
-    writer.write_all(bytes)?;
-    writer.flush()
-}
 
 // How many bytes of each of a task's streams have been written.
 #[derive(Drop)]

@@ -1,7 +1,7 @@
-//! What `asm`, `check` and `run` write for a file, by rows that were worked out by hand.
+//! What the program writes for a command line and a file, by rows that were worked out by hand.
 
 use crate::checks::{check_bytes, check_text};
-use shim_service::{Ran, Settings, asm_file, check_file, check_task, run_file};
+use shim_service::{asm_file, command_of, file_of, perform};
 use std::alloc::{AllocError, Global};
 use std::process::Abort;
 use std::str::from_utf8;
@@ -44,11 +44,15 @@ const TWO_PAGES: &str =
 const SIGN_AND_ALIGNMENT: &str =
     "(module (type (func)) (memory 1) (func (type 0) i32.const 4294967294 drop i32.const 0 i64.load32_u offset=40 align=2 drop))";
 
+/// A module that adds an i32 and an i64.
+const TWO_TYPES: &str =
+    "(module (type (func)) (func (type 0) i32.const 1 i64.const 2 i32.add drop))";
+
 /// The first module, with the number 7 in five bytes.
 const SEVEN_IN_FIVE: &str =
     "0061736d0100000001080260017f0060000002240116776173695f736e617073686f745f70726576696577310970726f635f65786974000003020101070a01065f737461727400010a0c010a0041878080800010000b";
 
-/// A file, a command, and what it writes.
+/// A command line, the file that it names, and what it writes.
 struct Row {
     command: &'static str,
     /// The body of an entry in the module above, or a whole file.
@@ -60,70 +64,70 @@ struct Row {
 
 const BODIES: &[Row] = &[
     Row {
-        command: "asm",
+        command: "asm m",
         file: "i32.const 7 call $exit",
         out: EXIT_SEVEN,
         err: "",
         status: 0,
     },
     Row {
-        command: "asm",
+        command: "asm m",
         file: "",
         out: NOTHING,
         err: "",
         status: 0,
     },
     Row {
-        command: "check",
+        command: "check m",
         file: "block (result i32) i32.const 1 end drop",
         out: "ok\n",
         err: "",
         status: 0,
     },
     Row {
-        command: "list",
+        command: "check --list m",
         file: "block (result i32) i32.const 1 end drop",
         out: "ok\n1 0 block (result i32)\n1 1 i32.const 1\n1 2 drop\n",
         err: "",
         status: 0,
     },
     Row {
-        command: "list",
+        command: "check --list m",
         file: "i32.const 0 if nop else br 0 end nop",
         out: "ok\n1 0 i32.const 0\n1 1 if\n1 2 nop\n1 3 br 0\n1 4 nop\n",
         err: "",
         status: 0,
     },
     Row {
-        command: "list",
+        command: "check --list m",
         file: "i32.const 1 block (type $p) drop end",
         out: "ok\n1 0 i32.const 1\n1 1 block (type 0)\n1 2 drop\n",
         err: "",
         status: 0,
     },
     Row {
-        command: "check",
+        command: "check m",
         file: "call 9",
         out: "",
         err: "refused 8 Invalid func 1 place 0\n",
         status: 3,
     },
     Row {
-        command: "run",
+        command: "run m",
         file: "i32.const 263 call $exit",
         out: "",
         err: "",
         status: 7,
     },
     Row {
-        command: "run",
+        command: "run m",
         file: "call 9",
         out: "",
         err: "refused 8 Invalid func 1 place 0\n",
         status: 125,
     },
     Row {
-        command: "run",
+        command: "run m",
         file: "",
         out: "",
         err: "",
@@ -133,63 +137,63 @@ const BODIES: &[Row] = &[
 
 const FILES: &[Row] = &[
     Row {
-        command: "asm",
+        command: "asm m",
         file: "(module (type (func)) (func (type 0) i32.cons 1))",
         out: "",
         err: "refused 18 BadText line 1 column 38\n",
         status: 3,
     },
     Row {
-        command: "check",
+        command: "check m",
         file: "(module\n(type (func)) (func (type 0) i32.cons 1))",
         out: "",
         err: "refused 18 BadText line 2 column 30\n",
         status: 3,
     },
     Row {
-        command: "asm",
+        command: "asm m",
         file: "(module (memory 257))",
         out: "",
         err: "refused 9 Limit\n",
         status: 3,
     },
     Row {
-        command: "check",
+        command: "check m",
         file: "\0asm\x01\0\0\0",
         out: "ok\n",
         err: "",
         status: 0,
     },
     Row {
-        command: "check",
+        command: "check m",
         file: "(module (memory 1) (memory 1))",
         out: "",
         err: "refused 8 Invalid\n",
         status: 3,
     },
     Row {
-        command: "asm",
+        command: "asm m",
         file: "\0asm\x01\0\0",
         out: "",
         err: "refused 7 BadModule\n",
         status: 3,
     },
     Row {
-        command: "run",
+        command: "run m",
         file: "\0asm\x01\0\0\0",
         out: "",
         err: "refused 21 NoEntry\n",
         status: 125,
     },
     Row {
-        command: "run",
+        command: "run m",
         file: "(module",
         out: "",
         err: "refused 18 BadText\n",
         status: 125,
     },
     Row {
-        command: "run",
+        command: "run m",
         file: WRITE_AND_TRAP,
         out: "",
         err: "xtrap: unreachable\n",
@@ -197,7 +201,7 @@ const FILES: &[Row] = &[
     },
     // a constant has its sign, and an alignment is written in bytes where it is not natural
     Row {
-        command: "list",
+        command: "check --list m",
         file: SIGN_AND_ALIGNMENT,
         out: "ok\n0 0 i32.const -2\n0 1 drop\n0 2 i32.const 0\n0 3 i64.load32_u offset=40 align=2\n0 4 drop\n",
         err: "",
@@ -205,7 +209,7 @@ const FILES: &[Row] = &[
     },
     // the arguments m, a and bc: 30, and 7 bytes
     Row {
-        command: "run with a bc",
+        command: "run m a bc",
         file: COUNT_ARGUMENTS,
         out: "",
         err: "",
@@ -213,28 +217,28 @@ const FILES: &[Row] = &[
     },
     // the entries b=1 and a=: 20, and 7 bytes
     Row {
-        command: "run in a page with b=1 a=",
+        command: "run --memory 65536 --env b=1 --env a= m",
         file: COUNT_ENTRIES,
         out: "",
         err: "",
         status: 27,
     },
     Row {
-        command: "run in a page with b",
+        command: "run --memory 65536 --env b m",
         file: COUNT_ENTRIES,
         out: "",
         err: "refused 10 BadConfig\n",
         status: 125,
     },
     Row {
-        command: "run in a page with b=1 a=",
+        command: "run --memory 65536 --env b=1 --env a= m",
         file: TWO_PAGES,
         out: "",
         err: "refused 9 Limit\n",
         status: 125,
     },
     Row {
-        command: "check task in a page",
+        command: "check --task --memory 65536 m",
         file: TWO_PAGES,
         out: "",
         err: "refused 9 Limit\n",
@@ -242,28 +246,57 @@ const FILES: &[Row] = &[
     },
     // no instruction is run
     Row {
-        command: "check task",
+        command: "check --task m",
         file: TWO_PAGES,
         out: "ok\n",
         err: "",
         status: 0,
     },
     Row {
-        command: "check task",
+        command: "check --task m",
         file: "\0asm\x01\0\0\0",
         out: "",
         err: "refused 21 NoEntry\n",
         status: 3,
     },
     Row {
-        command: "check task",
+        command: "check --task m",
         file: "(module (memory 1) (memory 1))",
         out: "",
         err: "refused 8 Invalid\n",
         status: 3,
     },
     Row {
-        command: "check task",
+        command: "check --explain m",
+        file: TWO_TYPES,
+        out: "",
+        err: "refused 8 Invalid func 0 place 2\nwhy: function 0, instruction 2, i32.add: it takes i32 i32, and the operands are i32 i64\n",
+        status: 3,
+    },
+    Row {
+        command: "run --explain m",
+        file: TWO_TYPES,
+        out: "",
+        err: "refused 8 Invalid func 0 place 2\nwhy: function 0, instruction 2, i32.add: it takes i32 i32, and the operands are i32 i64\n",
+        status: 125,
+    },
+    Row {
+        command: "replay m",
+        file: "x\n",
+        out: "{\"error\":\"BadRequest\",\"number\":1,\"ok\":false}\n",
+        err: "",
+        status: 0,
+    },
+    // it has no file
+    Row {
+        command: "--version",
+        file: "",
+        out: "wasm-shim 0.1.0\n",
+        err: "",
+        status: 0,
+    },
+    Row {
+        command: "check --task m",
         file: "(module\n(type (func)) (func (type 0) i32.cons 1))",
         out: "",
         err: "refused 18 BadText line 2 column 30\n",
@@ -271,54 +304,25 @@ const FILES: &[Row] = &[
     },
 ];
 
-fn words(alloc: Global, line: &str) -> Result<Vec<String>, AllocError> {
-    let mut words = Vec::new(alloc);
-    for word in line.split_whitespace() {
-        words.push(String::from_str(alloc, word)?)?;
+// The name of the program, and the words of a command line.
+fn arguments(alloc: Global, line: &str) -> Result<Vec<String>, AllocError> {
+    let mut arguments = Vec::new(alloc);
+    arguments.push(String::from_str(alloc, "wasm-shim")?)?;
+    for argument in line.split_whitespace() {
+        arguments.push(String::from_str(alloc, argument)?)?;
     }
-    Ok(words)
+    Ok(arguments)
 }
 
-fn run_with(alloc: Global, bytes: &[u8], line: &str) -> Result<Ran, Fail> {
-    let args = words(alloc, line)?;
-    Ok(run_file(alloc, "m", bytes, args.as_slice(), &Settings::none(alloc))?)
-}
-
-// Runs a file with these entries as its environment, and a limit of one page on its memory.
-fn run_in(alloc: Global, bytes: &[u8], line: &str) -> Result<Ran, Fail> {
-    let settings = Settings {
-        env: words(alloc, line)?,
-        memory: Some(65_536),
-    };
-    Ok(run_file(alloc, "m", bytes, &[], &settings)?)
-}
-
-fn check_under(alloc: Global, bytes: &[u8], memory: Option<u64>) -> Result<Ran, Fail> {
-    let settings = Settings {
-        env: Vec::new(alloc),
-        memory,
-    };
-    Ok(check_task(alloc, "m", bytes, false, &settings)?)
-}
-
-fn ran(alloc: Global, command: &str, bytes: &[u8]) -> Result<Ran, Fail> {
-    match command {
-        "asm" => Ok(asm_file(alloc, bytes)?),
-        "check" => Ok(check_file(alloc, bytes, false)?),
-        "list" => Ok(check_file(alloc, bytes, true)?),
-        "check task" => check_under(alloc, bytes, None),
-        "check task in a page" => check_under(alloc, bytes, Some(65_536)),
-        "run" => run_with(alloc, bytes, ""),
-        "run in a page with b=1 a=" => run_in(alloc, bytes, "b=1 a="),
-        "run in a page with b" => run_in(alloc, bytes, "b"),
-        _ => run_with(alloc, bytes, "a bc"),
-    }
-}
-
-fn check_ran(rt: &impl Abort, row: &Row, found: &Ran) -> Result<(), Fail> {
-    check_text(rt, row.file, from_utf8(found.out.as_slice())?, row.out);
-    check_text(rt, row.file, from_utf8(found.err.as_slice())?, row.err);
-    assert_eq!(rt; found.status, row.status, "{}", row.file);
+// Asserts that a command line whose file has these bytes writes what its row says.
+fn check_line(rt: &impl Abort, alloc: Global, row: &Row, bytes: &[u8]) -> Result<(), Fail> {
+    let command = command_of(alloc, arguments(alloc, row.command)?.as_slice())?;
+    let mut out = Vec::new(alloc);
+    let mut err = Vec::new(alloc);
+    let status = perform(alloc, &command, bytes, &mut out, &mut err)?;
+    check_text(rt, row.file, from_utf8(out.as_slice())?, row.out);
+    check_text(rt, row.file, from_utf8(err.as_slice())?, row.err);
+    assert_eq!(rt; status, row.status, "{}", row.file);
     Ok(())
 }
 
@@ -330,21 +334,11 @@ fn framed(alloc: Global, body: &str) -> Result<String, AllocError> {
     Ok(text)
 }
 
-fn check_body(rt: &impl Abort, alloc: Global, row: &Row) -> Result<(), Fail> {
-    let text = framed(alloc, row.file)?;
-    let found = ran(alloc, row.command, text.as_bytes())?;
-    check_ran(rt, row, &found)
-}
-
-fn check_file_row(rt: &impl Abort, alloc: Global, row: &Row) -> Result<(), Fail> {
-    let found = ran(alloc, row.command, row.file.as_bytes())?;
-    check_ran(rt, row, &found)
-}
-
 #[test]
 fn bodies_are_assembled_checked_and_run(rt: HostRuntime) -> Result<(), Fail> {
     for row in BODIES {
-        check_body(&rt, rt.alloc(), row)?;
+        let text = framed(rt.alloc(), row.file)?;
+        check_line(&rt, rt.alloc(), row, text.as_bytes())?;
     }
     Ok(())
 }
@@ -352,7 +346,17 @@ fn bodies_are_assembled_checked_and_run(rt: HostRuntime) -> Result<(), Fail> {
 #[test]
 fn files_are_assembled_checked_and_run(rt: HostRuntime) -> Result<(), Fail> {
     for row in FILES {
-        check_file_row(&rt, rt.alloc(), row)?;
+        check_line(&rt, rt.alloc(), row, row.file.as_bytes())?;
+    }
+    Ok(())
+}
+
+#[test]
+fn a_command_names_its_file(rt: HostRuntime) -> Result<(), Fail> {
+    let alloc = rt.alloc();
+    for line in ["asm m", "check --list m", "replay m", "run m a"] {
+        let command = command_of(alloc, arguments(alloc, line)?.as_slice())?;
+        assert_eq!(rt; file_of(&command), Some("m"), "{line}");
     }
     Ok(())
 }

@@ -1,0 +1,43 @@
+-- What the program writes for a command, and the status that it ends with.
+use Rattle.std.specs.Prelude.{◌≡◌, ℕ, List, [], ◌∷◌, map, Bool, true, false, Option, Some, None, string_bytes}
+use Rattle.wasm_ast.specs.declared.refusal.Refusal.{Refusal}
+use Rattle.file_commands.specs.declared.command.Command.{Command}
+use Rattle.file_commands.specs.declared.command.Command.TheVariants.{Serve, Replay, Asm, Check, Run, Show}
+use Rattle.file_commands.specs.declared.ran.Ran.{Ran}
+use Rattle.file_commands.specs.Ran.{succeeded, refused, refused_run}
+use Rattle.file_commands.specs.Assembled.{IsAssembled}
+use Rattle.file_commands.specs.Checked.{IsChecked, IsTaskChecked}
+use Rattle.file_commands.specs.TaskRun.{given, IsRun}
+use Rattle.file_commands.specs.Explained.{IsExplained}
+use Rattle.shim_service.specs.Replay.{IsReplay}
+
+-- the file that a command reads
+abbrev pub file_of : Command → Option (List ℕ)
+file_of (Replay file) = Some (string_bytes file)
+file_of (Asm file explain) = Some (string_bytes file)
+file_of (Check file list task memory explain) = Some (string_bytes file)
+file_of (Run name args settings explain) = Some (string_bytes name)
+file_of other = None
+
+-- with an explanation, or without
+abbrev pub IsToldBy : (explain : Bool) → (refuse : Refusal → Ran) → (Ran → Type 0) → Ran → Type 0
+IsToldBy true refuse Is = IsExplained refuse Is
+IsToldBy false refuse Is = Is
+
+-- what a check writes for a file with this name and these bytes
+abbrev pub IsCheck : (task : Bool) → (name bytes : List ℕ) → Bool → Option ℕ → Ran → Type 0
+IsCheck false name bytes list limit = IsChecked bytes list
+IsCheck true name bytes list limit =
+    IsTaskChecked bytes (record { args = name ∷ []; env = []; limit = limit }) list
+
+-- what a command writes whose file has these bytes; of `serve` nothing is written so
+abbrev pub IsPerformed : Command → (bytes : List ℕ) → Ran → Type 0
+IsPerformed (Serve workers scripts explain log) bytes = λ ran. ran ≡ succeeded []
+IsPerformed (Replay file) bytes = λ ran. IsReplay bytes ran.out × (ran ≡ succeeded ran.out)
+IsPerformed (Asm file explain) bytes = IsToldBy explain refused (IsAssembled bytes)
+IsPerformed (Check file list task memory explain) bytes =
+    IsToldBy explain refused (IsCheck task (string_bytes file) bytes list memory)
+IsPerformed (Run name args settings explain) bytes =
+    IsToldBy explain refused_run
+    (IsRun bytes (given (string_bytes name) (map string_bytes args.items) settings))
+IsPerformed (Show text) bytes = λ ran. ran ≡ succeeded (string_bytes text)
