@@ -293,3 +293,14 @@ passes_at m t f labels results none same =
     ∙ ap
     (λ (rs : List ValType). ends rs
     (check_ops (record (body_context m t f) { labels = rs ∷ [] }) f.body (start []))) same
+
+-- all of it but the names of exports, in one test
+pub declared_valid :
+    (m : Module) → declares_validly m && defines_validly m ≡ true
+    → AllDifferent (map (λ (e : Export). e.name) m.exports) → ValidOutside m
+declared_valid m h names =
+    let two = both (declares_validly m) (defines_validly m) h in outside_valid m two.0 two.1 names
+
+pub valid_declared : (m : Module) → ValidOutside m → declares_validly m && defines_validly m ≡ true
+valid_declared m v =
+    and_both (declares_validly m) (defines_validly m) (outside_declares m v) (outside_defines m v)

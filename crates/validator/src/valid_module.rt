@@ -1,11 +1,12 @@
 //! Modules that are valid (3).
 
-ghost use Rattle.std.specs.Prelude.{◌≡◌, ◌⊎◌, ◌↔◌, ℕ, All, Option, IfOk, OnOk, OnErr, Err};
+ghost use Rattle.std.specs.Prelude.{◌≡◌, ◌⊎◌, ◌↔◌, ◌&&◌, ℕ, All, map, true, Option, None, IfOk, OnOk, OnErr, Err};
 ghost use Rattle.std.specs.Arc.{arc_value};
 ghost use Rattle.std.specs.List.Sorted.{IsStrictlyIncreasing};
 ghost use Rattle.wasm_ast.specs.declared.refusal.Refusal.TheVariants as refusal;
 ghost use Rattle.wasm_ast.specs.declared.place.Place.{Place};
-ghost use Rattle.validator.specs.Typing.{ValidModule};
+ghost use Rattle.validator.specs.Typing.{ValidOutside, ValidModule, AllDifferent};
+ghost use Rattle.validator.specs.Inside.ModuleTests.{declares_validly, defines_validly};
 ghost use Rattle.validator.specs.Faults.{NamesFault};
 ghost use Rattle.validator.specs.EachPlace.{AtEach};
 ghost use Rattle.validator.specs.PlaceTypes.{Point, IsPlace, ReachesAt, PassesAt, MatchPoint};
@@ -15,7 +16,7 @@ use crate::each_place::known_at_each;
 use crate::function::own_function;
 use crate::packed_module::PackedModule;
 use crate::types::Types;
-use crate::validation::check_module;
+use crate::validation::{check_module, is_declared};
 use crate::walk::known_at;
 use std::alloc::{AllocError, Global};
 use std::marker::Model;
@@ -134,10 +135,28 @@ impl Valid {
 /// Takes a module that is valid. `Invalid` only if it is not: with a place, whose function has a body
 /// without a typing, or without one, if the fault is outside the bodies; of several faults it is one of
 /// those outside, or else the first one. `NoMemory` if memory for the check or for sharing the module
-/// cannot be allocated, or if the index of a function at fault has more than 32 bits. Blocks may be
-/// nested to any depth: recursion is as deep as they are, which is as deep as that of dropping the
-/// module.
+/// cannot be allocated, or if the index of a function at fault has more than 32 bits; but a fault outside
+/// the bodies is `Invalid` whatever the memory, names of exports aside. Blocks may be nested to any depth:
+/// recursion is as deep as they are, which is as deep as that of dropping the module.
 pub fn validate(alloc: Global, unchecked: Module) -> Result<Valid, Refusal>
+    ensures ok { IfOk result (λ v. v ≡ unchecked) }
+    ensures valid { OnOk result (ValidModule unchecked) }
+    ensures invalid { (at : Option Place) → result ≡ Err (refusal.Invalid at)
+        → NamesFault unchecked at }
+    ensures outside { AllDifferent (map (λ e. e.name) unchecked.exports)
+        → (ValidOutside unchecked → ⊥) → result ≡ Err (refusal.Invalid None) }
+    ensures err { OnErr result (((at : Option Place) × (result ≡ Err (refusal.Invalid at)))
+        ⊎ (result ≡ Err refusal.NoMemory)) }
+{
+    if !is_declared(&unchecked) {
+        return Err(Refusal::Invalid(None));
+    }
+    checked(alloc, unchecked)
+}
+
+// The same of a module that is valid outside its functions' bodies, names of exports aside.
+fn checked(alloc: Global, unchecked: Module) -> Result<Valid, Refusal>
+    requires { declares_validly unchecked && defines_validly unchecked ≡ true }
     ensures ok { IfOk result (λ v. v ≡ unchecked) }
     ensures valid { OnOk result (ValidModule unchecked) }
     ensures invalid { (at : Option Place) → result ≡ Err (refusal.Invalid at)

@@ -1,12 +1,13 @@
 //! The validation of a module (3.4.10).
 
-ghost use Rattle.std.specs.Prelude.{◌≡◌, ◌≤◌, ◌<◌, ◌^◌, ◌+◌, ◌⊎◌, ℕ, IsTrue, IfOk, IfSome, OnOk, OnErr, Err, true, false, Option, Some, [], All, map, length};
+ghost use Rattle.std.specs.Prelude.{◌≡◌, ◌≤◌, ◌<◌, ◌^◌, ◌+◌, ◌⊎◌, ◌&&◌, ℕ, IsTrue, IfOk, IfSome, OnOk, OnErr, Err, true, false, Option, Some, [], All, map, length};
 ghost use Rattle.wasm_ast.specs.Syntax.{ops_count};
 ghost use Rattle.wasm_ast.specs.declared.place.Place.{Place};
 ghost use Rattle.wasm_ast.specs.declared.refusal.Refusal.TheVariants as refusal;
-ghost use Rattle.validator.specs.Typing.{ValidOutside, ValidBody, ValidModule, AllDifferent};
+ghost use Rattle.validator.specs.Typing.{ValidBody, ValidModule, AllDifferent};
 ghost use Rattle.validator.specs.Faults.{NamesFault};
 ghost use Rattle.validator.specs.Inside.FunctionContext.{passes_func};
+ghost use Rattle.validator.specs.Inside.ModuleTests.{declares_validly, defines_validly};
 ghost use Rattle.validator.specs.Inside.CheckErrors.{IsAt};
 ghost use Rattle.validator.specs.declared.check_error.BodyError.TheVariants.{Invalid};
 
@@ -24,33 +25,28 @@ use std::alloc::{AllocError, Global};
 use std::collections::BTreeMap;
 use wasm_ast::{Export, Func, Module, Place, Refusal};
 
-/// Checks that a module is valid: first what it has outside its functions' bodies, then these in order.
+/// Whether all outside the functions' bodies is valid, names of exports aside. No memory is taken.
+pub fn is_declared(unchecked: &Module) -> bool
+    ensures { result ≡ declares_validly unchecked.now && defines_validly unchecked.now }
+{
+    declares_validly(unchecked) && defines_validly(unchecked)
+}
+
+/// Checks that such a module is valid: first the names of its exports, then its functions' bodies in
+/// order. An error also if the names of exports cannot be held.
 pub fn check_module(alloc: Global, unchecked: &PackedModule) -> Result<(), Refusal>
+    requires { declares_validly unchecked.now && defines_validly unchecked.now ≡ true }
     ensures valid { OnOk result (ValidModule unchecked.now) }
     ensures invalid { (at : Option Place) → result ≡ Err (refusal.Invalid at)
         → NamesFault unchecked.now at }
     ensures err { OnErr result (((at : Option Place) × (result ≡ Err (refusal.Invalid at)))
         ⊎ (result ≡ Err refusal.NoMemory)) }
 {
-    let passes = check_outside(alloc, unchecked.module())?;
-    if !passes {
+    let differ = names_differ(alloc, unchecked.module().exports.as_slice())?;
+    if !differ {
         return Err(Refusal::Invalid(None));
     }
     check_funcs(alloc, unchecked)
-}
-
-// Whether all outside the functions' bodies is valid. An error if the names of exports cannot be held.
-fn check_outside(alloc: Global, unchecked: &Module) -> Result<bool, AllocError>
-    ensures valid { IfOk result (λ passes. IsTrue passes → ValidOutside unchecked.now) }
-    ensures invalid { IfOk result (λ passes. passes ≡ false → ValidOutside unchecked.now → ⊥) }
-{
-    if !declares_validly(unchecked) {
-        return Ok(false);
-    }
-    if !defines_validly(unchecked) {
-        return Ok(false);
-    }
-    names_differ(alloc, unchecked.exports.as_slice())
 }
 
 // The names of exports differ. An error if the names cannot be held.
