@@ -1,4 +1,5 @@
-//! Modules that run on both machines, the one with targets that are found before and the one that keeps labels.
+//! Modules that run on both machines, the one with targets that are found before and the one that
+//! keeps labels.
 //!
 //! A line of standard input is a module in hexadecimal digits, and counts of turns in rising order, each
 //! after a space. For each count a line is printed when both machines have made that many turns, or have

@@ -62,8 +62,8 @@ impl<R: Row> Model for Book<R> {
 }
 
 impl<R: Row> Book<R> {
-    /// What holds of every book: its board is a replay of its journal, whose length is the ledger's total. It does
-    /// nothing.
+    /// What holds of every book: its board is a replay of its journal, whose length is the ledger's
+    /// total. It does nothing.
     pub fn sound(&self)
         ensures replay { IsReplay self.now.journalled.journal self.now.journalled.board }
         ensures total { self.now.total ≡ length self.now.journalled.journal }
@@ -72,9 +72,9 @@ impl<R: Row> Book<R> {
         self.board.sound();
     }
 
-    /// Makes the call of a seat of these cells. The answers JournalFull, NoMemory, Closed and JournalFault change
-    /// nothing. Every other answer is journalled, and the seat has then seen the whole journal, which ends with
-    /// the call's entry.
+    /// Makes the call of a seat of these cells. The answers JournalFull, NoMemory, Closed and
+    /// JournalFault change nothing. Every other answer is journalled, and the seat has then seen
+    /// the whole journal, which ends with the call's entry.
     pub fn call(
         &mut self,
         cells: &Cells,
@@ -249,8 +249,8 @@ impl<R: Row> Book<R> {
         self.board.has_waiting()
     }
 
-    /// The task that has waited longest for a worker, which waits no more. None, and nothing has changed, if the
-    /// book is closed; and None if none waits.
+    /// The task that has waited longest for a worker, which waits no more. None, and nothing has
+    /// changed, if the book is closed; and None if none waits.
     pub fn next(&mut self) -> Option<Ticket>
         ensures some { IfSome result (λ ticket. (self.old.journalled.closed ≡ false)
             × (self.old.journalled.waiting ≡ ticket ∷ self.new.journalled.waiting)) }
@@ -280,8 +280,8 @@ impl<R: Row> Book<R> {
         self.board.next_waiting()
     }
 
-    /// The ticket of the task with an id, which waits for a worker and now no more. None, and nothing has changed,
-    /// if no task has the id or that does not wait.
+    /// The ticket of the task with an id, which waits for a worker and now no more. None, and
+    /// nothing has changed, if no task has the id or that does not wait.
     pub fn leave_waiting(&mut self, id: &Text) -> Option<Ticket>
         ensures ticket { result
             ≡ waiting_ticket id.now self.old.journalled.board.tasks self.old.journalled.waiting }

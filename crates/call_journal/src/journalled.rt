@@ -251,8 +251,8 @@ impl JournalledBoard {
         self.board.next_waiting()
     }
 
-    /// The ticket of the task with an id, which waits for a worker and now no more. None, and nothing has changed,
-    /// if no task has the id or that does not wait.
+    /// The ticket of the task with an id, which waits for a worker and now no more. None, and
+    /// nothing has changed, if no task has the id or that does not wait.
     pub fn leave_waiting(&mut self, id: &Text) -> Option<Ticket>
         ensures ticket { result ≡ waiting_ticket id.now self.old.board.tasks self.old.waiting }
         ensures some { IfSome result

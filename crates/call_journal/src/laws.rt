@@ -49,8 +49,8 @@ pub fn entries_fix_the_count()
         → Finds s r found mid → Finds s r found mid' → mid ≡ mid' }
 {}
 
-/// Whatever a board may answer is journalled: a full or closed journal, one at fault, and memory that runs out
-/// are no answers of a board.
+/// Whatever a board may answer is journalled: a full or closed journal, one at fault, and memory
+/// that runs out are no answers of a board.
 pub fn answers_are_journalled()
     ensures { (s : BoardState) (r : Request) (a : Answer) (s' : BoardState) → Answers s r a s'
         → is_journalled a ≡ true }

@@ -72,8 +72,8 @@ impl<R: Row> Shim<R> {
         answered
     }
 
-    /// As `call`, but no worker is woken for a task that waits for one: `wake` and `wait` do that. It is for a
-    /// caller that has its next call at hand.
+    /// As `call`, but no worker is woken for a task that waits for one: `wake` and `wait` do that.
+    /// It is for a caller that has its next call at hand.
     pub fn call_quietly<W: Wait>(
         &self,
         rt: &W,
@@ -125,8 +125,9 @@ impl<R: Row> Shim<R> {
         (seat, answer)
     }
 
-    /// Runs a slice of at most `budget` turns of the task with an id, if that waits for a worker, with no lock held
-    /// meanwhile. A caller that is about to wait for a short task need not sleep then until a worker has woken.
+    /// Runs a slice of at most `budget` turns of the task with an id, if that waits for a worker,
+    /// with no lock held meanwhile. A caller that is about to wait for a short task need not sleep
+    /// then until a worker has woken.
     pub fn run_waiting<W: Wait>(&self, rt: &W, id: &Text, budget: u64)
         requires { (1 ≤ budget) × (budget ≤ max_budget) }
     {
@@ -201,8 +202,8 @@ impl<R: Row> Shim<R> {
         None
     }
 
-    /// The task that has waited longest for a worker, which waits no more: sleeps until one waits, or the shim
-    /// is closed. None once it is closed.
+    /// The task that has waited longest for a worker, which waits no more: sleeps until one waits,
+    /// or the shim is closed. None once it is closed.
     pub fn next<W: Wait>(&self, rt: &W) -> Option<Ticket> {
         let mut shared = self.shared.lock(rt);
         shared.workers = shared.workers.wrapping_add(1);

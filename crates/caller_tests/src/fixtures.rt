@@ -21,8 +21,9 @@ pub const SIX_ANSWERS: &str =
 {"cause":"kill","exit":137,"id":"a","n":0,"ok":true,"signal":9,"status":"stopped"}
 "#;
 
-/// Stores a module whose entry makes 24,002 turns and exits with 7, creates the tasks `a` and `b` of it, starts both and
-/// waits for both; with a line between that is no request. The caller may run a first slice of each, and workers the rest.
+/// Stores a module whose entry makes 24,002 turns and exits with 7, creates the tasks `a` and `b`
+/// of it, starts both and waits for both; with a line between that is no request. The caller may
+/// run a first slice of each, and workers the rest.
 pub const RUN_LINES: &str =
     r#"{"op":"put","hex":"0061736d0100000001080260017f0060000002240116776173695f736e617073686f745f70726576696577310970726f635f65786974000003020101070a01065f737461727400010a1a011801017f0340200041016a220041b817490d000b410710000b"}
 {"op":"create","id":"a","config":"{\"ociVersion\":\"1.0.2\",\"process\":{\"args\":[\"a\"],\"cwd\":\"/\"},\"annotations\":{\"dev.shim.module\":\"sha256:fa76229e32d9d57d26199a7ff36258690908fe7df8763ab6adeae95bc78c6382\"}}"}

@@ -129,8 +129,8 @@ fn seat_of<R: Row>(told: Told<'_, R>) -> Seat<R> {
     seat
 }
 
-/// Two callers with 1,000 calls each, side by side; then each makes one more. The one that is ahead has seen all, each
-/// caller's calls once. None if a call is answered otherwise.
+/// Two callers with 1,000 calls each, side by side; then each makes one more. The one that is ahead
+/// has seen all, each caller's calls once. None if a call is answered otherwise.
 pub fn two_callers<R: Row + Send + Sync, W: Threads + Wait + Abort + Sync>(
     rt: &W,
     alloc: Global,
@@ -149,8 +149,8 @@ pub fn two_callers<R: Row + Send + Sync, W: Threads + Wait + Abort + Sync>(
     Some(())
 }
 
-/// Four callers with 2,000 calls each, side by side; then a fifth makes one, and has seen all: each caller's calls
-/// once. None if a call is answered otherwise.
+/// Four callers with 2,000 calls each, side by side; then a fifth makes one, and has seen all: each
+/// caller's calls once. None if a call is answered otherwise.
 pub fn four_callers<R: Row + Send + Sync, W: Threads + Wait + Abort + Sync>(
     rt: &W,
     alloc: Global,

@@ -1,5 +1,5 @@
-//! Tests of a shim that callers and workers share: the lines of one caller, streams that fail, what seats see, and
-//! calls and slices in several threads.
+//! Tests of a shim that callers and workers share: the lines of one caller, streams that fail, what
+//! seats see, and calls and slices in several threads.
 #![tactic(auto)]
 
 #[cfg(test)]

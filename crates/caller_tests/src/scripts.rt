@@ -57,8 +57,8 @@ fn told_of<R: Row>(alloc: Global, all: Vec<Option<Told<'_, R>>>) -> Option<Vec<T
     Some(told)
 }
 
-/// Answers scripts side by side, each by a caller with a seat and a thread of its own. None if a thread cannot be
-/// started, or lines do not come to their end.
+/// Answers scripts side by side, each by a caller with a seat and a thread of its own. None if a
+/// thread cannot be started, or lines do not come to their end.
 pub fn side_by_side<'a, R: Row + Send + Sync, W: Threads + Wait + Sync>(
     rt: &W,
     alloc: Global,

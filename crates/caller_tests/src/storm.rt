@@ -1,4 +1,5 @@
-//! Four callers that create, start, pause, kill, resume and delete the same two tasks, while four workers run them.
+//! Four callers that create, start, pause, kill, resume and delete the same two tasks, while four
+//! workers run them.
 
 use crate::asking::{accepted, refused, seen_of};
 use crate::checks::check_count;
@@ -77,7 +78,8 @@ fn is_call(request: &Request, begins_with: &str, call: usize) -> bool {
     place == call % 6 && (id.as_str() == begins_with) == is_first
 }
 
-// How many calls a caller has made with this entry, if it had made some before. None if it is not its next call.
+// How many calls a caller has made with this entry, if it had made some before. None if it is not
+// its next call.
 fn made_with(entry: &Entry, caller: u64, begins_with: &str, made: usize) -> Option<usize> {
     if entry.seat != caller {
         return Some(made);
@@ -138,8 +140,8 @@ fn check_caller<R: Row, A: Abort>(
     Some(())
 }
 
-/// The storm: a fifth caller stores the module, and makes one call after it. None if a call is answered as it never
-/// should be.
+/// The storm: a fifth caller stores the module, and makes one call after it. None if a call is
+/// answered as it never should be.
 pub fn storm<R: Row + Send + Sync, W: Threads + Wait + Abort + Sync>(
     rt: &W,
     alloc: Global,

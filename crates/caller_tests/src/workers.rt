@@ -16,8 +16,8 @@ use std::thread;
 use std::thread::Threads;
 use task_board::Loan;
 
-/// A caller starts two tasks and waits for both, while two workers run them by a gate. None if its lines come to
-/// no end.
+/// A caller starts two tasks and waits for both, while two workers run them by a gate. None if its
+/// lines come to no end.
 pub fn run_by_two<R: Row + Send + Sync, G: Gate + Sync, W: Threads + Wait + Abort + Sync>(
     rt: &W,
     alloc: Global,
@@ -37,8 +37,8 @@ pub fn run_by_two<R: Row + Send + Sync, G: Gate + Sync, W: Threads + Wait + Abor
     Some(())
 }
 
-/// Stores a module whose entry writes the first 65,536 bytes of its memory, which are 0 but the seventh, 1, and asks
-/// for what a task has written.
+/// Stores a module whose entry writes the first 65,536 bytes of its memory, which are 0 but the
+/// seventh, 1, and asks for what a task has written.
 const LARGE_LINES: &str =
     r#"{"op":"put","hex":"0061736d01000000010c0260047f7f7f7f017f60000002230116776173695f736e617073686f745f70726576696577310866645f77726974650000030201010503010002071302065f73746172740001066d656d6f727902000a0f010d00410141004101410810001a0b0b0e010041000b080000000000000100"}
 {"op":"create","id":"a","config":"{\"ociVersion\":\"1.0.2\",\"process\":{\"args\":[\"a\"],\"cwd\":\"/\"},\"annotations\":{\"dev.shim.module\":\"sha256:f3fa7b3ab518be327da65a6f635503d4f6753eff1463df7ce2fe3f3b3b03695a\"}}"}

@@ -32,8 +32,10 @@ pub record IsUnread (was : Known) (line : List ℕ) (a : Answer) (now : Known) :
   pub same : now ≡ was
 
 abbrev pub IsAnswered : Known → (line : List ℕ) → Answer → Known → Type 0
-IsAnswered was line a now = IsCalled was line a now ⊎ (IsRefused was line a now ⊎ IsUnread was line a now)
+IsAnswered was line a now =
+    IsCalled was line a now ⊎ (IsRefused was line a now ⊎ IsUnread was line a now)
 
 -- a line is answered by this text
 abbrev pub IsServed : Known → (line text : List ℕ) → Known → Type 0
-IsServed was line text now = (a : Answer) × IsAnswered was line a now × (text ≡ line_text (json_of a))
+IsServed was line text now =
+    (a : Answer) × IsAnswered was line a now × (text ≡ line_text (json_of a))

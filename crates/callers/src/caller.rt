@@ -18,8 +18,8 @@ use std::sync::Wait;
 use task_requests::{Reply, Request};
 use wasm_ast::Refusal;
 
-/// How many bytes are kept for the line of an answer: twice what the longest output and its making take. They are
-/// address space alone until they are needed.
+/// How many bytes are kept for the line of an answer: twice what the longest output and its making
+/// take. They are address space alone until they are needed.
 const SPARE_BYTES: usize = 1 << 20;
 
 /// How many turns a caller runs of a task that it is about to wait for.
@@ -73,8 +73,8 @@ impl From<Stop> for Driven {
     }
 }
 
-// Makes a call, and wakes no worker for it. A wait is made once it is due; the first slice of a task that no worker has
-// yet is run here.
+// Makes a call, and wakes no worker for it. A wait is made once it is due; the first slice of a
+// task that no worker has yet is run here.
 fn call<J: Row, H: Wait>(
     rt: &H,
     shim: &Shim<J>,
@@ -128,7 +128,8 @@ fn spare_memory(alloc: Global) -> Option<Vec<u8>> {
     Vec::with_capacity(alloc, SPARE_BYTES).ok()
 }
 
-// The line of an answer. Where memory runs out for it, the spare memory is given back, and the line is made once more.
+// The line of an answer. Where memory runs out for it, the spare memory is given back, and the line
+// is made once more.
 fn line_of_answer(
     alloc: Global,
     answer: &Result<Reply, Refusal>,
@@ -188,11 +189,12 @@ fn serve_line<J: Row, W: Sink, H: Wait, N: Notes>(
     (seat, written)
 }
 
-/// Answers each line of a caller's reader by one line, written and flushed before the next line is waited for,
-/// until the reader is at its end. A line that is no request is answered `BadRequest`. A fault of a stream is told
-/// only if that stream has failed. Workers are woken for the tasks that were started once no next line is at hand. The
-/// seat is that of the caller, and is given back. The notes are told each line and its answer, after its reply; what
-/// is answered and written is the same, whatever they do.
+/// Answers each line of a caller's reader by one line, written and flushed before the next line is
+/// waited for, until the reader is at its end. A line that is no request is answered `BadRequest`.
+/// A fault of a stream is told only if that stream has failed. Workers are woken for the tasks that
+/// were started once no next line is at hand. The seat is that of the caller, and is given back.
+/// The notes are told each line and its answer, after its reply; what is answered and written is
+/// the same, whatever they do.
 pub fn drive<J: Row, R: Source, W: Sink, H: Wait, N: Notes>(
     rt: &H,
     alloc: Global,

@@ -52,9 +52,9 @@ fn bytes_under(
     }
 }
 
-/// Bytes with this digest that a request has put which the seat has seen, the newest first; None if no `put` among
-/// them has bytes with this digest, and no text of a `put_text` denotes them. It takes no lock. An error only if
-/// memory runs out.
+/// Bytes with this digest that a request has put which the seat has seen, the newest first; None if
+/// no `put` among them has bytes with this digest, and no text of a `put_text` denotes them. It
+/// takes no lock. An error only if memory runs out.
 pub fn find_content<J: Row>(
     alloc: Global,
     shim: &Shim<J>,

@@ -19,8 +19,8 @@ pub fn long_lines_are_no_requests()
         → (a ≡ Err refusal.BadRequest) × (now ≡ was) }
 {}
 
-/// A line and the lines after it are answered one after another, each by one text: the second from what the seat has
-/// seen after the first.
+/// A line and the lines after it are answered one after another, each by one text: the second from
+/// what the seat has seen after the first.
 pub fn lines_are_answered_in_their_order()
     ensures none { (was : Known) (texts : List (List ℕ)) (now : Known)
         → Session IsServed was [] texts now → (texts ≡ []) × (now ≡ was) }

@@ -31,7 +31,8 @@ impl Ran {
     /// status that it ends with. `StandardOutput` or `StandardError` if that stream failed; what was written
     /// stays written.
     pub fn write<O: Write, E: Write>(&self, out: &mut O, err: &mut E) -> Result<u8, RunError>
-        ensures { IfOk result (λ status. Appends (O.contents out.old) (O.contents out.new) self.now.out
+        ensures { IfOk result
+            (λ status. Appends (O.contents out.old) (O.contents out.new) self.now.out
             × Appends (E.contents err.old) (E.contents err.new) self.now.err
             × (status ≡ self.now.status)) }
     {

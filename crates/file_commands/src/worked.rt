@@ -16,9 +16,11 @@ pub fn limits_are_numbers()
 /// What a task can be given.
 pub fn tasks_are_given_what_configs_give()
     ensures alone { can_have (record { args = codes "m" ∷ []; env = []; limit = None }) ≡ true }
-    ensures entry { can_have (record { args = codes "m" ∷ []; env = codes "a=" ∷ []; limit = Some 0 })
+    ensures entry { can_have
+        (record { args = codes "m" ∷ []; env = codes "a=" ∷ []; limit = Some 0 })
         ≡ true }
-    ensures no_entry { can_have (record { args = codes "m" ∷ []; env = codes "a" ∷ []; limit = None })
+    ensures no_entry { can_have
+        (record { args = codes "m" ∷ []; env = codes "a" ∷ []; limit = None })
         ≡ false }
 {}
 

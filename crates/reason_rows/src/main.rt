@@ -5,8 +5,8 @@
 //! name `m` of the file and arguments after it) for a file; `config` for the text of one; `request` or
 //! `event` for a line of `serve` or `replay`; `refused NUMBER` for the line of a request that is refused so,
 //! with `at LINE COLUMN` after a number 18, `at FUNC PLACE` after an 8, and `content HEX` if the config of a
-//! create names that content. What it is given is in hexadecimal digits or, after `text `, as it is, with `\n`
-//! for a line feed. A line that is empty or begins with `#` says something of the
+//! create names that content. What it is given is in hexadecimal digits or, after `text `, as it
+//! is, with `\n` for a line feed. A line that is empty or begins with `#` says something of the
 //! others. `ok COUNT` is printed at the end: of how many lines the reason is the one that is wanted, and
 //! the command with `--explain` writes what it writes without, and then the line of that reason. Each
 //! other line is printed with what was found. Of a line without a reason the refusal and its reason are

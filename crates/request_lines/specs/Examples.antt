@@ -107,7 +107,8 @@ FramesExample =
     }
     ∷ [])
     (codes "a") 6)))
-    ≡ codes "{\"frames\":[{\"func\":2,\"labels\":[],\"locals\":[],\"next\":\"end\",\"operands\":[]},"
+    ≡ codes
+    "{\"frames\":[{\"func\":2,\"labels\":[],\"locals\":[],\"next\":\"end\",\"operands\":[]},"
     ++ codes "{\"func\":1,\"labels\":[3],\"locals\":[\"i32:0\",\"i64:-1\"],\"next\":6,"
     ++ codes "\"operands\":[\"i32:-2147483648\",\"i32:2147483647\"]}],"
     ++ codes "\"id\":\"a\",\"n\":6,\"ok\":true}\n"

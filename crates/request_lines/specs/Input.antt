@@ -23,6 +23,7 @@ KnowsEnd at_end known = at_end ≡ true → IsAtEnd known
 abbrev pub chunk_bytes : ℕ
 chunk_bytes = 65536
 
--- how much there is to read yet at most: each read gives at most a chunk, and some bytes have been read and not used
+-- how much there is to read yet at most: each read gives at most a chunk, and some bytes have been
+-- read and not used
 abbrev pub still_to_read : (reads : ℕ) → (bytes : List ℕ) → ℕ
 still_to_read reads bytes = reads * (chunk_bytes + 1) + length bytes

@@ -25,8 +25,8 @@ pub trait Source {
     /// How many more times it reads at most.
     ghost reads_left: { Self → ℕ };
 
-    /// Reads the next bytes to the front of the buffer, and says how many: none only at its end, or if the buffer
-    /// is empty. An error exactly if it fails.
+    /// Reads the next bytes to the front of the buffer, and says how many: none only at its end, or
+    /// if the buffer is empty. An error exactly if it fails.
     fn read(&mut self, buf: &mut [u8]) -> Result<usize, StreamFailed>
         ensures bound { ReadsAtMost result buf.new }
         ensures bytes { ReadConsumes (remaining self.old) (remaining self.new) result buf.new }

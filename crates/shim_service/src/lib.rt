@@ -1,6 +1,6 @@
-//! Scripts of lines, run on a board of their own, and all commands that read one file. The lines themselves are those
-//! of `request_lines`, and the commands for modules those of `file_commands`; callers of a shared board are those of
-//! `callers`.
+//! Scripts of lines, run on a board of their own, and all commands that read one file. The lines
+//! themselves are those of `request_lines`, and the commands for modules those of `file_commands`;
+//! callers of a shared board are those of `callers`.
 #![tactic(auto)]
 
 mod commands;

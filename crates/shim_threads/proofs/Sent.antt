@@ -18,7 +18,8 @@ journal_send = search (sendable, std_sent.crosses, board_send, entry.the_send) d
 
 book_send : (R : RattleType) (a : _) (b : _) → IsSend R → IsSend (books.the_row R a b)
 book_send R a b s =
-    search (sendable, std_sent.crosses, journal_send, seen.the_send, ledger_book.the_send, ledger_share.the_send) depth 40
+    search
+    (sendable, std_sent.crosses, journal_send, seen.the_send, ledger_book.the_send, ledger_share.the_send) depth 40
 
 shared_send : (R : RattleType) (a : _) (b : _) → IsSend R → IsSend (shareds.the_row R a b)
 shared_send R a b s = search (sendable, std_sent.crosses, book_send) depth 40

@@ -1,5 +1,5 @@
--- A valid module may be shared by threads. An instruction has bodies, and a body instructions, so both are shown at once,
--- one layer from the layer below it; the rest is found field by field.
+-- A valid module may be shared by threads. An instruction has bodies, and a body instructions, so both are shown at
+-- once, one layer from the layer below it; the rest is found field by field.
 use denote.Model.Local.{Parts, rows}
 use denote.Model.Goals.{Law, send, sync, Goals, All, both_laws, tied_goals, has_of, part_has}
 use denote.Param.Send.{IsSend, IsSync, sendable, view_send, view_sync, recorded_send, recorded_sync}
@@ -68,7 +68,9 @@ at_send p s = search (sendable, std_sent.crosses, instr_send) depth 40
 at_sync : (p : Parts knot.frame) → IsSync (rows knot.frame p member-Body) → IsSync (knot.at-Body p)
 at_sync p s = search (sendable, std_sent.crosses, instr_sync) depth 40
 
-steps : (p : Parts knot.frame) → All (both_laws the_members) (rows knot.frame p) → All (both_laws the_members) (rows knot.frame (knot.step p))
+steps :
+    (p : Parts knot.frame) → All (both_laws the_members) (rows knot.frame p)
+    → All (both_laws the_members) (rows knot.frame (knot.step p))
 steps p all (member-Body, send) =
     has_of knot.frame send (knot.step p) member-Body
     (part_has send (knot.view-Body p) (view_send (knot.at-Body p) _ _ _ _ (at_send p (all (member-Body, send)))))
@@ -83,46 +85,112 @@ body_sync : IsSync bodies.the_row
 body_sync = tied_goals knot.frame knot.step knot.sizes (both_laws the_members) steps (member-Body, sync)
 
 func_send : IsSend funcs.the_row
-func_send = search (sendable, std_sent.crosses, body_send, sequence.the_send, val_type.the_send, mutability.the_send) depth 40
+func_send =
+    search (sendable, std_sent.crosses, body_send, sequence.the_send, val_type.the_send, mutability.the_send) depth 40
 
 func_sync : IsSync funcs.the_row
-func_sync = search (sendable, std_sent.crosses, body_sync, sequence.the_sync, val_type.the_sync, mutability.the_sync) depth 40
+func_sync =
+    search (sendable, std_sent.crosses, body_sync, sequence.the_sync, val_type.the_sync, mutability.the_sync) depth 40
 
 global_send : IsSend globals.the_row
-global_send = search (sendable, std_sent.crosses, body_send, sequence.the_send, val_type.the_send, mutability.the_send) depth 40
+global_send =
+    search (sendable, std_sent.crosses, body_send, sequence.the_send, val_type.the_send, mutability.the_send) depth 40
 
 global_sync : IsSync globals.the_row
-global_sync = search (sendable, std_sent.crosses, body_sync, sequence.the_sync, val_type.the_sync, mutability.the_sync) depth 40
+global_sync =
+    search (sendable, std_sent.crosses, body_sync, sequence.the_sync, val_type.the_sync, mutability.the_sync) depth 40
 
 element_send : IsSend elements.the_row
-element_send = search (sendable, std_sent.crosses, body_send, sequence.the_send, val_type.the_send, mutability.the_send) depth 40
+element_send =
+    search (sendable, std_sent.crosses, body_send, sequence.the_send, val_type.the_send, mutability.the_send) depth 40
 
 element_sync : IsSync elements.the_row
-element_sync = search (sendable, std_sent.crosses, body_sync, sequence.the_sync, val_type.the_sync, mutability.the_sync) depth 40
+element_sync =
+    search (sendable, std_sent.crosses, body_sync, sequence.the_sync, val_type.the_sync, mutability.the_sync) depth 40
 
 segment_send : IsSend segments.the_row
-segment_send = search (sendable, std_sent.crosses, body_send, sequence.the_send, val_type.the_send, mutability.the_send) depth 40
+segment_send =
+    search (sendable, std_sent.crosses, body_send, sequence.the_send, val_type.the_send, mutability.the_send) depth 40
 
 segment_sync : IsSync segments.the_row
-segment_sync = search (sendable, std_sent.crosses, body_sync, sequence.the_sync, val_type.the_sync, mutability.the_sync) depth 40
+segment_sync =
+    search (sendable, std_sent.crosses, body_sync, sequence.the_sync, val_type.the_sync, mutability.the_sync) depth 40
 
 module_send : IsSend modules.the_row
-module_send = search (sendable, std_sent.crosses, body_send, func_send, global_send, element_send, segment_send, func_type.the_send, import_.the_send, export_.the_send, limits.the_send, sequence.the_send) depth 40
+module_send =
+    search (
+      sendable,
+      std_sent.crosses,
+      body_send,
+      func_send,
+      global_send,
+      element_send,
+      segment_send,
+      func_type.the_send,
+      import_.the_send,
+      export_.the_send,
+      limits.the_send,
+      sequence.the_send,
+    ) depth 40
 
 module_sync : IsSync modules.the_row
-module_sync = search (sendable, std_sent.crosses, body_sync, func_sync, global_sync, element_sync, segment_sync, func_type.the_sync, import_.the_sync, export_.the_sync, limits.the_sync, sequence.the_sync) depth 40
+module_sync =
+    search (
+      sendable,
+      std_sent.crosses,
+      body_sync,
+      func_sync,
+      global_sync,
+      element_sync,
+      segment_sync,
+      func_type.the_sync,
+      import_.the_sync,
+      export_.the_sync,
+      limits.the_sync,
+      sequence.the_sync,
+    ) depth 40
 
 module_field_send : IsSend (modules.the_field).row
-module_field_send = search (sendable, std_sent.crosses, body_send, func_send, global_send, element_send, segment_send, func_type.the_send, import_.the_send, export_.the_send, limits.the_send, sequence.the_send) depth 40
+module_field_send =
+    search (
+      sendable,
+      std_sent.crosses,
+      body_send,
+      func_send,
+      global_send,
+      element_send,
+      segment_send,
+      func_type.the_send,
+      import_.the_send,
+      export_.the_send,
+      limits.the_send,
+      sequence.the_send,
+    ) depth 40
 
 module_field_sync : IsSync (modules.the_field).row
-module_field_sync = search (sendable, std_sent.crosses, body_sync, func_sync, global_sync, element_sync, segment_sync, func_type.the_sync, import_.the_sync, export_.the_sync, limits.the_sync, sequence.the_sync) depth 40
+module_field_sync =
+    search (
+      sendable,
+      std_sent.crosses,
+      body_sync,
+      func_sync,
+      global_sync,
+      element_sync,
+      segment_sync,
+      func_type.the_sync,
+      import_.the_sync,
+      export_.the_sync,
+      limits.the_sync,
+      sequence.the_sync,
+    ) depth 40
 
 packed_send : IsSend packed_modules.the_row
-packed_send = search (sendable, std_sent.crosses, module_send, module_field_send, packed_params.the_send) depth 40 fits 100000
+packed_send =
+    search (sendable, std_sent.crosses, module_send, module_field_send, packed_params.the_send) depth 40 fits 100000
 
 packed_sync : IsSync packed_modules.the_row
-packed_sync = search (sendable, std_sent.crosses, module_sync, module_field_sync, packed_params.the_sync) depth 40 fits 100000
+packed_sync =
+    search (sendable, std_sent.crosses, module_sync, module_field_sync, packed_params.the_sync) depth 40 fits 100000
 
 pub valid_send : IsSend valids.the_row
 valid_send = search (sendable, std_sent.crosses, packed_send, packed_sync) depth 40

@@ -90,9 +90,9 @@ fn finish<J: Row, H: Threads, R: Source, N: Notes>(
     }
 }
 
-/// Answers the lines of all callers, each in a thread of its own, as `callers::drive` does. None for one whose
-/// thread could not be started. An error if memory runs out for the lists of threads and answers. `ReadFault` is told
-/// only of a reader that has failed.
+/// Answers the lines of all callers, each in a thread of its own, as `callers::drive` does. None
+/// for one whose thread could not be started. An error if memory runs out for the lists of threads
+/// and answers. `ReadFault` is told only of a reader that has failed.
 pub fn answer_all<
     J: Row + Send + Sync,
     H: Threads + Wait + Sync,

@@ -81,8 +81,8 @@ fn with_workers_of<
     )
 }
 
-/// Calls `run` while this many workers, each in a thread of its own, run the tasks of the shim by a gate; then
-/// closes the shim and waits until each worker has given back the slice that it holds.
+/// Calls `run` while this many workers, each in a thread of its own, run the tasks of the shim by a
+/// gate; then closes the shim and waits until each worker has given back the slice that it holds.
 pub fn with_gated_workers<
     J: Row + Send + Sync,
     H: Threads + Wait + Sync,

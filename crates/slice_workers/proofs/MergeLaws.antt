@@ -18,7 +18,8 @@ front_weighs h (xs ∷ xss) zero y ys at =
     rw here (omega arith)
 front_weighs h (xs ∷ xss) (suc k) y ys at = let rest = front_weighs h xss k y ys at in omega (arith, rest)
 
-merge_weighs : (h : Ticket → ℕ) (xss : List (List Ticket)) (ys : List Ticket) → IsMergeOf xss ys → weigh_all h xss ≡ weigh h ys
+merge_weighs :
+    (h : Ticket → ℕ) (xss : List (List Ticket)) (ys : List Ticket) → IsMergeOf xss ys → weigh_all h xss ≡ weigh h ys
 merge_weighs h xss [] m = empty_weighs h xss m
 merge_weighs h xss (y ∷ ys) m =
     front_weighs h xss m.0 y m.1 m.2 ∙ ap (λ n. h y + n) (merge_weighs h (set xss m.0 m.1) ys m.3)
@@ -52,4 +53,5 @@ taken a b c = (
 )
 
 pub twice : (a : Ticket) → Merged [] (hand (a ∷ []) (a ∷ []) ∷ hand [] (a ∷ []) ∷ []) → ⊥
-twice a m = let weighed = none_lost [] (hand (a ∷ []) (a ∷ []) ∷ hand [] (a ∷ []) ∷ []) m (λ _. 1) in omega (arith, weighed)
+twice a m =
+    let weighed = none_lost [] (hand (a ∷ []) (a ∷ []) ∷ hand [] (a ∷ []) ∷ []) m (λ _. 1) in omega (arith, weighed)

@@ -56,7 +56,9 @@ empty_more [] e = (refl, tt)
 empty_more (xs ∷ xss) e = (e.0, empty_more xss e.1)
 
 -- one item more, after one of the lists and after their merge
-pub merge_snoc : (xss : List (List Ticket)) (ys : List Ticket) (k : ℕ) (vs : List Ticket) (x : Ticket) → get_elem? xss k ≡ some vs → IsMergeOf xss ys → IsMergeOf (set xss k (vs ++ x ∷ [])) (ys ++ x ∷ [])
+pub merge_snoc :
+    (xss : List (List Ticket)) (ys : List Ticket) (k : ℕ) (vs : List Ticket) (x : Ticket) → get_elem? xss k ≡ some vs
+    → IsMergeOf xss ys → IsMergeOf (set xss k (vs ++ x ∷ [])) (ys ++ x ∷ [])
 merge_snoc xss [] k vs x at m =
     let none : vs ≡ [] = empty_at xss k vs m at in
     (k, [], set_there xss k vs (vs ++ x ∷ []) at ∙ ap (λ l. some (l ++ x ∷ [])) none, rw set_twice (empty_set xss k m))
@@ -70,7 +72,8 @@ merge_snoc xss (y ∷ ys) k vs x at m =
       k,
       m.1 ++ x ∷ [],
       set_there xss k vs (vs ++ x ∷ []) at ∙ ap (λ l. some (l ++ x ∷ [])) here,
-      subst (λ l. IsMergeOf l (ys ++ x ∷ [])) (set_twice xss k m.1 (m.1 ++ x ∷ []) ∙ sym (set_twice xss k (vs ++ x ∷ []) (m.1 ++ x ∷ []))) more,
+      subst (λ l. IsMergeOf l (ys ++ x ∷ []))
+          (set_twice xss k m.1 (m.1 ++ x ∷ []) ∙ sym (set_twice xss k (vs ++ x ∷ []) (m.1 ++ x ∷ []))) more,
     ))
     (λ (other : m.0 ≢ k).
     let back : k ≢ m.0 = λ e. other (sym e) in
@@ -89,7 +92,8 @@ merge_more xss (y ∷ ys) m = (
   m.0,
   m.1,
   at_longer xss ([] ∷ []) m.0 (y ∷ m.1) m.2,
-  subst (λ l. IsMergeOf l ys) (sym (set_append xss ([] ∷ []) m.0 (y ∷ m.1) m.1 m.2)) (merge_more (set xss m.0 m.1) ys m.3),
+  subst (λ l. IsMergeOf l ys) (sym (set_append xss ([] ∷ []) m.0 (y ∷ m.1) m.1 m.2))
+      (merge_more (set xss m.0 m.1) ys m.3),
 )
 
 pub begins : Merged [] (hand [] [] ∷ [])
@@ -98,11 +102,17 @@ begins = ([], (refl, tt), (refl, tt))
 pub puts : (n port : ℕ) (v : Hand) (x : Ticket) → Pushes Merged n port v x (λ w. w ≡ hand (v.put ++ x ∷ []) v.taken)
 puts n port v x items views room m at =
     let w = hand (v.put ++ x ∷ []) v.taken in
-    let more = merge_snoc (map (λ (u : Hand). u.put) views) (m.0 ++ items) port v.put x (at_map (λ (u : Hand). u.put) views port v at) m.2 in (
+    let more =
+    merge_snoc (map (λ (u : Hand). u.put) views) (m.0 ++ items) port v.put x
+    (at_map (λ (u : Hand). u.put) views port v at) m.2 in (
       w,
       (
         m.0,
-        rw (map_set (λ (u : Hand). u.taken) views port w, set_again (map (λ (u : Hand). u.taken) views) port v.taken (at_map (λ (u : Hand). u.taken) views port v at)) m.1,
+        rw (
+          map_set (λ (u : Hand). u.taken) views port w,
+          set_again (map (λ (u : Hand). u.taken) views) port v.taken (at_map (λ (u : Hand). u.taken) views port v at),
+        )
+            m.1,
         rw (map_set (λ (u : Hand). u.put) views port w, ← append_assoc m.0 items (x ∷ [])) more,
       ),
       refl,
@@ -111,12 +121,18 @@ puts n port v x items views room m at =
 pub takes : (port : ℕ) (v : Hand) → Pops Merged port v (λ x w. w ≡ hand v.put (v.taken ++ x ∷ []))
 takes port v x items views m at =
     let w = hand v.put (v.taken ++ x ∷ []) in
-    let more = merge_snoc (map (λ (u : Hand). u.taken) views) m.0 port v.taken x (at_map (λ (u : Hand). u.taken) views port v at) m.1 in (
+    let more =
+    merge_snoc (map (λ (u : Hand). u.taken) views) m.0 port v.taken x
+    (at_map (λ (u : Hand). u.taken) views port v at) m.1 in (
       w,
       (
         m.0 ++ x ∷ [],
         rw (map_set (λ (u : Hand). u.taken) views port w) more,
-        rw (map_set (λ (u : Hand). u.put) views port w, set_again (map (λ (u : Hand). u.put) views) port v.put (at_map (λ (u : Hand). u.put) views port v at), append_assoc m.0 (x ∷ []) items) m.2,
+        rw (
+          map_set (λ (u : Hand). u.put) views port w,
+          set_again (map (λ (u : Hand). u.put) views) port v.put (at_map (λ (u : Hand). u.put) views port v at),
+          append_assoc m.0 (x ∷ []) items,
+        ) m.2,
       ),
       refl,
     )
@@ -125,6 +141,8 @@ pub forks : (port : ℕ) (v : Hand) → Forks Merged port v v (hand [] [])
 forks port v items views m at =
     let same = set_again views port v at in (
       m.0,
-      rw (same, map_snoc (λ (u : Hand). u.taken) views (hand [] [])) (merge_more (map (λ (u : Hand). u.taken) views) m.0 m.1),
-      rw (same, map_snoc (λ (u : Hand). u.put) views (hand [] [])) (merge_more (map (λ (u : Hand). u.put) views) (m.0 ++ items) m.2),
+      rw (same, map_snoc (λ (u : Hand). u.taken) views (hand [] []))
+          (merge_more (map (λ (u : Hand). u.taken) views) m.0 m.1),
+      rw (same, map_snoc (λ (u : Hand). u.put) views (hand [] []))
+          (merge_more (map (λ (u : Hand). u.put) views) (m.0 ++ items) m.2),
     )

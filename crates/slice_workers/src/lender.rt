@@ -9,8 +9,8 @@ use task_board::{Loan, Ticket};
 /// What lends the machines of running tasks to workers: a board under a lock. Each call takes the lock and
 /// lets it go again, so what it changed is not known after it.
 pub trait Lender {
-    /// The ticket of the task that has waited longest for a worker, which waits no more: sleeps until one waits,
-    /// or until the end. None after the end: then no machine is lent any more.
+    /// The ticket of the task that has waited longest for a worker, which waits no more: sleeps
+    /// until one waits, or until the end. None after the end: then no machine is lent any more.
     fn next<W: Wait>(&self, rt: &W) -> Option<Ticket>;
 
     /// Lends the machine of the ticket's task for a slice of at most `budget` turns. None if the task is not
@@ -23,8 +23,8 @@ pub trait Lender {
     fn give_back<W: Wait>(&self, rt: &W, loan: Loan) -> Option<Ticket>
         requires { loan.ran ≡ true };
 
-    /// Lets the ticket's task wait for a worker if a worker sleeps in `next`, and wakes it; else gives the ticket
-    /// back.
+    /// Lets the ticket's task wait for a worker if a worker sleeps in `next`, and wakes it; else
+    /// gives the ticket back.
     fn offer<W: Wait>(&self, rt: &W, ticket: Ticket) -> Option<Ticket>
         ensures { IfSome result (λ t. t ≡ ticket) };
 

@@ -121,10 +121,11 @@ fn after_slice<L: Lender, W: Wait>(
     other
 }
 
-/// Runs slices of tasks that wait for a worker or are in the queue, in turn, until the end; sleeps while there
-/// is none. Each machine that it takes it runs once by the gate, with no lock held, and gives back; a task
-/// that is running afterwards goes to a worker that sleeps if there is other work, or else to the back of the
-/// queue, or waits if that is full. It returns, if it does, with no machine in its hands.
+/// Runs slices of tasks that wait for a worker or are in the queue, in turn, until the end; sleeps
+/// while there is none. Each machine that it takes it runs once by the gate, with no lock held, and
+/// gives back; a task that is running afterwards goes to a worker that sleeps if there is other
+/// work, or else to the back of the queue, or waits if that is full. It returns, if it does, with
+/// no machine in its hands.
 pub fn worker<L: Lender, G: Gate, W: Wait>(
     rt: &W,
     lender: &L,

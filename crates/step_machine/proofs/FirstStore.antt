@@ -169,7 +169,8 @@ module _ (m : Module) where
     first_typed = globals_typed m.globals valid.outside.globals ranged.globals
 
     pub first_in_table : All (InTable m) (first_store m p).table
-    first_in_table = elements_in_table (empty_table m.tables) m.elements valid.outside.elements (nothing_in_table m.tables)
+    first_in_table =
+        elements_in_table (empty_table m.tables) m.elements valid.outside.elements (nothing_in_table m.tables)
 
     pub first_ranged :
         p.cap < 2 ^ 32 → are_segments_inside (zero_memory m.memories p.cap) m.segments ≡ true

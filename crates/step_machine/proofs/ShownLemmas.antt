@@ -146,4 +146,5 @@ first_shown p r func t zeros o os is few =
     ap (λ (f : Option Function). call_function p env [] func f done) is
     ∙ called p env func t zeros o os (length t.params) in
     ap (λ (x : Reduced). shown (onward p (of_reduced x)).state) is_called
-    ∙ ap (λ (x : State). shown (onward p (record { store = r; state = x })).state) (fits (length t.results) func zeros o os few)
+    ∙ ap (λ (x : State). shown (onward p (record { store = r; state = x })).state)
+    (fits (length t.results) func zeros o os few)

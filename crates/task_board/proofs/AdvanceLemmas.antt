@@ -107,7 +107,8 @@ module _ (forward : GoForward) (first : StopFirst) (most : AtMost) where
   joined t a j [] is runs rest = absurd rest
   joined t a j (next ∷ budgets) is runs rest =
       let P : ℕ → Type 0 =
-      λ n. ((advanced t n).status ≡ Running) × (i : ℕ) × (a + j ≡ n + i) × MakeTurns (advanced t n) (next ∷ budgets) i in
+      λ n. ((advanced t n).status ≡ Running) × (i : ℕ) × (a + j ≡ n + i)
+      × MakeTurns (advanced t n) (next ∷ budgets) i in
       let made = subst P (sym is) (runs, j, refl, rest) in (refl, made.0, made.1, made.2, made.3)
 
   pub by_turns : (k : ℕ) (t : Task) → t.status ≡ Running → t.signal ≡ None → MayAdvance t k

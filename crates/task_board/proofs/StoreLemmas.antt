@@ -238,7 +238,8 @@ added_names :
 added_names digest name [] = refl
 added_names digest name (l ∷ ls) =
     elim (bytes_eq l.name name) as
-    (λ (b : Bool). names_of (cond b (record l { members = l.members ++ digest ∷ [] } ∷ ls) (l ∷ add_member digest name ls))
+    (λ (b : Bool). names_of
+    (cond b (record l { members = l.members ++ digest ∷ [] } ∷ ls) (l ∷ add_member digest name ls))
     ≡ l.name ∷ names_of ls)
     [ true ↦ refl | false ↦ ap (λ (xs : List (List ℕ)). l.name ∷ xs) (added_names digest name ls) ]
 
@@ -246,7 +247,8 @@ added_length : (digest name : List ℕ) (ls : List Lease) → length (add_member
 added_length digest name [] = refl
 added_length digest name (l ∷ ls) =
     elim (bytes_eq l.name name) as
-    (λ (b : Bool). length (cond b (record l { members = l.members ++ digest ∷ [] } ∷ ls) (l ∷ add_member digest name ls))
+    (λ (b : Bool). length
+    (cond b (record l { members = l.members ++ digest ∷ [] } ∷ ls) (l ∷ add_member digest name ls))
     ≡ suc (length ls))
     [ true ↦ refl | false ↦ ap (λ (n : ℕ). suc n) (added_length digest name ls) ]
 

@@ -347,13 +347,14 @@ impl Board {
     /// How many turns the task with an id has made; while its slice is out, how many it had made before, and
     /// the budget of the slice. None if no task has the id.
     pub fn found(&self, id: &str) -> Option<(u64, Option<u64>)>
-        ensures { result ≡ option_map (λ t. (t.turns, t.out)) (task_of id.now self.now.state.tasks) }
+        ensures { result
+            ≡ option_map (λ t. (t.turns, t.out)) (task_of id.now self.now.state.tasks) }
     {
         self.tables.found(id)
     }
 
-    /// Whether a wait for the task with an id is not answered Busy: no task has it, or that is created, paused
-    /// or stopped.
+    /// Whether a wait for the task with an id is not answered Busy: no task has it, or that is
+    /// created, paused or stopped.
     pub fn is_settled(&self, id: &str) -> bool
         ensures { result ≡ is_settled (task_of id.now self.now.state.tasks) }
     {
@@ -430,8 +431,8 @@ impl Board {
         self.tables.next_waiting()
     }
 
-    /// The ticket of the task with an id, which waits for a worker and now no more. None, and nothing has changed,
-    /// if no task has the id or that does not wait. No memory is taken.
+    /// The ticket of the task with an id, which waits for a worker and now no more. None, and
+    /// nothing has changed, if no task has the id or that does not wait. No memory is taken.
     pub fn leave_waiting(&mut self, id: &str) -> Option<Ticket>
         ensures ticket { result ≡ waiting_ticket id.now self.old.state.tasks self.old.waiting }
         ensures some { IfSome result

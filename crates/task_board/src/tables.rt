@@ -566,7 +566,8 @@ impl Tables {
         })
     }
 
-    /// Takes the ticket of the task with an id out of the list. None, and nothing has changed, if that does not wait.
+    /// Takes the ticket of the task with an id out of the list. None, and nothing has changed, if
+    /// that does not wait.
     pub fn leave_waiting(&mut self, id: &str) -> Option<Ticket>
         ensures ticket { result ≡ waiting_ticket id.now self.old.state.tasks self.old.waiting }
         ensures some { IfSome result
@@ -590,7 +591,8 @@ impl Tables {
 
     /// How many turns the task with an id has made, and the budget of its slice while that is out.
     pub fn found(&self, id: &str) -> Option<(u64, Option<u64>)>
-        ensures { result ≡ option_map (λ t. (t.turns, t.out)) (task_of id.now self.now.state.tasks) }
+        ensures { result
+            ≡ option_map (λ t. (t.turns, t.out)) (task_of id.now self.now.state.tasks) }
     {
         let (_, task) = find_task(&self.tasks, id)?;
         Some(task.found())

@@ -186,7 +186,8 @@ access_read natural at lt fits =
 
 -- ---- all instructions
 
-pub immediates_read : (s : Scopes) (locals labels : Ids) (i : Simple) → RangedSimple i → HasAlignment i → IsWritten s (simple i)
+pub immediates_read :
+    (s : Scopes) (locals labels : Ids) (i : Simple) → RangedSimple i → HasAlignment i → IsWritten s (simple i)
     → read_immediates s locals labels (keyword_for i) (operand_words i) ≡ Ok (i, [])
 unfolding read_immediates read_const take_word
 immediates_read s locals labels instr.Unreachable r h w = refl

@@ -164,7 +164,8 @@ agrees_nested :
 unfolding read_nested
 agrees_nested s k b c h word labels ts =
     branch (DeepOp (suc k)) (bytes_eq word (codes "if")) _ _ _ _ (agrees_if s k b c h labels ts)
-    (agrees_bind (λ x. k < ops_depth x.0.1) (DeepOp (suc k)) (read_enclosed s b labels ts) (read_enclosed s c labels ts) _ _
+    (agrees_bind (λ x. k < ops_depth x.0.1) (DeepOp (suc k)) (read_enclosed s b labels ts)
+    (read_enclosed s c labels ts) _ _
     (agrees_enclosed s k b c h labels ts) (λ x. inl refl)
     (λ x y d e. subst (DeepOp (suc k)) (ok_inj _ y e) (block_or_loop (bytes_eq word (codes "block")) k x.0.0 x.0.1 d)))
 

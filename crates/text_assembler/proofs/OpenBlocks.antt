@@ -38,6 +38,7 @@ block_deep s locals more labels ts word rest h o e = rw (h, o, inner_none s loca
 pub block_read :
     (s : Scopes) (locals : Ids) (more : ℕ) (labels : Ids) (ts : Tokens) (word : List ℕ) (rest : Tokens)
     → take_word ts ≡ Ok (word, rest) → opens_block word ≡ true → 0 < more
-    → read_op s locals (inner_of s locals more) labels ts ≡ read_nested s (read_body s locals (more - 1)) word labels rest
+    → read_op s locals (inner_of s locals more) labels ts
+    ≡ read_nested s (read_body s locals (more - 1)) word labels rest
 unfolding read_op
 block_read s locals more labels ts word rest h o lt = rw (h, o, inner_some s locals more lt) refl

@@ -230,8 +230,8 @@ fn serve_callers<J: Row + Send + Sync, H: Threads + Wait + Sync>(
 }
 
 /// Answers the lines of the files of these names, each a caller of its own, or else those of standard input,
-/// while this many workers run the tasks. What is wanted of their lines is said on standard error. Then the shim is
-/// closed, and running tasks are left.
+/// while this many workers run the tasks. What is wanted of their lines is said on standard error.
+/// Then the shim is closed, and running tasks are left.
 pub fn serve<H: Threads + Wait + Sync>(
     rt: &HostRuntime,
     threads: &H,

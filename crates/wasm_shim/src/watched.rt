@@ -34,8 +34,8 @@ impl<J: Row> Contents for Seen<'_, J> {
     }
 }
 
-/// What watches the lines of a caller. A line on standard error that cannot be written, or for which there is no
-/// memory, is left out.
+/// What watches the lines of a caller. A line on standard error that cannot be written, or for
+/// which there is no memory, is left out.
 #[derive(Drop)]
 pub struct Watch<'a> {
     rt: &'a HostRuntime,

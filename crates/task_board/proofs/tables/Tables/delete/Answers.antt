@@ -22,17 +22,25 @@ use Rattle.task_board.proofs.tables.Tables.delete.Goals as goal
 
 pub unreachable-requires : goal.unreachable-requires
 unreachable-requires c =
-    let P : BoardValue → Type 0 = λ v. CallPrepared v.state (unless_allowed call.Delete refusal.WrongStatus) c.args.slot c.args.id in
+    let P :
+    BoardValue → Type 0 =
+    λ v. CallPrepared v.state (unless_allowed call.Delete refusal.WrongStatus) c.args.slot c.args.id in
     let p = subst P (sym c.self.view_is) c.requires in
-    let at = call_there c.self.inside (unless_allowed call.Delete refusal.WrongStatus) c.args.slot c.args.id c.self.invariant.sound p in
+    let at =
+    call_there c.self.inside (unless_allowed call.Delete refusal.WrongStatus) c.args.slot c.args.id
+    c.self.invariant.sound p in
     let none : get c.self.inside.tasks c.args.slot ≡ None = search rules in
     none_is_not p.task (sym none ∙ at)
 
 pub state-requires : goal.state-requires
 state-requires c =
-    let P : BoardValue → Type 0 = λ v. CallPrepared v.state (unless_allowed call.Delete refusal.WrongStatus) c.args.slot c.args.id in
+    let P :
+    BoardValue → Type 0 =
+    λ v. CallPrepared v.state (unless_allowed call.Delete refusal.WrongStatus) c.args.slot c.args.id in
     let p = subst P (sym c.self.view_is) c.requires in
-    let at = call_there c.self.inside (unless_allowed call.Delete refusal.WrongStatus) c.args.slot c.args.id c.self.invariant.sound p in
+    let at =
+    call_there c.self.inside (unless_allowed call.Delete refusal.WrongStatus) c.args.slot c.args.id
+    c.self.invariant.sound p in
     let here : get c.self.inside.tasks c.args.slot ≡ Some c.in-Some.task = search rules in
     let same = some_is p.task c.in-Some.task (sym at ∙ here) in
     sym (named c.args.id (board_state_of c.self.inside).tasks (c.args.slot, p.task) p.found)
@@ -40,7 +48,9 @@ state-requires c =
 
 pub invariant_of-self : goal.invariant_of-self
 invariant_of-self c =
-    let P : BoardValue → Type 0 = λ v. CallPrepared v.state (unless_allowed call.Delete refusal.WrongStatus) c.args.slot c.args.id in
+    let P :
+    BoardValue → Type 0 =
+    λ v. CallPrepared v.state (unless_allowed call.Delete refusal.WrongStatus) c.args.slot c.args.id in
     let p = subst P (sym c.self.view_is) c.requires in
     let here : get c.self.inside.tasks c.args.slot ≡ Some c.in-Some.task = search rules in
     let new = c.try_remove.new.self in
@@ -63,7 +73,9 @@ invariant_of-self c =
 
 pub returns-clause-answers : goal.returns-clause-answers
 returns-clause-answers c =
-    let P : BoardValue → Type 0 = λ v. CallPrepared v.state (unless_allowed call.Delete refusal.WrongStatus) c.args.slot c.args.id in
+    let P :
+    BoardValue → Type 0 =
+    λ v. CallPrepared v.state (unless_allowed call.Delete refusal.WrongStatus) c.args.slot c.args.id in
     let p = subst P (sym c.self.view_is) c.requires in
     let here : get c.self.inside.tasks c.args.slot ≡ Some c.in-Some.task = search rules in
     let new = c.try_remove.new.self in

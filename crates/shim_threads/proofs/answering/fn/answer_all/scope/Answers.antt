@@ -23,10 +23,12 @@ loop-caller-preserved g c =
     let inv = c.loop-caller.invariant in
     let x = c.in-Some.caller in (
       inv.0 ++ x ∷ [],
-      append_assoc inv.0 (x ∷ []) c.next.new.self.rest.items ∙ ap (λ r. inv.0 ++ r) (sym c.in-Some.ensures.steps.0) ∙ inv.1,
+      append_assoc inv.0 (x ∷ []) c.next.new.self.rest.items
+          ∙ ap (λ r. inv.0 ++ r) (sym c.in-Some.ensures.steps.0) ∙ inv.1,
       each-more _ inv.0 c.loop-caller.threads.items c.push.new.self.items x c.ok.result c.in_ok-push.ensures.items inv.2
           (some_of_ok (λ h. h.promise.caller.value ≡ x) c.spawn_with.result c.ok.result c.ok.ensures.value
-          (ok_map (λ h. h.promise ≡ record { caller = c.of.result }) (λ h. h.promise.caller.value ≡ x) c.spawn_with.result
+          (ok_map (λ h. h.promise ≡ record { caller = c.of.result }) (λ h. h.promise.caller.value ≡ x)
+          c.spawn_with.result
           (λ h is. ap (λ p. p.caller.value) is ∙ c.of.ensures) c.spawn_with.ensures.ok)),
     )
 
@@ -35,8 +37,10 @@ loop-thread-preserved g c =
     let inv = c.loop-thread.invariant in
     let t = c.in-Some-thread.thread in (
       inv.0 ++ t ∷ [],
-      append_assoc inv.0 (t ∷ []) c.next-in-loop-thread.new.self.rest.items ∙ ap (λ r. inv.0 ++ r) (sym c.in-Some-thread.ensures.steps.0) ∙ inv.1,
-      each-more _ inv.0 c.loop-thread.all.items c.push-in-loop-thread.new.self.items t c.finish.result c.in_ok-push-2.ensures.items inv.2 c.finish.ensures,
+      append_assoc inv.0 (t ∷ []) c.next-in-loop-thread.new.self.rest.items
+          ∙ ap (λ r. inv.0 ++ r) (sym c.in-Some-thread.ensures.steps.0) ∙ inv.1,
+      each-more _ inv.0 c.loop-thread.all.items c.push-in-loop-thread.new.self.items t c.finish.result
+          c.in_ok-push-2.ensures.items inv.2 c.finish.ensures,
     )
 
 pub returns : goal.returns
@@ -54,9 +58,11 @@ returns g c =
     (λ x b. Drives b.driven x.seat b.caller.seat (g.R.Source.remaining x.reader) (Some []) (Some b.replies.items)
     × IsTold b.driven (g.R.Source.has_failed b.caller.reader) ⊤) c' t a)
     c.captures.callers.items c.loop-caller.threads.items c.loop-thread.all.items
-    (subst (λ xs. Each (λ c' t. IfSome t (λ h. h.promise.caller.value ≡ c')) xs c.loop-caller.threads.items) asked outer.2)
+    (subst
+    (λ xs. Each (λ c' t. IfSome t (λ h. h.promise.caller.value ≡ c')) xs c.loop-caller.threads.items) asked outer.2)
     (subst (λ ts. Each (λ t a. IfSome a (λ a. (p : _) × (option_map (λ h. h.promise) t ≡ Some p)
-    × (Drives a.driven p.caller.value.seat a.caller.seat (g.R.Source.remaining p.caller.value.reader) (Some []) (Some a.replies.items)
+    × (Drives a.driven p.caller.value.seat a.caller.seat (g.R.Source.remaining p.caller.value.reader) (Some [])
+    (Some a.replies.items)
     × IsTold a.driven (g.R.Source.has_failed a.caller.reader) ⊤))) ts c.loop-thread.all.items) joined inner.2)
 
 pub spawn_with-requires-send-F : goal.spawn_with-requires-send-F
