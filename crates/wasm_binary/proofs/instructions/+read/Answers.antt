@@ -31,8 +31,8 @@ read_body-returns-in_err-instr t c =
 pub read_body-loop-preserved : goal.read_body-loop-preserved
 read_body-loop-preserved t c =
     let e :
-    map op_of c.push.new.self.items ≡ map op_of c.loop.items.items ++ op_of c.in_ok-instr.instr ∷ [] =
-    rw c.in_ok-push.ensures.items (map_push op_of c.loop.items.items c.in_ok-instr.instr) in
+    map op_of c.add.new.items.items ≡ map op_of c.loop.items.items ++ op_of c.in_ok-instr.instr ∷ [] =
+    rw c.in_ok-add.ensures (map_push op_of c.loop.items.items c.in_ok-instr.instr) in
     rw e
     (op_goes_on (inner_of c.args.more) (map op_of c.loop.items.items) (length c.args.bytes.now) c.loop.counter
     c.loop.rest.now (op_of c.in_ok-instr.instr) c.in_ok-instr.next.now (read_body c.args.more c.args.bytes.now)
