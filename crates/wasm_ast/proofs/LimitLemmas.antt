@@ -1,5 +1,6 @@
 -- The test of the limits decides them.
-use Rattle.std.proofs.Common.{◌≡◌, List, [], ◌∷◌, All, ℕ, Bool, true, arith, refl}
+use Rattle.std.proofs.Common.{◌≡◌, ◌+◌, ◌<◌, ◌&&◌, ◌∙◌, List, [], ◌∷◌, All, ℕ, Bool, true, false, arith, refl, sym, ap, drop, get_or, length}
+use Rattle.std.proofs.lemmas.List.{drop_more}
 use Rattle.std.proofs.lemmas.Bool.Decides.{nat_tests}
 use Rattle.std.proofs.lemmas.List.Elements.{All-cons, All-nil, All-head, All-tail}
 use Rattle.wasm_ast.specs.declared.values.FuncType.{FuncType}
@@ -102,3 +103,11 @@ within_module m w =
     hold_all (λ (s : Segment). NestsWithin s.offset) (λ (s : Segment). nests_within s.offset)
     (λ (s : Segment). nested s.offset) m.segments w.segments in
     grind (arith, nat_tests)
+
+-- a test of all items, of which those so far and the next one are tested
+pub one_more :
+    {X : Type 0} (test : X → Bool) (so_far : Bool) (xs : List X) (i : ℕ) (x : X) → i < length xs → x ≡ get_or xs i x
+    → ((so_far && test x) && are_all test (drop (i + 1) xs)) ≡ (so_far && are_all test (drop i xs))
+one_more test true xs i x h e =
+    ap (λ y. are_all test (y ∷ drop (i + 1) xs)) e ∙ ap (are_all test) (sym (drop_more xs i x h))
+one_more test false xs i x h e = refl

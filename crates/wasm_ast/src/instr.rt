@@ -171,6 +171,40 @@ impl Instr {
         }
     }
 
+    /// What `fits_depth` tells and what `ranged` shows, with each instruction read once: in a large body that is
+    /// half of the time.
+    #[cycle(fits_ranged)]
+    pub fn fits_ranged(&self, limit: usize) -> bool
+        ensures fits { result ≡ nat_le (depth (op_of self.now)) limit }
+        ensures ranged { RangedOp (op_of self.now) }
+    {
+        match self {
+            Instr::Simple(simple) => {
+                simple.ranged();
+                true
+            }
+            Instr::Block(block_type, body) | Instr::Loop(block_type, body) => {
+                block_type.ranged();
+                if limit == 0 {
+                    body.ranged();
+                    return false;
+                }
+                body.fits_ranged(limit - 1)
+            }
+            Instr::If(block_type, then_arm, else_arm) => {
+                block_type.ranged();
+                if limit == 0 {
+                    then_arm.ranged();
+                    else_arm.ranged();
+                    return false;
+                }
+                let first = then_arm.fits_ranged(limit - 1);
+                let second = else_arm.fits_ranged(limit - 1);
+                first && second
+            }
+        }
+    }
+
     /// Shows that each number in the instruction is in the range of its type.
     #[cycle(ranged)]
     pub fn ranged(&self)
@@ -261,6 +295,19 @@ impl Body {
             }
         }
         true
+    }
+
+    /// What `fits_depth` tells and what `ranged` shows, with each instruction read once.
+    #[cycle(fits_ranged)]
+    pub fn fits_ranged(&self, limit: usize) -> bool
+        ensures fits { result ≡ nat_le (ops_depth self.now) limit }
+        ensures ranged { RangedOps self.now }
+    {
+        let mut fits = true;
+        for instr in self.instrs.as_slice() {
+            fits &= instr.fits_ranged(limit);
+        }
+        fits
     }
 
     /// Shows that each number in the sequence is in the range of its type.

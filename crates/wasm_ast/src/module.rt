@@ -1,7 +1,7 @@
 //! Modules (2.5).
 
-ghost use Rattle.std.specs.Prelude.{◌≡◌, All};
-ghost use Rattle.wasm_ast.specs.Limits.{max_nesting, params_of, is_type_within, is_func_within, is_min_within, nests_within, are_all, is_within};
+ghost use Rattle.std.specs.Prelude.{◌≡◌, ◌+◌, All, nat_le, length};
+ghost use Rattle.wasm_ast.specs.Limits.{max_nesting, max_locals, params_of, is_type_within, is_func_within, is_min_within, nests_within, are_all, is_within};
 ghost use Rattle.wasm_ast.specs.Ranged.{Ranged, RangedImport, RangedFunc, RangedLimits, RangedGlobal, RangedElement, RangedSegment, RangedExport, RangedStart, AreTexts, HasImportTexts, HasExportText};
 
 use crate::instr::Body;
@@ -211,10 +211,18 @@ impl Module {
     pub fn is_within_limits(&self) -> bool
         ensures { result ≡ is_within self.now }
     {
+        self.is_within_if(are_funcs_within(self.types.as_slice(), self.funcs.as_slice()))
+    }
+
+    // Whether the module is within the limits, if it is known whether each of its functions is.
+    fn is_within_if(&self, are_funcs_within: bool) -> bool
+        requires { are_funcs_within ≡ are_all (is_func_within self.now.types) self.now.funcs }
+        ensures { result ≡ is_within self.now }
+    {
         are_types_within(self.types.as_slice())
             && self.imports.len() <= MAX_FUNCTIONS
             && self.funcs.len() <= MAX_FUNCTIONS - self.imports.len()
-            && are_funcs_within(self.types.as_slice(), self.funcs.as_slice())
+            && are_funcs_within
             && are_mins_within(MAX_TABLE_ENTRIES, self.tables.as_slice())
             && are_mins_within(MAX_MEMORY_PAGES, self.memories.as_slice())
             && are_globals_within(self.globals.as_slice())
@@ -226,8 +234,16 @@ impl Module {
     pub fn ranged(&self)
         ensures { Ranged self.now }
     {
-        imports_ranged(self.imports.as_slice());
         funcs_ranged(self.funcs.as_slice());
+        self.ranged_if();
+    }
+
+    // Shows the same if each number in its functions is in the range of its type.
+    fn ranged_if(&self)
+        requires { All RangedFunc self.now.funcs }
+        ensures { Ranged self.now }
+    {
+        imports_ranged(self.imports.as_slice());
         limits_ranged(self.tables.as_slice());
         limits_ranged(self.memories.as_slice());
         globals_ranged(self.globals.as_slice());
@@ -235,6 +251,19 @@ impl Module {
         start_ranged(self.start);
         elements_ranged(self.elements.as_slice());
         segments_ranged(self.segments.as_slice());
+    }
+
+    /// What `is_within_limits` tells and what `ranged` shows, with the bodies of functions read once.
+    pub fn is_ranged_within_limits(&self) -> bool
+        ensures within { result ≡ is_within self.now }
+        ensures ranged { Ranged self.now }
+    {
+        let are_funcs_within = are_funcs_ranged_within(
+            self.types.as_slice(),
+            self.funcs.as_slice(),
+        );
+        self.ranged_if();
+        self.is_within_if(are_funcs_within)
     }
 
     /// Shows that the names in the module are UTF-8.
@@ -267,13 +296,19 @@ fn are_types_within(types: &[FuncType]) -> bool
     true
 }
 
+// Whether a function has no more locals than it may, parameters included.
+fn has_few_locals(types: &[FuncType], func: &Func) -> bool
+    ensures { result
+        ≡ nat_le (params_of types.now func.now.type_index + length func.now.locals) max_locals }
+{
+    let params = params_of(types, func.type_index);
+    params <= MAX_LOCALS && func.locals.len() <= MAX_LOCALS - params
+}
+
 fn is_func_within(types: &[FuncType], func: &Func) -> bool
     ensures { result ≡ is_func_within types.now func.now }
 {
-    let params = params_of(types, func.type_index);
-    params <= MAX_LOCALS
-        && func.locals.len() <= MAX_LOCALS - params
-        && func.body.fits_depth(MAX_NESTING)
+    has_few_locals(types, func) && func.body.fits_depth(MAX_NESTING)
 }
 
 fn are_funcs_within(types: &[FuncType], funcs: &[Func]) -> bool
@@ -285,6 +320,27 @@ fn are_funcs_within(types: &[FuncType], funcs: &[Func]) -> bool
         }
     }
     true
+}
+
+// What `is_func_within` tells, and that the numbers in the function are in the range of their types.
+fn is_func_ranged_within(types: &[FuncType], func: &Func) -> bool
+    ensures within { result ≡ is_func_within types.now func.now }
+    ensures ranged { RangedFunc func.now }
+{
+    let _in_range = func.type_index;
+    let fits = func.body.fits_ranged(MAX_NESTING);
+    has_few_locals(types, func) && fits
+}
+
+fn are_funcs_ranged_within(types: &[FuncType], funcs: &[Func]) -> bool
+    ensures within { result ≡ are_all (is_func_within types.now) funcs.now }
+    ensures ranged { All RangedFunc funcs.now }
+{
+    let mut within = true;
+    for func in funcs {
+        within &= is_func_ranged_within(types, func);
+    }
+    within
 }
 
 fn are_mins_within(most: u32, limits: &[Limits]) -> bool
