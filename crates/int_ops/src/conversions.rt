@@ -1,5 +1,5 @@
-//! Conversions between the two widths (4.3.4), and of a width to itself by the sign of its low bits (Core 2.0,
-//! 4.3.2).
+//! Conversions between the two widths (4.3.4), and of a width to itself by the sign of its low bits
+//! (Core 2.0, 4.3.2).
 
 ghost use Rattle.std.specs.Prelude.{◌≡◌};
 ghost use Rattle.std.specs.Int.{w8, w16, w32, w64};

@@ -146,7 +146,8 @@ pub fn setups_are_those_of_configs()
     ensures nothing { pages_under (Some 0) ≡ 0 }
     ensures rounded_down { pages_under (Some 196607) ≡ 2 }
     ensures at_most { pages_under (Some 18446744073709551615) ≡ 256 }
-    ensures as_a_config { (bytes : ℕ) → pages_of (unsigned bytes) ≡ Some (pages_under (Some bytes)) }
+    ensures as_a_config { (bytes : ℕ)
+        → pages_of (unsigned bytes) ≡ Some (pages_under (Some bytes)) }
     ensures process { process_read (config_with (codes ",\"env\":[\"b=1\"]")
         (codes ",\"linux\":{\"resources\":{\"memory\":{\"limit\":131072}}}"))
         ≡ Some (record (process_under (codes "a" ∷ []) (codes "b=1" ∷ []) (Some 131072))

@@ -5,8 +5,8 @@ ghost use Rattle.validator.specs.Inside.Algorithm.{is_same, are_same, can_be};
 
 use wasm_ast::ValType;
 
-/// Whether two types are the same. In a loop over this the compiler compares the numbers of many variants at once,
-/// with half of the work that a match would be.
+/// Whether two types are the same. In a loop over this the compiler compares the numbers of many
+/// variants at once, with half of the work that a match would be.
 pub fn is_same(left: ValType, right: ValType) -> bool
     ensures { result ≡ is_same left right }
 {

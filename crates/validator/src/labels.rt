@@ -14,7 +14,8 @@ use std::marker::Model;
 pub struct Label<'a> {
     /// The types that a branch to it takes.
     pub types: TypeList<'a>,
-    /// A label that is known to take the same types, by its number from the outermost on: one outside it, or itself.
+    /// A label that is known to take the same types, by its number from the outermost on: one
+    /// outside it, or itself.
     pub alike: usize,
 }
 

@@ -171,8 +171,8 @@ impl Instr {
         }
     }
 
-    /// What `fits_depth` tells and what `ranged` shows, with each instruction read once: in a large body that is
-    /// half of the time.
+    /// What `fits_depth` tells and what `ranged` shows, with each instruction read once: in a large
+    /// body that is half of the time.
     #[cycle(fits_ranged)]
     pub fn fits_ranged(&self, limit: usize) -> bool
         ensures fits { result ≡ nat_le (depth (op_of self.now)) limit }

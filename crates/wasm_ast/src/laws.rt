@@ -83,7 +83,8 @@ pub fn stores_write_their_bytes()
 
 /// The names of traps, in the order of `Trap`.
 pub fn traps_are_named()
-    ensures names { map trap_name (trap.Unreachable ∷ trap.IntegerDivideByZero ∷ trap.IntegerOverflow
+    ensures names { map trap_name
+        (trap.Unreachable ∷ trap.IntegerDivideByZero ∷ trap.IntegerOverflow
         ∷ trap.OutOfBoundsMemoryAccess ∷ trap.UndefinedElement ∷ trap.UninitializedElement
         ∷ trap.IndirectCallTypeMismatch ∷ trap.Exhausted ∷ trap.TurnLimit ∷ [])
         ≡ codes "unreachable" ∷ codes "integer divide by zero" ∷ codes "integer overflow"
@@ -125,7 +126,8 @@ pub fn types_are_looked_up()
     ensures one { block_type [] (One type.I64)
         ≡ Some (record { params = []; results = type.I64 ∷ [] }) }
     ensures by_index { block_type
-        (record { params = []; results = [] } ∷ record { params = type.I32 ∷ []; results = type.I64 ∷ type.I32 ∷ [] } ∷ [])
+        (record { params = []; results = [] }
+        ∷ record { params = type.I32 ∷ []; results = type.I64 ∷ type.I32 ∷ [] } ∷ [])
         (Index 1) ≡ Some (record { params = type.I32 ∷ []; results = type.I64 ∷ type.I32 ∷ [] }) }
     ensures no_type { block_type [] (Index 0) ≡ None }
     ensures second { type_at (None ∷ Some (record { params = []; results = [] }) ∷ []) 1

@@ -237,7 +237,8 @@ mutual
         mid,
         refl,
         subst (λ bytes. IsBlockType bytes type mid)
-            (sym (three (canon_block_type type) (canon_ops body) (end_byte ∷ []) rest)) (block_type_spells type mid h.0),
+            (sym (three (canon_block_type type) (canon_ops body) (end_byte ∷ []) rest))
+            (block_type_spells type mid h.0),
         ops_spell body (end_byte ∷ rest) h.1
             (three_long (canon_block_type type) (canon_ops body) (end_byte ∷ []) max_module_bytes (omega arith)),
       )
@@ -247,7 +248,8 @@ mutual
         mid,
         refl,
         subst (λ bytes. IsBlockType bytes type mid)
-            (sym (three (canon_block_type type) (canon_ops body) (end_byte ∷ []) rest)) (block_type_spells type mid h.0),
+            (sym (three (canon_block_type type) (canon_ops body) (end_byte ∷ []) rest))
+            (block_type_spells type mid h.0),
         ops_spell body (end_byte ∷ rest) h.1
             (three_long (canon_block_type type) (canon_ops body) (end_byte ∷ []) max_module_bytes (omega arith)),
       )

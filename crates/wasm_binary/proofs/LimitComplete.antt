@@ -417,7 +417,8 @@ too_many bytes m rest i h =
     (over_then (m.imports, rest) (read_section 2 (read_bounded true max_functions 0 read_import) i.from_imports) _
     (imports_complete true m i.from_imports rest i.imports above2)
     (over_first (read_section 3 (read_bounded true max_functions (length m.imports) read_u32) rest) _
-    (section_over 3 (NumberOver max_functions (length m.imports)) (read_bounded true max_functions (length m.imports) read_u32)
+    (section_over 3 (NumberOver max_functions (length m.imports))
+    (read_bounded true max_functions (length m.imports) read_u32)
     (bounded_over max_functions (length m.imports) read_u32) rest h))))
 
 -- ---- groups of sections

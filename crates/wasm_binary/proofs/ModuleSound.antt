@@ -100,7 +100,8 @@ functions_section_sound :
     → ((part : List ℕ) → Sound (λ x. IsX part x.0 x.1) ⊥ (read part)) → before ≤ max_functions
     → (bytes : List ℕ)
     → Sound (λ x. IsSection id IsX bytes x.0 x.1 × (before + length x.0 ≤ max_functions))
-    (InSection id (NumberOver max_functions before) bytes) (read_section id (read_bounded true max_functions before read) bytes)
+    (InSection id (NumberOver max_functions before) bytes)
+    (read_section id (read_bounded true max_functions before read) bytes)
 functions_section_sound id before IsX read each few bytes =
     sound_more
     (part_sound id (λ b ys r. IsVector IsX b ys r × (before + length ys ≤ max_functions))

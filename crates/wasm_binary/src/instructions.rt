@@ -118,8 +118,8 @@ fn is_end(bytes: &[u8]) -> bool
     strip_byte(END, bytes).is_some() || strip_byte(ELSE, bytes).is_some()
 }
 
-// A body begins with memory for this number of instructions. Many have no more, and a vector by itself would begin
-// with memory for twice as many.
+// A body begins with memory for this number of instructions. Many have no more, and a vector by
+// itself would begin with memory for twice as many.
 const FIRST_INSTRS: usize = 2;
 
 // Adds an instruction after all others.

@@ -6,4 +6,5 @@ use Rattle.validator.proofs.labels.have_same_types.Goals as goal
 
 pub returns-then-index-other : goal.returns-then-index-other
 returns-then-index-other c =
-    told_same c.args.labels.now c.args.index c.args.other (ap (slice_get (taken_by c.args.labels.now)) c.if-index-other.true)
+    told_same c.args.labels.now c.args.index c.args.other
+    (ap (slice_get (taken_by c.args.labels.now)) c.if-index-other.true)
