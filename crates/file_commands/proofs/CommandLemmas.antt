@@ -26,15 +26,15 @@ pub named_from_chosen :
     (arguments : List Text) (found : Option (Text × List Row)) → found ≡ command_in arguments → faults_in arguments ≡ []
     → (c : Command) → IsCommand found c × (lacks_task c ≡ false) → Name arguments c
 named_from_chosen arguments found e none (Serve workers scripts explain log) (h, complete) =
-    (none, subst (λ f. IsCommand f (Serve workers scripts explain log)) e h)
+    (none, subst (λ f. IsCommand f (Serve workers scripts explain log)) e h, complete)
 named_from_chosen arguments found e none (Replay file) (h, complete) =
-    (none, subst (λ f. IsCommand f (Replay file)) e h)
+    (none, subst (λ f. IsCommand f (Replay file)) e h, complete)
 named_from_chosen arguments found e none (Asm file explain) (h, complete) =
-    (none, subst (λ f. IsCommand f (Asm file explain)) e h)
+    (none, subst (λ f. IsCommand f (Asm file explain)) e h, complete)
 named_from_chosen arguments found e none (Check file list task memory explain) (h, complete) =
     (none, subst (λ f. IsCommand f (Check file list task memory explain)) e h, complete)
 named_from_chosen arguments found e none (Run name args settings explain) (h, complete) =
-    (none, subst (λ f. IsCommand f (Run name args settings explain)) e h)
+    (none, subst (λ f. IsCommand f (Run name args settings explain)) e h, complete)
 named_from_chosen arguments found e none (Show text) (h, complete) = absurd h
 
 pub named_from_shown :

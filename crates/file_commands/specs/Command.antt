@@ -18,22 +18,21 @@ use Rattle.file_commands.specs.declared.command.CommandError.TheVariants.{OutOfM
 abbrev pub file_rule : Rule
 file_rule = record (new_rule (codes "FILE")) { required = true }
 
--- the flag `--list`
+-- the flag of this name
+abbrev pub flag_rule : (name : Text) → Rule
+flag_rule name = record (new_rule name) { long = Some name; action = Some SetTrue }
+
 abbrev pub list_rule : Rule
-list_rule = record (new_rule (codes "list")) { long = Some (codes "list"); action = Some SetTrue }
+list_rule = flag_rule (codes "list")
 
--- the flag `--explain`
 abbrev pub explain_rule : Rule
-explain_rule =
-    record (new_rule (codes "explain")) { long = Some (codes "explain"); action = Some SetTrue }
+explain_rule = flag_rule (codes "explain")
 
--- the flag `--log`
 abbrev pub log_rule : Rule
-log_rule = record (new_rule (codes "log")) { long = Some (codes "log"); action = Some SetTrue }
+log_rule = flag_rule (codes "log")
 
--- the flag `--task`
 abbrev pub task_rule : Rule
-task_rule = record (new_rule (codes "task")) { long = Some (codes "task"); action = Some SetTrue }
+task_rule = flag_rule (codes "task")
 
 -- the option `--workers`, whose value is a number from 1 to 16
 abbrev pub workers_rule : Rule
@@ -237,19 +236,9 @@ lacks_task other = false
 -- the arguments name this command
 abbrev pub Name : List Text → Command → Type 0
 Name arguments (Show text) = AskToShow arguments
-Name arguments (Serve workers scripts explain log) =
-    (faults_in arguments ≡ [])
-    × IsCommand (command_in arguments) (Serve workers scripts explain log)
-Name arguments (Replay file) =
-    (faults_in arguments ≡ []) × IsCommand (command_in arguments) (Replay file)
-Name arguments (Asm file explain) =
-    (faults_in arguments ≡ []) × IsCommand (command_in arguments) (Asm file explain)
-Name arguments (Check file list task memory explain) =
-    (faults_in arguments ≡ [])
-    × IsCommand (command_in arguments) (Check file list task memory explain)
-    × (lacks_task (Check file list task memory explain) ≡ false)
-Name arguments (Run name args settings explain) =
-    (faults_in arguments ≡ []) × IsCommand (command_in arguments) (Run name args settings explain)
+Name arguments command =
+    (faults_in arguments ≡ []) × IsCommand (command_in arguments) command
+    × (lacks_task command ≡ false)
 
 -- one of the faults of the arguments is no wish for help or the version
 pub record HasFault (arguments : List Text) : Type 0 where
