@@ -274,6 +274,13 @@ const FILES: &[Row] = &[
         status: 3,
     },
     Row {
+        command: "asm --explain m",
+        file: "(module (type (func)) (func (type 0) (drop (i32.const 1))))",
+        out: "",
+        err: "refused 18 BadText line 1 column 38\nwhy: `(drop`: an instruction is not in parentheses: i32.const 1 i32.const 2 i32.add, and block .. end\n",
+        status: 3,
+    },
+    Row {
         command: "run --explain m",
         file: TWO_TYPES,
         out: "",

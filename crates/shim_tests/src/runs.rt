@@ -2,7 +2,7 @@
 
 use crate::checks::{check_bytes, check_text};
 use crate::writers::FailingWriter;
-use shim_service::{Ran, RunError, Settings, run_file, run_streams};
+use shim_service::{Command, Ran, RunError, Settings, perform, run_file, run_streams};
 use std::alloc::{AllocError, Global};
 use std::process::Abort;
 use std::test::Fail;
@@ -259,4 +259,28 @@ fn a_refused_file_is_one_line(rt: HostRuntime) -> Result<(), Fail> {
     check_bytes(&rt, 0, wanted.out.as_slice(), b"");
     check_bytes(&rt, 0, wanted.err.as_slice(), b"refused 18 BadText\n");
     check_ran(&rt, alloc, "(module", &wanted)
+}
+
+#[test]
+fn a_command_names_the_stream_that_failed(rt: HostRuntime) -> Result<(), Fail> {
+    let alloc = rt.alloc();
+    let mut full = FailingWriter::new(alloc, 0);
+    let mut other = FailingWriter::new(alloc, usize::MAX);
+    let show = Command::Show {
+        text: String::from_str(alloc, "x")?,
+    };
+    let shown = perform(alloc, &show, &[], &mut full, &mut other);
+    check_text(
+        &rt,
+        "a text that is shown",
+        cause(&shown),
+        "standard output",
+    );
+    let asm = Command::Asm {
+        file: String::from_str(alloc, "m")?,
+        explain: false,
+    };
+    let refused = perform(alloc, &asm, b"(module", &mut other, &mut full);
+    check_text(&rt, "a refused file", cause(&refused), "standard error");
+    Ok(())
 }
