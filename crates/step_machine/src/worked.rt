@@ -177,7 +177,8 @@ pub fn arms_take_parameters()
 /// A function with two results leaves both, in their order, above what its caller had; a return keeps no
 /// other operand.
 pub fn functions_give_two_results()
-    ensures at_the_end { (after (call_for_two (i32_const 8 ∷ i64_const 9 ∷ [])) bare_process 4).state
+    ensures at_the_end { (after (call_for_two
+        (i32_const 8 ∷ i64_const 9 ∷ [])) bare_process 4).state
         ≡ entered_at 2 (I64 9 ∷ I32 8 ∷ I32 5 ∷ []) (ops_of (drop' ∷ finish)) }
     ensures by_return { (after (call_for_two
         (i32_const 1 ∷ i32_const 8 ∷ i64_const 9 ∷ return' ∷ [])) bare_process 6).state
