@@ -18,6 +18,11 @@ MOST_GROWTH, MOST_SECONDS, BYTES = 2.5, 0.050, 262_144
 LEAST_SECONDS = 0.001
 # A trial is repeated up to this number of times, or until it took so long together; the least time counts.
 REPEATS, ENOUGH_SECONDS, TOO_LONG = 9, 0.5, 5.0
+# A block of 32 MiB and more is asked of the system anew each time, page by page. With these the C library keeps what
+# it has had, so that what grows with them too is the program's own work.
+KEEPS_MEMORY = {"MALLOC_MMAP_THRESHOLD_": str(1 << 30), "MALLOC_TRIM_THRESHOLD_": str(1 << 30)}
+# What is said of a shape: over the limit; growing too fast; and so only where the system gives new memory.
+SLOW, GROWS, MAPS = " SLOW", " GROWS", " MAPS"
 # The bytes of the module that the second reading reads for the number that all sizes of a shape are answered.
 SMALL = 4_096
 
@@ -70,9 +75,9 @@ def of_line(line: bytes) -> Trial:
     return Trial([], line, [line_of(op="gc")], len(line))
 
 
-def timed(program: Path, trial: Trial) -> Timing:
+def timed(program: Path, trial: Trial, environment: dict[str, str] | None = None) -> Timing:
     """The least processor time of the timed line, over some repeats."""
-    session, best, spent, reply = Session(program), float("inf"), 0.0, None
+    session, best, spent, reply = Session(program, environment=environment), float("inf"), 0.0, None
     for _ in range(REPEATS):
         if len(session.ask_all(trial.before)) < len(trial.before):
             break
@@ -104,25 +109,36 @@ def try_shape(program: Path, report: Report, name: str, trials: list[Trial], wan
         timings.append(timing)
         if timing.seconds > TOO_LONG:
             break
-    growths = [second.seconds * first.size / first.seconds / second.size for first, second in zip(timings, timings[1:])]
+    growths = growths_of(timings)
     told = "  ".join(f"{timing.size:>9,} {timing.seconds * 1e3:>9.2f} {timing.seconds * 1e9 / timing.size:>8.1f}"
                      for timing in timings)
     flags = flags_of(timings, growths)
+    if flags == GROWS:
+        again = [timed(program, trial, KEEPS_MEMORY) for trial in trials[:len(timings)]]
+        flags = flags_of(again, growths_of(again)) or MAPS
     print(f"{name:<52} {told}  {' '.join(f'{growth:.2f}' for growth in growths)} {timings[-1].mib:>6.1f}{flags}")
     sys.stdout.flush()
-    if flags:
+    if flags == MAPS:
+        report.add("shapes whose time grows by new memory of the system alone")
+    elif flags:
         last = timings[-1]
         report.fault(f"{name}:{flags.lower()}: {last.seconds * 1e3:.1f} ms for {last.size:,} bytes, growth "
                      + ", ".join(f"{growth:.2f}" for growth in growths))
 
 
+def growths_of(timings: list[Timing]) -> list[float]:
+    """From each size to the next, how many times the time for a byte is there."""
+    return [second.seconds * first.size / first.seconds / second.size for first, second in zip(timings, timings[1:])]
+
+
 def flags_of(timings: list[Timing], growths: list[float]) -> str:
+    """What is wrong with the time of the last size, and with the growth up to it; nothing, if nothing is."""
     last = timings[-1]
     is_slow = last.seconds > MOST_SECONDS * max(1, last.size / BYTES)
     # With two sizes alone, since a third took too long, the growth is that of one doubling.
     most = MOST_GROWTH if len(timings) == 3 else MOST_GROWTH**0.5
     is_fast_growing = len(timings) > 1 and math.prod(growths) > most and last.seconds > LEAST_SECONDS
-    return " SLOW" * is_slow + " GROWS" * is_fast_growing
+    return SLOW * is_slow + GROWS * is_fast_growing
 
 
 def sizes(most: int) -> list[int]:
@@ -159,7 +175,8 @@ def try_lines(program: Path, report: Report) -> None:
 
 def try_growth(program: Path, report: Report) -> None:
     """Prints, for each shape, bytes, milliseconds and nanoseconds a byte at each size, then the growth of the
-    latter from size to size, and the most memory in MiB that the program had."""
+    latter from size to size, and the most memory in MiB that the program had. A shape that grows too fast is timed again
+    with an allocator that keeps its memory: MAPS is said of it, and no fault told, if it does not grow there."""
     print("shape; for each size: bytes, milliseconds, nanoseconds a byte; growth of the last from size to size; MiB")
     try_modules(program, report)
     try_texts(program, report)

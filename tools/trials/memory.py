@@ -16,8 +16,8 @@ from trials.program import OUT_OF_MEMORY, Report, Session, config_of, line_of, t
 
 LIMITS_KIB = range(16 * 1024, 64 * 1024 + 1, 4 * 1024)
 MIB = 1024
-# An entry of the journal, beside the bytes that its request holds, is smaller than this.
-MOST_KEPT_KIB = 4
+# The entries of the journal of up to two requests, beside the bytes that these hold, are smaller than this.
+MOST_KEPT_KIB = 8
 NO_THREAD = b"wasm-shim: the thread of a worker cannot be started\n"
 
 
@@ -118,10 +118,11 @@ def try_kept(program: Path, report: Report) -> None:
         kept = (session.resident() - before) / 40 * 1024
         session.close()
         report.add("kinds of requests whose memory was looked at")
-        most = held / 1024 + MOST_KEPT_KIB
-        print(f"{name}, of {len(lines[0]):,} bytes: {kept:.1f} KiB stay, of at most {most:.1f}")
+        # A list that grew has room for up to the next power of two.
+        most = (1 << (held - 1).bit_length() if held else 0) / 1024 + MOST_KEPT_KIB
+        print(f"{name}, of {len(lines[0]):,} bytes: {kept:.1f} KiB stay, of at most {most:.0f}")
         if kept > most:
-            report.fault(f"{name}, of {len(lines[0]):,} bytes: {kept:.1f} KiB stay with the program, of at most {most:.1f}")
+            report.fault(f"{name}, of {len(lines[0]):,} bytes: {kept:.1f} KiB stay with the program, of at most {most:.0f}")
 
 
 def modules_of_runs() -> list[tuple[bytes, int | None]]:
