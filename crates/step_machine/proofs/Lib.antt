@@ -15,6 +15,7 @@ pub mod InstructionTurns
 pub mod LevelReductions
 pub mod LevelSettling
 pub mod ReachedPlaces
+pub mod MostWords
 pub mod FlatFrames
 pub mod FlatContexts
 pub mod Callables
@@ -50,6 +51,7 @@ pub mod StartLemmas
 pub mod RunTurns
 pub mod RunSteps
 pub mod LocalsThere
+pub mod RoomThere
 pub mod LoopCells
 pub mod SliceLemmas
 pub mod SliceCuts

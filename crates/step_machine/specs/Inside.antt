@@ -13,6 +13,7 @@ pub mod Going
 pub mod Ran
 pub mod UnderWay
 pub mod LocalThere
+pub mod RoomThere
 pub mod Ahead
 pub mod SharedCode
 pub mod Marks
