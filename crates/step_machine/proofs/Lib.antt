@@ -52,7 +52,9 @@ pub mod RunTurns
 pub mod RunSteps
 pub mod LocalsThere
 pub mod RoomThere
+pub mod BaseKept
 pub mod LoopCells
+pub mod LoopRoom
 pub mod SliceLemmas
 pub mod SliceCuts
 pub mod WrittenPlaces

@@ -26,6 +26,7 @@ pub mod laws;
 mod machine;
 mod needed_memory;
 mod process_texts;
+mod room;
 mod run_loop;
 mod settle;
 mod shown;
