@@ -2,6 +2,7 @@ pub mod Powers
 pub mod Utf8
 pub mod FirstByte
 pub mod ItemLoop
+pub mod IndexCounts
 pub mod ReadLoops
 pub mod ReadSound
 pub mod InstrSound

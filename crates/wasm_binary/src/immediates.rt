@@ -1,13 +1,15 @@
 //! Readers of what follows the opcodes of instructions without bodies (5.4).
 
-ghost use Rattle.std.specs.Prelude.{◌≡◌};
+ghost use Rattle.std.specs.Prelude.{◌≡◌, Err};
 ghost use Rattle.wasm_ast.specs.declared.instr.Simple.TheVariants.{Load, Store};
-ghost use Rattle.wasm_binary.specs.Inside.Reading.{Gives, read_mem_arg, with_index, read_index, read_reserved, read_call_indirect, read_const, read_br_table, no_offset, read_immediates};
+ghost use Rattle.wasm_binary.specs.declared.fault.Fault.TheVariants.{Bad};
+ghost use Rattle.wasm_binary.specs.declared.fault.ReadError.TheVariants as errors;
+ghost use Rattle.wasm_binary.specs.Inside.Reading.{CountsMore, Gives, read_mem_arg, with_index, read_index, read_reserved, read_call_indirect, read_const, read_br_table, no_offset, read_immediates};
 
 use crate::fault::ReadError;
 use crate::numbers::{read_s32, read_s64, read_u32, skip_byte};
 use crate::opcodes::RESERVED;
-use crate::vectors::read_vector;
+use crate::vectors::read_indices;
 use std::alloc::Global;
 use wasm_ast::{Labels, LoadOp, MemArg, Simple, StoreOp, Value};
 
@@ -65,12 +67,13 @@ pub fn read_call_indirect(bytes: &[u8]) -> Result<(Simple, &[u8]), ReadError>
     read_reserved(Simple::CallIndirect(index), rest)
 }
 
-/// A `br_table`, and the rest.
+/// A `br_table`, and the rest. A count of more labels than there are bytes left takes no memory.
 #[tactic(auto, unfolding(crate::specs::Inside::Reading::read_br_table))]
 pub fn read_br_table(alloc: Global, bytes: &[u8]) -> Result<(Simple, &[u8]), ReadError>
-    ensures { Gives (λ x. (x.0, x.1.now)) result (read_br_table bytes.now) }
+    ensures value { Gives (λ x. (x.0, x.1.now)) result (read_br_table bytes.now) }
+    ensures count { CountsMore bytes.now → result ≡ Err (errors.Fault Bad) }
 {
-    let (labels, rest) = read_vector(alloc, bytes)?;
+    let (labels, rest) = read_indices(alloc, bytes)?;
     let (other, rest) = read_u32(rest)?;
     Ok((Simple::BrTable(Labels::new(alloc, labels)?, other), rest))
 }

@@ -8,7 +8,7 @@ use crate::instructions::read_expression;
 use crate::numbers::{read_byte, read_byte_vector, read_u32, skip_byte};
 use crate::opcodes::{CONST, FUNC_KIND, GLOBAL_KIND, MEMORY_KIND, TABLE_KIND, TABLE_TYPE, VAR};
 use crate::types::{read_limits, read_name, read_val_type};
-use crate::vectors::{Decode, read_vector};
+use crate::vectors::{Decode, read_indices};
 use std::alloc::Global;
 use wasm_ast;
 use wasm_ast::{
@@ -138,7 +138,7 @@ impl Decode for Element {
     #[tactic(auto, unfolding(crate::specs::Inside::Reading::read_element))]
     fn read(alloc: Global, bytes: &[u8]) -> Result<(Element, &[u8]), ReadError> {
         let ((table, offset), rest) = read_place(alloc, bytes)?;
-        let (funcs, rest) = read_vector(alloc, rest)?;
+        let (funcs, rest) = read_indices(alloc, rest)?;
         let funcs = Sequence::new(funcs);
         Ok((
             Element {

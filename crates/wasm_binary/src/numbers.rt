@@ -1,6 +1,7 @@
 //! Readers of bytes, of numbers (5.2.2) and of parts of the input.
 
-ghost use Rattle.std.specs.Prelude.{◌≡◌, ℕ, ◌<◌, ◌≤◌, ◌^◌, Bool, true, false, length, take, drop, MatchOption, IfOk};
+ghost use Rattle.std.specs.Prelude.{◌≡◌, ◌≢◌, ℕ, ◌<◌, ◌≤◌, ◌^◌, Bool, true, false, length, take, drop, Err, MatchOption, IfOk};
+ghost use Rattle.wasm_binary.specs.declared.fault.ReadError.TheVariants as errors;
 ghost use Rattle.wasm_binary.specs.Inside.Reading.{Gives, read_byte, begins_with, skip_byte, read_byte_vector, read_unsigned, read_last_unsigned, read_last_signed, read_signed, read_u32, skip_exact};
 
 use crate::fault::{Fault, ReadError};
@@ -10,6 +11,7 @@ use crate::fault::{Fault, ReadError};
 pub fn read_byte(bytes: &[u8]) -> Result<(u8, &[u8]), ReadError>
     ensures value { Gives (λ x. (x.0, x.1.now)) result (read_byte bytes.now) }
     ensures small { IfOk result (λ x. x.0 < 2 ^ 8) }
+    ensures no_memory { result ≢ Err errors.Memory }
 {
     match bytes {
         [] => Err(ReadError::Fault(Fault::Bad)),
@@ -46,6 +48,7 @@ fn read_unsigned(bits: u32, bytes: &[u8]) -> Result<(u64, &[u8]), ReadError>
     requires { (0 < bits) × (bits ≤ 64) }
     ensures value { Gives (λ x. (x.0, x.1.now)) result (read_unsigned bits bytes.now) }
     ensures small { IfOk result (λ x. x.0 < 2 ^ bits) }
+    ensures no_memory { result ≢ Err errors.Memory }
 {
     let (first, rest) = read_byte(bytes)?;
     if first < 128 {
@@ -64,6 +67,7 @@ fn read_last_unsigned(bits: u32, byte: u8) -> Result<u64, ReadError>
     requires { byte < 128 }
     ensures value { Gives (λ x. x) result (read_last_unsigned bits byte) }
     ensures small { IfOk result (λ x. x < 2 ^ bits) }
+    ensures no_memory { result ≢ Err errors.Memory }
 {
     let last = u64::from(byte);
     if bits >= 7 {
@@ -119,7 +123,8 @@ fn read_last_signed(bits: u32, byte: u8) -> Result<u64, ReadError>
 /// An unsigned number of 32 bits, and the rest. Most take one byte.
 #[tactic(auto, unfolding(crate::specs::Inside::Reading::read_u32, crate::specs::Inside::Reading::read_unsigned, crate::specs::Inside::Reading::read_last_unsigned))]
 pub fn read_u32(bytes: &[u8]) -> Result<(u32, &[u8]), ReadError>
-    ensures { Gives (λ x. (x.0, x.1.now)) result (read_u32 bytes.now) }
+    ensures value { Gives (λ x. (x.0, x.1.now)) result (read_u32 bytes.now) }
+    ensures no_memory { result ≢ Err errors.Memory }
 {
     if let [first, rest @ ..] = bytes {
         if *first < 128 {

@@ -1,7 +1,9 @@
 //! One reader of lists, for whatever items (5.1.3).
 
-ghost use Rattle.std.specs.Prelude.{◌≡◌, ◌≤◌, ℕ, List, true, length};
-ghost use Rattle.wasm_binary.specs.Inside.Reading.{Gives, Read, read_items, read_vector, read_bounded, read_u32};
+ghost use Rattle.std.specs.Prelude.{◌≡◌, ◌≤◌, ℕ, List, Err, true, length};
+ghost use Rattle.wasm_binary.specs.declared.fault.Fault.TheVariants.{Bad};
+ghost use Rattle.wasm_binary.specs.declared.fault.ReadError.TheVariants as errors;
+ghost use Rattle.wasm_binary.specs.Inside.Reading.{CountsMore, Gives, Read, read_items, read_vector, read_bounded, read_u32};
 
 use crate::fault::{Fault, ReadError};
 use crate::numbers::read_u32;
@@ -44,6 +46,20 @@ pub fn read_vector<T: Decode + Drop>(
     ensures { Gives (λ x. (x.0.items, x.1.now)) result (read_vector T.reading bytes.now) }
 {
     let (count, rest) = read_u32(bytes)?;
+    read_items(alloc, count, rest)
+}
+
+/// A vector of indices, and the rest. A count of more of them than there are bytes left is told before
+/// memory is taken.
+#[tactic(auto, unfolding(crate::specs::Inside::Reading::read_vector))]
+pub fn read_indices(alloc: Global, bytes: &[u8]) -> Result<(Vec<u32>, &[u8]), ReadError>
+    ensures value { Gives (λ x. (x.0.items, x.1.now)) result (read_vector read_u32 bytes.now) }
+    ensures count { CountsMore bytes.now → result ≡ Err (errors.Fault Bad) }
+{
+    let (count, rest) = read_u32(bytes)?;
+    if rest.len() < count as usize {
+        return Err(ReadError::Fault(Fault::Bad));
+    }
     read_items(alloc, count, rest)
 }
 

@@ -1,7 +1,7 @@
 -- The grammar read from the front: a plain reader of each form, which answers what is encoded and the rest,
 -- or the first fault that it meets. The private functions of the crate promise what these give; no public
 -- clause names them. A reader is limited, as the decoder is, or tests no limit of modules.
-use Rattle.std.specs.Prelude.{◌≡◌, ℕ, zero, suc, ◌+◌, ◌-◌, ◌*◌, ◌^◌, List, [], ◌∷◌, ◌++◌, length, take, drop, replicate, Result, Ok, Err, Option, Some, None, Bool, true, false, ◌&&◌, ◌||◌, nat_lt, ◌==◌, if◌then◌else◌}
+use Rattle.std.specs.Prelude.{◌≡◌, ◌<◌, ℕ, zero, suc, ◌+◌, ◌-◌, ◌*◌, ◌^◌, List, [], ◌∷◌, ◌++◌, length, take, drop, replicate, Result, Ok, Err, Option, Some, None, Bool, true, false, ◌&&◌, ◌||◌, nat_lt, ◌==◌, if◌then◌else◌}
 use Rattle.std.specs.Str.{is_utf8, bytes_eq}
 use Rattle.wasm_ast.specs.declared.values.ValType.{ValType}
 use Rattle.wasm_ast.specs.declared.values.ValType.TheVariants as type
@@ -137,6 +137,11 @@ unfoldable pub read_vector : {X : Type 0} → (List ℕ → Read X) → List ℕ
 read_vector read bytes = do
   n ← read_u32 bytes
   read_items read n.0 n.1
+
+-- they count more items than there are bytes left, where each item takes a byte or more
+abbrev pub CountsMore : List ℕ → Type 0
+CountsMore bytes =
+    (n : ℕ) × (rest : List ℕ) × (read_u32 bytes ≡ Ok (n, rest)) × (length rest < n)
 
 -- a vector whose count, together with this many before it, may not be over this limit
 unfoldable pub read_bounded :

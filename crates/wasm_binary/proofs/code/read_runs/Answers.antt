@@ -10,13 +10,13 @@ returns-in_err-n c =
     rw (p.1, p.2)
     (run_count_fails c.in_err-n.field-0.0 c.loop.items.items c.loop.before c.args.count c.loop.counter
     c.loop.rest.now (read_runs true c.args.params c.args.count c.args.bytes.now) c.loop-test.true
-    c.in_err-n.ensures c.loop.invariant.same)
+    c.in_err-n.ensures.value c.loop.invariant.same)
 
 pub returns-then-n-before : goal.returns-then-n-before
 returns-then-n-before c =
     run_over c.loop.items.items c.loop.before c.args.count c.loop.counter c.loop.rest.now c.in_ok-n.n
     c.in_ok-n.from_type.now (read_runs true c.args.params c.args.count c.args.bytes.now) c.loop-test.true
-    c.in_ok-n.ensures (omega arith) c.loop.invariant.same
+    c.in_ok-n.ensures.value (omega arith) c.loop.invariant.same
 
 pub returns-in_err-t : goal.returns-in_err-t
 returns-in_err-t c =
@@ -24,7 +24,7 @@ returns-in_err-t c =
     rw (p.1, p.2)
     (run_type_fails c.in_err-t.field-0.0 c.loop.items.items c.loop.before c.args.count c.loop.counter
     c.loop.rest.now c.in_ok-n.n c.in_ok-n.from_type.now
-    (read_runs true c.args.params c.args.count c.args.bytes.now) c.loop-test.true c.in_ok-n.ensures
+    (read_runs true c.args.params c.args.count c.args.bytes.now) c.loop-test.true c.in_ok-n.ensures.value
     (omega arith) c.in_err-t.ensures c.loop.invariant.same)
 
 pub loop-preserved : goal.loop-preserved
@@ -34,7 +34,7 @@ loop-preserved c = record {
       rw c.in_ok-push_run.ensures
       (run_goes_on c.loop.items.items c.loop.before c.args.count c.loop.counter c.loop.rest.now c.in_ok-n.n
       c.in_ok-n.from_type.now c.in_ok-t.t c.in_ok-t.next.now
-      (read_runs true c.args.params c.args.count c.args.bytes.now) c.loop-test.true c.in_ok-n.ensures
+      (read_runs true c.args.params c.args.count c.args.bytes.now) c.loop-test.true c.in_ok-n.ensures.value
       (omega arith) c.in_ok-t.ensures c.loop.invariant.same);
 }
 
