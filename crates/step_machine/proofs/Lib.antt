@@ -41,6 +41,7 @@ pub mod FlatIfs
 pub mod FlatJumps
 pub mod FlatTurns
 pub mod FlatGoing
+pub mod FunctionKept
 pub mod SettleLemmas
 pub mod FlatBreaks
 pub mod MachineLemmas
