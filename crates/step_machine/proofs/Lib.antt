@@ -58,6 +58,7 @@ pub mod LoopCells
 pub mod LoopRoom
 pub mod SliceLemmas
 pub mod SliceCuts
+pub mod SliceRests
 pub mod WrittenPlaces
 pub mod CoveredPlaces
 pub mod ValueLimit
