@@ -56,6 +56,7 @@ pub mod RoomThere
 pub mod BaseKept
 pub mod LoopCells
 pub mod LoopRoom
+pub mod FreeCells
 pub mod SliceLemmas
 pub mod SliceCuts
 pub mod SliceRests

@@ -3,7 +3,7 @@
 ghost use Rattle.std.specs.Prelude.{IsTrue, ◌↔◌, ◌≡◌, ◌≤◌, ◌<◌, IfOk, [], true, false, length, vec_len};
 ghost use Rattle.step_machine.specs.Limits.{max_breakpoints};
 ghost use Rattle.step_machine.specs.Slices.{is_among};
-ghost use Rattle.step_machine.specs.Inside.Marks.{mark_of, AreMarked, row_of, AreInRows};
+ghost use Rattle.step_machine.specs.Inside.Marks.{mark_of, AreMarked, row_of, AreInRows, function_mark_of, AreInFunctions, IsFree};
 
 use std::alloc::{AllocError, Global};
 use std::marker::Model;
@@ -187,6 +187,67 @@ impl<'a> MarkedBreaks<'a> {
     {
         self.breaks.has(place.func, u64::from(place.instr))
     }
+}
+
+/// How many functions are told apart. Each takes a byte.
+const FUNCTIONS: usize = 2048;
+
+/// The number of a function's mark.
+#[inline(always)]
+fn function_of(func: u32) -> usize
+    ensures is { result ≡ function_mark_of func }
+    ensures inside { result < 2048 }
+{
+    (func % 2048) as usize
+}
+
+/// Breakpoints, and which functions have one: a look at its function's mark tells of most functions that
+/// they have none. Contracts see the breakpoints' places.
+#[derive(Drop)]
+pub struct BreakFunctions<'a> {
+    breaks: &'a Breaks,
+    marks: [bool; FUNCTIONS],
+}
+
+impl<'a> Model for BreakFunctions<'a> {
+    ghost use Rattle.std.specs.Prelude.{List};
+    ghost use Rattle.step_machine.specs.Inside.Marks.{AreInFunctions};
+    ghost use Rattle.wasm_ast.specs.declared.place.Place.{Place};
+
+    ghost Value = { List Place };
+
+    ghost view = { λ b. b.breaks.now };
+
+    ghost invariant = { λ b. AreInFunctions b.breaks.now b.marks };
+}
+
+impl<'a> BreakFunctions<'a> {
+    /// Marks the functions of breakpoints. No memory is taken.
+    pub fn new(breaks: &'a Breaks) -> BreakFunctions<'a>
+        ensures { result ≡ breaks.now }
+    {
+        let marks = functions_of(breaks.as_slice());
+        BreakFunctions { breaks, marks }
+    }
+
+    /// Whether a function may have one: it does if it has one.
+    #[inline(always)]
+    pub fn may_have(&self, func: u32) -> bool
+        ensures { result ≡ false → IsFree self.now func }
+    {
+        self.marks[function_of(func)]
+    }
+}
+
+// The marks of these places' functions.
+fn functions_of(places: &[Place]) -> [bool; FUNCTIONS]
+    ensures { AreInFunctions places.now result }
+{
+    let mut marks = [false; FUNCTIONS];
+    for place in places {
+        marks[function_of(place.func)] = true;
+    }
+    marks
 }
 
 // The rows of these places.
