@@ -60,6 +60,7 @@ pub mod FreeCells
 pub mod SliceLemmas
 pub mod SliceCuts
 pub mod SliceRests
+pub mod SliceParts
 pub mod WrittenPlaces
 pub mod CoveredPlaces
 pub mod ValueLimit

@@ -121,44 +121,62 @@ fn row_of(place: Place) -> usize
 }
 
 /// Breakpoints, and which rows and marks theirs are: a look at its row tells of most places that they are
-/// none, and one at its mark of most others. Contracts see the breakpoints' places.
+/// none, and one at its mark of most others. Functions that have none are left to another loop, until the
+/// breakpoints stay for all. Contracts see their places, and whether functions are left.
 #[derive(Drop)]
 pub struct MarkedBreaks<'a> {
     breaks: &'a Breaks,
+    functions: &'a BreakFunctions<'a>,
+    leaves: bool,
     rows: [bool; ROWS],
     marks: [bool; MARKS],
 }
 
 impl<'a> Model for MarkedBreaks<'a> {
-    ghost use Rattle.std.specs.Prelude.{List};
-    ghost use Rattle.step_machine.specs.Inside.Marks.{AreMarked, AreInRows};
-    ghost use Rattle.wasm_ast.specs.declared.place.Place.{Place};
+    ghost use Rattle.step_machine.specs.Inside.Marks.{AreMarked, AreInRows, MarkedView};
 
-    ghost Value = { List Place };
+    ghost Value = { MarkedView };
 
-    ghost view = { λ b. b.breaks.now };
+    ghost view = { λ b. record { places = b.breaks.now; leaves = b.leaves } };
 
     ghost invariant = { λ b. AreInRows b.breaks.now b.rows × AreMarked b.breaks.now b.marks };
 }
 
 impl<'a> MarkedBreaks<'a> {
-    /// Marks breakpoints. No memory is taken.
-    pub fn new(breaks: &'a Breaks) -> MarkedBreaks<'a>
-        ensures { result ≡ breaks.now }
+    /// Marks breakpoints. Functions that have none are left. No memory is taken.
+    pub fn new(breaks: &'a Breaks, functions: &'a BreakFunctions<'a>) -> MarkedBreaks<'a>
+        ensures { result ≡ record { places = breaks.now; leaves = true } }
     {
         let rows = rows_of(breaks.as_slice());
         let marks = marks_of(breaks.as_slice());
         MarkedBreaks {
             breaks,
+            functions,
+            leaves: true,
             rows,
             marks,
         }
     }
 
+    /// No function is left any more.
+    pub fn stay(&mut self)
+        ensures { self.new ≡ record self.old { leaves = false } }
+    {
+        self.leaves = false;
+    }
+
+    /// Whether a function is left: only one that has none.
+    #[inline(always)]
+    pub fn leaves(&self, func: u32) -> bool
+        ensures { result ≡ true → self.now.leaves ≡ true }
+    {
+        self.leaves && !self.functions.may_have(func)
+    }
+
     /// Whether one of them is this place.
     #[inline(always)]
     pub fn has(&self, place: Place) -> bool
-        ensures { result ≡ is_among self.now place.func place.instr }
+        ensures { result ≡ is_among self.now.places place.func place.instr }
     {
         if self.rows[row_of(place)] {
             self.is_marked(place)
@@ -170,7 +188,7 @@ impl<'a> MarkedBreaks<'a> {
     // No call: many breakpoints set the rows of many instructions that are elsewhere.
     #[inline(always)]
     fn is_marked(&self, place: Place) -> bool
-        ensures { result ≡ is_among self.now place.func place.instr }
+        ensures { result ≡ is_among self.now.places place.func place.instr }
     {
         if self.marks[mark_of(place)] {
             self.is_listed(place)
@@ -183,7 +201,7 @@ impl<'a> MarkedBreaks<'a> {
     #[cold]
     #[inline(never)]
     fn is_listed(&self, place: Place) -> bool
-        ensures { result ≡ is_among self.now place.func place.instr }
+        ensures { result ≡ is_among self.now.places place.func place.instr }
     {
         self.breaks.has(place.func, u64::from(place.instr))
     }
