@@ -1,6 +1,6 @@
 //! A memory.
 
-ghost use Rattle.std.specs.Prelude.{◌≡◌, ◌≤◌, ◌<◌, ◌*◌, ◌^◌, ◌++◌, All, IfSome, Some, length, option_map, replicate};
+ghost use Rattle.std.specs.Prelude.{◌≡◌, ◌≤◌, ◌<◌, ◌*◌, ◌^◌, ◌++◌, All, IfSome, Some, length, option_map, replicate, true, false};
 ghost use Rattle.linear_memory.specs.Memory.{new_memory, page_bytes, max_pages, is_inside, read_at, written_at, byte_count, loaded, stored, grown, grow_result};
 
 use crate::width::Width;
@@ -160,8 +160,22 @@ impl LinearMemory {
         ensures inside { result ≡ is_inside self.old address (byte_count width) }
         ensures written { self.new ≡ stored self.old address width number }
     {
+        if self.store_near(address, width, number) {
+            return true;
+        }
+        self.store_far(address, width, number)
+    }
+
+    /// The same, if all its bytes are among those that are written; false, with nothing changed, of any other.
+    #[inline(always)]
+    pub fn store_near(&mut self, address: u64, width: Width, number: u64) -> bool
+        ensures stored { result ≡ true
+            → (is_inside self.old address (byte_count width) ≡ true)
+            × (self.new ≡ stored self.old address width number) }
+        ensures stays { result ≡ false → self.new ≡ self.old }
+    {
         if address.saturating_add(width.bytes() as u64) > self.bytes.len() as u64 {
-            return self.store_far(address, width, number);
+            return false;
         }
         let at = address as usize;
         store_word(self.bytes.as_mut_slice(), at, width, number);
