@@ -53,6 +53,7 @@ pub mod RunTurns
 pub mod RunSteps
 pub mod LocalsThere
 pub mod RoomThere
+pub mod OperandsThere
 pub mod BaseKept
 pub mod LoopCells
 pub mod LoopRoom

@@ -14,6 +14,7 @@ pub mod Ran
 pub mod UnderWay
 pub mod LocalThere
 pub mod RoomThere
+pub mod OperandsThere
 pub mod Ahead
 pub mod SharedCode
 pub mod Marks
