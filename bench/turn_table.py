@@ -7,7 +7,8 @@ It reads `objdump -d` and the jump table of each loop: one for slices without br
 them. An arm's way is the shortest one from its entry in the table to the next jump through the table, in machine
 instructions; calls count as 100, so that a way with a call is taken only where there is no other. It prints, for each way,
 its machine instructions, how many of them load, store and branch, and how many of the branches are taken on that way, the
-jump through the table included. `br_if` has two ways; `return` is a branch and the end of a body, which takes no turn.
+jump through the table included. `br_if` has two ways. Of branches it reads those that keep no operand, which have their
+target in their cell; `return` is a branch and the end of a body, which takes no turn.
 No program is run, so what the processor makes of the code does not show.
 """
 import heapq
@@ -21,11 +22,11 @@ from shared import TOP, arguments
 CELLS = os.path.join(TOP, "crates/flat_code/src/cell.rt")
 ROWS = (("local.get", "LocalGet"), ("local.set", "LocalSet"), ("local.tee", "LocalTee"), ("i32.const", "Const32"),
         ("i32.add", "I32Add"), ("i32.load", "LoadI32"), ("i32.store", "StoreI32"), ("block", "Pass"),
-        ("br_if, goes on", "JumpIf"), ("br_if, branches", "JumpIf"), ("br", "Jump"), ("call", "Call"),
+        ("br_if, goes on", "ShortJumpIf"), ("br_if, branches", "ShortJumpIf"), ("br", "ShortJump"), ("call", "Call"),
         ("end of a body", "Leave"))
 LINE = re.compile(r"^\s*([0-9a-f]+):\s+(\S+)\s*(.*?)\s*(?:#\s*([0-9a-f]+) .*)?$")
-# A branch that is made reads its target, a record of 12 bytes.
-TARGET = re.compile(r"\((%\w+),\1,2\)")
+# A branch that is made reads its height, two bytes at offset 2 of its cell.
+TARGET = re.compile(r"movzw[lq] 0x2\(")
 LARGE = 100
 
 
@@ -123,7 +124,7 @@ def way(code, where, start, branches):
             continue
         done.add((index, has_target))
         _, name, operands, _ = code[index]
-        reads_target = bool(TARGET.search(operands))
+        reads_target = bool(TARGET.match(name + " " + operands))
         if branches is False and reads_target:
             continue
         has_target = has_target or branches is False or reads_target
