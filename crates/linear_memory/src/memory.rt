@@ -166,7 +166,8 @@ impl LinearMemory {
         self.store_far(address, width, number)
     }
 
-    /// The same, if all its bytes are among those that are written; false, with nothing changed, of any other.
+    /// The same, if all its bytes are among those that are written. False, with nothing changed,
+    /// says nothing of it.
     #[inline(always)]
     pub fn store_near(&mut self, address: u64, width: Width, number: u64) -> bool
         ensures stored { result ≡ true
