@@ -3,6 +3,7 @@ pub mod ListLemmas
 pub mod MarkLemmas
 pub mod ResultLemmas
 pub mod TurnLemmas
+pub mod TurnsMade
 pub mod LastTurn
 pub mod OutputLemmas
 pub mod SettleTerminates
@@ -42,6 +43,7 @@ pub mod FlatJumps
 pub mod FlatTurns
 pub mod FlatGoing
 pub mod FunctionKept
+pub mod FusedTurns
 pub mod SettleLemmas
 pub mod FlatBreaks
 pub mod MachineLemmas

@@ -3,7 +3,6 @@
 //! Sections are those of the WebAssembly Core Specification 1.0.
 #![tactic(auto)]
 
-mod ahead;
 mod breaks;
 mod callee;
 mod callees;
@@ -18,13 +17,16 @@ mod do_variables;
 mod ends;
 mod first_data;
 mod flat_module;
+mod follows;
 mod frames;
+mod groups;
 mod host_calls;
 mod instantiate;
 mod kept;
 pub mod laws;
 mod machine;
 mod needed_memory;
+mod parts;
 mod process_texts;
 mod room;
 mod run_loop;
