@@ -3,8 +3,8 @@
 
     bench/turn_table.py [PROGRAM]
 
-It reads `objdump -d` and the jump table of each loop: one for slices without breakpoints and one for those that look for
-them. An arm's way is the shortest one from its entry in the table to the next jump through the table, in machine
+It reads `objdump -d` and the jump table of each loop: those that look at no turn, and the one that looks at each for
+breakpoints. An arm's way is the shortest one from its entry in the table to the next jump through the table, in machine
 instructions; calls count as 100, so that a way with a call is taken only where there is no other. It prints, for each way,
 its machine instructions, how many of them load, store and branch, and how many of the branches are taken on that way, the
 jump through the table included. `br_if` has two ways. Of branches it reads those that keep no operand, which have their
@@ -24,6 +24,8 @@ ROWS = (("local.get", "LocalGet"), ("local.set", "LocalSet"), ("local.tee", "Loc
         ("i32.add", "I32Add"), ("i32.load", "LoadI32"), ("i32.store", "StoreI32"), ("block", "Pass"),
         ("br_if, goes on", "ShortJumpIf"), ("br_if, branches", "ShortJumpIf"), ("br", "ShortJump"), ("call", "Call"),
         ("end of a body", "Leave"))
+# The copies of the loop are compiled as functions of their own.
+LOOP = "::run_loop::run_loop"
 LINE = re.compile(r"^\s*([0-9a-f]+):\s+(\S+)\s*(.*?)\s*(?:#\s*([0-9a-f]+) .*)?$")
 # A branch that is made reads its height, two bytes at offset 2 of its cell.
 TARGET = re.compile(r"movzw[lq] 0x2\(")
@@ -62,26 +64,24 @@ def read_only(program):
 
 
 def table_in(code, where, data, count):
-    """The entries of the function's jump table of this number of arms, if it jumps by the tag of a cell."""
+    """The address of the function's jump table of this number of arms, and its entries; none if it has no such table."""
     start, held = data
-    if not any(is_dispatch(code, index) for index in range(len(code))):
-        return None
     for named in {it[3] for it in code if it[1].startswith("lea") and it[3]}:
         at = named - start
         if not 0 <= at <= len(held) - 4 * count:
             continue
         entries = [named + it for it in struct.unpack_from("<%di" % count, held, at)]
         if all(it in where for it in entries):
-            return entries
-    return None
+            return named, entries
+    return None, []
 
 
-def is_dispatch(code, index):
-    """Whether this jump goes by the tag of a cell, which is read shortly before it."""
+def is_dispatch(code, index, table):
+    """Whether this jump goes by the tag of a cell: by this table, or by a byte of a row of cells, read shortly before it."""
     if not code[index][1].startswith("jmp") or not code[index][2].startswith("*%"):
         return False
     before = code[max(0, index - 12):index]
-    return any(it[1].startswith("movzb") and ",8)" in it[2] for it in before)
+    return any(it[3] == table or it[1].startswith("movzb") and ",8)" in it[2] for it in before)
 
 
 def is_jump(name):
@@ -114,7 +114,7 @@ def accesses(name, operands):
     return (0, 1) if name.startswith(("mov", "set", "vmov")) else (1, 1)
 
 
-def way(code, where, start, branches):
+def way(code, where, start, table, branches):
     """The shortest way to a jump by a tag, as counts; by a branch's target or not, or either."""
     first = where[start]
     queue, done = [(0, first, branches is None, ())], set()
@@ -128,7 +128,7 @@ def way(code, where, start, branches):
         if branches is False and reads_target:
             continue
         has_target = has_target or branches is False or reads_target
-        if is_dispatch(code, index):
+        if is_dispatch(code, index, table):
             if has_target:
                 return counted(code, path + ((index, True),))
             continue
@@ -152,15 +152,17 @@ def main():
     program, _ = arguments(0)
     names, data = variants(), read_only(program)
     for name, code in functions(program):
+        if LOOP not in name:
+            continue
         where = {it[0]: index for index, it in enumerate(code)}
-        entries = table_in(code, where, data, len(names))
+        table, entries = table_in(code, where, data, len(names))
         if not entries:
             continue
         print("%s: %d machine instructions, %d arms" % (name, len(code), len(names)))
         print("%-16s %12s %6s %6s %9s %6s" % ("", "instructions", "loads", "stores", "branches", "taken"))
         for row, cell in ROWS:
             branches = {"br_if, goes on": False, "br_if, branches": True}.get(row)
-            found = way(code, where, entries[names.index(cell)], branches)
+            found = way(code, where, entries[names.index(cell)], table, branches)
             if found:
                 print("%-16s %12d %6d %6d %9d %6d" % ((row,) + found))
             else:
