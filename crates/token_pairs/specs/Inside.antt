@@ -1,0 +1,2 @@
+-- What only private clauses and invariants name.
+pub mod Halves
