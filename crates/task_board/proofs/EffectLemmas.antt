@@ -383,13 +383,27 @@ marks_idle (mark.Remove p) Pausing h = cc
 marks_idle (mark.Remove p) Paused h = refl
 marks_idle (mark.Remove p) Stopped h = cc
 
-not_out : (o : Option ℕ) (b : Bool) → (is_some o ≡ true → b ≡ true) → b ≡ false → o ≡ None
+pub not_out : (o : Option ℕ) (b : Bool) → (is_some o ≡ true → b ≡ true) → b ≡ false → o ≡ None
 not_out None b h off = refl
 not_out (Some n) b h off = absurd (true≢false (sym (h refl) ∙ off))
 
 pub marked_idle :
     (creates : ℕ) (m : Mark) (t : Task) → IsSound creates t → allowed (mark_call m) t.status ≡ true → t.out ≡ None
 marked_idle creates m t h can = not_out t.out (takes_turns t.status) h.out (marks_idle m t.status can)
+
+-- nor was it before
+steps_idle : (status : Status) → allowed call.Step status ≡ true → takes_turns status ≡ false
+steps_idle Created h = refl
+steps_idle Running h = cc
+steps_idle Pausing h = cc
+steps_idle Paused h = refl
+steps_idle Stopped h = refl
+
+pub was_idle :
+    (creates : ℕ) (q : Request) (id : List ℕ) (t t' : Task) → IsSound creates t → Alters q id t t' → t.out ≡ None
+was_idle creates q id t t' h (marks m none is) = marked_idle creates m t h (mark_allowed m t none)
+was_idle creates q id t t' h (takes_steps count asked can is) =
+    not_out t.out (takes_turns t.status) h.out (steps_idle t.status can)
 
 pub altered_idle :
     (creates : ℕ) (q : Request) (id : List ℕ) (t t' : Task) → IsSound creates t → Alters q id t t' → t'.out ≡ None

@@ -21,3 +21,4 @@ pub mod AdvanceLemmas
 pub mod StepTurns
 pub mod PlaceLemmas
 pub mod HeldLemmas
+pub mod LoanStays

@@ -214,7 +214,7 @@ change_other_by t old k j es us d there same other (inr one) =
     ap (λ (x : List ℕ). entry_of x es) (sym one.2) ∙ entry_at j one.0 es d one.1 in
     absurd (other (ap (λ (e : ℕ × Task). e.0) (some_is (j, one.0) (k, old) (sym b ∙ a))))
 
-change_other :
+pub change_other :
     (t old : Task) (k j : ℕ) (es : Entries) → AreDistinct (ids_of es) → task_in k es ≡ Some old → old.id ≡ t.id → j ≢ k
     → task_in j (change_task t es) ≡ task_in j es
 change_other t old k j es d there same other =

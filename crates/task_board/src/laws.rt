@@ -13,9 +13,10 @@ ghost use Rattle.wasm_ast.specs.declared.refusal.Refusal.{Refusal as Reason};
 ghost use Rattle.task_requests.specs.declared.event.Event.{Event};
 ghost use Rattle.task_requests.specs.declared.event.Event.TheVariants as event;
 ghost use Rattle.task_requests.specs.declared.event.EventReply.{EventReply};
+ghost use Rattle.task_requests.specs.declared.event.EventReply.TheVariants as answer;
 ghost use Rattle.task_requests.specs.declared.request.Request.TheVariants as request;
 ghost use Rattle.content_leases.specs.StoreState.{content_in, is_leased, is_held};
-ghost use Rattle.task_board.specs.BoardState.{Task, BoardState, empty, used_by, task_in};
+ghost use Rattle.task_board.specs.BoardState.{Task, Entries, BoardState, empty, used_by, task_in};
 ghost use Rattle.task_board.specs.Choices.{IsDetermined, AgreeOnCreate, AgreeOnText};
 ghost use Rattle.task_lifecycle.specs.declared.status.Signal.{Signal as SignalValue};
 ghost use Rattle.task_lifecycle.specs.declared.status.ExitRecord.{ExitRecord as RecordValue};
@@ -28,7 +29,10 @@ ghost use Rattle.task_board.specs.Refusals.{CannotOpen};
 ghost use Rattle.task_requests.specs.Memory.{takes_memory};
 ghost use Rattle.task_board.specs.Run.{met_no_memory, Happens, Run};
 ghost use Rattle.task_board.specs.Sound.{AreDistinct, AreRising, slots_of, IsSound, IsBoard};
-ghost use Rattle.task_board.specs.Step.{Answer, Answers};
+ghost use Rattle.task_board.specs.Step.{Answer, Answers, Step};
+ghost use Rattle.task_board.specs.Loans.{Lent, Fits};
+ghost use Rattle.task_board.specs.Tickets.{Lends};
+ghost use Rattle.task_board.specs.declared.ticket.Ticket.{Ticket as TicketValue};
 ghost use Rattle.text_assembler.specs.Modules.{Denotes, IsTooDeep, IsBadText};
 ghost use Rattle.wasm_binary.specs.Canonical.{canon, FitsLimits};
 ghost use Rattle.task_board.specs.Texts.{DenotesNone};
@@ -196,6 +200,22 @@ pub fn held_contents_stay()
     ensures tasks { (es : List Event) (rs : List EventReply) (s : BoardState)
         → Run empty es rs s → (k : ℕ) (t : Task) → task_in k s.tasks ≡ Some t
         → content_in s.store.contents t.process.module ≡ Some t.bytes }
+{}
+
+/// A loan fits from its take to its return, whatever happens in between, and no longer: a loan that is taken
+/// fits, it goes on to fit after each event but the return of its task's slice, whether its slice has been
+/// run or not, and after that it does not fit. Two loans that fit and are of one task are of one slot.
+pub fn loans_fit_until_they_return()
+    ensures taken { (s : BoardState) (ticket : TicketValue) (budget : ℕ) (l : Lent) (s' : BoardState)
+        → IsBoard s → Lends s ticket budget l s' → Fits l s'.tasks }
+    ensures stay { (s : BoardState) (e : Event) (r : EventReply) (s' : BoardState) (l : Lent)
+        → IsBoard s → Step s e r s' → (e ≡ event.Return l.id → ⊥) → Fits l s.tasks
+        → Fits l s'.tasks }
+    ensures run { (ts : Entries) (l : Lent) → Fits l ts → Fits (record l { ran = true }) ts }
+    ensures returned { (s s' : BoardState) (l : Lent) → IsBoard s → Fits l s.tasks
+        → Step s (event.Return l.id) (answer.Returned true) s' → Fits l s'.tasks → ⊥ }
+    ensures one { (s : BoardState) (l m : Lent) → IsBoard s → Fits l s.tasks → Fits m s.tasks
+        → l.id ≡ m.id → l.slot ≡ m.slot }
 {}
 
 /// The answer to an event, and the board that it leaves, are determined by the board and the event, unless
