@@ -1,5 +1,5 @@
 -- What a call of a seat does to the book and to the seat.
-use Rattle.std.proofs.Common.{◌≡◌, ℕ, ◌+◌, List, [], ◌∷◌, ◌++◌, ap, sym, ◌∙◌, refl}
+use Rattle.std.proofs.Common.{◌≡◌, ℕ, suc, ◌+◌, List, [], ◌∷◌, ◌++◌, length, ap, sym, ◌∙◌, refl, arith}
 use Rattle.task_requests.specs.declared.request.Request.{Request}
 use Rattle.task_board.specs.Step.{Answer}
 use Rattle.call_journal.specs.declared.entry.Entry.{Entry}
@@ -48,3 +48,14 @@ has_called old new seats total total' was now r a p seen is prepares makes may o
         answer = may;
       };
     }
+
+one_more : (h : List Entry) (e : Entry) → length (h ++ e ∷ []) ≡ suc (length h)
+one_more [] e = refl
+one_more (x ∷ h) e = ap suc (one_more h e)
+
+-- the ledger's total goes on to count the entries
+pub counted :
+    (h h' : List Entry) (e : Entry) (total total' : ℕ) → h' ≡ h ++ e ∷ [] → total ≡ length h → total' ≡ total + 1
+    → total' ≡ length h'
+counted h h' e total total' more was now =
+    let n = ap length more ∙ one_more h e in omega (arith, n, was, now)

@@ -18,3 +18,4 @@ pub mod Sent
 pub mod JournalledLemmas
 pub mod BookLemmas
 pub mod DueLemmas
+pub mod DeskLemmas

@@ -3,3 +3,4 @@ pub mod Known
 pub mod Requests
 pub mod Calls
 pub mod Code
+pub mod Desks

@@ -5,4 +5,5 @@ pub mod Fronts
 pub mod Seats
 pub mod Journalled
 pub mod Books
+pub mod Desks
 pub mod Inside

@@ -11,14 +11,17 @@ ghost use Rattle.task_board.specs.Loans.{Fits};
 ghost use Rattle.task_board.specs.Step.{Step};
 ghost use Rattle.task_board.specs.Tickets.{CanLend, Lends, ticket_in};
 ghost use Rattle.task_board.specs.Waiting.{enter_again, waiting_ticket, without};
+ghost use Rattle.call_journal.specs.Desks.{AreIdle, spot_names};
 ghost use Rattle.call_journal.specs.Journalled.{IsSlice};
 ghost use Rattle.call_journal.specs.Seats.{most_entries, most_seats, GoesOn};
 ghost use Rattle.call_journal.specs.Inside.Calls.{PreparesCall, IsEntered};
 ghost use Rattle.task_requests.specs.declared.request.Request.{Request as RequestValue};
 
 use crate::cells::Cells;
+use crate::desk::Desk;
 use crate::entry::Entry;
 use crate::journalled::{JournalledBoard, PreparedCall};
+use crate::receipt::Receipt;
 use crate::row::Row;
 use crate::seat::Seat;
 use crate::seen::Seen;
@@ -38,6 +41,7 @@ pub const MOST_SEATS: u64 = 1 << 60;
 pub struct Book<R: Row> {
     alloc: Global,
     board: JournalledBoard,
+    desk: Desk,
     seen: Seen<R>,
     count: ledger::Book<R>,
     rest: Share<R>,
@@ -49,6 +53,8 @@ impl<R: Row> Model for Book<R> {
     ghost use Rattle.call_journal.specs.Inside.Code.{book_code};
     ghost use Rattle.call_journal.specs.Books.{BookValue};
     ghost use Rattle.call_journal.specs.Seats.{most_seats};
+    ghost use Rattle.call_journal.specs.Desks.{spot_names};
+    ghost use Rattle.call_journal.specs.Inside.Desks.{AllFit};
 
     ghost Value = { BookValue };
 
@@ -58,7 +64,8 @@ impl<R: Row> Model for Book<R> {
 
     ghost invariant = { λ b. (b.seen ≡ b.board.journal) × (b.count.total ≡ length b.board.journal)
         × (b.rest.parts + b.seats ≡ most_seats + 1) × (b.seats ≤ most_seats)
-        × (b.rest.amount ≡ 0) };
+        × (b.rest.amount ≡ 0) × (spot_names b.desk ≡ R.slots)
+        × AllFit b.desk b.board.board.tasks };
 }
 
 impl<R: Row> Book<R> {
@@ -187,6 +194,7 @@ impl<R: Row> Book<R> {
             → HasCalled self.old self.new seat.old seat.new r result }
         ensures journalled { is_journalled result ≡ true }
     {
+        self.board.sound();
         let answer = self.board.apply(call);
         self.board.sound();
         seat.made(&mut self.count, seen.again());
@@ -205,24 +213,31 @@ impl<R: Row> Book<R> {
     /// Lends the machine of the ticket's task for a slice of at most `budget` turns. None, and nothing has
     /// changed, exactly if the book is closed, or that task is gone, of another incarnation, not running, or
     /// out.
-    pub fn take(&mut self, ticket: Ticket, budget: u64) -> Option<Loan>
+    pub fn take(&mut self, ticket: Ticket, budget: u64) -> Option<(Loan, Receipt<R>)>
         requires { (1 ≤ budget) × (budget ≤ max_budget) }
         ensures some { IfSome result
-            (λ l. Lends self.old.journalled.board ticket budget l self.new.journalled.board) }
-        ensures opened { IfSome result (λ l. self.old.journalled.closed ≡ false) }
+            (λ p. Lends self.old.journalled.board ticket budget p.0 self.new.journalled.board) }
+        ensures receipt { IfSome result (λ p. p.1 ≡ p.0) }
+        ensures opened { IfSome result (λ p. self.old.journalled.closed ≡ false) }
         ensures none { IfNone result (self.old.journalled.closed ≡ false
             → (t : TaskValue) → CanLend ticket self.old.journalled.board.tasks t → ⊥) }
         ensures same { IfNone result (self.new ≡ self.old) }
         ensures kept { IsSlice self.old.journalled self.new.journalled
             × (self.new.seats ≡ self.old.seats) × (self.new.total ≡ self.old.total) }
     {
-        self.board.take(ticket, budget)
+        self.board.sound();
+        let loan = self.board.take(ticket, budget)?;
+        let slip = self.desk.lend(ticket.slot, &loan);
+        let receipt = Receipt::new(ticket.slot, &loan, slip);
+        Some((loan, receipt))
     }
 
-    /// Takes back the machine of a loan that has been run. A loan that does not fit is ended, and changes
-    /// nothing. A ticket of the task comes exactly if the loan fits and the task is running afterwards.
-    pub fn give_back(&mut self, loan: Loan) -> Option<Ticket>
-        requires { loan.ran ≡ true }
+    /// Takes back the machine of a loan that has been run, with its receipt: so nothing is compared. A loan
+    /// that does not fit is ended, and changes nothing. A ticket of the task comes exactly if the loan fits
+    /// and the task is running afterwards.
+    pub fn give_back(&mut self, loan: Loan, receipt: Receipt<R>) -> Option<Ticket>
+        requires ran { loan.ran ≡ true }
+        requires receipt { loan ≡ record receipt { ran = true } }
         ensures step { Fits loan self.old.journalled.board.tasks → Step self.old.journalled.board
             (event.Return loan.id) (answer.Returned true) self.new.journalled.board }
         ensures ticket { Fits loan self.old.journalled.board.tasks
@@ -232,7 +247,12 @@ impl<R: Row> Book<R> {
         ensures kept { IsSlice self.old.journalled self.new.journalled
             × (self.new.seats ≡ self.old.seats) × (self.new.total ≡ self.old.total) }
     {
-        self.board.give_back(loan)
+        self.board.sound();
+        if receipt.end(&mut self.desk) {
+            self.board.receive(loan)
+        } else {
+            self.board.give_back(loan)
+        }
     }
 
     /// Whether a worker has nothing to do: the book is not closed, and no task waits for a worker.
@@ -316,7 +336,9 @@ impl<R: Row> Book<R> {
     }
 
     /// A book over an empty board, for the row that the type names. `NoMemory` if it cannot be allocated.
-    pub fn new(alloc: Global, blank: Blank) -> Result<Book<R>, Refusal>
+    pub fn new(alloc: Global, desk: Desk, blank: Blank) -> Result<Book<R>, Refusal>
+        requires places { spot_names desk ≡ R.slots }
+        requires idle { AreIdle desk }
         requires name { blank.name ≡ R.name }
         requires parts { (blank.parts ≡ R.parts) × (blank.parts ≡ most_seats + 1) }
         ensures empty { IfOk result (λ b. (b.journalled.board ≡ empty) × (b.journalled.journal ≡ [])
@@ -328,6 +350,7 @@ impl<R: Row> Book<R> {
         Ok(Book {
             alloc,
             board,
+            desk,
             seen: Seen::none(),
             count,
             rest,

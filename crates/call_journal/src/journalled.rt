@@ -7,6 +7,7 @@ ghost use Rattle.task_requests.specs.declared.event.EventReply.TheVariants as an
 ghost use Rattle.task_board.specs.BoardState.{Task as TaskValue, empty};
 ghost use Rattle.task_requests.specs.Limits.{max_budget};
 ghost use Rattle.task_board.specs.Loans.{Fits};
+ghost use Rattle.task_board.specs.Sound.{IsBoard};
 ghost use Rattle.task_board.specs.Step.{Step};
 ghost use Rattle.task_board.specs.Tickets.{CanLend, Lends, ticket_in};
 ghost use Rattle.task_board.specs.Waiting.{enter_again, waiting_ticket, without};
@@ -111,8 +112,9 @@ impl JournalledBoard {
         ensures replay { IsReplay self.now.journal self.now.board }
         ensures legal { IsLegal self.now.journal }
         ensures few { length self.now.journal ≤ most_entries }
+        ensures board { IsBoard self.now.board }
     {
-        let _ = &self.closed;
+        self.board.sound();
     }
 
     /// Whether a call may be made: `Closed`, or else `JournalFull`.
@@ -219,13 +221,28 @@ impl JournalledBoard {
             → result ≡ ticket_in loan.slot self.new.board.tasks }
         ensures unfit { (Fits loan self.old.board.tasks → ⊥)
             → (self.new ≡ self.old) × (result ≡ None) }
+        ensures decided { Fits loan self.old.board.tasks ⊎ (Fits loan self.old.board.tasks → ⊥) }
         ensures kept { IsSlice self.old self.new }
     {
         replays_go_on();
-        let fits = self.board.fits(&loan);
-        let ticket = self.board.give_back(loan);
-        let _ = fits;
-        ticket
+        if self.board.fits(&loan) {
+            self.board.receive(loan)
+        } else {
+            self.board.give_back(loan)
+        }
+    }
+
+    /// Takes back the machine of a loan that has been run and that fits. Nothing is compared.
+    pub fn receive(&mut self, loan: Loan) -> Option<Ticket>
+        requires ran { loan.ran ≡ true }
+        requires fits { Fits loan self.old.board.tasks }
+        ensures step { Step self.old.board
+            (event.Return loan.id) (answer.Returned true) self.new.board }
+        ensures ticket { result ≡ ticket_in loan.slot self.new.board.tasks }
+        ensures kept { IsSlice self.old self.new }
+    {
+        replays_go_on();
+        self.board.receive(loan)
     }
 
     /// Whether a task waits for a worker.

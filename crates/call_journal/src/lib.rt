@@ -4,11 +4,13 @@
 
 mod book;
 mod cells;
+mod desk;
 mod entry;
 mod finding;
 mod front;
 mod journalled;
 pub mod laws;
+mod receipt;
 mod row;
 mod seat;
 mod seen;
@@ -17,9 +19,11 @@ mod shim;
 
 pub use book::{Book, MOST_SEATS};
 pub use cells::{Cells, MOST_ENTRIES};
+pub use desk::Desk;
 pub use entry::{Entry, Found};
 pub use front::Front;
 pub use journalled::{JournalledBoard, PreparedCall};
+pub use receipt::Receipt;
 pub use row::Row;
 pub use seat::Seat;
 pub use seen::Seen;

@@ -4,12 +4,15 @@ ghost use Rattle.std.specs.Ordering.{nat_cmp};
 ghost use Rattle.task_requests.specs.declared.request.Request.TheVariants as request;
 ghost use Rattle.task_requests.specs.Limits.{max_budget};
 ghost use Rattle.call_journal.specs.Books.{is_journalled};
+ghost use Rattle.call_journal.specs.Desks.{AreIdle, spot_names};
 ghost use Rattle.call_journal.specs.Fronts.{Begins};
 ghost use Rattle.call_journal.specs.Seats.{most_seats, Extends};
 
 use crate::book::Book;
 use crate::cells::Cells;
+use crate::desk::Desk;
 use crate::entry::Entry;
+use crate::receipt::Receipt;
 use crate::row::Row;
 use crate::seat::Seat;
 use crate::shared::Shared;
@@ -17,30 +20,53 @@ use std::alloc::Global;
 use std::cmp::Ordering;
 use std::sync::ledger::Blank;
 use std::sync::{Condvar, Mutex, Wait};
-use task_board::{Loan, Reply, Request, Ticket};
+use task_board::{Loan, Reply, Request, Status, Ticket};
 use wasm_ast::{Refusal, Text};
 
 /// A shim: a book that callers and workers share, and the cells that hold its journal.
+//
+// Who sleeps, until when, what makes that true, and who tells:
+//
+// | Sleeps | Until | Made true by | Told by `tell_callers` or `tell_worker` in |
+// |---|---|---|---|
+// | a caller, in `wait` | its task is created, paused, stopped or gone | a pause or a kill of an idle task | `call_quietly` |
+// | | | the return of a slice of a task that does not run on | `give_back` |
+// | a worker, in `next` | a task waits for a worker | a start or a resume | `call`, or the caller's next call, `wake` or `wait` |
+// | | | a ticket that is put back | `offer`, `wait_again` |
+// | both | the shim is closed | `close` | `close` |
 #[derive(Drop)]
 pub struct Shim<R: Row> {
     cells: Cells,
     shared: Mutex<Shared<R>>,
-    // Told when a task that a caller may wait for has changed, and when the shim is closed.
+    // Callers sleep here.
     settled: Condvar,
-    // Told when a task waits for a worker, and when the shim is closed.
+    // Workers sleep here.
     waiting: Condvar,
     ghost row: { cells ≡ R.cells },
 }
 
+// Whether a call that was answered so may have made a wait due: by the lifecycle only a pause or a kill
+// of an idle task does.
+fn settles(answer: &Result<Reply, Refusal>) -> bool {
+    match answer {
+        Ok(Reply::Pause { status, .. }) | Ok(Reply::Kill { status, .. }) => {
+            matches!(status, Status::Paused | Status::Stopped)
+        }
+        _ => false,
+    }
+}
+
 impl<R: Row> Shim<R> {
-    /// A shim over these cells, with an empty board. `NoMemory` if that cannot be allocated.
-    pub fn new(alloc: Global, cells: Cells, blank: Blank) -> Result<Shim<R>, Refusal>
+    /// A shim over these cells and this desk, with an empty board. `NoMemory` if that cannot be allocated.
+    pub fn new(alloc: Global, cells: Cells, desk: Desk, blank: Blank) -> Result<Shim<R>, Refusal>
         requires row { cells ≡ R.cells }
+        requires places { spot_names desk ≡ R.slots }
+        requires idle { AreIdle desk }
         requires name { blank.name ≡ R.name }
         requires parts { (blank.parts ≡ R.parts) × (blank.parts ≡ most_seats + 1) }
         ensures err { OnErr result (result ≡ Err Refusal.NoMemory) }
     {
-        let book = Book::new(alloc, blank)?;
+        let book = Book::new(alloc, desk, blank)?;
         Ok(Shim {
             cells,
             shared: Mutex::new(Shared::new(book)),
@@ -72,8 +98,8 @@ impl<R: Row> Shim<R> {
         answered
     }
 
-    /// As `call`, but no worker is woken for a task that waits for one: `wake` and `wait` do that.
-    /// It is for a caller that has its next call at hand.
+    /// As `call`, but no worker is told of a task that this call starts: the next call, `wake` and `wait`
+    /// do that. It is for a caller that has its next call at hand, which may be a wait for that task.
     pub fn call_quietly<W: Wait>(
         &self,
         rt: &W,
@@ -84,21 +110,32 @@ impl<R: Row> Shim<R> {
         ensures same { is_journalled result.1 ≡ false → result.0 ≡ seat }
     {
         let mut shared = self.shared.lock(rt);
+        self.tell_worker(&shared);
         let answer = shared.book.call(&self.cells, &mut seat, request);
-        let callers_wait = shared.callers > 0;
-        drop(shared);
-        if callers_wait {
-            self.settled.notify_all();
+        if settles(&answer) {
+            self.tell_callers(&shared);
         }
         (seat, answer)
+    }
+
+    // Tells the callers that sleep that a wait may be due.
+    fn tell_callers(&self, shared: &Shared<R>) {
+        if shared.callers > 0 {
+            self.settled.notify_all();
+        }
+    }
+
+    // Tells a worker that sleeps, if there is one, that a task waits for it, if one does.
+    fn tell_worker(&self, shared: &Shared<R>) {
+        if shared.workers > 0 && shared.book.has_waiting() {
+            self.waiting.notify_one();
+        }
     }
 
     /// Wakes a worker if a task waits for one and one sleeps.
     pub fn wake<W: Wait>(&self, rt: &W) {
         let shared = self.shared.lock(rt);
-        if shared.workers > 0 && shared.book.has_waiting() {
-            self.waiting.notify_one();
-        }
+        self.tell_worker(&shared);
     }
 
     /// Waits until the task with an id is created, paused or stopped, or is not there, or the shim is closed;
@@ -115,9 +152,7 @@ impl<R: Row> Shim<R> {
         ensures answered { result.1 ≢ Err Refusal.Busy }
     {
         let mut shared = self.shared.lock(rt);
-        if shared.workers > 0 && shared.book.has_waiting() {
-            self.waiting.notify_one();
-        }
+        self.tell_worker(&shared);
         shared.callers = shared.callers.wrapping_add(1);
         let mut shared = self.settled.wait_while(rt, shared, |s| !s.book.is_due(&id));
         shared.callers = shared.callers.wrapping_sub(1);
@@ -131,19 +166,19 @@ impl<R: Row> Shim<R> {
     pub fn run_waiting<W: Wait>(&self, rt: &W, id: &Text, budget: u64)
         requires { (1 ≤ budget) × (budget ≤ max_budget) }
     {
-        let Some(mut loan) = self.take_waiting(rt, id, budget) else {
+        let Some((mut loan, receipt)) = self.take_waiting(rt, id, budget) else {
             return;
         };
         loan.run();
-        if let Some(ticket) = self.give_back(rt, loan) {
+        if let Some(ticket) = self.give_back(rt, loan, receipt) {
             self.wait_again(rt, ticket);
         }
     }
 
     // Lends the machine of the task with an id, which waits for a worker and now no more.
-    fn take_waiting<W: Wait>(&self, rt: &W, id: &Text, budget: u64) -> Option<Loan>
+    fn take_waiting<W: Wait>(&self, rt: &W, id: &Text, budget: u64) -> Option<(Loan, Receipt<R>)>
         requires { (1 ≤ budget) × (budget ≤ max_budget) }
-        ensures { IfSome result (λ l. (l.ran ≡ false) × (l.budget ≡ budget)) }
+        ensures { IfSome result (λ p. (p.0.ran ≡ false) × (p.0.budget ≡ budget) × (p.1 ≡ p.0)) }
     {
         let mut shared = self.shared.lock(rt);
         let ticket = shared.book.leave_waiting(id)?;
@@ -170,21 +205,22 @@ impl<R: Row> Shim<R> {
     }
 
     /// Lends the machine of the ticket's task for a slice of at most `budget` turns, as `Book::take` does.
-    pub fn take<W: Wait>(&self, rt: &W, ticket: Ticket, budget: u64) -> Option<Loan>
+    pub fn take<W: Wait>(&self, rt: &W, ticket: Ticket, budget: u64) -> Option<(Loan, Receipt<R>)>
         requires { (1 ≤ budget) × (budget ≤ max_budget) }
-        ensures { IfSome result (λ l. (l.ran ≡ false) × (l.budget ≡ budget)) }
+        ensures { IfSome result (λ p. (p.0.ran ≡ false) × (p.0.budget ≡ budget) × (p.1 ≡ p.0)) }
     {
         self.shared.lock(rt).book.take(ticket, budget)
     }
 
     /// Takes back the machine of a loan that has been run, as `Book::give_back` does.
-    pub fn give_back<W: Wait>(&self, rt: &W, loan: Loan) -> Option<Ticket>
-        requires { loan.ran ≡ true }
+    pub fn give_back<W: Wait>(&self, rt: &W, loan: Loan, receipt: Receipt<R>) -> Option<Ticket>
+        requires ran { loan.ran ≡ true }
+        requires receipt { loan ≡ record receipt { ran = true } }
     {
         let mut shared = self.shared.lock(rt);
-        let ticket = shared.book.give_back(loan);
-        if ticket.is_none() && shared.callers > 0 {
-            self.settled.notify_all();
+        let ticket = shared.book.give_back(loan, receipt);
+        if ticket.is_none() {
+            self.tell_callers(&shared);
         }
         ticket
     }
@@ -198,7 +234,7 @@ impl<R: Row> Shim<R> {
             return Some(ticket);
         }
         shared.book.wait_again(ticket);
-        self.waiting.notify_one();
+        self.tell_worker(&shared);
         None
     }
 
@@ -221,9 +257,7 @@ impl<R: Row> Shim<R> {
     pub fn wait_again<W: Wait>(&self, rt: &W, ticket: Ticket) {
         let mut shared = self.shared.lock(rt);
         shared.book.wait_again(ticket);
-        if shared.workers > 0 {
-            self.waiting.notify_one();
-        }
+        self.tell_worker(&shared);
     }
 
     /// Closes the shim: each call after it answers Closed.

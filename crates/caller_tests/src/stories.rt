@@ -1,12 +1,13 @@
 //! Shims of their own, for what is told of them.
 
-ghost use Rattle.std.specs.Prelude.{◌≡◌, ◌+◌};
+ghost use Rattle.std.specs.Prelude.{◌≡◌, ◌+◌, IfOk};
+ghost use Rattle.call_journal.specs.Desks.{AreIdle, spot_names};
 ghost use Rattle.call_journal.specs.Seats.{most_seats};
 
 use crate::histories::{four_callers, full_journal, two_callers, two_seats};
 use crate::storm::storm;
 use crate::workers::{Meeting, large_output, run_by_two};
-use call_journal::{Cells, MOST_SEATS, Row, Shim};
+use call_journal::{Cells, Desk, MOST_SEATS, Row, Shim};
 use callers::{Driven, NoNotes, drive};
 use request_lines::Watched;
 use slice_workers::OpenGate;
@@ -42,6 +43,12 @@ fn cells(alloc: Global) -> Result<Cells, Refusal> {
     Cells::new(alloc).ok_or(Refusal::NoMemory)
 }
 
+fn desk(alloc: Global) -> Result<Desk, Refusal>
+    ensures { IfOk result (λ d. AreIdle d) }
+{
+    Desk::new(alloc).ok_or(Refusal::NoMemory)
+}
+
 fn blank() -> Blank
     ensures { result.parts ≡ most_seats + 1 }
 {
@@ -72,14 +79,17 @@ fn told_of<R: Row + Send + Sync, W: Threads + Wait + Abort + Sync>(
     rt: &W,
     alloc: Global,
     cells: Cells,
+    desk: Desk,
     blank: Blank,
     story: Story<'_>,
 ) -> Result<bool, Refusal>
     requires row { cells ≡ R.cells }
+    requires places { spot_names desk ≡ R.slots }
+    requires idle { AreIdle desk }
     requires name { blank.name ≡ R.name }
     requires parts { (blank.parts ≡ R.parts) × (blank.parts ≡ most_seats + 1) }
 {
-    let shim: Shim<R> = Shim::new(alloc, cells, blank)?;
+    let shim: Shim<R> = Shim::new(alloc, cells, desk, blank)?;
     Ok(told(rt, alloc, &shim, story).is_some())
 }
 
@@ -89,8 +99,8 @@ pub fn tell<W: Threads + Wait + Abort + Sync>(
     alloc: Global,
     story: Story<'_>,
 ) -> Result<(), Fail> {
-    let cells = cells(alloc)?;
-    let is_told = told_of::<Brand, W>(rt, alloc, cells, blank(), story)?;
+    let (cells, desk) = (cells(alloc)?, desk(alloc)?);
+    let is_told = told_of::<Brand, W>(rt, alloc, cells, desk, blank(), story)?;
     assert!(rt; is_told, "each call is answered as it should be");
     Ok(())
 }
@@ -99,15 +109,18 @@ fn driven<J: Row, R: Read, W: Write, H: Wait>(
     rt: &H,
     alloc: Global,
     cells: Cells,
+    desk: Desk,
     blank: Blank,
     reader: &mut R,
     writer: &mut W,
 ) -> Result<Driven, Refusal>
     requires row { cells ≡ J.cells }
+    requires places { spot_names desk ≡ J.slots }
+    requires idle { AreIdle desk }
     requires name { blank.name ≡ J.name }
     requires parts { (blank.parts ≡ J.parts) × (blank.parts ≡ most_seats + 1) }
 {
-    let shim: Shim<J> = Shim::new(alloc, cells, blank)?;
+    let shim: Shim<J> = Shim::new(alloc, cells, desk, blank)?;
     let seat = shim.seat(rt).ok_or(Refusal::NoMemory)?;
     let (mut from, mut to) = (Watched::new(reader), Watched::new(writer));
     let (_, driven) = drive(rt, alloc, &shim, seat, &mut from, &mut to, &mut NoNotes);
@@ -121,6 +134,6 @@ pub fn drives<R: Read, W: Write, H: Wait>(
     reader: &mut R,
     writer: &mut W,
 ) -> Result<Driven, Refusal> {
-    let cells = cells(alloc)?;
-    driven::<Brand, R, W, H>(rt, alloc, cells, blank(), reader, writer)
+    let (cells, desk) = (cells(alloc)?, desk(alloc)?);
+    driven::<Brand, R, W, H>(rt, alloc, cells, desk, blank(), reader, writer)
 }

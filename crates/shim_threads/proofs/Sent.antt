@@ -6,6 +6,7 @@ use Rattle.std.proofs.sync.ledger.Book.TheSendSync as ledger_book
 use Rattle.std.proofs.sync.ledger.Share.TheSendSync as ledger_share
 use Rattle.call_journal.proofs.entry.Entry.TheSendSync as entry
 use Rattle.call_journal.proofs.cells.Cells.TheSendSync as cells
+use Rattle.call_journal.proofs.desk.Desk.TheSendSync as desk
 use Rattle.call_journal.proofs.seen.Seen.TheSendSync as seen
 use Rattle.call_journal.specs.contracts.journalled.JournalledBoard as journals
 use Rattle.call_journal.specs.contracts.book.Book as books
@@ -18,8 +19,16 @@ journal_send = search (sendable, std_sent.crosses, board_send, entry.the_send) d
 
 book_send : (R : RattleType) (a : _) (b : _) → IsSend R → IsSend (books.the_row R a b)
 book_send R a b s =
-    search
-    (sendable, std_sent.crosses, journal_send, seen.the_send, ledger_book.the_send, ledger_share.the_send) depth 40
+    search (
+      sendable,
+      std_sent.crosses,
+      journal_send,
+      desk.the_send,
+      seen.the_send,
+      ledger_book.the_send,
+      ledger_share.the_send,
+    )
+    depth 40
 
 shared_send : (R : RattleType) (a : _) (b : _) → IsSend R → IsSend (shareds.the_row R a b)
 shared_send R a b s = search (sendable, std_sent.crosses, book_send) depth 40

@@ -3,15 +3,13 @@
 ghost use Rattle.std.specs.Prelude.{◌≡◌, IfOk};
 ghost use Rattle.crossbeam_queue.specs.Passes.{IsPassOf};
 
-use crate::shared::Closing;
+use crate::shared::Served;
 use call_journal::{Row, Shim};
-use crossbeam_queue::Pass;
-use slice_workers::{Gate, Hand, Lender, OpenGate, Queue, another_pass, ticket_queue, worker};
+use slice_workers::{Gate, OpenGate, another_pass, ticket_queue};
 use std::alloc::{AllocError, Global};
 use std::sync::Wait;
 use std::thread;
 use std::thread::Threads;
-use task_board::Ticket;
 
 /// How many turns a slice has at most.
 pub const SLICE_TURNS: u64 = 10_000;
@@ -31,28 +29,14 @@ impl From<AllocError> for StartError {
     }
 }
 
-// Works until the lender is closed.
-fn work<L: Lender, G: Gate, H: Wait>(
-    rt: &H,
-    lender: &L,
-    queue: &Queue,
-    pass: Pass<Ticket, Hand>,
-    gate: &G,
-)
-    requires { IsPassOf queue.now pass }
-{
-    let mut pass = pass;
-    worker(rt, lender, queue, &mut pass, gate, SLICE_TURNS);
-}
-
-// As `with_gated_workers`, over any lender.
+// As `with_gated_workers`, over anything that workers serve.
 fn with_workers_of<
-    L: Closing + Sync,
+    L: Served + Sync,
     H: Threads + Wait + Sync,
     G: Gate + Sync,
     T: Drop,
     F: FnOnce() -> T + Drop,
->(rt: &H, alloc: Global, lender: &L, count: u64, gate: &G, run: F) -> Result<T, StartError>
+>(rt: &H, alloc: Global, served: &L, count: u64, gate: &G, run: F) -> Result<T, StartError>
     requires { F.pre run }
     ensures { IfOk result (F.post run) }
 {
@@ -68,14 +52,14 @@ fn with_workers_of<
             let mut pass = pass;
             for _ in 0..count {
                 let next = another_pass(queue, &mut pass);
-                let thread = scope.spawn(move || work(rt, lender, queue, next, gate));
+                let thread = scope.spawn(move || served.work(rt, queue, next, gate));
                 if thread.is_err() {
-                    lender.close(rt);
+                    served.close(rt);
                     return Err(StartError::NoThread);
                 }
             }
             let done = run();
-            lender.close(rt);
+            served.close(rt);
             Ok(done)
         },
     )

@@ -3,13 +3,10 @@
 
 mod gate;
 pub mod laws;
-mod lender;
 mod serving;
-mod shims;
 mod tickets;
 
 pub use gate::{Gate, OpenGate};
-pub use lender::Lender;
 pub use serving::worker;
 pub use tickets::{
     Another, Hand, MOST_TICKETS, Puts, Queue, Takes, Tickets, another_pass, next_ticket,

@@ -5,9 +5,9 @@ ghost use Rattle.crossbeam_queue.specs.Passes.{IsPassOf};
 ghost use Rattle.task_requests.specs.Limits.{max_budget};
 
 use crate::gate::Gate;
-use crate::lender::Lender;
 use crate::tickets::{Hand, Queue, next_ticket, put_ticket};
 use arrayvec::ArrayString;
+use call_journal::{Row, Shim};
 use crossbeam_queue::Pass;
 use std::sync::Wait;
 use task_board::{Loan, Ticket};
@@ -26,26 +26,26 @@ fn id_of(loan: &Loan) -> ArrayString<MOST_ID_BYTES>
 }
 
 /// Runs a slice of the ticket's task, with no lock held. The ticket of the task, if it is running afterwards.
-fn run_slice<L: Lender, G: Gate, W: Wait>(
+fn run_slice<R: Row, G: Gate, W: Wait>(
     rt: &W,
-    lender: &L,
+    shim: &Shim<R>,
     gate: &G,
     ticket: Ticket,
     budget: u64,
 ) -> Option<Ticket>
     requires { (1 ≤ budget) × (budget ≤ max_budget) }
 {
-    let mut loan = lender.take(rt, ticket, budget)?;
+    let (mut loan, receipt) = shim.take(rt, ticket, budget)?;
     let id = id_of(&loan);
     gate.slice(id.as_str(), &mut loan);
-    lender.give_back(rt, loan)
+    shim.give_back(rt, loan, receipt)
 }
 
 /// A ticket that is there: that at the front of the queue or that of the task that has waited longest, the
 /// one or the other first.
-fn find<L: Lender, W: Wait>(
+fn find<R: Row, W: Wait>(
     rt: &W,
-    lender: &L,
+    shim: &Shim<R>,
     queue: &Queue,
     pass: &mut Pass<Ticket, Hand>,
     queue_first: bool,
@@ -56,10 +56,10 @@ fn find<L: Lender, W: Wait>(
     if queue_first {
         match next_ticket(queue, pass) {
             Some(ticket) => Some(ticket),
-            None => lender.next_waiting(rt),
+            None => shim.next_waiting(rt),
         }
     } else {
-        match lender.next_waiting(rt) {
+        match shim.next_waiting(rt) {
             Some(ticket) => Some(ticket),
             None => next_ticket(queue, pass),
         }
@@ -67,9 +67,9 @@ fn find<L: Lender, W: Wait>(
 }
 
 /// A ticket to be served. If there is none, sleeps until a machine can be lent; None after the end.
-fn find_or_sleep<L: Lender, W: Wait>(
+fn find_or_sleep<R: Row, W: Wait>(
     rt: &W,
-    lender: &L,
+    shim: &Shim<R>,
     queue: &Queue,
     pass: &mut Pass<Ticket, Hand>,
     queue_first: bool,
@@ -77,16 +77,16 @@ fn find_or_sleep<L: Lender, W: Wait>(
     requires { IsPassOf queue.now pass.old }
     ensures { IsPassOf queue.now pass.new }
 {
-    match find(rt, lender, queue, pass, queue_first) {
+    match find(rt, shim, queue, pass, queue_first) {
         Some(ticket) => Some(ticket),
-        None => lender.next(rt),
+        None => shim.next(rt),
     }
 }
 
 /// Puts a ticket into the queue, or lets its task wait for a worker if that does not take it.
-fn put_back<L: Lender, W: Wait>(
+fn put_back<R: Row, W: Wait>(
     rt: &W,
-    lender: &L,
+    shim: &Shim<R>,
     queue: &Queue,
     pass: &mut Pass<Ticket, Hand>,
     ticket: Ticket,
@@ -95,15 +95,15 @@ fn put_back<L: Lender, W: Wait>(
     ensures { IsPassOf queue.now pass.new }
 {
     if !put_ticket(queue, pass, ticket) {
-        lender.wait_again(rt, ticket);
+        shim.wait_again(rt, ticket);
     }
 }
 
 /// The ticket to be served after a slice of a task that is running on: another one, if there is one, and then
 /// the task's own goes to a worker that sleeps, or else to the back of the queue.
-fn after_slice<L: Lender, W: Wait>(
+fn after_slice<R: Row, W: Wait>(
     rt: &W,
-    lender: &L,
+    shim: &Shim<R>,
     queue: &Queue,
     pass: &mut Pass<Ticket, Hand>,
     again: Ticket,
@@ -112,11 +112,11 @@ fn after_slice<L: Lender, W: Wait>(
     requires { IsPassOf queue.now pass.old }
     ensures { IsPassOf queue.now pass.new }
 {
-    let Some(other) = find(rt, lender, queue, pass, queue_first) else {
+    let Some(other) = find(rt, shim, queue, pass, queue_first) else {
         return again;
     };
-    if let Some(again) = lender.offer(rt, again) {
-        put_back(rt, lender, queue, pass, again);
+    if let Some(again) = shim.offer(rt, again) {
+        put_back(rt, shim, queue, pass, again);
     }
     other
 }
@@ -126,9 +126,9 @@ fn after_slice<L: Lender, W: Wait>(
 /// gives back; a task that is running afterwards goes to a worker that sleeps if there is other
 /// work, or else to the back of the queue, or waits if that is full. It returns, if it does, with
 /// no machine in its hands.
-pub fn worker<L: Lender, G: Gate, W: Wait>(
+pub fn worker<R: Row, G: Gate, W: Wait>(
     rt: &W,
-    lender: &L,
+    shim: &Shim<R>,
     queue: &Queue,
     pass: &mut Pass<Ticket, Hand>,
     gate: &G,
@@ -143,13 +143,13 @@ pub fn worker<L: Lender, G: Gate, W: Wait>(
     for _ in rt.forever() {
         queue_first = !queue_first;
         if known.is_none() {
-            known = find_or_sleep(rt, lender, queue, pass, queue_first);
+            known = find_or_sleep(rt, shim, queue, pass, queue_first);
         }
         let Some(ticket) = known else {
             return;
         };
-        known = match run_slice(rt, lender, gate, ticket, budget) {
-            Some(again) => Some(after_slice(rt, lender, queue, pass, again, queue_first)),
+        known = match run_slice(rt, shim, gate, ticket, budget) {
+            Some(again) => Some(after_slice(rt, shim, queue, pass, again, queue_first)),
             None => None,
         };
     }

@@ -1,11 +1,12 @@
 //! `serve`: callers and workers that share a shim.
 
 ghost use Rattle.std.specs.Prelude.{◌≡◌, ◌+◌};
+ghost use Rattle.call_journal.specs.Desks.{AreIdle, spot_names};
 ghost use Rattle.call_journal.specs.Seats.{most_seats};
 
 use crate::report::{failed, file_failed, stream_failed};
 use crate::watched::{Wanted, Watch};
-use call_journal::{Cells, MOST_SEATS, Row, Shim};
+use call_journal::{Cells, Desk, MOST_SEATS, Row, Shim};
 use callers::{Driven, drive};
 use request_lines::Watched;
 use shim_threads::{Answered, Caller, StartError, answer_all, with_workers};
@@ -210,13 +211,16 @@ fn serve_callers<J: Row + Send + Sync, H: Threads + Wait + Sync>(
     service: Service<'_>,
     files: Vec<File>,
     cells: Cells,
+    desk: Desk,
     blank: Blank,
 ) -> ExitCode
     requires row { cells ≡ J.cells }
+    requires places { spot_names desk ≡ J.slots }
+    requires idle { AreIdle desk }
     requires name { blank.name ≡ J.name }
     requires parts { (blank.parts ≡ J.parts) × (blank.parts ≡ most_seats + 1) }
 {
-    let Ok(shim) = Shim::<J>::new(rt.alloc(), cells, blank) else {
+    let Ok(shim) = Shim::<J>::new(rt.alloc(), cells, desk, blank) else {
         return failed(rt, OUT_OF_MEMORY);
     };
     let mut files = files;
@@ -243,7 +247,7 @@ pub fn serve<H: Threads + Wait + Sync>(
         Ok(files) => files,
         Err(status) => return status,
     };
-    let Some(cells) = Cells::new(rt.alloc()) else {
+    let (Some(cells), Some(desk)) = (Cells::new(rt.alloc()), Desk::new(rt.alloc())) else {
         return failed(rt, OUT_OF_MEMORY);
     };
     let service = Service {
@@ -253,5 +257,5 @@ pub fn serve<H: Threads + Wait + Sync>(
         start: Instant::now(rt).ok(),
     };
     let blank = Blank::new(MOST_SEATS + 1);
-    serve_callers::<Brand, _>(rt, threads, service, files, cells, blank)
+    serve_callers::<Brand, _>(rt, threads, service, files, cells, desk, blank)
 }

@@ -2,8 +2,27 @@ use Rattle.std.proofs.Common.{◌≡◌, ◌+◌, sym, subst, ap, ◌∙◌}
 use Rattle.call_journal.specs.Books.{BookValue, HasCalled}
 use Rattle.call_journal.specs.Seats.{Known, GoesOn}
 use Rattle.call_journal.specs.Inside.Calls.{PreparesCall, IsEntered}
-use Rattle.call_journal.proofs.BookLemmas.{has_called}
+use Rattle.call_journal.proofs.BookLemmas.{counted, has_called}
+use Rattle.call_journal.proofs.DeskLemmas.{answered_fit}
 use Rattle.call_journal.proofs.book.Book.enter.Goals as goal
+
+pub invariant_of-self : goal.invariant_of-self
+invariant_of-self g c =
+    let was = c.args.seat.now in
+    let is =
+    subst (λ (b : BookValue). IsEntered b.journalled was.number c.args.call c.args.seen) (sym c.self.view_is)
+    c.requires.call in
+    let makes = c.apply-answer.ensures.makes was.number is.request is.prepares in (
+      is.ends ∙ sym makes.journal,
+      counted c.self.inside.board.journal c.apply-answer.new.self.journal _ c.self.inside.count.total
+          c.made.new.count.total makes.journal c.self.invariant.1 c.made.ensures.total,
+      c.self.invariant.2,
+      c.self.invariant.3,
+      c.self.invariant.4,
+      c.self.invariant.5,
+      answered_fit c.self.inside.desk c.self.inside.board.board is.request c.apply-answer.result
+          c.apply-answer.new.self.board c.sound.ensures.board makes.answers c.self.invariant.6,
+    )
 
 pub returns-clause-called : goal.returns-clause-called
 returns-clause-called g c r prepares =
