@@ -73,8 +73,9 @@ impl From<Stop> for Driven {
     }
 }
 
-// Makes a call, and wakes no worker for it. A wait is made once it is due; the first slice of a
-// task that no worker has yet is run here.
+// Makes a call. A worker is told of the tasks that earlier calls started, but not of one that this call
+// starts: the caller's next line may be a wait for that, which is made once it is due, and the first slice
+// of a task that no worker has yet is run here.
 fn call<J: Row, H: Wait>(
     rt: &H,
     shim: &Shim<J>,
@@ -92,7 +93,8 @@ fn call<J: Row, H: Wait>(
     }
 }
 
-// Answers a line, of which nothing is there if it is too long.
+// Answers a line, of which nothing is there if it is too long. One that is no request makes no call, so a
+// worker is told here of the tasks that earlier calls started.
 fn answer<J: Row, H: Wait>(
     rt: &H,
     alloc: Global,
@@ -104,11 +106,15 @@ fn answer<J: Row, H: Wait>(
         → IsAnswered seat text result.1 result.0 }
 {
     let Some(bytes) = line else {
+        shim.wake(rt);
         return (seat, Err(Refusal::BadRequest));
     };
     match read_request_line(alloc, bytes) {
         Ok(request) => call(rt, shim, seat, request),
-        Err(error) => (seat, Err(Refusal::from(error))),
+        Err(error) => {
+            shim.wake(rt);
+            (seat, Err(Refusal::from(error)))
+        }
     }
 }
 
@@ -191,8 +197,8 @@ fn serve_line<J: Row, W: Sink, H: Wait, N: Notes>(
 
 /// Answers each line of a caller's reader by one line, written and flushed before the next line is
 /// waited for, until the reader is at its end. A line that is no request is answered `BadRequest`.
-/// A fault of a stream is told only if that stream has failed. Workers are woken for the tasks that
-/// were started once no next line is at hand. The seat is that of the caller, and is given back.
+/// A fault of a stream is told only if that stream has failed. A worker is woken for a task that was
+/// started at the latest when the line after the start was read and is no wait for that task. The seat is that of the caller, and is given back.
 /// The notes are told each line and its answer, after its reply; what is answered and written is
 /// the same, whatever they do.
 pub fn drive<J: Row, R: Source, W: Sink, H: Wait, N: Notes>(
