@@ -142,16 +142,16 @@ fn preamble_text(alloc: Global, bytes: &[u8]) -> Result<String, AllocError> {
 }
 
 // That there are too many bytes.
-fn size_text(alloc: Global, found: usize) -> Result<String, AllocError> {
+fn size_text(alloc: Global) -> Result<String, AllocError> {
     format!(in alloc;
-        "the file has {found} bytes, and the limit is {MAX_MODULE_BYTES}; --strip-all of wasm-ld leaves out names and debugging information"
+        "the file has more than {MAX_MODULE_BYTES} bytes; --strip-all of wasm-ld leaves out names and debugging information"
     )
 }
 
 /// Why these bytes encode no module, or pass a limit; empty if they do neither. An error if memory runs out.
 pub fn why_bytes(alloc: Global, bytes: &[u8]) -> Result<String, AllocError> {
     if bytes.len() > MAX_MODULE_BYTES {
-        return size_text(alloc, bytes.len());
+        return size_text(alloc);
     }
     if let Some(kind) = kind_of(bytes) {
         return String::from_str(alloc, kind);

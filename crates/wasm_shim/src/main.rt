@@ -9,18 +9,44 @@ use crate::report::{failed, stream_failed};
 use crate::serve::serve;
 use crate::watched::Wanted;
 use shim_service::{Command, CommandError, RunError, command_of, file_of, perform};
+use std::fs::File;
+use std::io::Read;
 use std::process::ExitCode;
 use std::{env, fs, io};
 
 // The exit status if the arguments are those of no command.
 const EXIT_USAGE: u8 = 2;
 
+// One byte more than a module in the binary format may have.
+const MODULE_FRONT: u64 = 262_145;
+
+// Reads a file to its end, but of a module in the binary format no more than it takes to see that it is
+// too long: such a file may be of any size, and is refused all the same.
+fn read_module(rt: &HostRuntime, file: &str) -> io::Result<Vec<u8>> {
+    let mut bytes = Vec::new(rt.alloc());
+    let mut front = File::open(rt, file)?.take(MODULE_FRONT);
+    front.read_to_end(&mut bytes)?;
+    if bytes.first() == Some(&0) {
+        return Ok(bytes);
+    }
+    front.into_inner().read_to_end(&mut bytes)?;
+    Ok(bytes)
+}
+
+// The bytes of a file that a command reads.
+fn read_for(rt: &HostRuntime, command: &Command, file: &str) -> io::Result<Vec<u8>> {
+    match command {
+        Command::Replay { .. } => fs::read(rt, file),
+        _ => read_module(rt, file),
+    }
+}
+
 // The bytes of the file that a command reads, or the status of the program that cannot read it.
 fn bytes_for(rt: &HostRuntime, command: &Command) -> Result<Vec<u8>, ExitCode> {
     let Some(file) = file_of(command) else {
         return Ok(Vec::new(rt.alloc()));
     };
-    match fs::read(rt, file) {
+    match read_for(rt, command, file) {
         Ok(bytes) => Ok(bytes),
         Err(error) => Err(stream_failed(rt, file, &error)),
     }
