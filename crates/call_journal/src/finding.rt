@@ -140,7 +140,7 @@ fn copy_store(alloc: Global, request: &Request) -> Result<Request, AllocError>
 {
     match request {
         Request::Put { bytes } => Ok(Request::Put {
-            bytes: bytes.copy(alloc)?,
+            bytes: bytes.share()?,
         }),
         Request::PutText { text } => Ok(Request::PutText {
             text: text.copy(alloc)?,

@@ -19,7 +19,7 @@ fn bytes_put(alloc: Global, request: &Request) -> Result<Option<Vec<u8>>, AllocE
     match request {
         Request::Put { bytes } => {
             let mut copied = Vec::new(alloc);
-            copied.extend_from_slice(bytes.as_slice())?;
+            copied.extend_from_slice(bytes.as_bytes().as_slice())?;
             Ok(Some(copied))
         }
         Request::PutText { text } => match assemble(alloc, text.as_str()) {

@@ -16,7 +16,7 @@ use crate::members::{
 use hex::FromHexError;
 use serde_json::Value;
 use std::alloc::Global;
-use task_requests::Request;
+use task_requests::{Request, SharedBytes};
 use wasm_ast::{Bytes, Refusal, Sequence, Text};
 
 /// Reads hexadecimal digits of either case, two to a byte.
@@ -31,7 +31,7 @@ fn read_hex(alloc: Global, digits: &str) -> Result<Bytes, LineError>
 }
 
 /// Reads the members beside `op` of a put: the digits of its bytes.
-fn read_put(alloc: Global, members: Members) -> Result<Bytes, LineError>
+fn read_put(alloc: Global, members: Members) -> Result<SharedBytes, LineError>
     ensures { Parses (λ b. HasKeys (members_view members.entries) (Asked.Put b)) result }
 {
     let mut left = members;
@@ -41,7 +41,8 @@ fn read_put(alloc: Global, members: Members) -> Result<Bytes, LineError>
     if !is_done(&left) {
         return Err(LineError::NoRequest);
     }
-    read_hex(alloc, digits.as_str())
+    let bytes = read_hex(alloc, digits.as_str())?;
+    Ok(SharedBytes::new(alloc, bytes)?)
 }
 
 /// Reads the members beside `op` of a create: its config and its id.

@@ -1,11 +1,9 @@
 -- A loan fits from its take to its return, whatever else happens.
-use Rattle.std.proofs.Common.{◌≡◌, ◌≢◌, ℕ, List, [], Bool, true, false, Option, Some, None, Ok, Err, ◌&&◌, is_none, option_map, inl, inr, refl, sym, ap, ◌∙◌, subst, true≢false}
+use Rattle.std.proofs.Common.{◌≡◌, ◌≢◌, ℕ, List, Bool, true, false, Option, Some, None, Ok, Err, ◌&&◌, is_none, option_map, inl, inr, refl, sym, ap, ◌∙◌, subst, true≢false}
 use Rattle.task_board.specs.declared.change.Change.{Change}
 use Rattle.task_board.specs.declared.change.Change.TheVariants as change
 use Rattle.task_board.specs.declared.ticket.Ticket.{Ticket}
 use Rattle.task_board.specs.Inside.Changes.{change_call, changed}
-use Rattle.task_lifecycle.specs.declared.lifecycle.TaskCall.TheVariants as call
-use Rattle.task_lifecycle.specs.declared.status.Status.{Status}
 use Rattle.task_lifecycle.specs.Lifecycle.{allowed, takes_turns, is_running}
 use Rattle.task_requests.specs.declared.request.Request.{Request}
 use Rattle.task_requests.specs.declared.event.Event.{Event}
@@ -15,10 +13,10 @@ use Rattle.task_requests.specs.declared.event.EventReply.TheVariants as answer
 use Rattle.task_board.specs.BoardState.{Task, Entries, BoardState, created_task, task_in, entry_of, task_of, put_task, change_task, remove_task}
 use Rattle.task_board.specs.Tasks.{killed_while, can_lend, lent}
 use Rattle.task_board.specs.Step.{Answer, Creates, Answers, Returns, Step}
-use Rattle.task_board.specs.Sound.{AreDistinct, ids_of, IsSound, IsBoard}
+use Rattle.task_board.specs.Sound.{IsSound, IsBoard}
 use Rattle.task_board.specs.Loans.{Lent, FitsTask, Fits}
 use Rattle.task_board.specs.Tickets.{Lends}
-use Rattle.task_board.proofs.EntryLemmas.{none_is_not, some_is, by_slot, entry_at, in_slot, named, changed_in, put_in, IsChangedFrom, changed_from_old, removed_beside}
+use Rattle.task_board.proofs.EntryLemmas.{none_is_not, some_is, by_slot, entry_at, in_slot, changed_in, put_in, IsChangedFrom, changed_from_old, removed_beside}
 use Rattle.task_board.proofs.StepLemmas.{found, task_named, sound_of}
 use Rattle.task_board.proofs.EffectLemmas.{change_id, created_only, stopped_only, Effect, nothing, stores, enters, changes, deletes, alters, effect_of, not_out, altered_same, was_idle}
 use Rattle.task_board.proofs.LawLemmas.{taken_of}

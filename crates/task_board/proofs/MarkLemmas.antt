@@ -1,5 +1,5 @@
 -- Breakpoints that are set and removed: they stay few, and none is there twice.
-use Rattle.std.proofs.Common.{◌≡◌, ◌≢◌, ℕ, suc, ◌+◌, ◌<◌, ◌≤◌, List, [], ◌∷◌, ◌++◌, filter, length, nat_eq, nat_le, Bool, true, false, true≢false, cond, not, ◌&&◌, ◌||◌, Option, Some, None, refl, sym, ap, ap₂, ◌∙◌, subst, arith}
+use Rattle.std.proofs.Common.{◌≡◌, ◌≢◌, ℕ, suc, ◌<◌, ◌≤◌, List, [], ◌∷◌, ◌++◌, filter, length, nat_eq, nat_le, Bool, true, false, true≢false, cond, not, ◌&&◌, ◌||◌, None, refl, sym, ap, ap₂, ◌∙◌, arith}
 use Rattle.std.proofs.lemmas.Bool.Decides.{nat_tests}
 use Rattle.wasm_ast.specs.declared.place.Place.{Place}
 use Rattle.wasm_ast.specs.declared.refusal.Refusal.TheVariants as refusal

@@ -1,6 +1,6 @@
 -- The refusals of each request to a task, in the order in which they are tried. Those of the requests to the
 -- store are content_leases'.
-use Rattle.std.specs.Prelude.{◌≡◌, ℕ, ◌≤◌, List, [], ◌∷◌, length, nat_le, Bool, true, not, ◌||◌, ◌&&◌, Option, Some, None, is_some, is_none, option_and_then}
+use Rattle.std.specs.Prelude.{◌≡◌, ℕ, List, [], ◌∷◌, length, nat_le, Bool, true, not, ◌||◌, ◌&&◌, Option, Some, None, is_some, is_none, option_and_then}
 use Rattle.wasm_ast.specs.declared.module.Module.{Module}
 use Rattle.wasm_ast.specs.declared.place.Place.{Place}
 use Rattle.wasm_ast.specs.declared.refusal.Refusal.{Refusal}

@@ -39,7 +39,7 @@ use std::alloc::{AllocError, Global};
 use std::marker::Model;
 use std::sync::Arc;
 use step_machine::{FlatModule, Machine};
-use task_requests::{Reply, Request};
+use task_requests::{Reply, Request, SharedBytes};
 use text_assembler::assemble;
 use wasm_ast::{Bytes, Refusal, Sequence, Text};
 
@@ -60,6 +60,13 @@ impl Model for Board {
     ghost coded = { board_code };
 
     ghost view = { λ b. b.tables };
+}
+
+// These bytes, for several owners.
+fn shared(alloc: Global, bytes: Vec<u8>) -> Result<SharedBytes, AllocError>
+    ensures { IfOk result (λ b. b ≡ bytes.items) }
+{
+    SharedBytes::new(alloc, Sequence::new(bytes))
 }
 
 impl Board {
@@ -88,18 +95,18 @@ impl Board {
     }
 
     // What a put is prepared as.
-    fn prepare_put(&mut self, bytes: Bytes) -> Result<Plan, AllocError>
+    fn prepare_put(&mut self, bytes: SharedBytes) -> Result<Plan, AllocError>
         ensures same { (self.new.state ≡ self.old.state) × (self.new.waiting ≡ self.old.waiting) }
         ensures ok { IfOk result
             (λ p. Plans self.new.state self.new.room (request.Put bytes) p) }
     {
-        let digest = digest_of(self.alloc, bytes.as_slice())?;
-        if let Some(refusal) = self.tables.refusal_of_put(&digest, &bytes) {
+        let digest = digest_of(self.alloc, bytes.as_bytes().as_slice())?;
+        if let Some(refusal) = self.tables.refusal_of_put(&digest, bytes.as_bytes()) {
             return Ok(Plan::Refused(refusal));
         }
         self.tables.reserve_content()?;
         let key = String::from_str(self.alloc, digest.as_str())?;
-        let bytes = Arc::new(self.alloc, bytes)?;
+        let bytes = bytes.into_arc();
         Ok(Plan::Store(StoreChange::Put { key, bytes, digest }))
     }
 
@@ -110,7 +117,10 @@ impl Board {
             (λ p. Plans self.new.state self.new.room (request.PutText text) p) }
     {
         match assemble(self.alloc, text.as_str()) {
-            Ok(bytes) => self.prepare_put(Sequence::new(bytes)),
+            Ok(bytes) => {
+                let bytes = shared(self.alloc, bytes)?;
+                self.prepare_put(bytes)
+            }
             Err(Refusal::NoMemory) => Err(AllocError),
             Err(refusal) => Ok(Plan::Refused(refusal)),
         }

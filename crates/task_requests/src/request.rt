@@ -3,6 +3,7 @@
 ghost use Rattle.std.specs.Prelude.{◌≡◌};
 ghost use Rattle.task_requests.specs.Memory.{takes_memory};
 
+use crate::shared_bytes::SharedBytes;
 use step_machine::ShownFrame;
 use task_lifecycle::{ExitRecord, Status};
 use wasm_ast::{Bytes, Sequence, Text};
@@ -11,7 +12,7 @@ use wasm_ast::{Bytes, Sequence, Text};
 #[derive(Drop)]
 pub enum Request {
     /// Stores bytes as a content, under their digest.
-    Put { bytes: Bytes },
+    Put { bytes: SharedBytes },
     /// Stores the canonical encoding of the module that a text denotes, as a put of those bytes does.
     PutText { text: Text },
     /// Removes the content under a digest.

@@ -25,7 +25,7 @@ use Rattle.oci_config.specs.Config.{process_read}
 use Rattle.oci_config.specs.Streams.{stream_of}
 use Rattle.task_board.specs.BoardState.{Task, created_task, BoardState, entry_of, task_of}
 use Rattle.task_board.specs.BoardValue.{Room}
-use Rattle.task_board.specs.Refusals.{is_full, create_refusals, unless_allowed, kill_refusals, output_refusals, break_refusals, unbreak_refusals, step_refusals, peek_refusals, task_refusals, Openable, CannotOpen}
+use Rattle.task_board.specs.Refusals.{is_full, create_refusals, unless_allowed, kill_refusals, output_refusals, step_refusals, task_refusals, Openable, CannotOpen}
 use Rattle.task_board.specs.Step.{Answers}
 use Rattle.task_board.specs.Tasks.{output_of, place_of}
 use Rattle.task_board.specs.Inside.Changes.{change_request, change_refusals}

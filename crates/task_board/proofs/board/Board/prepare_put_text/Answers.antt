@@ -8,13 +8,14 @@ use Rattle.task_board.proofs.board.Board.prepare_put_text.Goals as goal
 pub returns-in-Ok-clause-ok : goal.returns-in-Ok-clause-ok
 returns-in-Ok-clause-ok c =
     let d = c.in-Ok.ensures.denoted in
-    let is : IsAssembled c.args.text c.new.result = record {
+    let bytes = c.in_ok-bytes-in-Ok.bytes in
+    let is : IsAssembled c.args.text bytes = record {
       «module» = d.0;
       denotes = subst (λ x. Denotes x d.0) c.as_str.ensures d.1;
       fits = d.2;
-      encodes = c.new.ensures ∙ d.3;
+      encodes = c.in_ok-bytes-in-Ok.ensures ∙ d.3;
     } in
-    text_plans _ _ c.args.text c.new.result c.prepare_put.result is c.prepare_put.ensures.ok
+    text_plans _ _ c.args.text bytes c.prepare_put.result is c.prepare_put.ensures.ok
 
 pub returns : goal.returns
 returns c =
