@@ -1,0 +1,113 @@
+// Package app is feulgama-oci: it looks at the command line, rewrites the config of a module's container, and becomes
+// runc.
+package app
+
+import (
+	"errors"
+	"fmt"
+	"os"
+	"os/exec"
+
+	"golang.org/x/sys/unix"
+
+	"feulgama/oci/cmdline"
+	"feulgama/oci/config"
+	"feulgama/oci/container"
+	"feulgama/oci/firstprocess"
+	"feulgama/oci/ocilog"
+	"feulgama/oci/programs"
+	"feulgama/oci/version"
+)
+
+// Main answers the exit status for the words after the name of the program. If all goes well it becomes runc, and
+// does not return.
+func Main(words []string) int {
+	if len(words) > 0 && words[0] == container.Supervise {
+		return firstprocess.Run(words[1:], os.Environ())
+	}
+	line, err := cmdline.Parse(words)
+	done := false
+	if err == nil {
+		done, err = perform(line, words)
+	}
+	switch {
+	case err != nil:
+		ocilog.Report(os.Stderr, line.Log, line.LogFormat, err)
+		return 1
+	case !done:
+		fmt.Fprint(os.Stderr, "feulgama-oci: no command\n\n", usage)
+		return 2
+	}
+	return 0
+}
+
+// perform answers whether the command is done. A command of runc does not return but with an error.
+func perform(line cmdline.Line, words []string) (bool, error) {
+	switch {
+	case line.Version:
+		return true, showVersion()
+	case line.Command == "" && !line.Help:
+		return false, nil
+	case line.Command == "" || line.Command == "help" && len(line.Rest) == 0:
+		fmt.Print(usage)
+		return true, nil
+	}
+	if line.Starts() && !line.Help {
+		if err := prepare(line.Bundle); err != nil {
+			return false, err
+		}
+	}
+	return false, becomeRunc(words)
+}
+
+// prepare rewrites the config of a bundle, if its program is a module.
+func prepare(bundle string) error {
+	c, err := config.Load(bundle)
+	if err != nil {
+		return err
+	}
+	module, err := container.Find(c)
+	if err != nil || module == nil {
+		return err
+	}
+	own, err := os.Executable()
+	if err != nil {
+		return fmt.Errorf("find the file of feulgama-oci: %w", err)
+	}
+	shim, err := programs.Shim(own)
+	if err != nil {
+		return err
+	}
+	if err := container.Contain(c, module, container.Programs{First: own, Shim: shim}); err != nil {
+		return err
+	}
+	return c.Save()
+}
+
+func becomeRunc(words []string) error {
+	runc, err := programs.Runc()
+	if err != nil {
+		return err
+	}
+	err = unix.Exec(runc, append([]string{runc}, words...), os.Environ())
+	return fmt.Errorf("become %s: %w", runc, err)
+}
+
+// showVersion shows the own version, and that of runc, from which callers read what the runtime can do.
+func showVersion() error {
+	fmt.Println("feulgama-oci version " + version.Number)
+	runc, err := programs.Runc()
+	if err != nil {
+		return err
+	}
+	command := exec.Command(runc, "--version")
+	command.Stdout, command.Stderr = os.Stdout, os.Stderr
+	if err := command.Run(); err != nil {
+		var ended *exec.ExitError
+		if errors.As(err, &ended) {
+			return fmt.Errorf("%s --version ended with status %d", runc, ended.ExitCode())
+		}
+		return fmt.Errorf("ask %s for its version: %w", runc, err)
+	}
+	return nil
+}

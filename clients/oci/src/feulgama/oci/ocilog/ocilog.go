@@ -1,0 +1,49 @@
+// Package ocilog tells an error in the two ways of runc: on standard error, and in the file of --log, from which
+// containerd, podman and docker take the reason that they show.
+package ocilog
+
+import (
+	"encoding/json"
+	"fmt"
+	"io"
+	"os"
+	"time"
+)
+
+// Program begins each message.
+const Program = "feulgama-oci"
+
+// Report writes the fault to stderr and, if file is not empty, appends it to that file, in the given format.
+func Report(stderr io.Writer, file, format string, fault error) {
+	message := Program + ": " + fault.Error()
+	fmt.Fprintln(stderr, message)
+	if file == "" {
+		return
+	}
+	if err := appendLine(file, line(format, message, time.Now())); err != nil {
+		fmt.Fprintf(stderr, "%s: write to the log: %v\n", Program, err)
+	}
+}
+
+func line(format, message string, now time.Time) string {
+	at := now.UTC().Format(time.RFC3339)
+	if format == "json" {
+		text, err := json.Marshal(map[string]string{"level": "error", "msg": message, "time": at})
+		if err == nil {
+			return string(text) + "\n"
+		}
+	}
+	return fmt.Sprintf("time=%q level=error msg=%q\n", at, message)
+}
+
+func appendLine(file, text string) error {
+	log, err := os.OpenFile(file, os.O_WRONLY|os.O_CREATE|os.O_APPEND, 0o644)
+	if err != nil {
+		return err
+	}
+	if _, err := log.WriteString(text); err != nil {
+		log.Close()
+		return err
+	}
+	return log.Close()
+}

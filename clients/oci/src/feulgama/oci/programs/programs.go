@@ -1,0 +1,82 @@
+// Package programs finds the two programs that feulgama-oci needs: wasm-shim and runc.
+package programs
+
+import (
+	"errors"
+	"fmt"
+	"os"
+	"os/exec"
+	"path/filepath"
+	"strings"
+)
+
+// Variables of the environment that name the programs.
+const (
+	ShimVariable = "FEULGAMA_SHIM"
+	RuncVariable = "FEULGAMA_RUNC"
+)
+
+const installed = "/usr/bin/wasm-shim"
+
+// Shim finds wasm-shim: by FEULGAMA_SHIM, which is believed, else beside the file own, by PATH, or as it is installed.
+func Shim(own string) (string, error) {
+	if named := os.Getenv(ShimVariable); named != "" {
+		return namedProgram(ShimVariable, named)
+	}
+	beside := filepath.Join(filepath.Dir(own), "wasm-shim")
+	if isProgram(beside) {
+		return beside, nil
+	}
+	if found, err := exec.LookPath("wasm-shim"); err == nil {
+		return filepath.Abs(found)
+	}
+	if isProgram(installed) {
+		return installed, nil
+	}
+	return "", fmt.Errorf("wasm-shim was not found: looked for %s, wasm-shim in PATH (%s), and %s; set %s to its path",
+		beside, os.Getenv("PATH"), installed, ShimVariable)
+}
+
+// Runc finds runc: by FEULGAMA_RUNC, which is believed, else by PATH.
+func Runc() (string, error) {
+	if named := os.Getenv(RuncVariable); named != "" {
+		return namedProgram(RuncVariable, named)
+	}
+	found, err := exec.LookPath("runc")
+	if err != nil {
+		return "", fmt.Errorf("runc was not found in PATH (%s): install it, or set %s to its path",
+			os.Getenv("PATH"), RuncVariable)
+	}
+	return filepath.Abs(found)
+}
+
+func namedProgram(variable, path string) (string, error) {
+	if !strings.HasPrefix(path, "/") {
+		return "", fmt.Errorf("%s is %q: it has to be an absolute path", variable, path)
+	}
+	if !isProgram(path) {
+		return "", fmt.Errorf("%s is %s: there is no program", variable, path)
+	}
+	return path, nil
+}
+
+func isProgram(path string) bool {
+	about, err := os.Stat(path)
+	return err == nil && about.Mode().IsRegular() && about.Mode().Perm()&0o111 != 0
+}
+
+// OpenToAll checks that a user without any right may read and run the file, as the container's user does.
+func OpenToAll(path string) error {
+	about, err := os.Stat(path)
+	if err != nil {
+		return fmt.Errorf("look at a file that the container needs: %w", err)
+	}
+	if !about.Mode().IsRegular() {
+		return errors.New(path + " is no regular file")
+	}
+	if about.Mode().Perm()&0o005 != 0o005 {
+		return fmt.Errorf("%s has the mode %04o, and the container's user is nobody: chmod o+rx %s",
+			path, about.Mode().Perm(), path)
+	}
+	return nil
+}

@@ -1,0 +1,5 @@
+// Package version has the version of feulgama-oci, which is that of the program wasm-shim of the same source.
+package version
+
+// Number is what --version prints.
+const Number = "0.1.0"
