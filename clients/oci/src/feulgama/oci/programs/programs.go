@@ -18,6 +18,10 @@ const (
 
 const installed = "/usr/bin/wasm-shim"
 
+// usual are the folders of programs. podman calls its runtime without any environment when it pauses or stops a
+// container, so PATH may be empty.
+const usual = "/usr/local/sbin:/usr/local/bin:/usr/sbin:/usr/bin:/sbin:/bin"
+
 // Shim finds wasm-shim: by FEULGAMA_SHIM, which is believed, else beside the file own, by PATH, or as it is installed.
 func Shim(own string) (string, error) {
 	if named := os.Getenv(ShimVariable); named != "" {
@@ -37,17 +41,21 @@ func Shim(own string) (string, error) {
 		beside, os.Getenv("PATH"), installed, ShimVariable)
 }
 
-// Runc finds runc: by FEULGAMA_RUNC, which is believed, else by PATH.
+// Runc finds runc: by FEULGAMA_RUNC, which is believed, else by PATH, or in a usual folder of programs.
 func Runc() (string, error) {
 	if named := os.Getenv(RuncVariable); named != "" {
 		return namedProgram(RuncVariable, named)
 	}
-	found, err := exec.LookPath("runc")
-	if err != nil {
-		return "", fmt.Errorf("runc was not found in PATH (%s): install it, or set %s to its path",
-			os.Getenv("PATH"), RuncVariable)
+	if found, err := exec.LookPath("runc"); err == nil {
+		return filepath.Abs(found)
 	}
-	return filepath.Abs(found)
+	for _, folder := range strings.Split(usual, ":") {
+		if found := filepath.Join(folder, "runc"); isProgram(found) {
+			return found, nil
+		}
+	}
+	return "", fmt.Errorf("runc was not found: looked in PATH (%s) and in %s; install it, or set %s to its path",
+		os.Getenv("PATH"), usual, RuncVariable)
 }
 
 func namedProgram(variable, path string) (string, error) {

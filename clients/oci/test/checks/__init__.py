@@ -1,0 +1,1 @@
+"""The tests of feulgama-oci: its source, and containers under runc, podman, docker and containerd."""
