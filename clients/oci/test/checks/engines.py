@@ -119,7 +119,7 @@ DOCKER = "/usr/bin/docker"
 
 
 class Docker(Engine):
-    """dockerd starts a containerd of its own."""
+    """dockerd starts a containerd of its own. It has a network namespace of its own, with docker's usual bridge."""
 
     name = "docker"
     tools = ("dockerd", "docker", "runc", "containerd", "iptables")
@@ -130,9 +130,9 @@ class Docker(Engine):
         # The daemon's key has no option of the command line.
         (at / "daemon.json").write_text(json.dumps({"deprecated-key-path": f"{at}/key.json"}))
         words = [
-            "dockerd", f"--config-file={at}/daemon.json", f"--host=unix://{at}/socket", f"--data-root={at}/data",
-            f"--exec-root={at}/exec", f"--pidfile={at}/pid", "--bridge=none", "--iptables=false", "--ip6tables=false",
-            "--ip-forward=false", f"--cgroup-parent=/{self.cgroup}", f"--add-runtime=feulgama={self.setting.runtime}"]
+            "unshare", "--net", "dockerd", f"--config-file={at}/daemon.json", f"--host=unix://{at}/socket",
+            f"--data-root={at}/data", f"--exec-root={at}/exec", f"--pidfile={at}/pid", "--iptables=false", "--ip6tables=false",
+            f"--cgroup-parent=/{self.cgroup}", f"--add-runtime=feulgama={self.setting.runtime}"]
         self.setting.machine.daemon(words, at / "log", self.environment)
         self.answers(self.words("version"))
         self.load()
