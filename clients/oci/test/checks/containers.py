@@ -109,7 +109,7 @@ class Containers(unittest.TestCase):
 
     def test_pause_and_resume(self) -> None:
         """a container writes while it runs, stands still while it is paused, and goes on"""
-        container = self.begin("loop")
+        container = self.begin("counts")
         self.assertEqual(self.host.status(container), "running")
         self.host.pause(container)
         self.assertEqual(self.host.status(container), "paused")
@@ -123,16 +123,16 @@ class Containers(unittest.TestCase):
 
     def test_stop(self) -> None:
         """SIGTERM ends a container in under a second, with the status 143"""
-        self.end(self.begin("loop"))
+        self.end(self.begin("counts"))
 
     def test_stop_at_once(self) -> None:
         """SIGTERM ends a container that has only just begun"""
-        container = self.host.begin(self.wish("loop"))
+        container = self.host.begin(self.wish("counts"))
         self.end(container)
 
     def test_limits_and_rights(self) -> None:
         """the process is nobody, without rights, network and files, in a cgroup with the container's limit"""
-        container = self.begin("loop", memory=64 * MEBIBYTE)
+        container = self.begin("counts", memory=64 * MEBIBYTE)
         pid = self.host.pid(container)
         self.check_rights(pid)
         self.check_cgroup(pid)
@@ -178,7 +178,7 @@ class Containers(unittest.TestCase):
         root = next(options.split(",") for _, place, _, options, *_ in mounts if place == "/")
         self.assertIn("ro", root)
         seen = {path.name for path in Path(f"/proc/{pid}/root").iterdir()}
-        self.assertEqual(seen - {"loop.wasm", ".feulgama", "lib64", "dev", "proc"}, set())
+        self.assertEqual(seen - {"counts.wasm", ".feulgama", "lib64", "dev", "proc"}, set())
 
     # other programs, and images of somebody who means harm
 

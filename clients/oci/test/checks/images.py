@@ -27,13 +27,10 @@ HEAD = '''(module
   (export "_start" (func $start))
 '''
 
-# Exits with 7; traps; writes a line and runs for ever; takes all the memory that it gets, and exits with its pages less
-# 100.
+# Exits with 7; traps; takes all the memory that it gets, and exits with its pages less 100.
 TEXTS = {
     "exit7": HEAD + "(func $start (type $v) i32.const 7 call $proc_exit))",
     "trap": HEAD + "(func $start (type $v) unreachable))",
-    "loop": HEAD + r'''(data (offset i32.const 0) "\08\00\00\00\06\00\00\00begun\n")
-  (func $start (type $v) i32.const 1 i32.const 0 i32.const 1 i32.const 24 call $fd_write drop loop br 0 end))''',
     "grow": HEAD + '''(func $start (type $v) loop i32.const 1 memory.grow i32.const -1 i32.ne br_if 0 end
   memory.size i32.const 100 i32.sub call $proc_exit))''',
 }
@@ -116,7 +113,8 @@ class Images:
     def make(self) -> None:
         """Makes all images."""
         example = TOP / "examples"
-        texts = {**TEXTS, "hello": (example / "hello.wat").read_text(), "echo": (example / "echo.wat").read_text()}
+        texts = {**TEXTS, "hello": (example / "hello.wat").read_text(), "echo": (example / "echo.wat").read_text(),
+                 "counts": (TOP / "clients/oci/test/counts.wat").read_text()}
         texts["environment"] = texts["echo"].replace('"args_', '"environ_')
         modules = {"bad": BAD, **{name: self.assemble(text) for name, text in texts.items()}}
         for name, module in modules.items():

@@ -57,7 +57,9 @@ class Report(unittest.TestResult):
     def fault(self, test: unittest.TestCase, err: Fault) -> None:
         """Tells a check that failed, with the reason."""
         self.failed += 1
-        text = "".join(traceback.format_exception(err[1])).rstrip() if err[1] is not None else ""
+        text = str(err[1] or "") if isinstance(err[1], AssertionError) else repr(err[1])
+        frames = [frame for frame in traceback.extract_tb(err[2]) if "unittest" not in frame.filename]
+        text = f"{frames[0].filename}, line {frames[0].lineno}\n{text}" if frames else text
         self.tell("FAILED", test, "\n        " + text.replace("\n", "\n        "))
 
     def summary(self) -> str:
