@@ -26,38 +26,44 @@ func Main(words []string) int {
 		return firstprocess.Run(words[1:], os.Environ())
 	}
 	line, err := cmdline.Parse(words)
-	done := false
+	status := 1
 	if err == nil {
-		done, err = perform(line, words)
+		status, err = perform(line, words)
 	}
-	switch {
-	case err != nil:
+	if err != nil {
 		ocilog.Report(os.Stderr, line.Log, line.LogFormat, err)
-		return 1
-	case !done:
-		fmt.Fprint(os.Stderr, "feulgama-oci: no command\n\n", usage)
-		return 2
 	}
-	return 0
+	return status
 }
 
-// perform answers whether the command is done. A command of runc does not return but with an error.
-func perform(line cmdline.Line, words []string) (bool, error) {
+// perform answers the exit status of a command. Most commands of runc do not return but with an error.
+func perform(line cmdline.Line, words []string) (int, error) {
 	switch {
 	case line.Version:
-		return true, showVersion()
+		return failed(showVersion())
 	case line.Command == "" && !line.Help:
-		return false, nil
+		fmt.Fprint(os.Stderr, "feulgama-oci: no command\n\n", usage)
+		return 2, nil
 	case line.Command == "" || line.Command == "help" && len(line.Rest) == 0:
 		fmt.Print(usage)
-		return true, nil
+		return 0, nil
+	case line.Command == "start":
+		return start(line, words)
 	}
 	if line.Starts() && !line.Help {
 		if err := prepare(line.Bundle); err != nil {
-			return false, err
+			return 1, err
 		}
 	}
-	return false, becomeRunc(words)
+	return failed(becomeRunc(words))
+}
+
+// failed is the status of what has failed or not.
+func failed(err error) (int, error) {
+	if err != nil {
+		return 1, err
+	}
+	return 0, nil
 }
 
 // prepare rewrites the config of a bundle, if its program is a module.

@@ -6,10 +6,12 @@ import (
 	"os"
 	"os/exec"
 	"path/filepath"
+	"strconv"
 	"strings"
 	"testing"
 
 	"feulgama/oci/config"
+	"feulgama/oci/container"
 	"feulgama/oci/version"
 )
 
@@ -55,7 +57,7 @@ func (s setup) run(t *testing.T, words ...string) result {
 	t.Helper()
 	var out, err bytes.Buffer
 	command := exec.Command(os.Args[0], words...)
-	command.Env = []string{isRuntime + "=1", "FEULGAMA_RUNC=" + s.folder + "/runc", "FEULGAMA_SHIM=/bin/true"}
+	command.Env = []string{isRuntime + "=1", "FEULGAMA_RUNC=" + s.folder + "/runc", "FEULGAMA_SHIM=/bin/true", "STATUS=" + os.Getenv("STATUS")}
 	command.Stdout, command.Stderr = &out, &err
 	var ended *exec.ExitError
 	if fault := command.Run(); fault != nil && !errors.As(fault, &ended) {
@@ -120,7 +122,7 @@ func TestARefusalIsInTheLog(t *testing.T) {
 
 func TestOtherCommands(t *testing.T) {
 	s := newSetup(t, "\x00asm")
-	for _, words := range []string{"start id", "--root /r kill --all id 9", "--debug delete -f id", "state id", "features",
+	for _, words := range []string{"--root /r kill --all id 9", "--debug delete -f id", "state id", "features",
 		"restore --bundle " + s.bundle + " id", "run --help", "help run"} {
 		if got := s.run(t, strings.Fields(words)...); got != (result{3, "runc " + words + "\n", ""}) {
 			t.Errorf("%s: %+v", words, got)
@@ -148,5 +150,34 @@ func TestVersionHelpAndFaults(t *testing.T) {
 	}
 	if got := s.run(t, "run", "--bundle", "/nowhere", "id"); got.status != 1 || !strings.Contains(got.err, "/nowhere/config.json") {
 		t.Errorf("%+v", got)
+	}
+}
+
+func TestStart(t *testing.T) {
+	s := newSetup(t, "")
+	// A container whose first process never has a child, so that a start waits for as long as it may.
+	runc := "#!/bin/sh\nif [ \"$3\" = state ]; then echo '{\"pid\":" + strconv.Itoa(os.Getppid()) +
+		",\"bundle\":\"" + s.bundle + "\"}'; exit 0; fi\necho \"runc $*\"\nexit $STATUS\n"
+	if err := os.WriteFile(filepath.Join(s.folder, "runc"), []byte(runc), 0o755); err != nil {
+		t.Fatal(err)
+	}
+	for _, status := range []int{0, 5} {
+		t.Setenv("STATUS", strconv.Itoa(status))
+		if got := s.run(t, "--root", "/r", "start", "id"); got != (result{status, "runc --root /r start id\n", ""}) {
+			t.Errorf("%+v", got)
+		}
+	}
+}
+
+func TestOnlyAModulesContainerIsWaitedFor(t *testing.T) {
+	bundle := t.TempDir()
+	if isModules(bundle) {
+		t.Error("a bundle as runc knows it")
+	}
+	if err := os.Mkdir(filepath.Join(bundle, container.RootName), 0o755); err != nil {
+		t.Fatal(err)
+	}
+	if !isModules(bundle) {
+		t.Error("a bundle of a module")
 	}
 }

@@ -9,6 +9,7 @@ Commands and options are those of runc (runc --help). Of these are its own:
   create, run    look at the program of the bundle first: the file that process.args[0] names in the root of the
                  container. If it begins with the bytes of a WebAssembly module, config.json is rewritten (the
                  original is kept as config.json.before-feulgama), and feulgama-root is made in the bundle
+  start          waits until the first process of a module's container takes signals
   supervise      the first process inside a module's container; not for use by hand
   --help, -h     this help
   --version, -v  the version of feulgama-oci, and then that of runc

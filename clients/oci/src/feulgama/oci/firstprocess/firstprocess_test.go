@@ -98,3 +98,47 @@ func TestSignalsThatStay(t *testing.T) {
 		t.Errorf("status %d, want 9: %s", got, strings.Join(command.Args, " "))
 	}
 }
+
+func TestAwait(t *testing.T) {
+	command := exec.Command("/bin/sh", "-c", "exec /bin/sh -c 'read word; sleep 60 & wait'")
+	begin, err := command.StdinPipe()
+	if err != nil {
+		t.Fatal(err)
+	}
+	command.SysProcAttr = &syscall.SysProcAttr{Setpgid: true}
+	if err := command.Start(); err != nil {
+		t.Fatal(err)
+	}
+	pid := command.Process.Pid
+	defer func() {
+		_ = syscall.Kill(-pid, syscall.SIGKILL)
+		_ = command.Wait()
+	}()
+	began := time.Now()
+	Await(pid, 100*time.Millisecond)
+	if time.Since(began) < 100*time.Millisecond {
+		t.Error("a process without a child is ready")
+	}
+	if _, err := begin.Write([]byte("go\n")); err != nil {
+		t.Fatal(err)
+	}
+	began = time.Now()
+	Await(pid, 10*time.Second)
+	if time.Since(began) > 5*time.Second {
+		t.Error("a process with a child is not ready")
+	}
+}
+
+func TestAwaitOfWhatHasEnded(t *testing.T) {
+	command := exec.Command("/bin/true")
+	if err := command.Start(); err != nil {
+		t.Fatal(err)
+	}
+	began := time.Now()
+	Await(command.Process.Pid, 10*time.Second) // a zombie, until it is waited for
+	_ = command.Wait()
+	Await(command.Process.Pid, 10*time.Second)
+	if time.Since(began) > 5*time.Second {
+		t.Error("a process that has ended is waited for")
+	}
+}
