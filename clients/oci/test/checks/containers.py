@@ -7,9 +7,9 @@ from pathlib import Path
 from typing import ClassVar
 
 from .containerd import Containerd
-from .engines import Docker, Podman
+from .engines import Docker, Engine, Podman
 from .host import Host, Setting, Wish
-from .machine import Ended, missing, processor_time, until
+from .machine import Ended, command, missing, processor_time, until
 from .runc import Runc
 
 MEBIBYTE = 1 << 20
@@ -236,13 +236,44 @@ class UnderRunc(Containers):
     kind = Runc
 
 
-class UnderPodman(Containers):
+class UnderEngine(Containers):
+    """What podman and docker can do more."""
+
+    host: ClassVar[Engine]
+
+    def test_start_again(self) -> None:
+        """a container that was stopped starts again"""
+        container = self.begin("counts")
+        self.assertEqual(self.host.end(container), 143)
+        self.host.must("start", container)
+        until("it writes again", lambda: self.host.logs(container) == "begun\nbegun\n")
+        self.end(container)
+
+    def test_module_in_a_volume(self) -> None:
+        """the module may be in a volume, whether that is a folder or the one file"""
+        folder = self.setting.machine.folder / "volume"
+        folder.mkdir(exist_ok=True)
+        (folder / "seven.wasm").write_bytes(self.setting.images.modules["exit7"])
+        for options in (("--entrypoint=/v/seven.wasm", f"--volume={folder}:/v:ro"),
+                        ("--entrypoint=/one.wasm", f"--volume={folder}/seven.wasm:/one.wasm:ro")):
+            ended = self.host.run(Wish(self.setting.images.all["hello"], options=options))
+            self.assertEqual((ended.status, ended.out), (7, ""), ended.err)
+
+    def test_exec(self) -> None:
+        """there is nothing to execute in a container of a module"""
+        container = self.begin("counts")
+        ended = command(self.host.words("exec", container, "/counts.wasm"), self.host.environment)
+        self.assertNotEqual(ended.status, 0)
+        self.end(container)
+
+
+class UnderPodman(UnderEngine):
     """podman."""
 
     kind = Podman
 
 
-class UnderDocker(Containers):
+class UnderDocker(UnderEngine):
     """docker."""
 
     kind = Docker

@@ -39,7 +39,7 @@ class Engine(Host):
         """The words for a container."""
         limit = [f"--memory={wish.memory}"] if wish.memory else []
         entries = [f"--env={entry}" for entry in wish.entries]
-        return [*self.options(), *limit, *entries, wish.picture.reference, *wish.words]
+        return [*self.options(), *limit, *entries, *wish.options, wish.picture.reference, *wish.words]
 
     def run(self, wish: Wish) -> Ended:
         return command(self.words("run", "--rm", *self.asked(wish)), self.environment)

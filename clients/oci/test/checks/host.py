@@ -37,6 +37,7 @@ class Wish:
     words: tuple[str, ...] = ()  # arguments in place of those of the image
     memory: int | None = None  # the limit, in bytes
     entries: tuple[str, ...] = ()  # of the environment
+    options: tuple[str, ...] = ()  # of podman's and docker's run
 
 
 class Host(ABC):

@@ -103,6 +103,7 @@ class Images:
     runtime: Path
     folder: Path
     all: dict[str, Picture] = field(default_factory=dict)
+    modules: dict[str, bytes] = field(default_factory=dict)
 
     def assemble(self, text: str) -> bytes:
         """The module of a text."""
@@ -116,7 +117,7 @@ class Images:
         texts = {**TEXTS, "hello": (example / "hello.wat").read_text(), "echo": (example / "echo.wat").read_text(),
                  "counts": (TOP / "clients/oci/test/counts.wat").read_text()}
         texts["environment"] = texts["echo"].replace('"args_', '"environ_')
-        modules = {"bad": BAD, **{name: self.assemble(text) for name, text in texts.items()}}
+        modules = self.modules = {"bad": BAD, **{name: self.assemble(text) for name, text in texts.items()}}
         for name, module in modules.items():
             self.add(name, {f"{name}.wasm": module}, f"/{name}.wasm")
         self.add("native", {"feulgama-oci": self.runtime.read_bytes()}, "/feulgama-oci", "--help")
