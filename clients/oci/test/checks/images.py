@@ -104,6 +104,7 @@ class Images:
     folder: Path
     all: dict[str, Picture] = field(default_factory=dict)
     modules: dict[str, bytes] = field(default_factory=dict)
+    texts: dict[str, str] = field(default_factory=dict)
 
     def assemble(self, text: str) -> bytes:
         """The module of a text."""
@@ -114,8 +115,9 @@ class Images:
     def make(self) -> None:
         """Makes all images."""
         example = TOP / "examples"
-        texts = {**TEXTS, "hello": (example / "hello.wat").read_text(), "echo": (example / "echo.wat").read_text(),
-                 "counts": (TOP / "clients/oci/test/counts.wat").read_text()}
+        counts = TOP / "clients/oci/test/counts.wat"
+        files = {"hello": example / "hello.wat", "echo": example / "echo.wat", "counts": counts}
+        texts = self.texts = {**TEXTS, **{name: file.read_text() for name, file in files.items()}}
         texts["environment"] = texts["echo"].replace('"args_', '"environ_')
         modules = self.modules = {"bad": BAD, **{name: self.assemble(text) for name, text in texts.items()}}
         for name, module in modules.items():
