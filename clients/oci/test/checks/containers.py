@@ -101,6 +101,8 @@ class Containers(unittest.TestCase):
 
     def test_memory(self) -> None:
         """the memory of a module grows to the limit of its container, and to 256 pages without one"""
+        if self.setting.race:
+            self.skipTest("a runtime that looks for data races takes more memory itself")
         self.assertEqual(self.host.run(self.wish("grow")).status, 256 - 100)
         limited = self.host.run(self.wish("grow", memory=12 * MEBIBYTE))
         self.assertEqual(limited.status, 12 * 16 - 100, limited.err)

@@ -21,7 +21,7 @@ class Setting:
     tool: Any  # tools/image, as a module
     runtime: Path
     program: Path
-    slow: bool = False
+    race: bool = False  # whether the runtime looks for data races
 
     @property
     def environment(self) -> dict[str, str]:

@@ -100,7 +100,7 @@ class Images:
     """All images of the tests, made once."""
 
     program: Path
-    runtime: Path
+    native: Path  # a static program
     folder: Path
     all: dict[str, Picture] = field(default_factory=dict)
     modules: dict[str, bytes] = field(default_factory=dict)
@@ -122,7 +122,7 @@ class Images:
         modules = self.modules = {"bad": BAD, **{name: self.assemble(text) for name, text in texts.items()}}
         for name, module in modules.items():
             self.add(name, {f"{name}.wasm": module}, f"/{name}.wasm")
-        self.add("native", {"feulgama-oci": self.runtime.read_bytes()}, "/feulgama-oci", "--help")
+        self.add("native", {"feulgama-oci": self.native.read_bytes()}, "/feulgama-oci", "--help")
         outside = self.folder / "outside.wasm"
         outside.write_bytes(modules["hello"])
         self.add("link-out", {"m.wasm": Entry(tarfile.SYMTYPE, "../" * 12 + str(outside)[1:])}, "/m.wasm")

@@ -20,7 +20,7 @@ SECONDS = 60.0
 PACKAGES = {
     "runc": "runc", "podman": "podman", "conmon": "podman", "dockerd": "docker.io", "docker": "docker.io",
     "containerd": "containerd", "ctr": "containerd", "containerd-shim-runc-v2": "containerd", "go": "golang-go",
-    "gofmt": "golang-go", "gcc": "gcc", "ip": "iproute2", "nsenter": "util-linux", "iptables": "iptables",
+    "gofmt": "golang-go", "gcc": "gcc", "ip": "iproute2", "nsenter": "util-linux", "iptables": "iptables", "xxd": "xxd",
     "/usr/share/gocode/src/golang.org/x/sys/unix": "golang-golang-x-sys-dev",
     "/usr/share/gocode/src/github.com/opencontainers/runtime-spec": "golang-github-opencontainers-specs-dev",
 }

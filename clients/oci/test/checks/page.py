@@ -96,7 +96,7 @@ class Page(unittest.TestCase):
         shutil.copy(cls.setting.program, program)
         # /usr/local/bin is the tests' own (see `run`).
         bare = dataclasses.replace(cls.setting, runtime=Path("/usr/local/bin/feulgama-oci"),
-                                   images=Images(cls.setting.program, cls.setting.runtime, machine.folder))
+                                   images=Images(cls.setting.program, cls.setting.images.native, machine.folder))
         cls.hosts = {}
         for kind in KINDS:
             if not missing(kind.tools):
@@ -143,14 +143,21 @@ class Page(unittest.TestCase):
             if not re.fullmatch(command.pattern, written):
                 self.fail(f"{command.words}\nwrites\n{written}\nand the page has\n{command.lines}")
 
+    def need_xxd(self) -> None:
+        """Ends a check as one that is not run, if xxd is missing."""
+        if missing(["xxd"]):
+            self.skipTest("packages are missing: xxd")
+
     def host(self, kind: type[Host]) -> None:
         """Runs the commands for a host, if it is there."""
+        self.need_xxd()
         if kind.name not in self.hosts:
             self.skipTest("packages are missing: " + " ".join(missing(kind.tools)))
         self.check(kind.name)
 
     def test_setup(self) -> None:
         """the build, the installation and the image"""
+        self.need_xxd()
         self.check("setup")
 
     def test_podman(self) -> None:

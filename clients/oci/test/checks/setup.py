@@ -49,10 +49,11 @@ def prepare(machine: Machine, program: Path, race: bool) -> Setting:
     shim = beside / "wasm-shim"
     shutil.copy(program, shim)
     shim.chmod(0o755)
-    runtime = beside / "feulgama-oci"
+    runtime, native = beside / "feulgama-oci", beside / "native"
+    must([CLIENT / "build", native], seconds=600)
     must([CLIENT / "build", *(["--race"] if race else []), runtime], seconds=600)
     work = machine.folder / "images"
     work.mkdir()
-    images = Images(shim, runtime, work)
+    images = Images(shim, native, work)
     images.make()
-    return Setting(machine, images, load_tool(), runtime, shim)
+    return Setting(machine, images, load_tool(), runtime, shim, race)
