@@ -85,7 +85,7 @@ class Swarm(unittest.TestCase):
             node.answers(node.words("version"))
 
     def end(self) -> None:
-        """Ends the nodes, and clears away what the lost one has left: its processes, mounts and sockets."""
+        """Ends the nodes, and clears away what the lost one has left: its processes, mounts, cgroups and sockets."""
         machine, lost = self.setting.machine, self.nodes[-1]
         for node in self.nodes[:-1]:
             command(node.words("swarm", "leave", "--force"), node.environment)
@@ -95,6 +95,9 @@ class Swarm(unittest.TestCase):
         for place in machine.mounts():
             if place.startswith(f"{lost.folder}/"):
                 must(["umount", "--lazy", place])
+        for cgroup in machine.cgroups():
+            if lost.cgroup in str(cgroup):
+                cgroup.rmdir()
         for socket in Path("/run/containerd/s").iterdir():
             socket.unlink()
         for node in self.nodes:
