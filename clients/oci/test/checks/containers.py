@@ -1,6 +1,8 @@
 """What a container of a module does, the same under each host."""
 from __future__ import annotations
 
+import os
+import signal
 import time
 import unittest
 from pathlib import Path
@@ -236,6 +238,15 @@ class UnderRunc(Containers):
     """runc alone."""
 
     kind = Runc
+    host: ClassVar[Runc]
+
+    def test_signal_right_after_the_start(self) -> None:
+        """no SIGTERM is lost that comes right after the start, 30 times"""
+        for _ in range(30):
+            container = self.host.begin(self.wish("counts"))
+            os.kill(self.host.pid(container), signal.SIGTERM)
+            self.assertEqual(self.host.ended(container), 143)
+            self.host.remove(container)
 
 
 class UnderEngine(Containers):

@@ -52,9 +52,11 @@ class Runc(Host):
     def begin(self, wish: Wish) -> str:
         name = self.fresh()
         bundle = self.bundle(wish, name)
+        create = self.words("create", f"--bundle={bundle}", f"--pid-file={self.folder}/{name}.pid", name)
         with (self.folder / f"{name}.log").open("wb") as log:
-            subprocess.run(self.words("run", "--detach", f"--bundle={bundle}", name), stdin=subprocess.DEVNULL, stdout=log,
-                           stderr=log, env=self.environment, check=True, timeout=60)
+            subprocess.run(create, stdin=subprocess.DEVNULL, stdout=log, stderr=log, env=self.environment, check=True,
+                           timeout=60)
+        must(self.words("start", name), self.environment)
         return name
 
     def logs(self, container: str) -> str:
@@ -75,14 +77,16 @@ class Runc(Host):
         return str(self.state(container)["status"])
 
     def pid(self, container: str) -> int:
-        return int(self.state(container)["pid"])
+        return int((self.folder / f"{container}.pid").read_text())
+
+    def ended(self, container: str) -> int:
+        """Waits for a container's end, and answers its exit status. runc has left, so its process is a child of this one."""
+        until("the container has stopped", lambda: self.status(container) == "stopped")
+        return os.waitstatus_to_exitcode(os.waitpid(self.pid(container), 0)[1])
 
     def end(self, container: str) -> int:
-        pid = self.pid(container)
         must(self.words("kill", container, "TERM"), self.environment)
-        # runc has left, so the container's first process is a child of this one.
-        until("the container has stopped", lambda: self.status(container) == "stopped")
-        return os.waitstatus_to_exitcode(os.waitpid(pid, 0)[1])
+        return self.ended(container)
 
     def remove(self, container: str) -> None:
         must(self.words("delete", container), self.environment)
