@@ -3,6 +3,7 @@ package container
 import (
 	"encoding/json"
 	"fmt"
+	"os"
 	"path/filepath"
 	"strconv"
 	"strings"
@@ -57,43 +58,54 @@ func Contain(c *config.Config, module *Module, with Programs) error {
 	return nil
 }
 
-// mounts binds both programs and what they need into the container, to be read only.
-func (p Programs) mounts() ([]config.Mount, error) {
-	mounts := []config.Mount{}
-	seen := map[string]bool{}
-	bind := func(source, destination string) error {
-		if seen[destination] {
-			return nil
-		}
-		seen[destination] = true
-		mounts = append(mounts, config.Mount{Destination: destination, Type: "bind", Source: source,
-			Options: []string{"bind", "ro", "nosuid", "nodev"}})
-		return programs.OpenToAll(source)
-	}
-	for _, program := range []struct{ source, destination string }{{p.First, ownFirst}, {p.Shim, ownShim}} {
-		if err := bind(program.source, program.destination); err != nil {
-			return nil, err
-		}
-		needs, err := elfneeds.Of(program.source)
-		if err != nil {
-			return nil, err
-		}
-		if needs.Loader != "" {
-			if err := bind(needs.Loader, filepath.Clean(needs.Loader)); err != nil {
-				return nil, err
-			}
-		}
-		for _, name := range needs.Names() {
-			if err := bindLibrary(bind, needs.Libraries[name], name); err != nil {
-				return nil, err
-			}
-		}
-	}
-	return mounts, nil
+// binds are files of the host that a container sees, to be read only.
+type binds struct {
+	mounts []config.Mount
+	seen   map[string]bool
 }
 
-func bindLibrary(bind func(source, destination string) error, source, name string) error {
-	return bind(source, ownLibrary+"/"+name)
+func (b *binds) add(source, destination string, rights os.FileMode) error {
+	if b.seen[destination] {
+		return nil
+	}
+	b.seen[destination] = true
+	b.mounts = append(b.mounts, config.Mount{Destination: destination, Type: "bind", Source: source,
+		Options: []string{"bind", "ro", "nosuid", "nodev"}})
+	return programs.OpenToAll(source, rights)
+}
+
+// addProgram adds a program, its loader and its libraries.
+func (b *binds) addProgram(source, destination string) error {
+	if err := b.add(source, destination, programs.Run); err != nil {
+		return err
+	}
+	needs, err := elfneeds.Of(source)
+	if err != nil {
+		return err
+	}
+	if needs.Loader != "" {
+		if err := b.add(needs.Loader, filepath.Clean(needs.Loader), programs.Run); err != nil {
+			return err
+		}
+	}
+	for _, name := range needs.Names() {
+		if err := b.add(needs.Libraries[name], ownLibrary+"/"+name, programs.Read); err != nil {
+			return err
+		}
+	}
+	return nil
+}
+
+// mounts binds both programs and what they need into the container.
+func (p Programs) mounts() ([]config.Mount, error) {
+	b := binds{mounts: []config.Mount{}, seen: map[string]bool{}}
+	if err := b.addProgram(p.First, ownFirst); err != nil {
+		return nil, err
+	}
+	if err := b.addProgram(p.Shim, ownShim); err != nil {
+		return nil, err
+	}
+	return b.mounts, nil
 }
 
 // isFree refuses a module whose place in the container is that of something else.

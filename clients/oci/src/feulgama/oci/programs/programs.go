@@ -73,8 +73,14 @@ func isProgram(path string) bool {
 	return err == nil && about.Mode().IsRegular() && about.Mode().Perm()&0o111 != 0
 }
 
-// OpenToAll checks that a user without any right may read and run the file, as the container's user does.
-func OpenToAll(path string) error {
+// What the container's user has to be allowed to do with a file.
+const (
+	Read = 0o4
+	Run  = 0o5
+)
+
+// OpenToAll checks that a user without any right may use the file, as the container's user does.
+func OpenToAll(path string, rights os.FileMode) error {
 	about, err := os.Stat(path)
 	if err != nil {
 		return fmt.Errorf("look at a file that the container needs: %w", err)
@@ -82,9 +88,10 @@ func OpenToAll(path string) error {
 	if !about.Mode().IsRegular() {
 		return errors.New(path + " is no regular file")
 	}
-	if about.Mode().Perm()&0o005 != 0o005 {
-		return fmt.Errorf("%s has the mode %04o, and the container's user is nobody: chmod o+rx %s",
-			path, about.Mode().Perm(), path)
+	if about.Mode().Perm()&rights != rights {
+		letters := map[os.FileMode]string{Read: "r", Run: "rx"}[rights]
+		return fmt.Errorf("%s has the mode %04o, and the container's user is nobody: chmod o+%s %s",
+			path, about.Mode().Perm(), letters, path)
 	}
 	return nil
 }

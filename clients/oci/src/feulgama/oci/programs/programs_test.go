@@ -88,14 +88,22 @@ func TestVariablesAreBelieved(t *testing.T) {
 
 func TestOpenToAll(t *testing.T) {
 	open := put(t, filepath.Join(t.TempDir(), "open"), 0o755)
+	library := put(t, filepath.Join(t.TempDir(), "library"), 0o644)
 	closed := put(t, filepath.Join(t.TempDir(), "closed"), 0o750)
-	if err := OpenToAll(open); err != nil {
-		t.Error(err)
+	for path, rights := range map[string]os.FileMode{open: Run, library: Read} {
+		if err := OpenToAll(path, rights); err != nil {
+			t.Error(err)
+		}
 	}
-	if err := OpenToAll(closed); err == nil || !strings.Contains(err.Error(), "chmod o+rx "+closed) {
-		t.Error(err)
+	for _, c := range []struct {
+		path, want string
+		rights     os.FileMode
+	}{{closed, "chmod o+rx " + closed, Run}, {closed, "chmod o+r " + closed, Read}, {library, "chmod o+rx " + library, Run}} {
+		if err := OpenToAll(c.path, c.rights); err == nil || !strings.Contains(err.Error(), c.want) {
+			t.Errorf("%v; want %q", err, c.want)
+		}
 	}
-	if OpenToAll(t.TempDir()) == nil || OpenToAll(closed+"x") == nil {
+	if OpenToAll(t.TempDir(), Run) == nil || OpenToAll(closed+"x", Read) == nil {
 		t.Error("a folder and a file that is not there are taken")
 	}
 }
