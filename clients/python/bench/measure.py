@@ -1,9 +1,8 @@
-#!/usr/bin/env python3
-"""Measures the library and the debugger over the built program.
+"""Measures the library and the debugger over the built program. In clients/python:
 
-    clients/python/bench/measure.py [PROGRAM]
+    /usr/bin/python3 -m bench.measure [PROGRAM]
 
-PROGRAM is that of FEULGAMA_SHIM, or the one that tools/shim builds, if it is not told. First the time of a request by
+PROGRAM is looked for as the library does, if it is not told. First the time of a request by
 the library, by asyncio, and by the bare pipe (the same line written and its reply read by two system calls). Then how
 long the debugger takes to move in a program that runs for ever: to a turn, back from it, to a breakpoint, and back to
 one; to 20 random turns, each time from the first turn; and to stop, once it is interrupted. Last, how soon a call ends
@@ -24,16 +23,14 @@ import time
 from collections.abc import Callable
 from pathlib import Path
 
-sys.path.insert(0, str(Path(__file__).resolve().parents[1]))
-
-import feulgama  # noqa: E402
-from feulgama import requests  # noqa: E402
-from feulgama.debug.debugger import Debugger  # noqa: E402
-from feulgama.debug.look import Place  # noqa: E402
-from feulgama.model import Inspection, State  # noqa: E402
-from feulgama.opening import open_debugger  # noqa: E402
-from feulgama.program import assemble, program  # noqa: E402
-from feulgama.requests import Request  # noqa: E402
+import feulgama
+from feulgama import requests
+from feulgama.debug.debugger import Debugger
+from feulgama.debug.look import Place
+from feulgama.model import Inspection, State
+from feulgama.opening import open_debugger
+from feulgama.program import assemble, program
+from feulgama.requests import Request
 
 # Each round of the loop is six turns; each 2^20 rounds it calls function 1.
 FOREVER = b"""(module (type $v (func))
@@ -80,7 +77,7 @@ def by_pipe(words: list[str], line: bytes, before: list[bytes]) -> float:
 
 
 def requests_of(words: list[str], name: str, data: bytes) -> None:
-    before = [requests.put(data).line, requests.create("a", feulgama.Config(feulgama.digest_of(data))).line]
+    before = [requests.put(data).line, requests.create(feulgama.Config(feulgama.digest_of(data)), "a").line]
     both: list[Request[State] | Request[Inspection]] = [requests.state("a"), requests.inspect("a")]
     for asked in both:
         bare = by_pipe(words, asked.line, before)
@@ -198,7 +195,7 @@ def kills(name: str, data: bytes) -> None:
             try:
                 while True:
                     shim.inspect("a")
-            except feulgama.ShimEnded:
+            except feulgama.ShimEndedError:
                 slowest = max(slowest, time.perf_counter() - killed[0])
             timer.join()
     print(f"an exception after a kill: at most {slowest * 1000:.1f} ms")

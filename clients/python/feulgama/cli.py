@@ -12,7 +12,9 @@ from feulgama.debug.commands import Commands
 from feulgama.debug.terminal import debug
 from feulgama.errors import FeulgamaError
 from feulgama.opening import module_bytes, open_debugger
+from feulgama.program import program, version_of
 from feulgama.shim import Shim
+from feulgama.version import __version__
 
 
 def variable(text: str) -> tuple[str, str]:
@@ -26,9 +28,10 @@ def variable(text: str) -> tuple[str, str]:
 def parser() -> argparse.ArgumentParser:
     """What the command line may be."""
     top = argparse.ArgumentParser(prog="feulgama", description="Debugs WebAssembly modules as tasks of a shim.")
-    top.add_argument("--shim", metavar="FILE", help="the shim's program (by default that of FEULGAMA_SHIM, or the one "
-                                                    "that tools/shim builds)")
-    commands = top.add_subparsers(dest="command", required=True)
+    top.add_argument("--shim", metavar="FILE", help="the shim's program (by default that of FEULGAMA_SHIM, or wasm-shim "
+                                                    "on PATH, or the one that tools/shim builds in a clone)")
+    top.add_argument("--version", "-V", action="store_true", help="the versions of this package and of the shim")
+    commands = top.add_subparsers(dest="command", metavar="COMMAND")
     terminal = commands.add_parser("debug", help="debugs a module in the terminal")
     terminal.add_argument("--env", metavar="NAME=VALUE", type=variable, action="append", default=[],
                           help="a variable of the task's environment")
@@ -39,9 +42,25 @@ def parser() -> argparse.ArgumentParser:
     return top
 
 
+def show_versions(shim_file: str | None) -> int:
+    """Shows the version of this package, and that of the shim's program, if one is found."""
+    print(f"feulgama {__version__}")
+    try:
+        words = program(shim_file)
+        print(f"{version_of(words)} ({words[-1]})")
+    except FeulgamaError as error:
+        print(f"wasm-shim: {error}")
+    return 0
+
+
 def main(words: Sequence[str] | None = None) -> int:
     """Does what the command line asks for; its status."""
-    found = parser().parse_args(words)
+    top = parser()
+    found = top.parse_args(words)
+    if found.version:
+        return show_versions(found.shim)
+    if found.command is None:
+        top.error("a command is needed: debug or dap")
     try:
         if found.command == "dap":
             return serve(found.shim)

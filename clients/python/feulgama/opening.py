@@ -8,14 +8,24 @@ from feulgama.config import Config
 from feulgama.debug.debugger import Debugger
 from feulgama.debug.symbols import Symbols
 from feulgama.debug.timeline import Timeline
-from feulgama.errors import FeulgamaError, Limit
-from feulgama.program import assemble, program
+from feulgama.errors import FeulgamaError, LimitError, RefusalError
+from feulgama.program import assemble, program, refusal_by_check
 from feulgama.shim import Shim
 from feulgama.wasm.module import decode
+from feulgama.wasm.reader import NotAModuleError
+
+MORE_MEMORY = "its memory may begin with more pages than the task may have, which an option for memory raises"
 
 
-class NeedsMemory(FeulgamaError):
+class NeedsMemoryError(FeulgamaError):
     """The module passes a limit; mostly its memory begins with more than a task without a limit may have."""
+
+
+class RefusedError(FeulgamaError):
+    """The shim refuses the module. The message says why, as `wasm-shim check --task --explain` does."""
+
+
+NeedsMemory = NeedsMemoryError
 
 
 def module_bytes(path: Path, shim_file: str | None) -> bytes:
@@ -26,11 +36,18 @@ def module_bytes(path: Path, shim_file: str | None) -> bytes:
 
 def open_debugger(shim: Shim, path: Path, data: bytes, args: Sequence[str], env: Mapping[str, str],
                   memory_limit: int | None) -> Debugger:
-    """A debugger over a run of a module, before its first turn. Its arguments are the module's path and these."""
-    module, digest = decode(data), shim.ensure(data)
+    """A debugger over a run of a module, before its first turn. Its arguments are the module's path and these. Raises
+    RefusedError if the shim refuses the module, and NeedsMemoryError if more memory might help."""
+    try:
+        module = decode(data)
+    except NotAModuleError as error:
+        told = refusal_by_check(data, memory_limit, shim.program)
+        raise RefusedError(f"{path}: {told or error}") from error
+    digest = shim.ensure(data)
     try:
         timeline = Timeline(shim, Config(digest, (str(path), *args), env, memory_limit), module)
-    except Limit as error:
-        raise NeedsMemory(f"{error}; its memory may begin with more pages than the task may have, which an option "
-                          "for memory raises") from error
+    except LimitError as error:
+        raise NeedsMemoryError(f"{path}: {error}{'' if error.why else '; ' + MORE_MEMORY}") from error
+    except RefusalError as error:
+        raise RefusedError(f"{path}: {error}") from error
     return Debugger(timeline, Symbols(module, [path.parent, Path.cwd()]))

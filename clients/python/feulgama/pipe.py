@@ -6,31 +6,36 @@ import os
 import select
 import signal
 import subprocess
+import threading
 import time
 
-from feulgama.errors import BadReply, NoShim, ShimEnded
+from feulgama.errors import BadReplyError, NoShimError, ShimEndedError
+from feulgama.said import Said
 
 CHUNK = 1 << 18
-PATIENCE = 5.0
+PATIENCE, LAST_WORDS = 5.0, 0.2
 
 
 class Pipe:
     """A running `wasm-shim serve`, of the words that start it. It has a session of its own, so that a Ctrl-C in a
-    terminal does not reach it. `asked` is how many lines it was sent."""
+    terminal does not reach it. `asked` is how many lines it was sent; `said` is what it writes to standard error, which a
+    thread reads, so that the shim never waits for a reader."""
 
     def __init__(self, words: list[str]) -> None:
         try:
             self._process = subprocess.Popen(words, bufsize=0, start_new_session=True, stdin=subprocess.PIPE,
                                              stdout=subprocess.PIPE, stderr=subprocess.PIPE)
         except OSError as error:
-            raise NoShim(f"{' '.join(words)}: {error.strerror}") from error
-        streams = self._process.stdin, self._process.stdout, self._process.stderr
-        assert streams[0] and streams[1] and streams[2]
-        self._streams = streams[0], streams[1], streams[2]
-        self._in, self._out, self._error = (stream.fileno() for stream in self._streams)
-        for descriptor in (self._in, self._error):
-            os.set_blocking(descriptor, False)
-        self._ended: ShimEnded | None = None
+            raise NoShimError(f"{' '.join(words)}: {error.strerror}") from error
+        if self._process.stdin is None or self._process.stdout is None or self._process.stderr is None:
+            raise NoShimError(f"{' '.join(words)}: it was started without pipes")
+        self._streams = self._process.stdin, self._process.stdout
+        self._in, self._out = (stream.fileno() for stream in self._streams)
+        os.set_blocking(self._in, False)
+        self.said = Said()
+        self._listener = threading.Thread(target=self.said.listen, args=(self._process.stderr,), daemon=True)
+        self._listener.start()
+        self._ended: ShimEndedError | None = None
         self._unanswered = 0
         self.asked = 0
 
@@ -105,21 +110,19 @@ class Pipe:
         except OSError as error:
             raise self.end("the shim does not read") from error
 
-    def refuse(self, line: bytes) -> BadReply:
+    def refuse(self, line: bytes) -> BadReplyError:
         """Ends the shim because of a line that is no reply."""
         self.end("the shim wrote a line that is no reply")
-        return BadReply(line)
+        return BadReplyError(line)
 
-    def end(self, why: str) -> ShimEnded:
+    def end(self, why: str) -> ShimEndedError:
         """Ends the process, if it has not ended, and says how it did."""
         if self._ended is None:
             status = self._process.poll()
             if status is None:
                 status = self._stop()
-            said = b""
-            with contextlib.suppress(OSError):
-                said = os.read(self._error, CHUNK)
-            self._ended = ShimEnded(why, status, said.decode(errors="replace").strip())
+            self._listener.join(LAST_WORDS)
+            self._ended = ShimEndedError(why, status, self.said.other())
             for stream in self._streams:
                 stream.close()
         return self._ended

@@ -1,41 +1,18 @@
 """Each request of docs/PROTOCOL.md: the line that asks it, and how its reply is read."""
 from __future__ import annotations
 
+import itertools
 import json
-from collections.abc import Callable, Mapping
-from dataclasses import dataclass
-from typing import Any, Generic, TypeVar
 
 from feulgama.config import Config
-from feulgama.errors import BadReply, refusal_of
-from feulgama.model import (Cause, Content, Exit, Frame, Inspection, Signal, State, Status, Stream, TaskStatus, Value,
-                            ValueType)
+from feulgama.errors import InterferenceError
+from feulgama.model import (Cause, Content, Exit, Frame, Inspection, Ran, Signal, State, Status, Stream, TaskStatus,
+                            Value, ValueType)
+from feulgama.operation import Operation, Reply
+from feulgama.operation import Request as Request
 
-T = TypeVar("T")
-Reply = Mapping[str, Any]
 JOURNAL = 16_384  # how many requests a shim answers
-
-
-@dataclass(frozen=True, slots=True)
-class Request(Generic[T]):
-    """A request. `line` is what is sent, with its line feed; `read` makes the result of a reply that was accepted."""
-    op: str
-    line: bytes
-    read: Callable[[Reply], T]
-
-    def result(self, line: bytes) -> T:
-        """What a line of the shim answers. Raises the Refusal that it is, or BadReply if it is no reply."""
-        try:
-            reply = json.loads(line)
-            if reply["ok"] is True:
-                return self.read(reply)
-            if reply["ok"] is False:
-                refusal = refusal_of(self.op, reply)
-            else:
-                raise BadReply(line)
-        except (ValueError, KeyError, TypeError, AttributeError) as error:
-            raise BadReply(line) from error
-        raise refusal
+IDS = itertools.count()
 
 
 def line_of(op: str, **keys: object) -> bytes:
@@ -43,10 +20,19 @@ def line_of(op: str, **keys: object) -> bytes:
     return json.dumps({"op": op, **keys}, separators=(",", ":")).encode() + b"\n"
 
 
+def new_id() -> str:
+    """An id that this function has not made before."""
+    return f"py-{next(IDS)}"
+
+
 # How replies are read.
 
 def nothing(_reply: Reply) -> None:
     return None
+
+
+def id_of(reply: Reply) -> str:
+    return str(reply["id"])
 
 
 def content(reply: Reply) -> Content:
@@ -84,92 +70,144 @@ def frame(shown: Reply) -> Frame:
                  None if next_ == "end" else int(next_), tuple(map(value, shown["operands"])))
 
 
+def ran_of(state: State, stdout: bytes, stderr: bytes) -> Ran:
+    """What a task did that has ended. Raises InterferenceError of one that has not: another user of the shim paused it."""
+    if state.exit is None:
+        raise InterferenceError(f"the task {state.id} has not ended; it is {state.status}")
+    return Ran(state.exit, stdout, stderr)
+
+
 def inspection(reply: Reply) -> Inspection:
     return Inspection(reply["id"], reply["n"], tuple(map(frame, reply["frames"])))
 
 
-# The requests, in the order of the page.
+# The table of requests, in the order of the page. Each is also a method of Shim and of AsyncShim (feulgama/calls.py).
 
+
+@Operation
 def put(data: bytes) -> Request[Content]:
+    """Stores bytes."""
+    if isinstance(data, str):
+        raise TypeError("a content is bytes; put_text takes the text of a module")
     return Request("put", line_of("put", hex=data.hex()), content)
 
 
+@Operation
 def put_text(text: str) -> Request[Content]:
+    """Stores the module that a text denotes."""
     return Request("put_text", line_of("put_text", text=text), content)
 
 
+@Operation
 def remove(digest: str) -> Request[None]:
+    """Removes a content."""
     return Request("remove", line_of("remove", digest=digest), nothing)
 
 
-def lease_create(id: str) -> Request[None]:
-    return Request("lease_create", line_of("lease_create", id=id), nothing)
+@Operation
+def lease_create(lease: str | None = None) -> Request[str]:
+    """Creates a lease, under a new id if none is given; its id."""
+    return Request("lease_create", line_of("lease_create", id=lease or new_id()), id_of)
 
 
-def lease_add(id: str, digest: str) -> Request[None]:
-    return Request("lease_add", line_of("lease_add", id=id, digest=digest), nothing)
+@Operation
+def lease_add(lease: str, digest: str) -> Request[None]:
+    """Adds a content to a lease."""
+    return Request("lease_add", line_of("lease_add", id=lease, digest=digest), nothing)
 
 
-def lease_delete(id: str) -> Request[None]:
-    return Request("lease_delete", line_of("lease_delete", id=id), nothing)
+@Operation
+def lease_delete(lease: str) -> Request[None]:
+    """Deletes a lease."""
+    return Request("lease_delete", line_of("lease_delete", id=lease), nothing)
 
 
+@Operation
 def gc() -> Request[tuple[str, ...]]:
+    """Removes the contents that nothing holds; their digests."""
     return Request("gc", line_of("gc"), removed)
 
 
-def create(id: str, config: Config | str) -> Request[TaskStatus]:
+@Operation
+def create(config: Config | str, task: str | None = None) -> Request[TaskStatus]:
+    """Creates a task, under a new id if none is given. A config that is a text is sent as it is."""
     text = config if isinstance(config, str) else config.text()
-    return Request("create", line_of("create", id=id, config=text), task_status)
+    return Request("create", line_of("create", id=task or new_id(), config=text), task_status)
 
 
-def start(id: str) -> Request[TaskStatus]:
-    return Request("start", line_of("start", id=id), task_status)
+@Operation
+def start(task: str) -> Request[TaskStatus]:
+    """Starts a task."""
+    return Request("start", line_of("start", id=task), task_status)
 
 
-def pause(id: str) -> Request[TaskStatus]:
-    return Request("pause", line_of("pause", id=id), task_status)
+@Operation
+def pause(task: str) -> Request[TaskStatus]:
+    """Pauses a task that is running."""
+    return Request("pause", line_of("pause", id=task), task_status)
 
 
-def resume(id: str) -> Request[TaskStatus]:
-    return Request("resume", line_of("resume", id=id), task_status)
+@Operation
+def resume(task: str) -> Request[TaskStatus]:
+    """Lets a task that is paused run on."""
+    return Request("resume", line_of("resume", id=task), task_status)
 
 
-def kill(id: str, signal: int = Signal.KILL) -> Request[TaskStatus]:
-    return Request("kill", line_of("kill", id=id, signal=int(signal)), task_status)
+@Operation
+def kill(task: str, signal: int = Signal.KILL) -> Request[TaskStatus]:
+    """Ends a task by a signal."""
+    return Request("kill", line_of("kill", id=task, signal=int(signal)), task_status)
 
 
-def delete(id: str) -> Request[State]:
-    return Request("delete", line_of("delete", id=id), state_of)
+@Operation
+def delete(task: str) -> Request[State]:
+    """Removes a task that is stopped; its last state."""
+    return Request("delete", line_of("delete", id=task), state_of)
 
 
-def state(id: str) -> Request[State]:
-    return Request("state", line_of("state", id=id), state_of)
+@Operation
+def state(task: str) -> Request[State]:
+    """What a task is doing."""
+    return Request("state", line_of("state", id=task), state_of)
 
 
-def wait(id: str) -> Request[State]:
-    return Request("wait", line_of("wait", id=id), state_of)
+@Operation
+def wait(task: str) -> Request[State]:
+    """The state of a task, once it is not running. There is no limit of time."""
+    return Request("wait", line_of("wait", id=task), state_of)
 
 
-def output(id: str, stream: int = Stream.STDOUT) -> Request[bytes]:
-    return Request("output", line_of("output", id=id, stream=int(stream)), bytes_of)
+@Operation
+def output(task: str, stream: int = Stream.STDOUT) -> Request[bytes]:
+    """What a task has written to a stream."""
+    return Request("output", line_of("output", id=task, stream=int(stream)), bytes_of)
 
 
-def break_(id: str, func: int, place: int) -> Request[None]:
-    return Request("break", line_of("break", id=id, func=func, place=place), nothing)
+@Operation
+def break_(task: str, func: int, place: int) -> Request[None]:
+    """Sets a breakpoint."""
+    return Request("break", line_of("break", id=task, func=func, place=place), nothing)
 
 
-def unbreak(id: str, func: int, place: int) -> Request[None]:
-    return Request("unbreak", line_of("unbreak", id=id, func=func, place=place), nothing)
+@Operation
+def unbreak(task: str, func: int, place: int) -> Request[None]:
+    """Takes a breakpoint away."""
+    return Request("unbreak", line_of("unbreak", id=task, func=func, place=place), nothing)
 
 
-def step(id: str, count: int = 1) -> Request[State]:
-    return Request("step", line_of("step", id=id, count=count), state_of)
+@Operation
+def step(task: str, count: int = 1) -> Request[State]:
+    """Makes turns of a task that is paused; its state after them."""
+    return Request("step", line_of("step", id=task, count=count), state_of)
 
 
-def inspect(id: str) -> Request[Inspection]:
-    return Request("inspect", line_of("inspect", id=id), inspection)
+@Operation
+def inspect(task: str) -> Request[Inspection]:
+    """The frames of a task."""
+    return Request("inspect", line_of("inspect", id=task), inspection)
 
 
-def peek(id: str, address: int, length: int) -> Request[bytes]:
-    return Request("peek", line_of("peek", id=id, address=address, length=length), bytes_of)
+@Operation
+def peek(task: str, address: int, length: int) -> Request[bytes]:
+    """Bytes of a task's memory."""
+    return Request("peek", line_of("peek", id=task, address=address, length=length), bytes_of)

@@ -1,23 +1,44 @@
 #!/usr/bin/env python3
-"""A shim that the second reading of the standards answers (tools/reference), for tests without the built program.
+"""The second reading of the standards (tools/reference), and a shim that it answers, for tests without the built program.
 
     reference_shim.py serve
     reference_shim.py asm FILE      (a file of bytes alone)
 
 A task that is started runs to its end while a `wait` for it is answered, and a slice each time that it is asked for
 its state. With the environment variable EAGER it runs as soon as it is started or resumed, as if there were a worker
-that is faster than all requests.
+that is faster than all requests. Of texts it knows the empty module alone. It gives no reasons of refusals, unless the
+environment variable EXPLAIN has one, which it gives for each.
 """
+import importlib.util
+import json
 import os
 import sys
 from pathlib import Path
 from typing import Any
 
-sys.path.insert(0, str(Path(__file__).resolve().parents[3] / "tools"))
-
-from reference.board import Board  # noqa: E402
-
+TOP = Path(__file__).resolve().parents[3]
 MOST_TURNS, SLICE = 10_000_000, 10_000
+EMPTY_MODULE = {"hex": "0061736d01000000"}
+
+
+def load_second_reading() -> None:
+    """Makes the package `reference` of this repository one that can be imported."""
+    folder = TOP / "tools/reference"
+    spec = importlib.util.spec_from_file_location("reference", folder / "__init__.py",
+                                                  submodule_search_locations=[str(folder)])
+    if spec is None or spec.loader is None:
+        raise ImportError(f"there is no package {folder}")
+    sys.modules["reference"] = importlib.util.module_from_spec(spec)
+    spec.loader.exec_module(sys.modules["reference"])
+
+
+load_second_reading()
+
+from reference import callers, frames, programs, wasm  # noqa: E402
+from reference.board import Board  # noqa: E402
+from reference.execute import Machine  # noqa: E402
+
+__all__ = ["Machine", "callers", "frames", "programs", "wasm"]
 
 
 class SlicedBoard(Board):  # type: ignore[misc]
@@ -50,14 +71,34 @@ class EagerBoard(Board):  # type: ignore[misc]
         return {"id": id, "ok": True, "status": before}
 
 
-def main(words: list[str]) -> int:
-    if words[:1] == ["asm"]:
-        print(Path(words[1]).read_bytes().hex())
-        return 0
+def read_text(line: bytes) -> bytes:
+    """The line; of one that puts the text of the empty module the line that puts its bytes."""
+    if b"put_text" not in line or json.loads(line)["text"] != "(module)":
+        return line
+    return json.dumps({"op": "put", **EMPTY_MODULE}).encode()
+
+
+def serve() -> None:
+    """Answers the lines of standard input."""
     board: Board = EagerBoard(False) if os.environ.get("EAGER") else SlicedBoard(False)
-    for line in sys.stdin.buffer:
-        sys.stdout.buffer.write(board.answer(line.removesuffix(b"\n")) + b"\n")
+    reason = os.environ.get("EXPLAIN")
+    for number, line in enumerate(sys.stdin.buffer, 1):
+        reply = board.answer(read_text(line.removesuffix(b"\n")))
+        sys.stdout.buffer.write(reply + b"\n")
         sys.stdout.buffer.flush()
+        found = json.loads(reply)
+        if reason is not None and not found["ok"]:
+            op = json.loads(line)["op"]
+            print(f"why: line {number}, {found['number']} {found['error']}: {op}: {reason}", file=sys.stderr, flush=True)
+
+
+def main(words: list[str]) -> int:
+    if words[:1] == ["serve"]:
+        serve()
+    elif words[:1] == ["asm"]:
+        print(Path(words[-1]).read_bytes().hex())
+    else:
+        return 2
     return 0
 
 

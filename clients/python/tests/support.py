@@ -1,22 +1,21 @@
-"""What the tests share: which shim they run, modules, and the second reading of the standards (tools/reference)."""
+"""What the tests share: which shim they run, modules, and the second reading of the standards."""
 from __future__ import annotations
 
 import json
 import os
 import random
-import sys
 from pathlib import Path
 from typing import Any
+
+from tests.reference_shim import Machine, callers, frames, programs, wasm
 
 TOP = Path(__file__).resolve().parents[3]
 CLIENT = TOP / "clients/python"
 EXAMPLES = TOP / "examples"
-SHIM = os.environ.get("FEULGAMA_SHIM") or str(TOP / "crates/wasm_shim/out/wasm_shim")
+REFERENCE = CLIENT / "tests/reference_shim.py"
+# The shim of the tests: the built program, if `pytest --program` or FEULGAMA_SHIM names one, else the second reading.
+SHIM = os.path.abspath(os.environ.get("FEULGAMA_SHIM") or REFERENCE)
 IS_REFERENCE = SHIM.endswith(".py")
-sys.path.insert(0, str(TOP / "tools"))
-
-from reference import callers, frames, programs, wasm  # noqa: E402
-from reference.execute import Machine  # noqa: E402
 
 __all__ = ["callers", "wasm"]
 

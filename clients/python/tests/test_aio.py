@@ -48,7 +48,7 @@ class Pipelined(unittest.IsolatedAsyncioTestCase):
                 case 2:
                     self.assertEqual((await self.shim.inspect(id)).id, id)
                 case 3:
-                    with self.assertRaises(feulgama.NotFound):
+                    with self.assertRaises(feulgama.NotFoundError):
                         await self.shim.state("no-" + id)
 
         await asyncio.gather(*map(asked, range(REQUESTS)))
@@ -124,14 +124,14 @@ class Running(unittest.IsolatedAsyncioTestCase):
     async def pad(self, id: str, count: int) -> None:
         """Asks for as many tasks that are not there."""
         for _ in range(count):
-            with self.assertRaises(feulgama.NotFound):
+            with self.assertRaises(feulgama.NotFoundError):
                 await self.shim.state("no-" + id)
 
 
 class Broken(unittest.IsolatedAsyncioTestCase):
     async def test_no_reply(self) -> None:
-        kinds = {"ends": feulgama.ShimEnded, "half": feulgama.ShimEnded, "closes": feulgama.ShimEnded,
-                 "words": feulgama.BadReply, "list": feulgama.BadReply, "keys": feulgama.BadReply}
+        kinds = {"ends": feulgama.ShimEndedError, "half": feulgama.ShimEndedError, "closes": feulgama.ShimEndedError,
+                 "words": feulgama.BadReplyError, "list": feulgama.BadReplyError, "keys": feulgama.BadReplyError}
         for how, kind in kinds.items():
             with mock.patch.dict(os.environ, BROKEN=how), self.assertRaises(kind):
                 async with asyncio.timeout(2), feulgama.AsyncShim(BROKEN) as shim:
@@ -158,7 +158,7 @@ class Killed(unittest.IsolatedAsyncioTestCase):
 
                 timer = threading.Timer(random.uniform(0, 0.05), kill)
                 timer.start()
-                with self.assertRaises(feulgama.ShimEnded) as found:
+                with self.assertRaises(feulgama.ShimEndedError) as found:
                     self.ask_on(shim, digest, busy, number)
                 slowest = max(slowest, time.monotonic() - moment[0])
                 self.assertEqual(found.exception.status, -signal.SIGKILL)
@@ -195,7 +195,7 @@ class Killed(unittest.IsolatedAsyncioTestCase):
             id = self.started(shim)
             threading.Timer(0.2, shim.kill_shim).start()
             begin = time.monotonic()
-            with self.assertRaises(feulgama.ShimEnded):
+            with self.assertRaises(feulgama.ShimEndedError):
                 shim.wait(id)
             self.assertLess(time.monotonic() - begin, 1.2)
 
@@ -219,12 +219,8 @@ class Killed(unittest.IsolatedAsyncioTestCase):
                     asked.append(shim.wait("b"))
                 found = await asyncio.gather(*asked, return_exceptions=True)
                 self.assertLess(time.monotonic() - moment[0], 1)
-                self.assertEqual({type(error) for error in found}, {feulgama.ShimEnded})
+                self.assertEqual({type(error) for error in found}, {feulgama.ShimEndedError})
 
     async def states(self, shim: feulgama.AsyncShim) -> None:
         while True:
             await shim.gc()
-
-
-if __name__ == "__main__":
-    unittest.main()

@@ -6,7 +6,7 @@ import unittest
 import feulgama
 from feulgama.debug import dwarf
 from feulgama.debug.commands import COMMANDS, Commands, Quit
-from feulgama.debug.memory import BadFormat, Format, format_of
+from feulgama.debug.memory import BadFormatError, Format, format_of
 from feulgama.debug.terminal import words_for
 from feulgama.errors import FeulgamaError
 from feulgama.opening import open_debugger
@@ -74,7 +74,7 @@ class Terminal(unittest.TestCase):
         self.assertEqual(self.answer("x/s 1024")[0][:30], "0x00000400: 'the quick brown f")
         self.assertEqual(self.answer("x/2xw 65532"), ["0x0000fffc: 0x00000000", "0x00010000: no memory"])
         self.assertEqual(format_of(""), Format())
-        with self.assertRaises(BadFormat):
+        with self.assertRaises(BadFormatError):
             format_of("4q")
         self.assertEqual(self.fault("x"), "x takes an address: x/4xw 1024")
 
@@ -97,7 +97,3 @@ class Terminal(unittest.TestCase):
         self.assertIn("count", words_for(self.commands, "break c"))
         self.assertIn("locals", words_for(self.commands, "info "))
         self.assertEqual(words_for(self.commands, "step "), [])
-
-
-if __name__ == "__main__":
-    unittest.main()

@@ -5,16 +5,17 @@ import base64
 import io
 import json
 import subprocess
-import sys
 import tempfile
 import threading
 import time
 import unittest
 from typing import Any
 
-from feulgama.dap.wire import BadMessage, read_message
+import pytest
+
+from feulgama.dap.wire import BadMessageError, read_message
 from feulgama.debug import dwarf
-from tests.support import CLIENT, EXIT_7, FOREVER, IS_REFERENCE, SHIM
+from tests.support import CLIENT, EXIT_7, FOREVER, SHIM
 
 Body = dict[str, Any]
 FOLDER = CLIENT / "examples"
@@ -25,7 +26,7 @@ class Editor:
     """An editor: sends requests, and keeps the events that come before their responses."""
 
     def __init__(self) -> None:
-        self.process = subprocess.Popen([sys.executable, CLIENT / "bin/feulgama", "--shim", SHIM, "dap"],
+        self.process = subprocess.Popen([CLIENT / "bin/feulgama", "--shim", SHIM, "dap"],
                                         stdin=subprocess.PIPE, stdout=subprocess.PIPE)
         self.events: list[Body] = []
         self.count = 0
@@ -201,7 +202,7 @@ class Instructions(WithEditor):
         self.assertTrue(self.editor.ask("disconnect")["success"])
 
 
-@unittest.skipIf(IS_REFERENCE, "the second reading is too slow, and reads no texts")
+@pytest.mark.program
 class Forever(WithEditor):
     """A program that does not end, as a text."""
 
@@ -236,9 +237,5 @@ class Messages(unittest.TestCase):
         self.assertIsNone(read_message(io.BytesIO(b"")))
         self.assertIsNone(read_message(io.BytesIO(b"Content-Length: 9\r\n\r\n{}")))
         for data in (b"\r\n", b"Content-Length: 2\r\n\r\n[]", b"Content-Length: 1\r\n\r\n{"):
-            with self.assertRaises(BadMessage):
+            with self.assertRaises(BadMessageError):
                 read_message(io.BytesIO(data))
-
-
-if __name__ == "__main__":
-    unittest.main()

@@ -12,6 +12,8 @@ from pathlib import Path
 from typing import Any
 from unittest import mock
 
+import pytest
+
 import feulgama
 from feulgama.debug import hunt as hunts
 from feulgama.debug import shims
@@ -25,7 +27,7 @@ from feulgama.model import Frame
 from feulgama.opening import open_debugger
 from feulgama.program import assemble
 from feulgama.wasm.module import decode
-from tests.support import CLIENT, FOREVER, IS_REFERENCE, OFTEN, SHIM, machine_of, some_programs
+from tests.support import CLIENT, FOREVER, OFTEN, SHIM, machine_of, some_programs
 
 FRAME = re.compile(r"#(\d+) (\d+):(\d+|end) <[^>]*> \| labels (.*) \| locals (.*) \| operands (.*)")
 PROGRAMS, STOPS, TURNS = 10, 20, 3000
@@ -161,7 +163,7 @@ class RandomStops(unittest.TestCase):
         return list(commands.answer(line))
 
 
-@unittest.skipIf(IS_REFERENCE, "the second reading is too slow, and reads no texts")
+@pytest.mark.program
 class Forever(unittest.TestCase):
     """A program that does not end."""
 
@@ -223,7 +225,7 @@ class Forever(unittest.TestCase):
         self.assertGreater(self.timeline.shims_started, 1)
 
 
-@unittest.skipIf(IS_REFERENCE, "the second reading is too slow, and reads no texts")
+@pytest.mark.program
 class Runs(unittest.TestCase):
     """A search that lets the task run finds what one by steps alone finds."""
 
@@ -320,7 +322,3 @@ class Calls(unittest.TestCase):
             self.assertEqual(timeline.turn, wanted[0])
         elif oracle.end is not None:
             self.assertEqual(timeline.turn, len(oracle.places) - 1)
-
-
-if __name__ == "__main__":
-    unittest.main()

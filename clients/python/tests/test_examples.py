@@ -3,7 +3,6 @@ from __future__ import annotations
 
 import os
 import subprocess
-import sys
 import unittest
 
 from feulgama.debug import dwarf
@@ -18,11 +17,7 @@ class Stored(unittest.TestCase):
     @unittest.skipUnless(dwarf.IS_THERE, "needs python3-pyelftools")
     def test_words(self) -> None:
         with (FOLDER / "words.debug").open() as script:
-            run = subprocess.run([sys.executable, CLIENT / "bin/feulgama", "debug", "words.wasm"], stdin=script,
+            run = subprocess.run([CLIENT / "bin/feulgama", "debug", "words.wasm"], stdin=script,
                                  stdout=subprocess.PIPE, check=True, cwd=FOLDER, text=True,
                                  env={**os.environ, "FEULGAMA_SHIM": SHIM})
         self.assertEqual(run.stdout, (FOLDER / "words.expected").read_text())
-
-
-if __name__ == "__main__":
-    unittest.main()

@@ -15,7 +15,7 @@ from feulgama.debug.debugger import Debugger
 from feulgama.debug.hunt import Search
 from feulgama.debug.look import Place
 from feulgama.debug.timeline import Why
-from feulgama.debug.track import TooFar
+from feulgama.debug.track import TooFarError
 from feulgama.opening import open_debugger
 from feulgama.requests import JOURNAL
 from tests.support import FOREVER_BYTES
@@ -63,7 +63,7 @@ class Far(unittest.TestCase):
     def test_pauses_that_all_come_late(self) -> None:
         """One sentence says so, and the debugger goes on where a turn can be come to."""
         timeline = self.opened(LATE="0.1 1000", SPEED="2e8").timeline
-        with self.assertRaisesRegex(TooFar, "too busy to stop a task at turn 10000000"):
+        with self.assertRaisesRegex(TooFarError, "too busy to stop a task at turn 10000000"):
             timeline.seek(10_000_000)
         self.go_to([1000])
 
@@ -125,7 +125,3 @@ class Far(unittest.TestCase):
             self.assertLess(time.monotonic() - begin, 2)
             timeline.interrupted.clear()
             self.assert_exact(timeline.turn)
-
-
-if __name__ == "__main__":
-    unittest.main()

@@ -8,10 +8,12 @@ from pathlib import Path
 from typing import Any
 from unittest import mock
 
+import pytest
+
 import feulgama
 from feulgama import requests
 from feulgama.model import Cause, Exit, Status
-from tests.support import EXIT_7, IS_REFERENCE, SHIM, module_of
+from tests.support import EXIT_7, SHIM, module_of
 
 BROKEN = Path(__file__).with_name("broken_shim.py")
 
@@ -65,7 +67,7 @@ class Requests(unittest.TestCase):
         digest, lease = self.shim.ensure(EXIT_7), self.shim.lease_create()
         self.shim.lease_add(lease, digest)
         self.assertEqual(self.shim.gc(), ())
-        with self.assertRaises(feulgama.InUse):
+        with self.assertRaises(feulgama.InUseError):
             self.shim.remove(digest)
         self.shim.lease_delete(lease)
         self.shim.remove(digest)
@@ -73,15 +75,15 @@ class Requests(unittest.TestCase):
     def test_many(self) -> None:
         id = self.paused()
         answers = self.shim.call_all([requests.state(id), requests.state("none"), requests.state(id)])
-        self.assertEqual([type(answer) for answer in answers], [feulgama.State, feulgama.NotFound, feulgama.State])
+        self.assertEqual([type(answer) for answer in answers], [feulgama.State, feulgama.NotFoundError, feulgama.State])
         self.assertEqual(self.shim.call_all([]), [])
 
     def test_longest_lines(self) -> None:
         data = os.urandom(262_144)
         self.assertEqual(self.shim.put(data).size, 262_144)
-        with self.assertRaises(feulgama.Limit):
+        with self.assertRaises(feulgama.LimitError):
             self.shim.put(data + b"a")
-        with self.assertRaises(feulgama.BadRequest):
+        with self.assertRaises(feulgama.BadRequestError):
             self.shim.put(bytes(1_000_000))
         self.assertEqual(len(self.shim.gc()), 1)
 
@@ -90,37 +92,37 @@ class Refusals(unittest.TestCase):
     def setUp(self) -> None:
         self.shim = self.enterContext(feulgama.Shim(SHIM))
 
-    def refused(self, kind: type[feulgama.Refusal], request: requests.Request[Any]) -> feulgama.Refusal:
+    def refused(self, kind: type[feulgama.RefusalError], request: requests.Request[Any]) -> feulgama.RefusalError:
         with self.assertRaises(kind) as found:
             self.shim.call(request)
-        self.assertEqual((found.exception.number, found.exception.name), (kind.NUMBER, kind.__name__))
+        self.assertEqual((found.exception.number, found.exception.name), (kind.NUMBER, kind.__name__.removesuffix("Error")))
         return found.exception
 
     def test_each(self) -> None:
         digest = self.shim.ensure(EXIT_7)
         id = self.shim.create(feulgama.Config(digest)).id
-        self.refused(feulgama.BadRequest, requests.step(id, -1))
-        self.refused(feulgama.BadId, requests.start("-"))
-        self.refused(feulgama.Exists, requests.put(EXIT_7))
-        self.refused(feulgama.NotFound, requests.start("none"))
-        self.refused(feulgama.NoContent, requests.remove("sha256:" + "0" * 64))
-        self.refused(feulgama.InUse, requests.remove(digest))
-        self.refused(feulgama.BadConfig, requests.create("b", "{}"))
-        self.refused(feulgama.WrongStatus, requests.step(id))
-        self.refused(feulgama.OutOfRange, requests.peek(id, 0, 257))
-        for text, kind in ((b"abc", feulgama.BadModule), (b"\0asm\1\0\0\0", feulgama.NoEntry)):
-            self.refused(kind, requests.create("b", feulgama.Config(self.shim.ensure(text))))
+        self.refused(feulgama.BadRequestError, requests.step(id, -1))
+        self.refused(feulgama.BadIdError, requests.start("-"))
+        self.refused(feulgama.ExistsError, requests.put(EXIT_7))
+        self.refused(feulgama.NotFoundError, requests.start("none"))
+        self.refused(feulgama.NoContentError, requests.remove("sha256:" + "0" * 64))
+        self.refused(feulgama.InUseError, requests.remove(digest))
+        self.refused(feulgama.BadConfigError, requests.create("{}", "b"))
+        self.refused(feulgama.WrongStatusError, requests.step(id))
+        self.refused(feulgama.OutOfRangeError, requests.peek(id, 0, 257))
+        for text, kind in ((b"abc", feulgama.BadModuleError), (b"\0asm\1\0\0\0", feulgama.NoEntryError)):
+            self.refused(kind, requests.create(feulgama.Config(self.shim.ensure(text)), "b"))
         for number in range(63):
             self.shim.create(feulgama.Config(digest))
-        self.refused(feulgama.TooMany, requests.create("b", feulgama.Config(digest)))
+        self.refused(feulgama.TooManyError, requests.create(feulgama.Config(digest), "b"))
 
-    @unittest.skipIf(IS_REFERENCE, "the second reading reads no texts")
+    @pytest.mark.program
     def test_of_texts(self) -> None:
-        with self.assertRaises(feulgama.BadText) as found:
+        with self.assertRaises(feulgama.BadTextError) as found:
             self.shim.put_text("(module (type (func)) (func (type 0) i32.cons 1))")
         self.assertEqual((found.exception.line, found.exception.column), (1, 38))
         digest = self.shim.put_text('(module (type (func)) (func (type 0) nop drop) (export "_start" (func 0)))').digest
-        with self.assertRaises(feulgama.Invalid) as fault:
+        with self.assertRaises(feulgama.InvalidError) as fault:
             self.shim.create(feulgama.Config(digest))
         self.assertEqual((fault.exception.func, fault.exception.place), (0, 1))
 
@@ -128,7 +130,7 @@ class Refusals(unittest.TestCase):
         self.assertEqual(sorted(feulgama.REFUSALS), [*range(1, 19), 21, 22, 23])
 
 
-@unittest.skipIf(IS_REFERENCE, "the second reading has no journal and no workers")
+@pytest.mark.program
 class Serve(unittest.TestCase):
     """What `serve` has beside its board."""
 
@@ -138,10 +140,10 @@ class Serve(unittest.TestCase):
             self.assertEqual(shim.left, 16_384)
             shim.put(EXIT_7)
             answers = shim.call_all([requests.state("none")] * 16_383)
-            self.assertEqual({type(answer) for answer in answers}, {feulgama.NotFound})
+            self.assertEqual({type(answer) for answer in answers}, {feulgama.NotFoundError})
             self.assertEqual(shim.left, 0)
             for _ in range(2):
-                with self.assertRaises(feulgama.JournalFull) as found:
+                with self.assertRaises(feulgama.JournalFullError) as found:
                     shim.put(EXIT_7)
             self.assertEqual(found.exception.number, 15)
             self.assertIn("start another", str(found.exception))
@@ -159,7 +161,7 @@ class Serve(unittest.TestCase):
 
     def test_a_number_of_workers_that_there_is_not(self) -> None:
         for workers in (0, 17):
-            with self.assertRaises(feulgama.ShimEnded) as found, feulgama.Shim(SHIM, workers=workers) as shim:
+            with self.assertRaises(feulgama.ShimEndedError) as found, feulgama.Shim(SHIM, workers=workers) as shim:
                 shim.gc()
             self.assertEqual(found.exception.status, 2)
             self.assertIn("--workers", found.exception.said)
@@ -178,30 +180,26 @@ class Broken(unittest.TestCase):
 
     def test_ends(self) -> None:
         error = self.asked("ends")
-        self.assertIsInstance(error, feulgama.ShimEnded)
+        self.assertIsInstance(error, feulgama.ShimEndedError)
         self.assertIn("status 1: wasm-shim: out of memory", str(error))
 
     def test_no_reply(self) -> None:
         for how in ("half", "closes"):
-            self.assertIsInstance(self.asked(how), feulgama.ShimEnded, how)
+            self.assertIsInstance(self.asked(how), feulgama.ShimEndedError, how)
         for how in ("words", "list", "bare", "keys", "two"):
-            self.assertIsInstance(self.asked(how), feulgama.BadReply, how)
+            self.assertIsInstance(self.asked(how), feulgama.BadReplyError, how)
 
     def test_number_that_is_not_known(self) -> None:
         error = self.asked("new")
-        self.assertIs(type(error), feulgama.Refusal)
+        self.assertIs(type(error), feulgama.RefusalError)
         self.assertEqual(getattr(error, "number"), 99)
 
     def test_not_there(self) -> None:
-        with self.assertRaises(feulgama.NoShim):
+        with self.assertRaises(feulgama.NoShimError):
             feulgama.Shim("/nowhere")
 
     def test_after_the_end(self) -> None:
         shim = feulgama.Shim(SHIM)
         shim.close()
-        with self.assertRaises(feulgama.ShimEnded):
+        with self.assertRaises(feulgama.ShimEndedError):
             shim.gc()
-
-
-if __name__ == "__main__":
-    unittest.main()

@@ -54,7 +54,3 @@ class Trails(unittest.TestCase):
         self.assertEqual(timeline.memory_size(), len(machine.memory))
         self.assertEqual(timeline.memory(0, 1 << 17), bytes(machine.memory[:1 << 17]))
         self.assertEqual(len(timeline.inspection().frames), len(machine.shown()))
-
-
-if __name__ == "__main__":
-    unittest.main()

@@ -7,14 +7,16 @@ import subprocess
 import tempfile
 import unittest
 
+import pytest
+
 from feulgama.debug import dwarf
 from feulgama.debug.look import Place
 from feulgama.debug.symbols import Symbols
 from feulgama.model import Frame, Value, ValueType
 from feulgama.wasm.module import Module, decode
 from feulgama.wasm.names import names_of
-from feulgama.wasm.reader import NotAModule
-from tests.support import CLIENT, EXAMPLES, IS_REFERENCE, SHIM, some_programs
+from feulgama.wasm.reader import NotAModuleError
+from tests.support import CLIENT, EXAMPLES, SHIM, some_programs
 
 
 def listing(module: Module) -> list[str]:
@@ -24,7 +26,7 @@ def listing(module: Module) -> list[str]:
 
 
 class Listings(unittest.TestCase):
-    @unittest.skipIf(IS_REFERENCE, "the second reading has no command `check`")
+    @pytest.mark.program
     def test_as_the_shim_lists(self) -> None:
         modules = [data for data, _ in some_programs(11, 40, 100)]
         modules += [(CLIENT / "examples/words.wasm").read_bytes()]
@@ -59,7 +61,7 @@ class Names(unittest.TestCase):
 
 class Faults(unittest.TestCase):
     def test_bytes_that_are_cut_or_bent(self) -> None:
-        """Nothing but NotAModule is raised, whatever the bytes are."""
+        """Nothing but NotAModuleError is raised, whatever the bytes are."""
         random.seed(5)
         data = (CLIENT / "examples/words.wasm").read_bytes()
         for _ in range(400):
@@ -69,7 +71,7 @@ class Faults(unittest.TestCase):
                     bent[random.randrange(len(bent))] = random.randrange(256)
             try:
                 names_of(decode(bytes(bent)))
-            except NotAModule:
+            except NotAModuleError:
                 pass
 
 
@@ -98,7 +100,3 @@ class BentDescriptions(unittest.TestCase):
             if found:
                 found[random.randrange(len(found))] = random.randrange(256)
         return bytes(found)
-
-
-if __name__ == "__main__":
-    unittest.main()

@@ -9,7 +9,7 @@ from pathlib import Path
 from typing import BinaryIO
 
 from feulgama.dap.session import Session, opener_of
-from feulgama.dap.wire import BadMessage, Message, Writer, read_message
+from feulgama.dap.wire import BadMessageError, Message, Writer, read_message
 from feulgama.debug.debugger import Debugger
 from feulgama.opening import module_bytes, open_debugger
 from feulgama.shim import Shim
@@ -19,7 +19,7 @@ BREAKS_OFF = ("pause", "disconnect", "terminate")
 
 def read_all(stream: BinaryIO, session: Session, found: queue.SimpleQueue[Message | None]) -> None:
     """Hands each message on, up to a `disconnect`; one that has to break off what is running does so at once."""
-    with contextlib.suppress(BadMessage):
+    with contextlib.suppress(BadMessageError):
         while (message := read_message(stream)) is not None:
             found.put(message)
             if message.get("command") in BREAKS_OFF:

@@ -8,13 +8,13 @@ from pathlib import Path
 
 from feulgama.dap.views import Body, Views
 from feulgama.dap.wire import Message, Writer
-from feulgama.debug.commands import BadCommand, Commands, Quit
+from feulgama.debug.commands import BadCommandError, Commands, Quit
 from feulgama.debug.debugger import Breakpoint, Debugger
-from feulgama.debug.expressions import NoValue, evaluate
+from feulgama.debug.expressions import NoValueError, evaluate
 from feulgama.debug.look import Place
-from feulgama.debug.symbols import NoPlace
+from feulgama.debug.symbols import NoPlaceError
 from feulgama.debug.timeline import Why
-from feulgama.errors import FeulgamaError, ShimEnded
+from feulgama.errors import FeulgamaError, ShimEndedError
 from feulgama.model import Stream, Value
 
 THREAD = 1
@@ -26,7 +26,7 @@ CAPABILITIES = {
 }
 
 
-class NoSession(FeulgamaError):
+class NoSessionError(FeulgamaError):
     """A request that needs a module, before one was launched."""
 
 
@@ -45,17 +45,24 @@ class Session:
 
     @property
     def debugger(self) -> Debugger:
-        """The debugger. Raises NoSession before a launch."""
+        """The debugger. Raises NoSessionError before a launch."""
         if self._debugger is None:
-            raise NoSession("no module is launched")
+            raise NoSessionError("no module is launched")
         return self._debugger
 
     @property
     def views(self) -> Views:
         """What is shown of the debugger's run."""
         if self._views is None:
-            raise NoSession("no module is launched")
+            raise NoSessionError("no module is launched")
         return self._views
+
+    @property
+    def commands(self) -> Commands:
+        """The commands of the terminal, over the debugger's run."""
+        if self._commands is None:
+            raise NoSessionError("no module is launched")
+        return self._commands
 
     def interrupt(self) -> None:
         """Breaks off what is running. Another thread may call this."""
@@ -71,7 +78,7 @@ class Session:
         try:
             given = request.get("arguments")
             method(self, request, given if isinstance(given, dict) else {})
-        except ShimEnded as error:
+        except ShimEndedError as error:
             self._failed(request, str(error))
             self._writer.event("terminated")
         except (FeulgamaError, OSError, ValueError) as error:
@@ -155,7 +162,7 @@ class Session:
     def _named(self, key: str, places_of: Callable[[], list[Place]]) -> Body:
         try:
             places = places_of()
-        except (NoPlace, NoValue) as error:
+        except (NoPlaceError, NoValueError) as error:
             return {"verified": False, "message": str(error)}
         added = self.debugger.add_breakpoint(key, places)
         self._owned[key].append(added)
@@ -229,10 +236,9 @@ class Session:
         self._writer.event("stopped", body)
 
     def _ended(self) -> None:
-        found = self.debugger.timeline.exit
-        assert found is not None
         self._console(self._end_line())
-        self._writer.event("exited", {"exitCode": found.code})
+        if self.debugger.timeline.exit is not None:
+            self._writer.event("exited", {"exitCode": self.debugger.timeline.exit.code})
         self._writer.event("terminated")
 
     def _end_line(self) -> str:
@@ -278,7 +284,7 @@ class Session:
             return
         try:
             found = evaluate(text, scope)
-        except NoValue:
+        except NoValueError:
             if given.get("context") != "repl":
                 raise
             self._command(request, text)
@@ -289,12 +295,11 @@ class Session:
         self._writer.respond(request, body)
 
     def _command(self, request: Message, text: str) -> None:
-        assert self._commands is not None
         turn = self.debugger.timeline.turn
         try:
-            lines = list(self._commands.answer(text))
+            lines = list(self.commands.answer(text))
         except Quit:
-            raise BadCommand("end the session in the editor") from None
+            raise BadCommandError("end the session in the editor") from None
         self._writer.respond(request, {"result": "\n".join(lines), "variablesReference": 0})
         if self.debugger.timeline.turn != turn:
             self._moved("goto", Why.FOUND)
@@ -304,7 +309,7 @@ def opener_of(open_file: Callable[[Path, list[str], dict[str, str], int | None],
     """What makes a debugger of the arguments of `launch`: program, args, env and memory."""
     def opened(given: Body) -> Debugger:
         if not isinstance(given.get("program"), str):
-            raise NoSession("launch needs `program`, the file of a module")
+            raise NoSessionError("launch needs `program`, the file of a module")
         return open_file(Path(given["program"]), list(given.get("args") or []), dict(given.get("env") or {}),
                          given.get("memory"))
     return opened

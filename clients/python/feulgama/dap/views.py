@@ -8,7 +8,7 @@ from typing import Any
 
 from feulgama.debug.c_variables import Found
 from feulgama.debug.debugger import Debugger
-from feulgama.debug.expressions import NoValue, address
+from feulgama.debug.expressions import NoValueError, address
 from feulgama.debug.look import Place
 from feulgama.model import Frame, Stream, Value
 from feulgama.wasm.module import Function
@@ -43,14 +43,14 @@ class Views:
         return {"name": name, "sourceReference": FIRST_SOURCE + place.func, "path": name}, place.place + 1
 
     def content(self, reference: int) -> str:
-        """The text of a function's instructions. Raises NoValue if there is no such function."""
+        """The text of a function's instructions. Raises NoValueError if there is no such function."""
         function = self._function(reference)
         return "\n".join("  " * found.depth + found.text for found in function.instructions) + "\n"
 
     def _function(self, reference: int) -> Function:
         function = self._symbols.module.function(reference - FIRST_SOURCE)
         if function is None:
-            raise NoValue(f"there is no source {reference}")
+            raise NoValueError(f"there is no source {reference}")
         return function
 
     def places_in(self, source: Body, line: int) -> tuple[list[Place], int]:
@@ -116,10 +116,10 @@ class Views:
         return {"variables": [self._variable(frame, word, index, value) for index, value in enumerate(values)]}
 
     def frame(self, number: int) -> Frame:
-        """The frame with a number. Raises NoValue if there is none."""
+        """The frame with a number. Raises NoValueError if there is none."""
         frames = self._debugger.frames()
         if not 0 <= number < len(frames):
-            raise NoValue(f"there is no frame {number}")
+            raise NoValueError(f"there is no frame {number}")
         return frames[number]
 
     @staticmethod
@@ -152,7 +152,7 @@ class Views:
         """Bytes of memory; those that there are not are told as unreadable."""
         at = address(reference, self._debugger.scope(0)) + offset
         if at < 0:
-            raise NoValue("there is no memory before address 0")
+            raise NoValueError("there is no memory before address 0")
         data = self._timeline.memory(at, count)
         return {"address": hex(at), "data": base64.b64encode(data).decode("ascii"),
                 "unreadableBytes": count - len(data)}
@@ -175,9 +175,9 @@ class Views:
                 "instruction": "  " * instruction.depth + instruction.text, "location": source, "line": line}
 
     def place_at(self, reference: str, offset: int) -> Place:
-        """The instruction at an address. Raises NoValue if none begins there."""
+        """The instruction at an address. Raises NoValueError if none begins there."""
         wanted = int(reference, 0) + offset
         at = bisect.bisect_left(self._code, wanted, key=lambda found: found[0])
         if at == len(self._code) or self._code[at][0] != wanted:
-            raise NoValue(f"no instruction begins at {wanted:#x}")
+            raise NoValueError(f"no instruction begins at {wanted:#x}")
         return self._code[at][1]

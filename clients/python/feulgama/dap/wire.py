@@ -11,7 +11,7 @@ from feulgama.errors import FeulgamaError
 Message = dict[str, Any]
 
 
-class BadMessage(FeulgamaError):
+class BadMessageError(FeulgamaError):
     """Bytes that are no message of the protocol."""
 
 
@@ -28,16 +28,16 @@ def read_message(stream: IO[bytes]) -> Message | None:
         if name.strip().lower() == b"content-length" and value.strip().isdigit():
             length = int(value)
     if length is None:
-        raise BadMessage("a message has no length")
+        raise BadMessageError("a message has no length")
     data = stream.read(length)
     if len(data) < length:
         return None
     try:
         found = json.loads(data)
     except ValueError as error:
-        raise BadMessage("a message is no JSON") from error
+        raise BadMessageError("a message is no JSON") from error
     if not isinstance(found, dict):
-        raise BadMessage("a message is no object")
+        raise BadMessageError("a message is no object")
     return found
 
 

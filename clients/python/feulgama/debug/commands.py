@@ -16,7 +16,7 @@ from feulgama.model import Frame, Stream, Value
 Lines = Iterable[str]
 
 
-class BadCommand(FeulgamaError):
+class BadCommandError(FeulgamaError):
     """A line that is no command, or has words that the command does not take."""
 
 
@@ -75,7 +75,7 @@ class Commands:
     def _frame(self) -> Frame:
         frames = self.debugger.frames()
         if not frames:
-            raise BadCommand("the task has ended, and has no frames")
+            raise BadCommandError("the task has ended, and has no frames")
         return frames[self.selected]
 
     def _place(self) -> Place:
@@ -121,7 +121,7 @@ class Commands:
 
     def until(self, rest: str) -> Lines:
         if not rest:
-            raise BadCommand("until takes a place")
+            raise BadCommandError("until takes a place")
         places, remark = self.symbols.places(rest)
         return [*([remark] if remark else []), *self.stopped(self.debugger.until(places))]
 
@@ -152,7 +152,7 @@ class Commands:
     def delete(self, rest: str) -> Lines:
         number = count_of(rest)
         if rest and number not in self.debugger.breakpoints:
-            raise BadCommand(f"there is no breakpoint {number}")
+            raise BadCommandError(f"there is no breakpoint {number}")
         if rest:
             del self.debugger.breakpoints[number]
         else:
@@ -171,7 +171,7 @@ class Commands:
             "memory": self._info_memory, "output": self._info_output, "functions": self._info_functions}
         found = [name for name in shows if rest and name.startswith(rest)]
         if len(found) != 1:
-            raise BadCommand(f"info takes one of {', '.join(shows)}")
+            raise BadCommandError(f"info takes one of {', '.join(shows)}")
         return shows[found[0]]()
 
     def _info_breakpoints(self) -> Lines:
@@ -210,7 +210,7 @@ class Commands:
         number = count_of(rest, least=0) if rest else self.selected
         frames = self.debugger.frames()
         if number >= len(frames):
-            raise BadCommand(f"there is no frame {number}")
+            raise BadCommandError(f"there is no frame {number}")
         self.selected, self._listed = number, None
         yield self._frame_line(number, frames[number])
 
@@ -219,7 +219,7 @@ class Commands:
         if rest.startswith("/"):
             form, _, text = rest[1:].partition(" ")
         if not text.strip():
-            raise BadCommand("x takes an address: x/4xw 1024")
+            raise BadCommandError("x takes an address: x/4xw 1024")
         return dump(format_of(form), address(text, self._scope()), self.timeline.memory)
 
     def list_(self, rest: str) -> Lines:
@@ -265,14 +265,14 @@ def count_of(rest: str, least: int = 1) -> int:
     if not rest:
         return 1
     if not rest.isdigit() or int(rest) < least:
-        raise BadCommand(f"{rest} is no number from {least} on")
+        raise BadCommandError(f"{rest} is no number from {least} on")
     return int(rest)
 
 
 def taking_nothing(rest: str) -> None:
     """Refuses words after a command that takes none."""
     if rest:
-        raise BadCommand(f"{rest} is one word too many")
+        raise BadCommandError(f"{rest} is one word too many")
 
 
 COMMANDS = [
@@ -308,5 +308,5 @@ def named(word: str) -> Command:
     found = exact or [command for command in COMMANDS if command.name.startswith(word)]
     if len(found) != 1:
         told = f"; is it {' or '.join(command.name for command in found)}?" if found else "; see help"
-        raise BadCommand(f"{word} is no command{told}")
+        raise BadCommandError(f"{word} is no command{told}")
     return found[0]

@@ -122,12 +122,11 @@ class Debugger:
     def return_to(self, depth: int) -> Why:
         """Runs to where there are at most this many frames, or to a breakpoint."""
         frames, own = self.frames(), self.places()
-        outer = [(at, frame) for at, frame in enumerate(frames) if len(frames) - at <= depth and frame.next is not None]
+        outer = [(Place(frame.func, frame.next), len(frames) - at) for at, frame in enumerate(frames)
+                 if len(frames) - at <= depth and frame.next is not None]
         if not outer:
             return self.go_on()
-        at, frame = outer[0]
-        assert frame.next is not None
-        back, most = Place(frame.func, frame.next), len(frames) - at
+        back, most = outer[0]
         search = Search(lambda look: look.place in own or look.place == back and look.depth <= most, own | {back})
         return self.timeline.forward(search)
 

@@ -14,7 +14,7 @@ from feulgama.wasm.names import Names
 TOKEN = re.compile(r"\s*(0x[0-9a-fA-F]+|\d+|[A-Za-z_$.][\w$.]*|[-+*&()])")
 
 
-class NoValue(FeulgamaError):
+class NoValueError(FeulgamaError):
     """Words that name no number here."""
 
 
@@ -34,19 +34,19 @@ class Scope:
 
 
 def evaluate(text: str, scope: Scope) -> Value | int:
-    """The number that a text names; of a local or an operand alone its value. Raises NoValue."""
+    """The number that a text names; of a local or an operand alone its value. Raises NoValueError."""
     tokens, at = [], 0
     text = text.strip()
     while at < len(text):
         match = TOKEN.match(text, at)
         if match is None:
-            raise NoValue(f"{text[at:]} is no expression")
+            raise NoValueError(f"{text[at:]} is no expression")
         tokens.append(match[1])
         at = match.end()
     reader = Expression(tokens, scope)
     found = reader.sum()
     if reader.left():
-        raise NoValue(f"{' '.join(reader.left())} is one word too many")
+        raise NoValueError(f"{' '.join(reader.left())} is one word too many")
     return found
 
 
@@ -69,7 +69,7 @@ class Expression:
 
     def _next(self) -> str:
         if not self._tokens:
-            raise NoValue("a number is missing")
+            raise NoValueError("a number is missing")
         return self._tokens.pop()
 
     def sum(self) -> Value | int:
@@ -92,7 +92,7 @@ class Expression:
         if word == "(":
             found = self.sum()
             if self._next() != ")":
-                raise NoValue("a parenthesis is not closed")
+                raise NoValueError("a parenthesis is not closed")
             return found
         if word == "-":
             return -number(self.factor())
@@ -102,7 +102,7 @@ class Expression:
             at = number(self.factor()) % 2**32
             data = self._scope.memory(at, 4)
             if len(data) < 4:
-                raise NoValue(f"there is no memory at {at:#x}")
+                raise NoValueError(f"there is no memory at {at:#x}")
             return Value(ValueType.I32, int.from_bytes(data, "little", signed=True))
         if word[0].isdigit():
             return int(word, 0) if word.startswith("0x") else int(word)
@@ -113,20 +113,20 @@ class Expression:
             return self._scope.turn
         frame = self._scope.frame
         if frame is None:
-            raise NoValue("the task has ended, and has no frame")
+            raise NoValueError("the task has ended, and has no frame")
         if word in ("local", "operand"):
             which = self._next()
             if not which.isdigit():
-                raise NoValue(f"{which} is no number of a {word}")
+                raise NoValueError(f"{which} is no number of a {word}")
             return picked(frame.locals if word == "local" else frame.operands, word, int(which))
         for index, value in enumerate(frame.locals):
             if self._scope.names.local(frame.func, index) == word.removeprefix("$"):
                 return value
         variable = self._scope.variable(word)
         if variable is None:
-            raise NoValue(f"there is nothing named {word} in this frame")
+            raise NoValueError(f"there is nothing named {word} in this frame")
         if variable.number is None:
-            raise NoValue(f"{word} is no number but {variable.type}")
+            raise NoValueError(f"{word} is no number but {variable.type}")
         return variable.number
 
     def _address(self) -> int:
@@ -134,14 +134,14 @@ class Expression:
         name = self._next()
         variable = self._scope.variable(name)
         if variable is None or variable.address is None:
-            raise NoValue(f"{name} has no address")
+            raise NoValueError(f"{name} has no address")
         return variable.address
 
 
 def picked(values: tuple[Value, ...], word: str, index: int) -> Value:
     """The local or the operand with a number."""
     if index >= len(values):
-        raise NoValue(f"there is no {word} {index}; this frame has {len(values)}")
+        raise NoValueError(f"there is no {word} {index}; this frame has {len(values)}")
     return values[index]
 
 

@@ -10,7 +10,7 @@ import re
 from typing import NamedTuple
 
 from feulgama import requests
-from feulgama.errors import BadReply
+from feulgama.errors import BadReplyError
 
 INNERMOST = re.compile(rb'\{"frames":\[(?:\{"func":(\d+),"labels":\[[\d,]*\],"locals":\[[^\]]*\],"next":(\d+))?')
 COUNT = re.compile(rb'"n":(\d+),"ok":true\}$')
@@ -35,12 +35,12 @@ class Look(NamedTuple):
 
 
 def look_of(line: bytes) -> Look:
-    """The look of a reply to `inspect` that was accepted. Raises the Refusal that it is, or BadReply."""
+    """The look of a reply to `inspect` that was accepted. Raises the RefusalError that it is, or BadReplyError."""
     innermost = INNERMOST.match(line)
     count = COUNT.search(line, len(line) - 40)
     if innermost is None or count is None:
         requests.inspect("").result(line)
-        raise BadReply(line)
+        raise BadReplyError(line)
     func, next_ = innermost.groups()
     place = None if func is None else Place(int(func), int(next_))
     return Look(int(count[1]), place, line.count(b'"func":'), line)

@@ -11,7 +11,7 @@ SIZES = {"b": 1, "h": 2, "w": 4, "g": 8}
 ROW = 16
 
 
-class BadFormat(FeulgamaError):
+class BadFormatError(FeulgamaError):
     """A format that there is not."""
 
 
@@ -29,7 +29,7 @@ def format_of(text: str) -> Format:
     missing."""
     match = re.fullmatch(r"(\d*)([xducs]?)([bhwg]?)|(\d*)([bhwg])([xducs])", text)
     if match is None:
-        raise BadFormat(f"{text} is no format: a count, one of x d u c s, and one of b h w g")
+        raise BadFormatError(f"{text} is no format: a count, one of x d u c s, and one of b h w g")
     count, letter, size = match.group(1, 2, 3) if match[5] is None else match.group(4, 6, 5)
     letter = letter or "x"
     return Format(int(count or 1), letter, SIZES[size] if size else 1 if letter in "cs" else 4)

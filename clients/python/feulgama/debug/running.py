@@ -11,7 +11,7 @@ import threading
 import time
 from dataclasses import dataclass, field
 
-from feulgama.errors import WrongStatus
+from feulgama.errors import WrongStatusError
 from feulgama.model import State, Status
 from feulgama.shim import Shim
 
@@ -115,8 +115,8 @@ def run_before(shim: Shim, was: State, turn: int, is_exact: bool, gait: Gait, wa
         pause = max(FIRST_REST, min((now - watch.since) / SHARE, gait.seconds(turn - turns) / 2))
 
 
-def paused(shim: Shim, id: str) -> State:
+def paused(shim: Shim, task: str) -> State:
     """Pauses a task, unless it has stopped by itself."""
-    with contextlib.suppress(WrongStatus):
-        shim.pause(id)
-    return shim.wait(id)
+    with contextlib.suppress(WrongStatusError):
+        shim.pause(task)
+    return shim.wait(task)

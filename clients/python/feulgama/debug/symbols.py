@@ -7,7 +7,7 @@ from pathlib import Path
 
 from feulgama.debug.c_variables import Found
 from feulgama.debug.dwarf import lines_of, variables_of
-from feulgama.debug.lines import Sources, SourceLine
+from feulgama.debug.lines import Lines, Sources, SourceLine
 from feulgama.debug.look import Place
 from feulgama.errors import FeulgamaError
 from feulgama.model import Frame
@@ -17,7 +17,7 @@ from feulgama.wasm.module import Module
 from feulgama.wasm.names import names_of
 
 
-class NoPlace(FeulgamaError):
+class NoPlaceError(FeulgamaError):
     """Words that name no place."""
 
 
@@ -33,10 +33,10 @@ class Symbols:
         self.sources = Sources(folders)
 
     def instruction(self, place: Place) -> Instruction:
-        """The instruction at a place. Raises NoPlace if there is none."""
+        """The instruction at a place. Raises NoPlaceError if there is none."""
         found = self.module.instruction(*place)
         if found is None:
-            raise NoPlace(f"there is no instruction {place}")
+            raise NoPlaceError(f"there is no instruction {place}")
         return found
 
     def line_at(self, place: Place) -> SourceLine | None:
@@ -51,7 +51,7 @@ class Symbols:
             self._calls[frame.func] = calls_of(function.instructions) if function is not None else {}
         places = self._calls[frame.func].get((frame.labels, frame.next))
         if not places:
-            raise NoPlace(f"function {frame.func} has no call before {frame.next}")
+            raise NoPlaceError(f"function {frame.func} has no call before {frame.next}")
         return Place(frame.func, places[-1])
 
     def variables(self, frame: Frame, place: Place, memory: Callable[[int, int], bytes]) -> list[Found]:
@@ -67,37 +67,38 @@ class Symbols:
 
     def places(self, words: str) -> tuple[list[Place], str]:
         """The places that `FUNC`, `FUNC:PLACE` or `FILE:LINE` names, FUNC a name or an index; and a remark, if the
-        line is another than the one asked for. Raises NoPlace if there are none."""
+        line is another than the one asked for. Raises NoPlaceError if there are none."""
         head, colon, tail = words.rpartition(":")
         if colon and tail.isdigit():
             files = self.lines.files_named(head) if self.lines is not None else []
-            if files:
-                return self._at_line(files, int(tail))
+            if self.lines is not None and files:
+                return at_line(self.lines, files, int(tail))
             return [self._checked(Place(func, int(tail))) for func in self.functions(head)], ""
         return [self._checked(Place(func, 0)) for func in self.functions(words)], ""
 
     def functions(self, word: str) -> list[int]:
-        """The functions of a name or an index. Raises NoPlace if there are none."""
+        """The functions of a name or an index. Raises NoPlaceError if there are none."""
         if re.fullmatch(r"\d+", word):
             return [int(word)]
         found = self.names.named(word.removeprefix("$"))
         if not found:
-            raise NoPlace(f"there is no function and no source file named {word}")
+            raise NoPlaceError(f"there is no function and no source file named {word}")
         return found
-
-    def _at_line(self, files: list[str], line: int) -> tuple[list[Place], str]:
-        assert self.lines is not None
-        found: list[Place] = []
-        told = line
-        for file in files:
-            told, places = self.lines.breakable(file, line)
-            found += places
-        if not found:
-            raise NoPlace(f"there is no statement from line {line} on in {files[0]}")
-        return found, "" if told == line else f"line {line} has no statement; the next one is at line {told}"
 
     def _checked(self, place: Place) -> Place:
         if place.func < len(self.module.imports):
-            raise NoPlace(f"function {place.func} is an import, and has no instructions")
+            raise NoPlaceError(f"function {place.func} is an import, and has no instructions")
         self.instruction(place)
         return place
+
+
+def at_line(lines: Lines, files: list[str], line: int) -> tuple[list[Place], str]:
+    """The places of a line in these files, and a remark if it is another line that has them."""
+    found: list[Place] = []
+    told = line
+    for file in files:
+        told, places = lines.breakable(file, line)
+        found += places
+    if not found:
+        raise NoPlaceError(f"there is no statement from line {line} on in {files[0]}")
+    return found, "" if told == line else f"line {line} has no statement; the next one is at line {told}"

@@ -9,7 +9,7 @@ from types import FrameType
 from typing import TextIO
 
 from feulgama.debug.commands import COMMANDS, Commands, Quit
-from feulgama.errors import FeulgamaError, NoShim, ShimEnded
+from feulgama.errors import FeulgamaError, NoShimError, ShimEndedError
 
 PROMPT = "(feulgama) "
 HISTORY = Path("~/.feulgama_history").expanduser()
@@ -86,7 +86,7 @@ def answer(commands: Commands, line: str) -> None:
     try:
         for shown in commands.answer(line):
             print(shown)
-    except (ShimEnded, NoShim):
+    except (ShimEndedError, NoShimError):
         raise
     except FeulgamaError as error:
         print(error)
@@ -108,7 +108,7 @@ def debug(commands: Commands, source: TextIO) -> int:
             answer(commands, last)
         except Quit:
             break
-        except ShimEnded as error:
+        except ShimEndedError as error:
             print(error, file=sys.stderr)
             return 1
         sys.stdout.flush()

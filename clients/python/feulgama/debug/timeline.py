@@ -16,7 +16,7 @@ from feulgama.debug.hunt import LONG_WAY, Hunt, Search
 from feulgama.debug.look import Look, look_of
 from feulgama.debug.running import Watch
 from feulgama.debug.shims import Shims
-from feulgama.debug.track import TooFar, Track
+from feulgama.debug.track import TooFarError, Track
 from feulgama.debug.trail import Trail, leave_trail
 from feulgama.errors import FeulgamaError
 from feulgama.model import Exit, Inspection, Stream
@@ -159,7 +159,7 @@ class Timeline:
         track = max(behind, key=lambda found: found.turn, default=None) or Track(self._shims, self._config)
         try:
             track.advance(turn, Watch(interrupted))
-        except TooFar:
+        except TooFarError:
             if track is not self._track:
                 self._park(track, track)
             raise

@@ -8,7 +8,7 @@ from feulgama.config import Config
 from feulgama.debug.look import Look, Place, innermost_at, look_of
 from feulgama.debug.running import RUN_ROOM, Watch, run_before
 from feulgama.debug.shims import Shims
-from feulgama.errors import FeulgamaError, WrongStatus
+from feulgama.errors import FeulgamaError, WrongStatusError
 from feulgama.model import Exit, State, Status
 
 STRIDE = 1000
@@ -18,7 +18,7 @@ ROOM = 128
 MOST_LATE = 12
 
 
-class TooFar(FeulgamaError):
+class TooFarError(FeulgamaError):
     """A turn that could not be come to, with what a shim answers."""
 
 
@@ -74,7 +74,7 @@ class Track:
         self.drop()
         self._shim, self._id, self._breaks = other._shim, other._id, other._breaks
         if self._shim.left < count + RESERVE:
-            raise TooFar(f"a shim answers too few requests to come to turn {self.turn} and go on from there")
+            raise TooFarError(f"a shim answers too few requests to come to turn {self.turn} and go on from there")
         return True
 
     def _room(self) -> int:
@@ -114,7 +114,7 @@ class Track:
         self.drop()
         self._begin()
         if late > MOST_LATE:
-            raise TooFar(f"this machine is too busy to stop a task at turn {turn}: it was paused too late {late} times")
+            raise TooFarError(f"this machine is too busy to stop a task at turn {turn}: it was paused too late {late} times")
 
     def _step_to(self, turn: int, watch: Watch) -> None:
         """Makes some or all of the turns up to one, by steps."""
@@ -133,7 +133,7 @@ class Track:
         replies = self._shim.raw(lines, steps).split(b"\n")
         try:
             self._note(last.result(replies[-2]))
-        except WrongStatus:
+        except WrongStatusError:
             self._read_state()
         self._shims.gait.note_steps(self.turn - before, time.monotonic() - begin)
 
@@ -184,7 +184,7 @@ class Track:
     def _note_end(self, step: requests.Request[State], line: bytes) -> None:
         try:
             state = step.result(line)
-        except WrongStatus:
+        except WrongStatusError:
             self._read_state()
             return
         if state.status is Status.STOPPED:

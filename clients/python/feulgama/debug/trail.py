@@ -113,4 +113,3 @@ def written_by_call(name: str, look: Look) -> list[tuple[int, int]] | None:
 def innermost(look: Look) -> Frame:
     """The innermost frame of a look."""
     return requests.inspect("").result(look.line).frames[0]
-

@@ -4,7 +4,7 @@ from __future__ import annotations
 from dataclasses import dataclass
 
 from feulgama.wasm import opcodes as op
-from feulgama.wasm.reader import NotAModule, Reader
+from feulgama.wasm.reader import NotAModuleError, Reader
 
 
 @dataclass(frozen=True, slots=True)
@@ -41,7 +41,7 @@ def instructions(reader: Reader, start: int) -> list[Instruction]:
             open_.pop()
         elif opcode == op.ELSE:
             if not open_:
-                raise NotAModule("an else is in no block")
+                raise NotAModuleError("an else is in no block")
             open_[-1] = open_[-1][0], True
         else:
             text = text_of(reader, opcode)
@@ -73,14 +73,14 @@ def text_of(reader: Reader, opcode: int) -> str:
     if opcode in (op.MEMORY_SIZE, op.MEMORY_GROW):
         reader.byte()
         return "memory.size" if opcode == op.MEMORY_SIZE else "memory.grow"
-    raise NotAModule(f"there is no instruction with the byte {opcode:#04x} in the profile")
+    raise NotAModuleError(f"there is no instruction with the byte {opcode:#04x} in the profile")
 
 
 def access(reader: Reader, word: str, natural: int) -> str:
     """A load or a store: an offset that is not 0, and an alignment that is not natural, are told."""
     exponent, offset = reader.unsigned(), reader.unsigned()
     if exponent > 31:
-        raise NotAModule("an alignment is too large")
+        raise NotAModuleError("an alignment is too large")
     align = 1 << exponent
     return f"{word}{f' offset={offset}' if offset else ''}{f' align={align}' if align != natural else ''}"
 

@@ -5,7 +5,7 @@ from dataclasses import dataclass, field
 
 from feulgama.wasm import opcodes as op
 from feulgama.wasm.body import Instruction, instructions
-from feulgama.wasm.reader import NotAModule, Reader
+from feulgama.wasm.reader import NotAModuleError, Reader
 
 HEAD = b"\0asm\1\0\0\0"
 
@@ -55,9 +55,9 @@ class Module:
 
 
 def decode(data: bytes) -> Module:
-    """The module that bytes encode. Raises NotAModule; the shim finds more faults than this."""
+    """The module that bytes encode. Raises NotAModuleError; the shim finds more faults than this."""
     if data[:8] != HEAD:
-        raise NotAModule("the bytes do not begin as a module does")
+        raise NotAModuleError("the bytes do not begin as a module does")
     reader, module = Reader(data, 8), Module(data)
     while not reader.is_at_end():
         number = reader.byte()
@@ -65,7 +65,7 @@ def decode(data: bytes) -> Module:
         try:
             read_section(module, number, part)
         except (IndexError, KeyError) as error:
-            raise NotAModule(f"section {number} has a fault") from error
+            raise NotAModuleError(f"section {number} has a fault") from error
     return module
 
 
@@ -99,7 +99,7 @@ def func_type(part: Reader) -> FuncType:
 def imported(part: Reader) -> tuple[str, str, int]:
     module, name = part.name(), part.name()
     if part.byte() != 0:
-        raise NotAModule("an import is no function")
+        raise NotAModuleError("an import is no function")
     return module, name, part.unsigned()
 
 
@@ -115,7 +115,7 @@ def function(module: Module, index: int, body: Reader) -> Function:
     for _ in range(body.unsigned()):
         count = body.unsigned()
         if count > 1024:
-            raise NotAModule("a function has too many locals")
+            raise NotAModuleError("a function has too many locals")
         declared += [op.TYPES[body.byte()]] * count
     found = tuple(instructions(body, module.code_at))
     return Function(index, kind, (*kind.params, *declared), found, begin, body.end - module.code_at)

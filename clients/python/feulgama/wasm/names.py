@@ -4,7 +4,7 @@ from __future__ import annotations
 from dataclasses import dataclass, field
 
 from feulgama.wasm.module import Module
-from feulgama.wasm.reader import NotAModule, Reader
+from feulgama.wasm.reader import NotAModuleError, Reader
 
 FUNCTIONS, LOCALS = 1, 2
 
@@ -40,7 +40,7 @@ def names_of(module: Module) -> Names:
         while not reader.is_at_end():
             number = reader.byte()
             read_names(names, number, reader.part())
-    except NotAModule:
+    except NotAModuleError:
         pass
     return names
 

@@ -10,7 +10,7 @@ T = TypeVar("T")
 LONGEST = 70
 
 
-class NotAModule(FeulgamaError):
+class NotAModuleError(FeulgamaError):
     """The bytes are no module that a task can have."""
 
 
@@ -29,7 +29,7 @@ class Reader:
     def take(self, count: int) -> bytes:
         """This many bytes."""
         if self.at + count > self.end:
-            raise NotAModule("the bytes end too soon")
+            raise NotAModuleError("the bytes end too soon")
         self.at += count
         return self.data[self.at - count:self.at]
 
@@ -47,7 +47,7 @@ class Reader:
             if byte < 0x80:
                 return value
             if shift >= LONGEST:
-                raise NotAModule("a number is too long")
+                raise NotAModuleError("a number is too long")
 
     def signed(self) -> int:
         """A signed number in LEB128."""
@@ -59,7 +59,7 @@ class Reader:
             if byte < 0x80:
                 return value - (1 << shift) if byte & 0x40 else value
             if shift >= LONGEST:
-                raise NotAModule("a number is too long")
+                raise NotAModuleError("a number is too long")
 
     def name(self) -> str:
         """A text after its length."""
@@ -73,6 +73,6 @@ class Reader:
         """The bytes after their size, which are passed over."""
         size = self.unsigned()
         if self.at + size > self.end:
-            raise NotAModule("a section ends too late")
+            raise NotAModuleError("a section ends too late")
         self.at += size
         return Reader(self.data, self.at - size, self.at)
