@@ -14,6 +14,7 @@ from feulgama.shim import Shim
 from feulgama.wasm.module import decode
 from feulgama.wasm.reader import NotAModuleError
 
+MOST_BYTES = 262_144
 MORE_MEMORY = "its memory may begin with more pages than the task may have, which an option for memory raises"
 
 
@@ -36,18 +37,23 @@ def module_bytes(path: Path, shim_file: str | None) -> bytes:
 
 def open_debugger(shim: Shim, path: Path, data: bytes, args: Sequence[str], env: Mapping[str, str],
                   memory_limit: int | None) -> Debugger:
-    """A debugger over a run of a module, before its first turn. Its arguments are the module's path and these. Raises
+    """A debugger over a run of a module, before its first turn. Its arguments are the module's path and these. The shim is
+    sent the module without its custom sections, so that one with large descriptions of its source can be opened. Raises
     RefusedError if the shim refuses the module, and NeedsMemoryError if more memory might help."""
     try:
         module = decode(data)
     except NotAModuleError as error:
         told = refusal_by_check(data, memory_limit, shim.program)
         raise RefusedError(f"{path}: {told or error}") from error
-    digest = shim.ensure(data)
+    if len(module.sent) > MOST_BYTES:
+        raise RefusedError(f"{path} has {len(module.sent)} bytes without its custom sections, and a module may have "
+                           f"{MOST_BYTES}")
+    digest = shim.ensure(module.sent)
     try:
         timeline = Timeline(shim, Config(digest, (str(path), *args), env, memory_limit), module)
     except LimitError as error:
         raise NeedsMemoryError(f"{path}: {error}{'' if error.why else '; ' + MORE_MEMORY}") from error
     except RefusalError as error:
-        raise RefusedError(f"{path}: {error}") from error
+        told = refusal_by_check(data, memory_limit, shim.program) if len(data) <= MOST_BYTES else None
+        raise RefusedError(f"{path}: {told or error}") from error
     return Debugger(timeline, Symbols(module, [path.parent, Path.cwd()]))

@@ -40,7 +40,7 @@ class Terminal(unittest.TestCase):
 
     def test_places(self) -> None:
         self.assertEqual(self.answer("break count:3")[0].split(" <")[0], "breakpoint 1 at 3:3")
-        self.assertEqual(self.answer("break 7")[0].split(" <")[0], "breakpoint 2 at 7:0")
+        self.assertEqual(self.answer("break 7:0")[0].split(" <")[0], "breakpoint 2 at 7:0")
         self.assertEqual(self.answer("b")[0].split(" <")[0], "breakpoint 3 at 2:0")
         self.assertEqual(self.fault("break nothing"), "there is no function and no source file named nothing")
         self.assertEqual(self.fault("break 3:999"), "there is no instruction 3:999")
@@ -88,7 +88,7 @@ class Terminal(unittest.TestCase):
         self.assertEqual(self.answer("continue"), ["ended after 8069 turns: exit, exit 9"])
 
     def test_a_breakpoint_at_the_first_turn(self) -> None:
-        self.answer("break start")
+        self.answer("break start:0")
         self.assertIn("turn 0", self.answer("run")[1])
         self.assertIn("ended", self.answer("continue")[-1])
 

@@ -154,7 +154,7 @@ class Session:
         self._writer.respond(request, {"breakpoints": shown})
 
     def _places_named(self, name: str) -> list[Place]:
-        return self.debugger.symbols.places(name)[0]
+        return self.debugger.symbols.places(name, is_stop=True)[0]
 
     def _places_at(self, found: Body) -> list[Place]:
         return [self.views.place_at(found["instructionReference"], found.get("offset", 0))]

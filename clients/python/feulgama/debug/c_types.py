@@ -1,10 +1,14 @@
-"""Types of C as `clang -g` describes them, and the texts of their values."""
+"""Types of C, C++ and Rust as DWARF describes them, and the texts of their values."""
 from __future__ import annotations
 
-from dataclasses import dataclass
+import struct
+from collections.abc import Callable
+from dataclasses import dataclass, field
 
+Memory = Callable[[int, int], bytes]
 MOST_SHOWN = 16
 DEEPEST = 3
+LONGEST_TEXT = 64
 
 
 @dataclass(frozen=True, slots=True)
@@ -17,73 +21,160 @@ class CType:
         """The number that bytes mean; None if the type has no numbers."""
         return None
 
-    def text(self, data: bytes, _depth: int = 0) -> str:
-        """The value that bytes mean."""
+    def text(self, data: bytes, _memory: Memory, _depth: int = 0) -> str:
+        """The value that bytes mean. Texts that it points at are read from memory."""
         found = self.number(data)
         return data.hex(" ") if found is None else str(found)
 
 
 @dataclass(frozen=True, slots=True)
 class Number(CType):
-    """A whole number or a character."""
+    """A whole number, a truth value or a character."""
     is_signed: bool
     is_character: bool = False
+    is_truth: bool = False
 
     def number(self, data: bytes) -> int | None:
         return int.from_bytes(data, "little", signed=self.is_signed)
 
-    def text(self, data: bytes, _depth: int = 0) -> str:
-        told = f" {ascii(chr(data[0]))}" if self.is_character and data else ""
-        return f"{self.number(data)}{told}"
+    def text(self, data: bytes, _memory: Memory, _depth: int = 0) -> str:
+        found = int.from_bytes(data, "little", signed=self.is_signed)
+        if self.is_truth and found in (0, 1):
+            return "true" if found else "false"
+        if not self.is_character or not data:
+            return str(found)
+        code = int.from_bytes(data, "little")
+        return f"{found} {ascii(chr(code))}" if code < 0x110000 else str(found)
+
+
+@dataclass(frozen=True, slots=True)
+class Float(CType):
+    """A number with a fraction, of 4 or 8 bytes."""
+
+    def text(self, data: bytes, _memory: Memory, _depth: int = 0) -> str:
+        form = {4: "<f", 8: "<d"}.get(len(data))
+        return data.hex(" ") if form is None else repr(struct.unpack(form, data)[0])
 
 
 @dataclass(frozen=True, slots=True)
 class Pointer(CType):
-    """An address."""
+    """An address of something of a type."""
+    to: Callable[[], CType] = field(compare=False)
 
     def number(self, data: bytes) -> int | None:
         return int.from_bytes(data, "little")
 
-    def text(self, data: bytes, _depth: int = 0) -> str:
-        return f"{int.from_bytes(data, 'little'):#x}"
+    def text(self, data: bytes, memory: Memory, _depth: int = 0) -> str:
+        address = int.from_bytes(data, "little")
+        target = self.to()
+        if not (isinstance(target, Number) and target.is_character and target.size == 1 and address):
+            return f"{address:#x}"
+        found, end, _ = memory(address, LONGEST_TEXT).partition(b"\0")
+        return f"{address:#x} {quoted(found)}{'' if end else '...'}"
 
 
 @dataclass(frozen=True, slots=True)
 class Enumeration(CType):
     """A number with names."""
     names: tuple[tuple[int, str], ...]
+    is_signed: bool = True
 
     def number(self, data: bytes) -> int | None:
-        return int.from_bytes(data, "little", signed=True)
+        return int.from_bytes(data, "little", signed=self.is_signed)
 
-    def text(self, data: bytes, _depth: int = 0) -> str:
-        found = self.number(data)
-        return dict(self.names).get(found if found is not None else 0, str(found))
+    def text(self, data: bytes, _memory: Memory, _depth: int = 0) -> str:
+        found = int.from_bytes(data, "little", signed=self.is_signed)
+        return dict(self.names).get(found, str(found))
 
 
 @dataclass(frozen=True, slots=True)
 class Array(CType):
     """Items of one type; of characters it is shown as a text up to the first NUL."""
     item: CType
+    count: int
 
-    def text(self, data: bytes, depth: int = 0) -> str:
-        if isinstance(self.item, Number) and self.item.is_character:
-            return ascii(data.split(b"\0")[0].decode("latin-1"))
+    def text(self, data: bytes, memory: Memory, depth: int = 0) -> str:
+        if isinstance(self.item, Number) and self.item.is_character and self.item.size == 1:
+            return quoted(data.split(b"\0")[0])
         size = self.item.size
         if depth >= DEEPEST or size == 0:
             return "[...]"
-        items = [self.item.text(data[at:at + size], depth + 1) for at in range(0, len(data) - size + 1, size)]
-        more = ", ..." if len(items) > MOST_SHOWN else ""
+        items = [self.item.text(data[at:at + size], memory, depth + 1)
+                 for at in range(0, len(data) - size + 1, size)][:MOST_SHOWN + 1]
+        more = ", ..." if self.count > MOST_SHOWN else ""
         return f"[{', '.join(items[:MOST_SHOWN])}{more}]"
 
 
 @dataclass(frozen=True, slots=True)
-class Structure(CType):
-    """Members, each with its name, its offset and its type."""
-    members: tuple[tuple[str, int, CType], ...]
+class Member:
+    """A member of a structure: its name, its offset and its type; of a bit field also how many bits it has, and where
+    they begin, counted from the least bit of the structure."""
+    name: str
+    offset: int
+    type: CType
+    bits: int = 0
+    first_bit: int = 0
 
-    def text(self, data: bytes, depth: int = 0) -> str:
+    def data(self, whole: bytes) -> bytes:
+        """Its bytes, in those of the structure."""
+        if not self.bits:
+            return whole[self.offset:self.offset + self.type.size]
+        number = int.from_bytes(whole, "little") >> self.first_bit & (1 << self.bits) - 1
+        if isinstance(self.type, (Number, Enumeration)) and self.type.is_signed and number >> self.bits - 1:
+            number -= 1 << self.bits
+        return (number % (1 << 8 * self.type.size)).to_bytes(self.type.size, "little")
+
+
+@dataclass(frozen=True, slots=True)
+class Structure(CType):
+    """Members, each with its name, its offset and its type; also those of a union, and of a tuple of Rust."""
+    members: tuple[Member, ...]
+
+    def text(self, data: bytes, memory: Memory, depth: int = 0) -> str:
+        slice_ = self._slice(data, memory)
+        if slice_ is not None:
+            return slice_
         if depth >= DEEPEST:
             return "{...}"
-        shown = (f"{name} = {kind.text(data[at:at + kind.size], depth + 1)}" for name, at, kind in self.members)
+        shown = (f"{member.name} = {member.type.text(member.data(data), memory, depth + 1)}" for member in self.members)
         return f"{{{', '.join(shown)}}}"
+
+    def _slice(self, data: bytes, memory: Memory) -> str | None:
+        """The text of a `&str` of Rust; None of another type."""
+        if self.name != "&str" or [member.name for member in self.members] != ["data_ptr", "length"]:
+            return None
+        address, length = (int.from_bytes(member.data(data), "little") for member in self.members)
+        found = memory(address, min(length, LONGEST_TEXT))
+        return quoted(found, "utf-8") + ("..." if length > len(found) else "")
+
+
+@dataclass(frozen=True, slots=True)
+class Variants(CType):
+    """An `enum` of Rust: which of its variants is there is said by a number; a variant with None is there for all other
+    numbers. A variant has its name, its offset and its type."""
+    tag: Member | None
+    variants: tuple[tuple[int | None, Member], ...]
+
+    def chosen(self, data: bytes) -> Member | None:
+        """The variant that is there."""
+        found = int.from_bytes(self.tag.data(data), "little") if self.tag is not None else None
+        other = None
+        for number, variant in self.variants:
+            if number is None or self.tag is None:
+                other = variant
+            elif found == number % (1 << 8 * self.tag.type.size):
+                return variant
+        return other
+
+    def text(self, data: bytes, memory: Memory, depth: int = 0) -> str:
+        chosen = self.chosen(data)
+        if chosen is None:
+            return data.hex(" ")
+        if isinstance(chosen.type, Structure) and not chosen.type.members:
+            return chosen.name
+        return f"{chosen.name} {chosen.type.text(chosen.data(data), memory, depth + 1)}"
+
+
+def quoted(data: bytes, encoding: str = "latin-1") -> str:
+    """Bytes as a text in quotation marks."""
+    return ascii(data.decode(encoding, "replace"))

@@ -14,6 +14,7 @@ from feulgama.errors import FeulgamaError
 from feulgama.model import Frame, Stream, Value
 
 Lines = Iterable[str]
+ENDED = "the task has ended, and has no frames and no locals; reverse-step goes to its last instruction"
 
 
 class BadCommandError(FeulgamaError):
@@ -122,7 +123,7 @@ class Commands:
     def until(self, rest: str) -> Lines:
         if not rest:
             raise BadCommandError("until takes a place")
-        places, remark = self.symbols.places(rest)
+        places, remark = self.symbols.places(rest, is_stop=True)
         return [*([remark] if remark else []), *self.stopped(self.debugger.until(places))]
 
     def reverse_step(self, rest: str) -> Lines:
@@ -143,7 +144,7 @@ class Commands:
 
     def break_(self, rest: str) -> Lines:
         if rest:
-            places, remark = self.symbols.places(rest)
+            places, remark = self.symbols.places(rest, is_stop=True)
         else:
             places, remark = [self._place()], ""
         added = self.debugger.add_breakpoint(rest or str(places[0]), places)
@@ -166,8 +167,9 @@ class Commands:
 
     def info(self, rest: str) -> Lines:
         shows: dict[str, Callable[[], Lines]] = {
-            "breakpoints": self._info_breakpoints, "locals": lambda: render.local_lines(self.symbols, self._frame()),
-            "variables": self._info_variables, "stack": lambda: render.operand_lines(self._frame()),
+            "breakpoints": self._info_breakpoints, "globals": self._info_globals,
+            "locals": lambda: render.local_lines(self.symbols, self._frame()), "variables": self._info_variables,
+            "stack": lambda: render.operand_lines(self._frame()),
             "memory": self._info_memory, "output": self._info_output, "functions": self._info_functions}
         found = [name for name in shows if rest and name.startswith(rest)]
         if len(found) != 1:
@@ -179,7 +181,15 @@ class Commands:
 
     def _info_variables(self) -> Lines:
         found = self.debugger.variables(self.selected)
-        return [f"{one.type} {one.name} = {one.text}" for one in found] or ["no variables of C"]
+        yield from (f"{one.type} {one.name} = {one.text}" for one in found)
+        if self.timeline.exit is not None:
+            yield ENDED
+        elif not found:
+            yield self.symbols.why_no_variables()
+
+    def _info_globals(self) -> Lines:
+        return [f"{one.type} {one.name} = {one.text}" for one in self.debugger.globals()] or \
+            [self.symbols.why_no_variables()]
 
     def _info_memory(self) -> Lines:
         size = self.timeline.memory_size()
@@ -290,7 +300,8 @@ COMMANDS = [
     Command("goto", ("g",), "TURN", "goes to a turn, forward or back", Commands.goto),
     Command("break", ("b",), "[PLACE]", "sets a breakpoint: FUNC, FUNC:PLACE or FILE:LINE", Commands.break_),
     Command("delete", ("d",), "[NUMBER]", "takes a breakpoint away, or all", Commands.delete),
-    Command("info", ("i",), "WHAT", "breakpoints, locals, variables, stack, memory, output, functions", Commands.info),
+    Command("info", ("i",), "WHAT", "breakpoints, locals, variables, globals, stack, memory, output, functions",
+            Commands.info),
     Command("backtrace", ("bt", "where"), "[COUNT]", "the frames, the innermost first", Commands.backtrace),
     Command("frame", ("f",), "[NUMBER]", "looks at a frame", Commands.frame),
     Command("x", (), "[/FORMAT] ADDRESS", "memory: x/4xw 1024, x/s local 0", Commands.examine),

@@ -60,18 +60,23 @@ class Debugger:
         return self.symbols.call_of(frame)
 
     def variables(self, number: int) -> list[Found]:
-        """The variables of C of the frame with a number from the innermost; none if there is no such frame."""
+        """The variables of C of the frame with a number from the innermost, and those of all functions beside it; after
+        the end, where there is no frame, those of all functions of the module."""
         frames = self.frames()
         if number >= len(frames):
-            return []
+            return self.globals()
         place = self.place_of(frames[number], number == 0)
         return self.symbols.variables(frames[number], place, self.timeline.memory)
+
+    def globals(self) -> list[Found]:
+        """The variables of all functions of the module."""
+        return self.symbols.variables(None, None, self.timeline.memory)
 
     def scope(self, number: int) -> Scope:
         """What an expression may name in the frame with a number; without a frame only the turn and memory."""
         frames = self.frames()
         return Scope(frames[number] if number < len(frames) else None, self.symbols.names, self.timeline.turn,
-                     self.timeline.memory, lambda: self.variables(number))
+                     self.timeline.memory, lambda: self.variables(number), self.globals)
 
     # Moving by instructions.
 

@@ -3,6 +3,7 @@ there."""
 from __future__ import annotations
 
 import posixpath
+import sys
 from collections.abc import Iterator
 from io import BytesIO
 from typing import Any
@@ -46,9 +47,18 @@ def variables_of(module: Module) -> Variables | None:
     if not IS_THERE or ".debug_info" not in module.customs or ".debug_abbrev" not in module.customs:
         return None
     try:
-        return Variables(module, dwarf_of(module))
+        return Variables(dwarf_of(module))
     except FAULTS:
         return None
+
+
+def why_no_lines(module: Module) -> str:
+    """Why nothing is known of a module's lines and variables, for a person."""
+    if ".debug_info" not in module.customs:
+        return "the module has no line tables and no variables (clang -g writes them)"
+    if not IS_THERE:
+        return f"the module has line tables, and python3-pyelftools, which reads them, is not installed for {sys.executable}"
+    return "the line tables fit none of the functions, or have a fault; was the module changed after linking (wasm-opt)?"
 
 
 def dwarf_of(module: Module) -> Any:
@@ -116,11 +126,14 @@ def rows_of_sequence(module: Module, states: list[Any], files: list[str]) -> Ite
     first = states[0].address
     if not any(function.begin <= first < function.end for function in module.functions):
         return
+    ends_prologue = False
     for at, state in enumerate(states):
         is_last_at_address = at + 1 == len(states) or states[at + 1].address != state.address
+        ends_prologue = ends_prologue or bool(state.prologue_end)
         if state.end_sequence:
             yield Row(state.address, None, False)
         elif is_last_at_address:
             known = state.line > 0 and state.file < len(files)
             source = SourceLine(files[state.file], state.line) if known else None
-            yield Row(state.address, source, bool(state.is_stmt))
+            yield Row(state.address, source, bool(state.is_stmt), ends_prologue)
+            ends_prologue = False

@@ -11,7 +11,7 @@ from feulgama.errors import FeulgamaError
 from feulgama.model import Frame, Value, ValueType
 from feulgama.wasm.names import Names
 
-TOKEN = re.compile(r"\s*(0x[0-9a-fA-F]+|\d+|[A-Za-z_$.][\w$.]*|[-+*&()])")
+TOKEN = re.compile(r"\s*(0x[0-9a-fA-F]+|\d+|[A-Za-z_$.](?:[\w$.]|::)*|[-+*&()])")
 
 
 class NoValueError(FeulgamaError):
@@ -21,16 +21,23 @@ class NoValueError(FeulgamaError):
 @dataclass(frozen=True, slots=True)
 class Scope:
     """What words may name: the frame, None of a task that has ended; the names; the turn; memory, by an address and a
-    number of bytes; and the variables of C."""
+    number of bytes; the variables of C of the frame, and those of all functions of the module."""
     frame: Frame | None
     names: Names
     turn: int
     memory: Callable[[int, int], bytes]
     variables: Callable[[], list[Found]]
+    globals: Callable[[], list[Found]]
 
     def variable(self, name: str) -> Found | None:
-        """The variable of C with a name."""
-        return next((found for found in self.variables() if found.name == name), None)
+        """The variable of C with a name, or with one of which it is the last part."""
+        return named(name, self.variables()) or named(name, self.globals())
+
+
+def named(name: str, variables: list[Found]) -> Found | None:
+    """The variable with a name, or with one of which it is the last part."""
+    return next((one for one in variables if one.name == name), None) or \
+        next((one for one in variables if one.name.endswith("::" + name)), None)
 
 
 def evaluate(text: str, scope: Scope) -> Value | int:
@@ -112,19 +119,22 @@ class Expression:
         if word == "turn":
             return self._scope.turn
         frame = self._scope.frame
-        if frame is None:
-            raise NoValueError("the task has ended, and has no frame")
         if word in ("local", "operand"):
             which = self._next()
             if not which.isdigit():
                 raise NoValueError(f"{which} is no number of a {word}")
+            if frame is None:
+                raise NoValueError("the task has ended, and has no frame")
             return picked(frame.locals if word == "local" else frame.operands, word, int(which))
-        for index, value in enumerate(frame.locals):
-            if self._scope.names.local(frame.func, index) == word.removeprefix("$"):
+        for index, value in enumerate(frame.locals if frame is not None else ()):
+            if frame is not None and self._scope.names.local(frame.func, index) == word.removeprefix("$"):
                 return value
         variable = self._scope.variable(word)
         if variable is None:
-            raise NoValueError(f"there is nothing named {word} in this frame")
+            ended = "; the task has ended, and has no frame" if frame is None else " in this frame"
+            raise NoValueError(f"there is nothing named {word}{ended}")
+        if variable.data is None:
+            raise NoValueError(f"{word} has no value here: {variable.text.strip('()')}")
         if variable.number is None:
             raise NoValueError(f"{word} is no number but {variable.type}")
         return variable.number

@@ -23,10 +23,12 @@ class SourceLine(NamedTuple):
 @dataclass(frozen=True, slots=True)
 class Row:
     """A row of a line table: from `address` on, the instructions are of this line; of none if `source` is None.
-    `is_statement` says that a statement begins here."""
+    `is_statement` says that a statement begins here, `ends_prologue` that the parameters are where the descriptions of
+    variables say."""
     address: int
     source: SourceLine | None
     is_statement: bool
+    ends_prologue: bool = False
 
 
 class Lines:
@@ -67,6 +69,16 @@ class Lines:
         for func, place in starts[later]:
             first[func] = min(place, first.get(func, place))
         return later, [Place(*both) for both in sorted(first.items())]
+
+    def after_prologue(self, function: Function) -> Place:
+        """Where a breakpoint at a function is: where the table says that its prologue ends, or at the second row of the
+        function, as other debuggers have it; at its first instruction, if it has no such row."""
+        first = bisect.bisect_left(self._addresses, function.begin)
+        rows = self._rows[first:bisect.bisect_left(self._addresses, function.end)]
+        later = [row for row in rows if row.address > rows[0].address and row.source is not None]
+        ends = [row for row in rows if row.ends_prologue] or later
+        place = first_from(function, ends[0].address) if ends else None
+        return Place(function.index, 0) if place is None else place
 
     def files_named(self, name: str) -> list[str]:
         """The files of the table whose paths end with a name."""

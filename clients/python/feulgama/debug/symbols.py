@@ -6,7 +6,8 @@ from collections.abc import Callable
 from pathlib import Path
 
 from feulgama.debug.c_variables import Found
-from feulgama.debug.dwarf import lines_of, variables_of
+from feulgama.debug.demangle import demangled
+from feulgama.debug.dwarf import FAULTS, lines_of, variables_of, why_no_lines
 from feulgama.debug.lines import Lines, Sources, SourceLine
 from feulgama.debug.look import Place
 from feulgama.errors import FeulgamaError
@@ -27,6 +28,7 @@ class Symbols:
     def __init__(self, module: Module, folders: list[Path]) -> None:
         self.module = module
         self.names = names_of(module)
+        self.names.demangle(demangled(self.names.functions.values()))
         self.lines = lines_of(module)
         self._variables = variables_of(module)
         self._calls: dict[int, dict[Shown, list[int]]] = {}
@@ -54,27 +56,46 @@ class Symbols:
             raise NoPlaceError(f"function {frame.func} has no call before {frame.next}")
         return Place(frame.func, places[-1])
 
-    def variables(self, frame: Frame, place: Place, memory: Callable[[int, int], bytes]) -> list[Found]:
-        """The variables of C of a frame that is at a place; none without `clang -g`."""
+    def variables(self, frame: Frame | None, place: Place | None, memory: Callable[[int, int], bytes]) -> list[Found]:
+        """The variables of C of a frame that is at a place, and those of all functions beside it; without a frame those
+        of all functions of the module. None without descriptions, or if these have a fault."""
         if self._variables is None:
             return []
-        return self._variables.found(frame, self.instruction(place).offset, memory)
+        try:
+            if frame is None or place is None:
+                return sorted(self._variables.globals(memory), key=lambda found: found.name)
+            return self._variables.found(frame, self.instruction(place).offset, memory)
+        except FAULTS:
+            return []
+
+    def why_no_variables(self) -> str:
+        """Why there are no variables of C."""
+        if self._variables is not None:
+            return "no variables of C are described here"
+        return why_no_lines(self.module)
 
     def told(self, place: Place) -> str:
         """A place with the name of its function and its line: `1:3 <main> main.c:12`."""
         source = self.line_at(place)
         return f"{place} <{self.names.function(place.func)}>{f' {source}' if source is not None else ''}"
 
-    def places(self, words: str) -> tuple[list[Place], str]:
+    def places(self, words: str, is_stop: bool = False) -> tuple[list[Place], str]:
         """The places that `FUNC`, `FUNC:PLACE` or `FILE:LINE` names, FUNC a name or an index; and a remark, if the
-        line is another than the one asked for. Raises NoPlaceError if there are none."""
+        line is another than the one asked for. FUNC is its first instruction, or if a run is to stop there the one after
+        its prologue, where the parameters have their values. Raises NoPlaceError if there are none."""
         head, colon, tail = words.rpartition(":")
         if colon and tail.isdigit():
             files = self.lines.files_named(head) if self.lines is not None else []
             if self.lines is not None and files:
                 return at_line(self.lines, files, int(tail))
             return [self._checked(Place(func, int(tail))) for func in self.functions(head)], ""
-        return [self._checked(Place(func, 0)) for func in self.functions(words)], ""
+        places = [self._checked(Place(func, 0)) for func in self.functions(words)]
+        return [self._after_prologue(place) if is_stop else place for place in places], ""
+
+    def _after_prologue(self, place: Place) -> Place:
+        """The instruction of a function that follows its prologue, if that is known."""
+        function = self.module.function(place.func)
+        return place if self.lines is None or function is None else self.lines.after_prologue(function)
 
     def functions(self, word: str) -> list[int]:
         """The functions of a name or an index. Raises NoPlaceError if there are none."""
@@ -82,7 +103,8 @@ class Symbols:
             return [int(word)]
         found = self.names.named(word.removeprefix("$"))
         if not found:
-            raise NoPlaceError(f"there is no function and no source file named {word}")
+            told = f"there is no function and no source file named {word}"
+            raise NoPlaceError(told if self.lines is not None else f"{told}; {why_no_lines(self.module)}")
         return found
 
     def _checked(self, place: Place) -> Place:

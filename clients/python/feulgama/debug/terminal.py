@@ -26,7 +26,7 @@ def words_for(commands: Commands, before: str) -> list[str]:
         files = [file.rpartition("/")[2] + ":" for file in lines.files] if lines is not None else []
         return [*commands.symbols.names.functions.values(), *files]
     if head in ("info", "i"):
-        return ["breakpoints", "locals", "variables", "stack", "memory", "output", "functions"]
+        return ["breakpoints", "locals", "variables", "globals", "stack", "memory", "output", "functions"]
     return ["local", "operand", "turn"] if head in ("print", "p", "x") else []
 
 

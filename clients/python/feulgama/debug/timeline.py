@@ -48,7 +48,7 @@ class Timeline:
 
     def __init__(self, shim: Shim, config: Config, module: Module) -> None:
         self._config, self._module = config, module
-        self._shims = Shims(shim, module.data)
+        self._shims = Shims(shim, module.sent)
         self._track = Track(self._shims, config)
         self._parked: list[Track] = []
         self._seen: dict[int, bytes] = {}

@@ -31,8 +31,10 @@ class Function:
 
 @dataclass(slots=True)
 class Module:
-    """What was read of a module's bytes. `exports` has names and indices of functions alone."""
+    """What was read of a module's bytes. `exports` has names and indices of functions alone. `sent` is the module
+    without its custom sections, which mean nothing to a shim, and may be most of its bytes."""
     data: bytes
+    sent: bytes = HEAD
     types: list[FuncType] = field(default_factory=list)
     imports: list[tuple[str, str, int]] = field(default_factory=list)
     indices: list[int] = field(default_factory=list)
@@ -60,8 +62,11 @@ def decode(data: bytes) -> Module:
         raise NotAModuleError("the bytes do not begin as a module does")
     reader, module = Reader(data, 8), Module(data)
     while not reader.is_at_end():
+        begin = reader.at
         number = reader.byte()
         part = reader.part()
+        if number != 0:
+            module.sent += data[begin:reader.at]
         try:
             read_section(module, number, part)
         except (IndexError, KeyError) as error:

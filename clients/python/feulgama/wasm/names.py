@@ -24,8 +24,19 @@ class Names:
         return self.locals.get(func, {}).get(index)
 
     def named(self, name: str) -> list[int]:
-        """The functions of a name."""
-        return [index for index, other in self.functions.items() if other == name]
+        """The functions of a name: those that have it; or of which it is the name without types of parameters; or its
+        last part, as `total` of `prog::total`."""
+        plain = {index: other.partition("(")[0] for index, other in self.functions.items()}
+        for found in ([index for index, other in self.functions.items() if other == name],
+                      [index for index, other in plain.items() if other == name],
+                      [index for index, other in plain.items() if other.endswith("::" + name)]):
+            if found:
+                return found
+        return []
+
+    def demangle(self, known: dict[str, str]) -> None:
+        """Gives functions the names that were written for them."""
+        self.functions = {index: known.get(name, name) for index, name in self.functions.items()}
 
 
 def names_of(module: Module) -> Names:
