@@ -53,6 +53,11 @@ OFTEN = b"""(module (type $v (func))
   (export "_start" (func $main)))"""
 
 
+# It drops a number, and then executes `unreachable`: its third turn is a trap.
+TRAPPING_BYTES = bytes.fromhex("0061736d01000000" "010401600000" "03020100" "070a01065f73746172740000"
+                               "0a0801060041011a000b")
+
+
 def machine_of(data: bytes) -> Any:
     """A task of the second reading before its first turn."""
     return Machine(wasm.Decoder(data).module())

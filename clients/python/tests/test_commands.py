@@ -10,7 +10,7 @@ from feulgama.debug.memory import BadFormatError, Format, format_of
 from feulgama.debug.terminal import words_for
 from feulgama.errors import FeulgamaError
 from feulgama.opening import open_debugger
-from tests.support import CLIENT, SHIM
+from tests.support import CLIENT, SHIM, TRAPPING_BYTES
 
 MODULE = CLIENT / "examples/words.wasm"
 
@@ -86,6 +86,22 @@ class Terminal(unittest.TestCase):
         self.assertEqual(self.answer("step"), ["ended after 8069 turns: exit, exit 9"])
         self.assertIn("turn 8068", self.answer("rs")[0])
         self.assertEqual(self.answer("continue"), ["ended after 8069 turns: exit, exit 9"])
+
+    def test_a_trap(self) -> None:
+        """A run stops before the instruction that traps, once; then it ends."""
+        shim = self.enterContext(feulgama.Shim(SHIM))
+        self.commands = Commands(open_debugger(shim, MODULE, TRAPPING_BYTES, [], {}, None))
+        trap = "trap unreachable: the next instruction ends the task"
+        end = ["ended after 3 turns: trap unreachable, exit 134"]
+        for move in ("continue", "run", "step 100", "finish"):
+            self.answer("goto 0")
+            self.assertEqual(self.answer(move), [trap, "turn 2 at 0:2 <_start>, 1 frame", "=>  0:2  unreachable"], move)
+        self.assertEqual(self.answer("continue"), end)
+        self.assertEqual(self.answer("reverse-step")[0], trap)
+        self.assertEqual(self.answer("step"), end)
+        self.assertEqual(self.answer("reverse-step 2")[0][:6], "turn 1")
+        self.assertEqual(self.answer("next")[0], trap)
+        self.assertEqual(self.answer("goto 3"), end)
 
     def test_a_breakpoint_at_the_first_turn(self) -> None:
         self.answer("break start:0")

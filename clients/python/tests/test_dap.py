@@ -15,7 +15,7 @@ import pytest
 
 from feulgama.dap.wire import BadMessageError, read_message
 from feulgama.debug import dwarf
-from tests.support import CLIENT, EXIT_7, FOREVER, SHIM
+from tests.support import CLIENT, EXIT_7, FOREVER, SHIM, TRAPPING_BYTES
 
 Body = dict[str, Any]
 FOLDER = CLIENT / "examples"
@@ -192,6 +192,24 @@ class Instructions(WithEditor):
         self.editor.ask("continue", threadId=1)
         self.assertEqual(self.editor.event("exited")["body"]["exitCode"], 7)
 
+    def test_a_trap(self) -> None:
+        """It is an exception, before the instruction that traps, unless the editor does not want that."""
+        file = self.enterContext(tempfile.NamedTemporaryFile(suffix=".wasm"))
+        file.write(TRAPPING_BYTES)
+        file.flush()
+        self.launch(program=file.name)
+        self.editor.ask("configurationDone")
+        stop = self.editor.event("stopped")["body"]
+        self.assertEqual((stop["reason"], stop["text"]),
+                         ("exception", "trap unreachable: the next instruction ends the task"))
+        self.assertEqual([frame["line"] for frame in self.editor.frames()], [3])
+        self.assertEqual(self.editor.ask("exceptionInfo", threadId=1)["body"]["exceptionId"], "unreachable")
+        self.assertEqual(self.editor.move("stepBack"), ("step", 2))
+        self.assertFalse(self.editor.ask("exceptionInfo", threadId=1)["success"])
+        self.assertEqual(self.editor.ask("setExceptionBreakpoints", filters=[])["body"], {"breakpoints": []})
+        self.editor.ask("continue", threadId=1)
+        self.assertEqual(self.editor.event("exited", "stopped")["body"], {"exitCode": 134})
+
     def test_faults(self) -> None:
         self.assertFalse(self.editor.ask("stackTrace", threadId=1)["success"])
         self.assertFalse(self.editor.ask("launch", program="/nowhere")["success"])
@@ -233,6 +251,12 @@ class Forever(WithEditor):
 
 
 class Messages(unittest.TestCase):
+    def test_an_input_that_is_of_no_editor(self) -> None:
+        run = subprocess.run([CLIENT / "bin/feulgama", "--shim", SHIM, "dap"], input=b"hello\n", capture_output=True,
+                             check=False)
+        self.assertEqual((run.returncode, run.stdout), (1, b""))
+        self.assertIn(b"feulgama: no head of a message: b'hello\\n'; this command speaks", run.stderr)
+
     def test_faults(self) -> None:
         self.assertIsNone(read_message(io.BytesIO(b"")))
         self.assertIsNone(read_message(io.BytesIO(b"Content-Length: 9\r\n\r\n{}")))

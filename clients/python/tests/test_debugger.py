@@ -96,6 +96,7 @@ class RandomStops(unittest.TestCase):
             oracle = Oracle(data, turns)
             with feulgama.Shim(program) as shim:
                 debugger = open_debugger(shim, Path("module"), data, [], {}, None)
+                debugger.stops_at_traps = False
                 for _ in range(STOPS):
                     self.move(Commands(debugger), oracle)
                     stops += 1

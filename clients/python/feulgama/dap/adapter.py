@@ -15,23 +15,28 @@ from feulgama.opening import module_bytes, open_debugger
 from feulgama.shim import Shim
 
 BREAKS_OFF = ("pause", "disconnect", "terminate")
+Messages = queue.SimpleQueue[Message | BadMessageError | None]
 
 
-def read_all(stream: BinaryIO, session: Session, found: queue.SimpleQueue[Message | None]) -> None:
-    """Hands each message on, up to a `disconnect`; one that has to break off what is running does so at once."""
-    with contextlib.suppress(BadMessageError):
+def read_all(stream: BinaryIO, session: Session, found: Messages) -> None:
+    """Hands each message on, up to a `disconnect`; one that has to break off what is running does so at once. The last is
+    None at the end of the stream, or what is wrong with it."""
+    last: BadMessageError | None = None
+    try:
         while (message := read_message(stream)) is not None:
             found.put(message)
             if message.get("command") in BREAKS_OFF:
                 session.interrupt()
             if message.get("command") == "disconnect":
                 return
+    except BadMessageError as error:
+        last = error
     session.interrupt()
-    found.put(None)
+    found.put(last)
 
 
 def serve(shim_file: str | None) -> int:
-    """Answers one editor to the end of its session."""
+    """Answers one editor to the end of its session. Raises BadMessageError if what it sends is no message."""
     with contextlib.ExitStack() as shims:
         def open_file(path: Path, args: list[str], env: dict[str, str], memory: int | None) -> Debugger:
             data = module_bytes(path, shim_file)
@@ -41,9 +46,11 @@ def serve(shim_file: str | None) -> int:
 
         writer = Writer(sys.stdout.buffer)
         session = Session(writer, opener_of(open_file))
-        messages: queue.SimpleQueue[Message | None] = queue.SimpleQueue()
+        messages: Messages = queue.SimpleQueue()
         threading.Thread(target=read_all, args=(sys.stdin.buffer, session, messages)).start()
         while not session.is_over and (message := messages.get()) is not None:
+            if isinstance(message, BadMessageError):
+                raise BadMessageError(f"{message}; this command speaks the Debug Adapter Protocol, and an editor starts it")
             if message.get("type") == "request":
                 session.answer(message)
     return 0

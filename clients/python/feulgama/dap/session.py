@@ -17,12 +17,14 @@ from feulgama.debug.timeline import Why
 from feulgama.errors import FeulgamaError, ShimEndedError
 from feulgama.model import Stream, Value
 
-THREAD = 1
+THREAD, TRAPS = 1, "traps"
 CAPABILITIES = {
     "supportsConfigurationDoneRequest": True, "supportsFunctionBreakpoints": True, "supportsStepBack": True,
     "supportsEvaluateForHovers": True, "supportsReadMemoryRequest": True, "supportsDisassembleRequest": True,
     "supportsInstructionBreakpoints": True, "supportsSteppingGranularity": True, "supportsRestartRequest": True,
-    "supportsTerminateRequest": True,
+    "supportsTerminateRequest": True, "supportsExceptionInfoRequest": True,
+    "exceptionBreakpointFilters": [{"filter": TRAPS, "label": "Traps", "default": True,
+                                    "description": "Stop before an instruction that traps"}],
 }
 
 
@@ -175,8 +177,20 @@ class Session:
             self.debugger.breakpoints.pop(old.number, None)
         self._owned[key] = []
 
-    def set_exception_breakpoints(self, request: Message, _given: Body) -> None:
-        self._writer.respond(request, {"breakpoints": []})
+    def set_exception_breakpoints(self, request: Message, given: Body) -> None:
+        filters = given.get("filters") or []
+        self.debugger.stops_at_traps = TRAPS in filters
+        self._writer.respond(request, {"breakpoints": [{"verified": found == TRAPS} for found in filters]})
+
+    def exception_info(self, request: Message, _given: Body) -> None:
+        """The trap that the task is stopped before."""
+        trap = self.debugger.timeline.trap
+        if trap is None:
+            raise NoSessionError("the next instruction does not trap, as far as is known")
+        self._writer.respond(request, {"exceptionId": trap, "description": self._trap_line(), "breakMode": "always"})
+
+    def _trap_line(self) -> str:
+        return f"trap {self.debugger.timeline.trap}: the next instruction ends the task"
 
     # Moving.
 
@@ -219,8 +233,9 @@ class Session:
             self._stopped("pause", "the task has ended")
         else:
             hit = self.debugger.hit()
-            told = {Why.INTERRUPTED: "pause", Why.BEGIN: "entry"}.get(why, "breakpoint" if hit else reason)
-            self._stopped(told, None)
+            told = {Why.INTERRUPTED: "pause", Why.BEGIN: "entry", Why.TRAP: "exception"}.get(
+                why, "breakpoint" if hit else reason)
+            self._stopped(told, self._trap_line() if why is Why.TRAP else None)
 
     def _new_output(self) -> None:
         for stream, new in self.debugger.timeline.new_output().items():
@@ -232,7 +247,7 @@ class Session:
         body: Body = {"reason": reason, "threadId": THREAD, "allThreadsStopped": True,
                       "hitBreakpointIds": [found.number for found in self.debugger.hit()]}
         if description is not None:
-            body["description"] = description
+            body["description"] = body["text"] = description
         self._writer.event("stopped", body)
 
     def _ended(self) -> None:
@@ -320,7 +335,8 @@ REQUESTS: dict[str, Callable[[Session, Message, Body], None]] = {
     "restart": Session.restart, "disconnect": Session.disconnect, "terminate": Session.terminate,
     "setBreakpoints": Session.set_breakpoints, "setFunctionBreakpoints": Session.set_function_breakpoints,
     "setInstructionBreakpoints": Session.set_instruction_breakpoints,
-    "setExceptionBreakpoints": Session.set_exception_breakpoints, "continue": Session.continue_, "next": Session.next,
+    "setExceptionBreakpoints": Session.set_exception_breakpoints, "exceptionInfo": Session.exception_info,
+    "continue": Session.continue_, "next": Session.next,
     "stepIn": Session.step_in, "stepOut": Session.step_out, "stepBack": Session.step_back,
     "reverseContinue": Session.reverse_continue, "pause": Session.pause, "threads": Session.threads,
     "stackTrace": Session.stack_trace, "scopes": Session.scopes, "variables": Session.variables,

@@ -16,15 +16,18 @@ class BadMessageError(FeulgamaError):
 
 
 def read_message(stream: IO[bytes]) -> Message | None:
-    """The next message; None at the end of the stream."""
-    length: int | None = None
+    """The next message; None at the end of the stream. Raises BadMessageError over what is none."""
+    length, is_begun = None, False
     while True:
         line = stream.readline()
-        if not line:
+        if not line and not is_begun:
             return None
         if line in (b"\r\n", b"\n"):
             break
-        name, _, value = line.partition(b":")
+        name, colon, value = line.partition(b":")
+        if not colon:
+            raise BadMessageError(f"no head of a message: {line[:60]!r}")
+        is_begun = True
         if name.strip().lower() == b"content-length" and value.strip().isdigit():
             length = int(value)
     if length is None:

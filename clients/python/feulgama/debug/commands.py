@@ -67,6 +67,8 @@ class Commands:
             return
         for found in self.debugger.hit():
             yield f"breakpoint {found.number}"
+        if self.timeline.trap is not None:
+            yield f"trap {self.timeline.trap}: the next instruction ends the task"
         yield from render.stop_lines(self.symbols, look.turn, look.place, look.depth)
 
     def _new_output(self) -> Lines:

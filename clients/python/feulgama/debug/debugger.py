@@ -1,6 +1,7 @@
 """A debugger without a face: it moves a run to where a user wants it, by instructions, lines, calls and breakpoints."""
 from __future__ import annotations
 
+from collections.abc import Callable
 from dataclasses import dataclass
 
 from feulgama.debug.c_variables import Found
@@ -10,7 +11,7 @@ from feulgama.debug.lines import SourceLine
 from feulgama.debug.look import Look, Place
 from feulgama.debug.symbols import Symbols
 from feulgama.debug.timeline import Timeline, Why
-from feulgama.model import Frame
+from feulgama.model import Cause, Frame
 
 
 @dataclass(frozen=True, slots=True)
@@ -22,11 +23,13 @@ class Breakpoint:
 
 
 class Debugger:
-    """A run of a module under a user's hand. Each method that moves it says why it stopped."""
+    """A run of a module under a user's hand. Each method that moves it says why it stopped. A move forward stops before
+    an instruction that traps, unless it began there or `stops_at_traps` is not set."""
 
     def __init__(self, timeline: Timeline, symbols: Symbols) -> None:
         self.timeline, self.symbols = timeline, symbols
         self.breakpoints: dict[int, Breakpoint] = {}
+        self.stops_at_traps = True
         self._numbers = 0
 
     # Breakpoints.
@@ -80,9 +83,20 @@ class Debugger:
 
     # Moving by instructions.
 
+    def _before_trap(self, move: Callable[[], Why]) -> Why:
+        """Moves; if the task has trapped on the way, goes back to where the instruction that trapped is next."""
+        begin, why = self.timeline.turn, move()
+        found, turn = self.timeline.exit, self.timeline.turn
+        if not self.stops_at_traps or found is None or found.cause is not Cause.TRAP or begin >= turn - 1:
+            return why
+        return Why.TRAP if self.timeline.seek(turn - 1) is Why.FOUND else Why.INTERRUPTED
+
+    def _forward(self, search: Search, limit: int | None = None) -> Why:
+        return self._before_trap(lambda: self.timeline.forward(search, limit))
+
     def go_on(self, limit: int | None = None) -> Why:
         """Runs to a breakpoint or the end, at most to this turn."""
-        return self.timeline.forward(at_any(self.places()), limit)
+        return self._forward(at_any(self.places()), limit)
 
     def go_back(self) -> Why:
         """Runs back to the last breakpoint, or to the first turn."""
@@ -96,7 +110,7 @@ class Debugger:
         """Makes turns, up to a breakpoint."""
         turn = self.timeline.turn + count
         if count == 1 or not self.breakpoints:
-            return self._to(turn)
+            return self._before_trap(lambda: self._to(turn))
         why = self.go_on(turn)
         return Why.FOUND if why is Why.LIMIT else why
 
@@ -133,11 +147,11 @@ class Debugger:
             return self.go_on()
         back, most = outer[0]
         search = Search(lambda look: look.place in own or look.place == back and look.depth <= most, own | {back})
-        return self.timeline.forward(search)
+        return self._forward(search)
 
     def until(self, places: list[Place]) -> Why:
         """Runs to one of these places, or to a breakpoint."""
-        return self.timeline.forward(at_any(self.places() | set(places)))
+        return self._forward(at_any(self.places() | set(places)))
 
     # Moving by lines.
 
@@ -155,7 +169,7 @@ class Debugger:
         from_, depth = (look.place.func, self.line()), look.depth
         while True:
             search = Search(lambda look: self._has_left(look, from_, depth), each_turn=True)
-            why = self.timeline.forward(search)
+            why = self._forward(search)
             look = self.timeline.look()
             if why is not Why.FOUND or self.hit():
                 return why

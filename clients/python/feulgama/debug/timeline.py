@@ -39,6 +39,7 @@ class Why(enum.Enum):
     BEGIN = "begin"
     LIMIT = "limit"
     INTERRUPTED = "interrupted"
+    TRAP = "trap"
 
 
 class Timeline:
@@ -74,6 +75,11 @@ class Timeline:
     def exit(self) -> Exit | None:
         """How the task ended, if it has ended at this turn."""
         return self._end[1] if self._end is not None and self._end[0] == self.turn else None
+
+    @property
+    def trap(self) -> str | None:
+        """The name of the trap that the next turn is, if that is known."""
+        return self._end[1].trap if self._end is not None and self._end[0] == self.turn + 1 else None
 
     # What is there at this turn.
 
