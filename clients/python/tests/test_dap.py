@@ -141,6 +141,26 @@ class Lines(WithEditor):
         self.assertIn("0x00000400: ", self.editor.evaluate("x/4xw 1024", "repl"))
         self.assertFalse(self.editor.ask("evaluate", expression="nothing", frameId=0)["success"])
 
+    def test_data_breakpoints(self) -> None:
+        """words.c counts words in `found`, whose first member changes with each word."""
+        self.stop_at(49)
+        scopes = self.editor.ask("scopes", frameId=0)["body"]["scopes"]
+        info = self.editor.ask("dataBreakpointInfo", variablesReference=scopes[0]["variablesReference"], name="found")
+        self.assertEqual(info["body"]["accessTypes"], ["write"])
+        self.assertIsNone(self.editor.ask("dataBreakpointInfo", name="nothing", frameId=0)["body"]["dataId"])
+        answer = self.editor.ask("setDataBreakpoints", breakpoints=[{"dataId": info["body"]["dataId"]}])
+        self.assertTrue(answer["body"]["breakpoints"][0]["verified"])
+        self.editor.ask("setBreakpoints", source=SOURCE, breakpoints=[])
+        self.assertEqual(self.editor.move("continue")[0], "data breakpoint")
+        self.assertEqual(self.editor.evaluate("found"), "{words = 1, longest = 0, sum = 0}")
+        self.assertEqual(self.editor.move("continue")[0], "data breakpoint")
+        self.assertEqual(self.editor.evaluate("found"), "{words = 1, longest = 0, sum = 3}")
+        self.assertEqual(self.editor.move("reverseContinue")[0], "data breakpoint")
+        self.assertEqual(self.editor.move("reverseContinue")[0], "data breakpoint")
+        self.assertEqual(self.editor.evaluate("found"), "{words = 0, longest = 0, sum = 0}")
+        self.assertFalse(self.editor.ask("setDataBreakpoints", breakpoints=[{"dataId": "0x0 99 all"}])
+                         ["body"]["breakpoints"][0]["verified"])
+
     def test_instructions(self) -> None:
         self.stop_at(49)
         here = self.editor.frames()[0]["instructionPointerReference"]

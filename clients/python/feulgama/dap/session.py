@@ -8,12 +8,14 @@ from pathlib import Path
 
 from feulgama.dap.views import Body, Views
 from feulgama.dap.wire import Message, Writer
-from feulgama.debug.commands import BadCommandError, Commands, Quit
+from feulgama.debug.c_types import CType
+from feulgama.debug.commands import BadCommandError, Commands, Quit, raw_type
 from feulgama.debug.debugger import Breakpoint, Debugger
 from feulgama.debug.expressions import NoValueError, evaluate
 from feulgama.debug.look import Place
 from feulgama.debug.symbols import NoPlaceError
 from feulgama.debug.timeline import Why
+from feulgama.debug.watched_module import NotWatchableError
 from feulgama.errors import FeulgamaError, ShimEndedError
 from feulgama.model import Stream, Value
 
@@ -22,7 +24,7 @@ CAPABILITIES = {
     "supportsConfigurationDoneRequest": True, "supportsFunctionBreakpoints": True, "supportsStepBack": True,
     "supportsEvaluateForHovers": True, "supportsReadMemoryRequest": True, "supportsDisassembleRequest": True,
     "supportsInstructionBreakpoints": True, "supportsSteppingGranularity": True, "supportsRestartRequest": True,
-    "supportsTerminateRequest": True, "supportsExceptionInfoRequest": True,
+    "supportsTerminateRequest": True, "supportsDataBreakpoints": True, "supportsExceptionInfoRequest": True,
     "exceptionBreakpointFilters": [{"filter": TRAPS, "label": "Traps", "default": True,
                                     "description": "Stop before an instruction that traps"}],
 }
@@ -42,6 +44,7 @@ class Session:
         self._commands: Commands | None = None
         self._launch: Body = {}
         self._owned: dict[str, list[Breakpoint]] = {}
+        self._kinds: dict[tuple[int, int], CType] = {}
         self._decoders = {stream: codecs.getincrementaldecoder("utf-8")("replace") for stream in Stream}
         self.is_over = False
 
@@ -155,6 +158,33 @@ class Session:
                  for found in given.get("breakpoints") or []]
         self._writer.respond(request, {"breakpoints": shown})
 
+    def data_breakpoint_info(self, request: Message, given: Body) -> None:
+        """What a variable is called as a data breakpoint, if it is in memory."""
+        found = self.views.in_memory(given.get("variablesReference"), str(given["name"]), given.get("frameId") or 0)
+        if found is None or found.address is None:
+            told = "there is no such variable" if found is None else "it is not in memory, where writes are looked for"
+            self._writer.respond(request, {"dataId": None, "description": f"{given['name']}: {told}"})
+            return
+        self._writer.respond(request, {"dataId": f"{found.address:#x} {found.kind.size} {found.name}", "canPersist": False,
+                                       "description": f"{found.name}, {found.kind.size} bytes at {found.address:#x}",
+                                       "accessTypes": ["write"]})
+        self._kinds[found.address, found.kind.size] = found.kind
+
+    def set_data_breakpoints(self, request: Message, given: Body) -> None:
+        """Replaces the data breakpoints: a run stops where the bytes change."""
+        self.debugger.watchpoints.clear()
+        self._writer.respond(request, {"breakpoints": [self._watched(str(found["dataId"]))
+                                                       for found in given.get("breakpoints") or []]})
+
+    def _watched(self, data: str) -> Body:
+        address, size, name = data.split(" ", 2)
+        key = int(address, 0), int(size)
+        try:
+            added = self.debugger.add_watchpoint(name, *key, self._kinds.get(key, raw_type(key[1])))
+        except NotWatchableError as error:
+            return {"verified": False, "message": str(error)}
+        return {"id": added.number, "verified": True}
+
     def _places_named(self, name: str) -> list[Place]:
         return self.debugger.symbols.places(name, is_stop=True)[0]
 
@@ -232,7 +262,10 @@ class Session:
             self._console(self._end_line())
             self._stopped("pause", "the task has ended")
         else:
-            hit = self.debugger.hit()
+            hit, changes = self.debugger.hit(), self.debugger.changes()
+            if changes and why is Why.FOUND:
+                self._console("".join(f"{line}\n" for line in self.commands.changed()))
+                reason = "data breakpoint"
             told = {Why.INTERRUPTED: "pause", Why.BEGIN: "entry", Why.TRAP: "exception"}.get(
                 why, "breakpoint" if hit else reason)
             self._stopped(told, self._trap_line() if why is Why.TRAP else None)
@@ -245,7 +278,8 @@ class Session:
 
     def _stopped(self, reason: str, description: str | None) -> None:
         body: Body = {"reason": reason, "threadId": THREAD, "allThreadsStopped": True,
-                      "hitBreakpointIds": [found.number for found in self.debugger.hit()]}
+                      "hitBreakpointIds": [*(found.number for found in self.debugger.hit()),
+                                           *(found.watchpoint.number for found in self.debugger.changes())]}
         if description is not None:
             body["description"] = body["text"] = description
         self._writer.event("stopped", body)
@@ -335,6 +369,7 @@ REQUESTS: dict[str, Callable[[Session, Message, Body], None]] = {
     "restart": Session.restart, "disconnect": Session.disconnect, "terminate": Session.terminate,
     "setBreakpoints": Session.set_breakpoints, "setFunctionBreakpoints": Session.set_function_breakpoints,
     "setInstructionBreakpoints": Session.set_instruction_breakpoints,
+    "dataBreakpointInfo": Session.data_breakpoint_info, "setDataBreakpoints": Session.set_data_breakpoints,
     "setExceptionBreakpoints": Session.set_exception_breakpoints, "exceptionInfo": Session.exception_info,
     "continue": Session.continue_, "next": Session.next,
     "stepIn": Session.step_in, "stepOut": Session.step_out, "stepBack": Session.step_back,

@@ -115,6 +115,11 @@ class Views:
         word = "local" if kind == LOCALS else "operand"
         return {"variables": [self._variable(frame, word, index, value) for index, value in enumerate(values)]}
 
+    def in_memory(self, reference: int | None, name: str, frame: int) -> Found | None:
+        """The variable of C with a name in a scope, or in a frame if no scope is told; None if there is none."""
+        number = frame if not reference else reference // KINDS
+        return self._debugger.scope(number).variable(name)
+
     def frame(self, number: int) -> Frame:
         """The frame with a number. Raises NoValueError if there is none."""
         frames = self._debugger.frames()

@@ -4,8 +4,9 @@ from __future__ import annotations
 from collections.abc import Callable, Iterable
 from dataclasses import dataclass
 
-from feulgama.debug import render
-from feulgama.debug.debugger import Breakpoint, Debugger
+from feulgama.debug import c_types, render
+from feulgama.debug.c_types import CType
+from feulgama.debug.debugger import Breakpoint, Debugger, Watchpoint
 from feulgama.debug.expressions import Scope, address, evaluate
 from feulgama.debug.look import Place
 from feulgama.debug.memory import dump, format_of
@@ -61,6 +62,7 @@ class Commands:
         if why in (Why.INTERRUPTED, Why.LIMIT, Why.BEGIN):
             yield {Why.INTERRUPTED: "interrupted", Why.LIMIT: "the turns asked for are made",
                    Why.BEGIN: "the begin of the run"}[why]
+        yield from self.changed()
         look = self.timeline.look()
         if look.place is None:
             yield f"ended after {self.timeline.turn} turns: {self.timeline.exit}"
@@ -70,6 +72,18 @@ class Commands:
         if self.timeline.trap is not None:
             yield f"trap {self.timeline.trap}: the next instruction ends the task"
         yield from render.stop_lines(self.symbols, look.turn, look.place, look.depth)
+
+    def changed(self) -> Lines:
+        """What the writes changed that the run has stopped at."""
+        for found in self.debugger.changes():
+            one, place = found.watchpoint, found.place
+            before, after = (one.kind.text(data, self.timeline.memory) for data in (found.before, found.after))
+            if self.timeline.turn == found.turn:
+                yield f"watchpoint {one.number}: {one.words} was {before}, is {after}"
+                if place is not None:
+                    yield f"  written by {self.symbols.told(place)}: {self.symbols.instruction(place).text}"
+            else:
+                yield f"watchpoint {one.number}: {one.words} is {before}; the next instruction makes it {after}"
 
     def _new_output(self) -> Lines:
         for stream, new in self.timeline.new_output().items():
@@ -153,14 +167,44 @@ class Commands:
         return [*([remark] if remark else []), self._breakpoint_line(added)]
 
     def delete(self, rest: str) -> Lines:
-        number = count_of(rest)
-        if rest and number not in self.debugger.breakpoints:
+        number, breakpoints, watchpoints = count_of(rest), self.debugger.breakpoints, self.debugger.watchpoints
+        if rest and number not in breakpoints and number not in watchpoints:
             raise BadCommandError(f"there is no breakpoint {number}")
-        if rest:
-            del self.debugger.breakpoints[number]
-        else:
-            self.debugger.breakpoints.clear()
+        for old in [number] if rest else [*breakpoints, *watchpoints]:
+            breakpoints.pop(old, None)
+            watchpoints.pop(old, None)
         return []
+
+    def watch(self, rest: str) -> Lines:
+        target = self._target(rest)
+        added = self.debugger.add_watchpoint(*target)
+        return [self._watchpoint_line(added)]
+
+    def last_write(self, rest: str) -> Lines:
+        words, address, size, kind = self._target(rest)
+        found = self.debugger.last_write(words, address, size, kind)
+        if found is None:
+            return [f"nothing has written {words} up to here; it is what the module's memory begins with"]
+        after = kind.text(found.after, self.timeline.memory)
+        same = "" if found.before != found.after else ", which it was before"
+        return [f"{words} was written last by the next instruction: it makes it {after}{same}", *self.stopped()]
+
+    def _target(self, rest: str) -> tuple[str, int, int, CType]:
+        """What is to be watched: a variable in memory, or an address with a number of bytes, which is 4 if none is told."""
+        if not rest:
+            raise BadCommandError("it takes the name of a variable, or an address and a number of bytes")
+        variable = self._scope().variable(rest)
+        if variable is not None and variable.address is None:
+            raise BadCommandError(f"{rest} is not in memory, where writes are looked for: it is {variable.text}")
+        if variable is not None and variable.address is not None:
+            return rest, variable.address, variable.kind.size, variable.kind
+        words, _, size = rest.rpartition(" ")
+        if not words or not size.isdigit():
+            words, size = rest, "4"
+        return rest, address(words, self._scope()), int(size), raw_type(int(size))
+
+    def _watchpoint_line(self, found: Watchpoint) -> str:
+        return f"watchpoint {found.number} at {found.address:#x}, {found.size} bytes: {found.words}"
 
     def _breakpoint_line(self, found: Breakpoint) -> str:
         return f"breakpoint {found.number} at {', '.join(map(self.symbols.told, found.places))}"
@@ -179,7 +223,9 @@ class Commands:
         return shows[found[0]]()
 
     def _info_breakpoints(self) -> Lines:
-        return list(map(self._breakpoint_line, self.debugger.breakpoints.values())) or ["no breakpoints"]
+        shown = [*map(self._breakpoint_line, self.debugger.breakpoints.values()),
+                 *map(self._watchpoint_line, self.debugger.watchpoints.values())]
+        return shown or ["no breakpoints"]
 
     def _info_variables(self) -> Lines:
         found = self.debugger.variables(self.selected)
@@ -272,6 +318,12 @@ class Commands:
         raise Quit
 
 
+def raw_type(size: int) -> CType:
+    """The type of some bytes of which nothing else is known: a number, or just bytes."""
+    name = f"{size} bytes"
+    return c_types.Number(name, size, is_signed=False) if size in (1, 2, 4, 8) else CType(name, size)
+
+
 def count_of(rest: str, least: int = 1) -> int:
     """A number of at least that; 1 if there are no words."""
     if not rest:
@@ -301,7 +353,9 @@ COMMANDS = [
     Command("reverse-continue", ("rc",), "", "runs back to a breakpoint or the first turn", Commands.reverse_continue),
     Command("goto", ("g",), "TURN", "goes to a turn, forward or back", Commands.goto),
     Command("break", ("b",), "[PLACE]", "sets a breakpoint: FUNC, FUNC:PLACE or FILE:LINE", Commands.break_),
-    Command("delete", ("d",), "[NUMBER]", "takes a breakpoint away, or all", Commands.delete),
+    Command("watch", ("wa",), "WHAT", "stops where a variable changes, or bytes: NAME, or ADDRESS [LENGTH]", Commands.watch),
+    Command("last-write", ("lw",), "WHAT", "goes back to what wrote it last, also the same value", Commands.last_write),
+    Command("delete", ("d",), "[NUMBER]", "takes a breakpoint or a watchpoint away, or all", Commands.delete),
     Command("info", ("i",), "WHAT", "breakpoints, locals, variables, globals, stack, memory, output, functions",
             Commands.info),
     Command("backtrace", ("bt", "where"), "[COUNT]", "the frames, the innermost first", Commands.backtrace),

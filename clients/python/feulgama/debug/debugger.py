@@ -4,14 +4,18 @@ from __future__ import annotations
 from collections.abc import Callable
 from dataclasses import dataclass
 
+from feulgama.debug.c_types import CType
 from feulgama.debug.c_variables import Found
 from feulgama.debug.expressions import Scope
 from feulgama.debug.hunt import Search, at_any
 from feulgama.debug.lines import SourceLine
 from feulgama.debug.look import Look, Place
 from feulgama.debug.symbols import Symbols
-from feulgama.debug.timeline import Timeline, Why
+from feulgama.debug.timeline import LAST_TURN, Timeline, Why
+from feulgama.debug.writes import InterruptedSearchError, Writes
 from feulgama.model import Cause, Frame
+
+FIRST_WINDOW = 1_000_000
 
 
 @dataclass(frozen=True, slots=True)
@@ -22,6 +26,28 @@ class Breakpoint:
     places: tuple[Place, ...]
 
 
+@dataclass(frozen=True, slots=True)
+class Watchpoint:
+    """Bytes of memory whose changes stop a run: its number, the words that asked for it, where they are, and the type
+    that they are shown by."""
+    number: int
+    words: str
+    address: int
+    size: int
+    kind: CType
+
+
+@dataclass(frozen=True, slots=True)
+class Change:
+    """A write: the watchpoint that it is of, its instruction, the bytes before and after it, and how many turns are
+    made after it."""
+    watchpoint: Watchpoint
+    place: Place | None
+    before: bytes
+    after: bytes
+    turn: int
+
+
 class Debugger:
     """A run of a module under a user's hand. Each method that moves it says why it stopped. A move forward stops before
     an instruction that traps, unless it began there or `stops_at_traps` is not set."""
@@ -29,7 +55,9 @@ class Debugger:
     def __init__(self, timeline: Timeline, symbols: Symbols) -> None:
         self.timeline, self.symbols = timeline, symbols
         self.breakpoints: dict[int, Breakpoint] = {}
+        self.watchpoints: dict[int, Watchpoint] = {}
         self.stops_at_traps = True
+        self._changes: list[Change] = []
         self._numbers = 0
 
     # Breakpoints.
@@ -49,6 +77,18 @@ class Debugger:
         """The breakpoints that the run is at."""
         place = self.timeline.look().place
         return [found for found in self.breakpoints.values() if place in found.places]
+
+    def add_watchpoint(self, words: str, address: int, size: int, kind: CType) -> Watchpoint:
+        """Sets a watchpoint. Raises NotWatchableError if the bytes cannot be watched."""
+        self.timeline.writes(address, size, True)
+        self._numbers += 1
+        found = Watchpoint(self._numbers, words, address, size, kind)
+        self.watchpoints[found.number] = found
+        return found
+
+    def changes(self) -> list[Change]:
+        """The writes that the last move stopped at, before or after them."""
+        return [found for found in self._changes if self.timeline.turn in (found.turn - 1, found.turn)]
 
     # Where it is.
 
@@ -95,16 +135,73 @@ class Debugger:
         return self._before_trap(lambda: self.timeline.forward(search, limit))
 
     def go_on(self, limit: int | None = None) -> Why:
-        """Runs to a breakpoint or the end, at most to this turn."""
+        """Runs to a breakpoint, after a write that is watched, or to the end, at most to this turn."""
+        self._changes, begin = [], self.timeline.turn
+        if self.watchpoints:
+            try:
+                return self._before_trap(lambda: self._watched(limit))
+            except InterruptedSearchError:
+                self.timeline.interrupted.clear()
+                self.timeline.seek(begin)
+                return Why.INTERRUPTED
         return self._forward(at_any(self.places()), limit)
 
+    def _watched(self, limit: int | None) -> Why:
+        """Goes on where there are watchpoints. The way to a breakpoint and that to a write are looked at in parts, each
+        twice as long as the one before, so that neither goes much further than the other."""
+        begin, window = self.timeline.turn, FIRST_WINDOW
+        if not self.breakpoints and limit is None:
+            found = self._nearest(lambda writes: writes.next(begin, self.timeline.interrupted), min)
+            return self.timeline.forward(at_any(frozenset())) if found is None else self._stop_after(found)
+        goal = LAST_TURN if limit is None else limit
+        while True:
+            why = self.timeline.forward(at_any(self.places()), min(begin + window, goal))
+            turn = self.timeline.turn
+            found = self._nearest(lambda writes: writes.next_up_to(begin, turn, self.timeline.interrupted), min)
+            if found is not None:
+                return self._stop_after(found)
+            if why is not Why.LIMIT or turn >= goal:
+                return why
+            window *= 2
+
+    def _nearest(self, turn_of: Callable[[Writes], int | None], best: Callable[[list[int]], int]) -> int | None:
+        """The best of the turns of a write that the watchpoints have; None if they have none."""
+        found = [turn_of(self.timeline.writes(one.address, one.size, True)) for one in self.watchpoints.values()]
+        turns = [turn for turn in found if turn is not None]
+        return best(turns) if turns else None
+
+    def _stop_after(self, turn: int) -> Why:
+        """Goes to where a write was made, and takes note of what it changed."""
+        self._changes = [found for one in self.watchpoints.values()
+                         if (found := self.change(one, turn)).before != found.after]
+        return self.timeline.seek(turn)
+
+    def change(self, watchpoint: Watchpoint, turn: int) -> Change:
+        """What a turn writes to watched bytes. The run is shown before the turn then."""
+        self.timeline.seek(turn)
+        after = self.timeline.memory(watchpoint.address, watchpoint.size)
+        self.timeline.seek(turn - 1)
+        before = self.timeline.memory(watchpoint.address, watchpoint.size)
+        return Change(watchpoint, self.timeline.look().place, before, after, turn)
+
     def go_back(self) -> Why:
-        """Runs back to the last breakpoint, or to the first turn."""
-        places = self.places()
+        """Runs back to the last breakpoint, before the last write that is watched, or to the first turn."""
+        self._changes, places, end = [], self.places(), self.timeline.turn
+        written = self._nearest(lambda writes: writes.last(end, self.timeline.interrupted), max)
+        why = self.timeline.backward(at_any(places)) if places else Why.BEGIN
+        if written is not None and why is not Why.INTERRUPTED and (why is Why.BEGIN or written - 1 >= self.timeline.turn):
+            self._stop_after(written)
+            return self.timeline.seek(written - 1)
         if not places:
             self.timeline.seek(0)
-            return Why.BEGIN
-        return self.timeline.backward(at_any(places))
+        return why
+
+    def last_write(self, words: str, address: int, size: int, kind: CType) -> Change | None:
+        """Goes back to before the last write to some bytes, also of the value that they had; None if none has written
+        them."""
+        self._changes = []
+        found = self.timeline.writes(address, size, False).last(self.timeline.turn, self.timeline.interrupted)
+        return None if found is None else self.change(Watchpoint(0, words, address, size, kind), found)
 
     def step(self, count: int = 1) -> Why:
         """Makes turns, up to a breakpoint."""

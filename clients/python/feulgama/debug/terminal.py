@@ -3,12 +3,14 @@ from __future__ import annotations
 
 import signal
 import sys
+import time
 from collections.abc import Callable, Iterator
 from pathlib import Path
 from types import FrameType
 from typing import TextIO
 
 from feulgama.debug.commands import COMMANDS, Commands, Quit
+from feulgama.debug.timeline import Timeline
 from feulgama.errors import FeulgamaError, NoShimError, ShimEndedError
 
 PROMPT = "(feulgama) "
@@ -74,6 +76,20 @@ def scripted(source: TextIO) -> Iterator[str]:
         yield line.rstrip("\n")
 
 
+class Progress:
+    """Says at a terminal that a search goes on, once it has taken two seconds, and every two seconds then."""
+
+    def __init__(self, timeline: Timeline) -> None:
+        self._begin = self._told = time.monotonic()
+        self._timeline = timeline
+
+    def __call__(self) -> None:
+        now = time.monotonic()
+        if now - self._told > 2:
+            self._told = now
+            print(f"looking for writes since {now - self._begin:.0f} seconds; Ctrl-C breaks it off", file=sys.stderr)
+
+
 def answer(commands: Commands, line: str) -> None:
     """Does what a line asks for and shows what comes of it; what goes wrong is shown too."""
     timeline = commands.timeline
@@ -82,6 +98,7 @@ def answer(commands: Commands, line: str) -> None:
         timeline.interrupted.set()
 
     timeline.interrupted.clear()
+    timeline.searching = Progress(timeline)
     before = signal.signal(signal.SIGINT, interrupt)
     try:
         for shown in commands.answer(line):

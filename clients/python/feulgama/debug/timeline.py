@@ -18,6 +18,9 @@ from feulgama.debug.running import Watch
 from feulgama.debug.shims import Shims
 from feulgama.debug.track import TooFarError, Track
 from feulgama.debug.trail import Trail, leave_trail
+from feulgama.debug.watched_module import MOST_WATCHED, NotWatchableError
+from feulgama.debug.watched_module import Watch as Watched
+from feulgama.debug.writes import Writes
 from feulgama.errors import FeulgamaError
 from feulgama.model import Exit, Inspection, Stream
 from feulgama.shim import Shim
@@ -45,7 +48,7 @@ class Why(enum.Enum):
 class Timeline:
     """A run of a module. `turn` is where it is shown. `interrupted` may be set by another thread or by a signal's
     handler; it breaks off what is going on, and the caller clears it. `progress` is called now and then on the way of
-    a long search."""
+    a long search, and `searching` on that of a search for writes, which moves nothing."""
 
     def __init__(self, shim: Shim, config: Config, module: Module) -> None:
         self._config, self._module = config, module
@@ -59,6 +62,8 @@ class Timeline:
         self.turn = self._track.turn
         self.interrupted = threading.Event()
         self.progress: Callable[[], None] = lambda: None
+        self.searching: Callable[[], None] = lambda: None
+        self._shim, self._writes = shim, dict[tuple[int, int, bool], Writes]()
         self._told, self._told_turn = dict.fromkeys(Stream, 0), 0
 
     @property
@@ -226,8 +231,29 @@ class Timeline:
             self.progress()
         return Why.LIMIT if track.turn == goal else Why.ENDED
 
+    def writes(self, address: int, size: int, changes: bool) -> Writes:
+        """The writes to some bytes in this run; only those that change one, if `changes` is set. Raises
+        NotWatchableError if they cannot be watched."""
+        key = address, size, changes
+        if key not in self._writes:
+            track = Track(self._shims, self._config)
+            there = min(size, size_of(track) - address)
+            if not 0 < size <= MOST_WATCHED or address < 0 or 0 < there < size or address + size > self.memory_size():
+                raise NotWatchableError(f"{size} bytes at {address:#x} cannot be watched: it takes 1 to {MOST_WATCHED}, which "
+                                        "are in memory together")
+            before = track.peek([(address, size)])[0] if there > 0 else bytes(size)
+            self._park(track, track)
+            if isinstance(before, FeulgamaError):
+                raise before
+            watch = Watched(address, size, changes, before)
+            self._writes[key] = Writes(self._shim, self._module, self._config, watch, lambda: self.searching())
+        return self._writes[key]
+
     def close(self) -> None:
         """Ends the shims that were started on the way."""
+        for writes in self._writes.values():
+            writes.close()
+        self._writes.clear()
         self._shims.close()
 
     def backward(self, search: Search) -> Why:
