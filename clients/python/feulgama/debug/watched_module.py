@@ -26,6 +26,10 @@ FIRST_STORE, LAST_STORE = 0x36, 0x3E
 WIDE_STORES = (0x37, 0x3C, 0x3D, 0x3E)
 MANY = 1024  # a power of two: after so many stops half as many writes are stopped at
 MOST_WATCHED = 64
+COUNTING = 4  # the instructions that count the turns of a store or a call
+# At the probe the turns of the store or the call are not counted yet, 8 at most, and whether it has written what is
+# watched is not known: so the turn before it is known, at least.
+AT_PROBE = 9
 TYPES, FUNCTIONS, GLOBALS, ELEMENTS, CODE = 1, 3, 6, 9, 10
 EXTRA, HITS, NEXT, STEP, STOPS, OLD = range(6)
 
@@ -54,13 +58,14 @@ class Watch:
 
 @dataclass(frozen=True, slots=True)
 class Watched:
-    """The module. `stop` is where it stops, and `probe` where each store comes by; at both the last operand is the number
-    of turns that were added, and `stop_less` and `probe_less` are to be added to the result."""
+    """The module. `stop` is where it stops, and `probe` where each store and each call comes by; at both the last operand
+    is the number of turns that were added. The turns of the original are the module's less that, and these more; at
+    the probe they are at least so many, and its writes up to there are known."""
     data: bytes
     stop: Place
     probe: Place
-    stop_less: int
-    probe_less: int
+    more_at_stop: int
+    more_at_probe: int
 
 
 def watched(module: Module, config: Config, watch: Watch, first: int, step: int) -> Watched:
@@ -99,8 +104,7 @@ class Maker:
         """The module."""
         bodies = [self._body(number) for number in range(len(self._module.functions))]
         hit, stop = self._hit_function()
-        account, less = self._account_function(0)
-        account, less = self._account_function(self._store_turns(account.count) - 1)
+        account = self._more(Code(), self._store_turns(COUNTING) - 1)
         helpers = sorted(self._helpers.values())
         added = [hit.body(), account.body(), *(body for _, _, body in helpers)]
         kinds = [self._types + 2, self._types + 2, *(kind for _, kind, _ in helpers)]
@@ -111,7 +115,7 @@ class Maker:
                                                            for number in self._initial(first, step)])
         found[CODE] = w.vector([*bodies, *added])
         data = HEAD + b"".join(bytes([number]) + w.sized(found[number]) for number in sorted(found))
-        return Watched(data, Place(self._hit, stop), Place(self._account, 1), 2, less)
+        return Watched(data, Place(self._hit, stop), Place(self._account, 1), 2, -AT_PROBE)
 
     def _initial(self, first: int, step: int) -> list[int]:
         """What the added globals have at the first turn."""
@@ -165,12 +169,6 @@ class Maker:
         """How many turns a store takes that has not written what is watched: its call, and all but the call of hit."""
         return 1 + 10 + account
 
-    def _account_function(self, more: int) -> tuple[Code, int]:
-        """Adds what a store takes more than before. Also, what is to be added at its second instruction for the turn before
-        the store: whether that one has written what is watched is not known there yet."""
-        code = self._more(Code(), more)
-        return code, -(1 + 4 + 1)
-
     def _more(self, code: Code, turns: int) -> Code:
         """Counts turns that were added."""
         extra = self._global(EXTRA)
@@ -181,13 +179,14 @@ class Maker:
         count = len(self._module.types[self._module.imports[index][2]].params)
 
         def code(more: int) -> Code:
-            found = Code().add(*map(w.get, range(count)), w.call(index), w.tee(count))
+            found = Code().add(*map(w.get, range(count)), w.call(index), w.tee(count), w.call(self._account))
             for number, (parameter, size) in enumerate(ranges):
                 found.add(*self._overlaps(parameter, 0, size), *([w.I32_OR] if number else []))
             self._more(found, more)
             return found.add(w.get(count), w.I32_EQZ, w.I32_AND, w.IF)
-        turns = code(0).count  # its call is made in the place of the one that was there
-        return code(turns).add(w.call(self._hit)).end().body(1)
+        # Its call is made in the place of the one that was there, and a part is counted as of a store.
+        more = code(0).count + COUNTING - (self._store_turns(COUNTING) - 1)
+        return code(more).add(w.call(self._hit)).end().body(1)
 
     def _hit_function(self) -> tuple[Code, int]:
         """Counts a write, and stops at those that are to be stopped at; and the place where it stops."""

@@ -23,7 +23,7 @@ from feulgama.wasm.module import Module
 
 FAR = 10**15
 DENSE = 4 * MANY
-LEAST_WAY = 2000
+LEAST_WAY, LONGEST_STORE = 2000, 256
 MOST_BYTES = 262_144
 
 
@@ -71,9 +71,9 @@ class Pass:
         operands = requests.inspect("").result(look.line).frames[0].operands
         self._extra = operands[-1].number
         if look.place == self._watched.probe:
-            self._known = look.turn - self._extra + self._watched.probe_less
+            self._known = look.turn - self._extra + self._watched.more_at_probe
             return
-        self._known = look.turn - self._extra + self._watched.stop_less
+        self._known = look.turn - self._extra + self._watched.more_at_stop
         if operands[-2].number != self._expected:
             raise NotWatchableError("the writes of the watched module were not counted as they should be")
         self._made += 1
@@ -112,8 +112,8 @@ class Pass:
 
     def _probe(self, begin: int, turn: int, interrupted: threading.Event, progress: Callable[[], None]) -> None:
         """Says how far the original is, at the next store. If there is none for as long as the way was, all turns of that
-        way are the original's own."""
-        end = max(2 * self._track.turn - begin, self._track.turn + LEAST_WAY)
+        way are the original's own, but for those of a store that has begun before."""
+        end = max(2 * self._track.turn - begin, self._track.turn + LEAST_WAY) + LONGEST_STORE
         places = frozenset({self._watched.stop, self._watched.probe})
         hunt = Hunt(at_any(places), interrupted, is_patient=True)
         while self._track.exit is None and self._track.turn < end:
