@@ -63,7 +63,16 @@ class Terminal(unittest.TestCase):
                  "local 0": "i32:1024 (0x400)", "local 0 + 1": "1025", "*1024": "i32:543516788 (0x20656874)"}
         for text, wanted in shown.items():
             self.assertEqual(self.answer(f"print {text}"), [wanted], text)
-        for text in ("", "1 +", "(1", "1 2", "local", "local x", "local 99", "operand 99", "nothing", "?", "*70000"):
+        more = {"7 / 2": "3", "-7 / 2": "-3", "-7 % 4": "-3", "1 << 4 | 1": "17", "6 & 3 ^ 1": "3", "2 < 3 && 3 <= 3": "1",
+                "1 == 2 || 0 != 0": "0", "!5": "0", "~0": "-1", "'a' + 1": "98", "10 - 2 - 3": "5", "2 + 3 == 5": "1",
+                "(char) 321": "char 65 'A'", "(u8) 300": "u8 44", "(short) 65535": "short -1",
+                "*(unsigned short *) 1024": "unsigned short 26740", "*(char *) 1024": "char 116 't'",
+                "((char *) 1024)[4]": "char 113 'q'",
+                "(char *) 1024 + 4": "char * 0x404 'quick brown fox jumps over the lazy dog'"}
+        for text, wanted in more.items():
+            self.assertEqual(self.answer(f"print {text}"), [wanted], text)
+        for text in ("1 / 0", "(struct none *) 4", "*(void *) 4", "1.x", "1[0]", "&1",
+                     "", "1 +", "(1", "1 2", "local", "local x", "local 99", "operand 99", "nothing", "?", "*70000"):
             self.assertTrue(self.fault(f"print {text}"), text)
 
     def test_memory(self) -> None:

@@ -141,6 +141,26 @@ class Lines(WithEditor):
         self.assertIn("0x00000400: ", self.editor.evaluate("x/4xw 1024", "repl"))
         self.assertFalse(self.editor.ask("evaluate", expression="nothing", frameId=0)["success"])
 
+    def test_what_is_in_a_variable(self) -> None:
+        self.stop_at(49)
+        scopes = self.editor.ask("scopes", frameId=0)["body"]["scopes"]
+        shown = {found["name"]: found for found in self.children(scopes[0]["variablesReference"])}
+        self.assertEqual(shown["length"]["variablesReference"], 0)
+        members = self.children(shown["found"]["variablesReference"])
+        self.assertEqual([(one["name"], one["value"], one["evaluateName"]) for one in members],
+                         [("words", "0", "found.words"), ("longest", "0", "found.longest"), ("sum", "0", "found.sum")])
+        self.assertEqual(self.editor.evaluate("found.sum + 1"), "1")
+        pointed = self.children(shown["at"]["variablesReference"])
+        self.assertEqual([(one["name"], one["value"], one["type"]) for one in pointed], [("*", "32 ' '", "char")])
+        info = self.editor.ask("dataBreakpointInfo", variablesReference=shown["found"]["variablesReference"], name="sum")
+        self.assertEqual(info["body"]["dataId"], "0x438 4 found.sum")
+        items = self.editor.ask("evaluate", expression="line", frameId=0)["body"]["variablesReference"]
+        self.assertEqual([one["name"] for one in self.children(items)], [f"[{index}]" for index in range(16)])
+
+    def children(self, reference: int) -> list[Body]:
+        found: list[Body] = self.editor.ask("variables", variablesReference=reference)["body"]["variables"]
+        return found
+
     def test_data_breakpoints(self) -> None:
         """words.c counts words in `found`, whose first member changes with each word."""
         self.stop_at(49)

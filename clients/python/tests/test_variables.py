@@ -192,3 +192,70 @@ class Demangled(unittest.TestCase):
                          [[3], [0], [2], [2], []])
         del names.functions[3]
         self.assertEqual(names.named("total"), [0, 1])
+
+
+TREES = """
+struct node { int value; struct node *next; unsigned char low : 3, high : 5; short items[2][3]; };
+union both { unsigned int number; unsigned char bytes[4]; };
+enum color { RED, GREEN = 5 };
+typedef struct node node;
+static node last = { 2, 0, 5, 17, { { 1, 2, 3 }, { -4, 5, -6 } } };
+static node first = { 1, &last, 2, 30, { { 7, 8, 9 }, { 10, 11, 12 } } };
+static union both both = { 0x44434241 };
+static const char *names[2] = { "one", "another" };
+static enum color color = GREEN;
+static _Bool truth = 1;
+__attribute__((noinline)) static int sum(node *at, int count) {
+    int total = 0;
+    for (; at; at = at->next) total += at->value + names[0][0] + both.bytes[count] + color + truth;
+    return total;
+}
+__attribute__((export_name("_start"))) void start(void) { last.value += sum(&first, 1); }
+"""
+
+
+@unittest.skipUnless(dwarf.IS_THERE, "needs python3-pyelftools")
+@unittest.skipIf(MISSING, f"needs {' '.join(MISSING)} of Debian's clang-14, lld-14 and llvm-14")
+class Trees(unittest.TestCase):
+    """Expressions over structures, unions, arrays and pointers of C: what C says of the program's initial values."""
+    dwarf = "-g"
+
+    def setUp(self) -> None:
+        folder = Path(self.enterContext(tempfile.TemporaryDirectory()))
+        module = built_c(folder, "trees", TREES, self.dwarf, "-O0")
+        shim = self.enterContext(feulgama.Shim(SHIM))
+        self.commands = Commands(open_debugger(shim, module, module.read_bytes(), [], {}, None))
+        list(self.commands.answer("break sum"))
+        list(self.commands.answer("continue"))
+
+    def test_values(self) -> None:
+        wanted = {
+            "at->value": "int 1", "at->next->value": "int 2", "(*at).next->items[1][2]": "short -6",
+            "first.low": "unsigned char 2 '\\x02'",
+            "first.high": "unsigned char 30 '\\x1e'", "last.low + last.high": "22", "at->items[0]": "short[3] [7, 8, 9]",
+            "*at->next": "struct node {value = 2, next = 0x0, low = 5 '\\x05', high = 17 '\\x11', "
+                         "items = [[1, 2, 3], [-4, 5, -6]]}",
+            "both.bytes[1]": "unsigned char 66 'B'", "both": "union both {number = 1145258561, bytes = 'ABCD'}",
+            "names[1][2]": "char 111 'o'", "color": "enum color GREEN", "color == 5": "1", "truth": "_Bool true",
+            "&at->next == &first.next": "1", "((node *) &last)->value": "int 2", "(struct node *) &last == at->next": "1",
+            "at + 1 > at": "1", "count": "int 1", "*(at->items[1] + 2)": "short 12", "at->none": None, "count.value": None}
+        for text, value in wanted.items():
+            with self.subTest(text):
+                if value is None:
+                    self.assertRaises(feulgama.FeulgamaError, lambda: list(self.commands.answer(f"print {text}")))
+                else:
+                    self.assertEqual(list(self.commands.answer(f"print {text}")), [value])
+        self.assertIn("'another'", list(self.commands.answer("print names[1]"))[0])
+
+    def test_a_member_is_watched(self) -> None:
+        list(self.commands.answer("watch at->next->value"))
+        list(self.commands.answer("delete 1"))
+        self.assertRegex(list(self.commands.answer("continue"))[0], r"at->next->value was 2, is \d+")
+
+
+class TreesOfDwarf5(Trees):
+    """The same with the newer form of descriptions and line tables."""
+    dwarf = "-gdwarf-5"
+
+    def test_lines(self) -> None:
+        self.assertEqual(list(self.commands.answer("info breakpoints")), ["breakpoint 1 at 1:14 <sum> trees.c:13"])

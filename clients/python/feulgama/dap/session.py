@@ -17,7 +17,7 @@ from feulgama.debug.symbols import NoPlaceError
 from feulgama.debug.timeline import Why
 from feulgama.debug.watched_module import NotWatchableError
 from feulgama.errors import FeulgamaError, ShimEndedError
-from feulgama.model import Stream, Value
+from feulgama.model import Stream
 
 THREAD, TRAPS = 1, "traps"
 CAPABILITIES = {
@@ -327,10 +327,6 @@ class Session:
         """The value of an expression; in the console also what a command of the terminal shows."""
         text = str(given["expression"]).strip()
         scope = self.debugger.scope(given.get("frameId") or 0)
-        variable = scope.variable(text)
-        if variable is not None:
-            self._writer.respond(request, {"result": variable.text, "type": variable.type, "variablesReference": 0})
-            return
         try:
             found = evaluate(text, scope)
         except NoValueError:
@@ -338,10 +334,7 @@ class Session:
                 raise
             self._command(request, text)
             return
-        body: Body = {"result": str(found), "variablesReference": 0}
-        if isinstance(found, Value):
-            body |= {"type": found.type.value, "memoryReference": hex(found.number % 2**32)}
-        self._writer.respond(request, body)
+        self._writer.respond(request, self.views.result(found))
 
     def _command(self, request: Message, text: str) -> None:
         turn = self.debugger.timeline.turn

@@ -3,12 +3,14 @@ from __future__ import annotations
 
 import base64
 import bisect
+from dataclasses import dataclass
 from pathlib import Path
 from typing import Any
 
-from feulgama.debug.c_variables import Found
+from feulgama.debug.c_types import Array, CType, Pointer, members_of
+from feulgama.debug.c_variables import LONGEST_VALUE, Found
 from feulgama.debug.debugger import Debugger
-from feulgama.debug.expressions import NoValueError, address
+from feulgama.debug.expressions import NoValueError, Operand, address, evaluate
 from feulgama.debug.look import Place
 from feulgama.model import Frame, Stream, Value
 from feulgama.wasm.module import Function
@@ -16,7 +18,17 @@ from feulgama.wasm.module import Function
 Body = dict[str, Any]
 FIRST_SOURCE = 1000
 VARIABLES, LOCALS, OPERANDS, MEMORY = 1, 2, 3, 4
-KINDS = 5
+KINDS, FIRST_OPENED = 5, 1 << 20
+MOST_ITEMS = 256
+
+
+@dataclass(frozen=True, slots=True)
+class Opened:
+    """A value that an editor may open: its type, its bytes, where it is, and the words that name it."""
+    kind: CType
+    data: bytes
+    address: int | None
+    name: str
 
 
 class Views:
@@ -27,6 +39,7 @@ class Views:
     def __init__(self, debugger: Debugger) -> None:
         self._debugger = debugger
         self._symbols, self._timeline = debugger.symbols, debugger.timeline
+        self._opened, self._opened_at = list[Opened](), -1
         module = self._symbols.module
         self._code = [(instruction.offset, Place(function.index, instruction.place))
                       for function in module.functions for instruction in function.instructions]
@@ -96,7 +109,10 @@ class Views:
                 "instructionPointerReference": hex(self._symbols.instruction(place).offset)}
 
     def scopes(self, number: int) -> Body:
-        """The scopes of a frame."""
+        """The scopes of a frame. What was opened at another turn is closed."""
+        if self._opened_at != self._timeline.turn:
+            self._opened.clear()
+            self._opened_at = self._timeline.turn
         names = [("Locals", LOCALS, "locals"), ("Operands", OPERANDS, "registers"), ("Task", MEMORY, "task")]
         if self._debugger.variables(number):
             names.insert(0, ("Variables", VARIABLES, "locals"))
@@ -104,7 +120,10 @@ class Views:
                             "presentationHint": hint} for name, kind, hint in names]}
 
     def variables(self, reference: int) -> Body:
-        """The variables of a scope."""
+        """The variables of a scope, or what is in a variable."""
+        if reference >= FIRST_OPENED:
+            opened = self._opened[reference - FIRST_OPENED:][:1]
+            return {"variables": self._children(opened[0]) if opened else []}
         number, kind = divmod(reference, KINDS)
         if kind == MEMORY:
             return {"variables": self._task_variables()}
@@ -116,9 +135,18 @@ class Views:
         return {"variables": [self._variable(frame, word, index, value) for index, value in enumerate(values)]}
 
     def in_memory(self, reference: int | None, name: str, frame: int) -> Found | None:
-        """The variable of C with a name in a scope, or in a frame if no scope is told; None if there is none."""
+        """The variable of C with a name in a scope, or what is in an opened one, or in a frame if none is told; None if
+        there is none."""
+        if reference and reference >= FIRST_OPENED:
+            child: Body = next((one for one in self.variables(reference)["variables"] if one["name"] == name), {})
+            reference, name = None, child.get("evaluateName", name)
         number = frame if not reference else reference // KINDS
-        return self._debugger.scope(number).variable(name)
+        try:
+            found = evaluate(name, self._debugger.scope(number))
+        except NoValueError:
+            return None
+        kind = found.kind
+        return None if kind is None else Found(name, kind.name, "", found.number, found.address, kind, found.data)
 
     def frame(self, number: int) -> Frame:
         """The frame with a number. Raises NoValueError if there is none."""
@@ -127,13 +155,52 @@ class Views:
             raise NoValueError(f"there is no frame {number}")
         return frames[number]
 
-    @staticmethod
-    def _c_variable(found: Found) -> Body:
-        shown: Body = {"name": found.name, "value": found.text, "type": found.type, "evaluateName": found.name,
-                       "variablesReference": 0}
-        if found.address is not None:
-            shown["memoryReference"] = hex(found.address)
+    def _c_variable(self, found: Found) -> Body:
+        return {"name": found.name, "value": found.text, "type": found.type, "evaluateName": found.name,
+                **self._inner(found.kind, found.data, found.address, found.name)}
+
+    def result(self, found: Operand) -> Body:
+        """What is shown of the value of an expression."""
+        if found.kind is not None:
+            return {"result": found.kind.text(found.data, self._timeline.memory), "type": found.kind.name,
+                    **self._inner(found.kind, found.data, found.address, "")}
+        shown: Body = {"result": str(found.number if found.value is None else found.value), "variablesReference": 0}
+        if found.value is not None:
+            shown |= {"type": found.value.type.value, "memoryReference": hex(found.value.number % 2**32)}
         return shown
+
+    def _inner(self, kind: CType, data: bytes | None, address: int | None, name: str) -> Body:
+        """What can be opened of a value: the members of a structure, the items of an array, what a pointer points at. The
+        references are good until the run moves."""
+        shown: Body = {"variablesReference": 0} if address is None else \
+            {"variablesReference": 0, "memoryReference": hex(address)}
+        if data is not None and (isinstance(kind, (Array, Pointer)) or members_of(kind, data)):
+            if isinstance(kind, Pointer) and (kind.to().size == 0 or not int.from_bytes(data, "little")):
+                return shown
+            self._opened.append(Opened(kind, data, address, name))
+            shown["variablesReference"] = FIRST_OPENED + len(self._opened) - 1
+        return shown
+
+    def _children(self, opened: Opened) -> list[Body]:
+        """What is in a value."""
+        kind, data, address, name = opened.kind, opened.data, opened.address, opened.name
+        if isinstance(kind, Pointer):
+            at, target = int.from_bytes(data, "little"), kind.to()
+            found = self._timeline.memory(at, min(target.size, LONGEST_VALUE))
+            return [self._child("*", target, found, at, f"*({name})")] if len(found) == target.size else []
+        if isinstance(kind, Array):
+            size, count = kind.item.size, min(kind.count, MOST_ITEMS)
+            return [self._child(f"[{index}]", kind.item, data[index * size:(index + 1) * size],
+                                None if address is None else address + index * size, f"{name}[{index}]")
+                    for index in range(count) if (index + 1) * size <= len(data)]
+        return [self._child(member.name, member.type, member.data(data),
+                            None if address is None or member.bits else address + member.offset, f"{name}.{member.name}")
+                for member in members_of(kind, data)]
+
+    def _child(self, name: str, kind: CType, data: bytes, address: int | None, words: str) -> Body:
+        shown: Body = {"name": name, "value": kind.text(data, self._timeline.memory), "type": kind.name,
+                       **self._inner(kind, data, address, words)}
+        return shown | ({"evaluateName": words} if words[:1] not in (".", "[") else {})
 
     def _variable(self, frame: Frame, word: str, index: int, value: Value) -> Body:
         name = self._symbols.names.local(frame.func, index) if word == "local" else None

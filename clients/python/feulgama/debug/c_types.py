@@ -175,6 +175,31 @@ class Variants(CType):
         return f"{chosen.name} {chosen.type.text(chosen.data(data), memory, depth + 1)}"
 
 
+NUMBERS = {"char": (1, True), "signed char": (1, True), "unsigned char": (1, False), "short": (2, True),
+           "unsigned short": (2, False), "int": (4, True), "unsigned int": (4, False), "unsigned": (4, False),
+           "long": (4, True), "unsigned long": (4, False), "long long": (8, True), "unsigned long long": (8, False),
+           **{f"{letter}{bits}": (bits // 8, letter == "i") for letter in "iu" for bits in (8, 16, 32, 64)}}
+
+
+def built_in(name: str) -> CType | None:
+    """The number type of a name that needs no description; None if it is none."""
+    if name not in NUMBERS:
+        return CType(name, 0) if name == "void" else None
+    size, is_signed = NUMBERS[name]
+    return Number(name, size, is_signed, is_character=name.endswith("char"))
+
+
+def members_of(kind: CType | None, data: bytes) -> tuple[Member, ...]:
+    """The members of a structure; of an `enum` of Rust those of the variant that is there."""
+    if isinstance(kind, Structure):
+        return kind.members
+    chosen = kind.chosen(data) if isinstance(kind, Variants) else None
+    if chosen is None or not isinstance(chosen.type, Structure):
+        return ()
+    return tuple(Member(one.name, one.offset + chosen.offset, one.type, one.bits, one.first_bit + 8 * chosen.offset)
+                 for one in chosen.type.members)
+
+
 def quoted(data: bytes, encoding: str = "latin-1") -> str:
     """Bytes as a text in quotation marks."""
     return ascii(data.decode(encoding, "replace"))

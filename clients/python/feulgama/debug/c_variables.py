@@ -15,6 +15,7 @@ VARIABLES = ("DW_TAG_variable", "DW_TAG_formal_parameter")
 OUTER = ("DW_TAG_namespace", "DW_TAG_module", "DW_TAG_structure_type", "DW_TAG_union_type", "DW_TAG_class_type",
          "DW_TAG_enumeration_type")
 LONGEST_VALUE = 4096
+WORDS = {"struct": "structure", "enum": "enumeration"}
 LEFT_OUT = b"\3\xff\xff\xff\xff"
 Range = tuple[int, int]
 
@@ -49,6 +50,7 @@ class Unit:
         self.ranges = ranges_of(die, dwarf)
         self._functions: list[Function] | None = None
         self._globals: list[tuple[str, Any]] = []
+        self._named_types: list[Any] = []
 
     def functions(self) -> list[Function]:
         """Its functions that are in the code."""
@@ -62,8 +64,16 @@ class Unit:
         self.functions()
         return self._globals
 
+    def types(self) -> list[Any]:
+        """Its types that have names."""
+        self.functions()
+        return self._named_types
+
     def _read(self, die: Any, outer: str) -> None:
         for child in die.iter_children():
+            if child.tag.endswith(("_type", "_typedef")) and "DW_AT_name" in child.attributes:
+                if "DW_AT_declaration" not in child.attributes:
+                    self._named_types.append(child)
             if child.tag in OUTER and child.has_children:
                 self._read(child, f"{outer}{name_of(child)}::")
             elif child.tag == "DW_TAG_subprogram" and (ranges := ranges_of(child, self._dwarf)):
@@ -99,6 +109,15 @@ class Variables:
                         context = Context(frame, memory, address_of(function.die.cu, self._dwarf), base)
                         yield from self._inside(function.die, offset, context)
                         return
+
+    def type_named(self, name: str) -> CType | None:
+        """The type with a name, or with a word as `struct` before it."""
+        word, _, rest = name.rpartition(" ")
+        for unit in self._units:
+            for die in unit.types():
+                if name_of(die) == rest and (not word or die.tag.startswith(f"DW_TAG_{WORDS.get(word, word)}")):
+                    return self._types.described(die)
+        return None
 
     def _inside(self, die: Any, offset: int, context: Context) -> Iterator[Found]:
         scopes = []

@@ -7,12 +7,12 @@ from dataclasses import dataclass
 from feulgama.debug import c_types, render
 from feulgama.debug.c_types import CType
 from feulgama.debug.debugger import Breakpoint, Debugger, Watchpoint
-from feulgama.debug.expressions import Scope, address, evaluate
+from feulgama.debug.expressions import NoValueError, Operand, Scope, address, evaluate
 from feulgama.debug.look import Place
 from feulgama.debug.memory import dump, format_of
 from feulgama.debug.timeline import Why
 from feulgama.errors import FeulgamaError
-from feulgama.model import Frame, Stream, Value
+from feulgama.model import Frame, Stream
 
 Lines = Iterable[str]
 ENDED = "the task has ended, and has no frames and no locals; reverse-step goes to its last instruction"
@@ -193,15 +193,18 @@ class Commands:
         """What is to be watched: a variable in memory, or an address with a number of bytes, which is 4 if none is told."""
         if not rest:
             raise BadCommandError("it takes the name of a variable, or an address and a number of bytes")
-        variable = self._scope().variable(rest)
-        if variable is not None and variable.address is None:
-            raise BadCommandError(f"{rest} is not in memory, where writes are looked for: it is {variable.text}")
-        if variable is not None and variable.address is not None:
-            return rest, variable.address, variable.kind.size, variable.kind
-        words, _, size = rest.rpartition(" ")
-        if not words or not size.isdigit():
-            words, size = rest, "4"
-        return rest, address(words, self._scope()), int(size), raw_type(int(size))
+        try:
+            found = evaluate(rest, self._scope())
+        except NoValueError:
+            words, _, size = rest.rpartition(" ")
+            if not words or not size.isdigit():
+                raise
+            return rest, address(words, self._scope()), int(size), raw_type(int(size))
+        if found.address is not None and found.kind is not None:
+            return rest, found.address, found.kind.size, found.kind
+        if found.kind is not None and not isinstance(found.kind, c_types.Pointer):
+            raise BadCommandError(f"{rest} is not in memory, where writes are looked for: it is {self._shown(found)}")
+        return rest, address(rest, self._scope()), 4, raw_type(4)
 
     def _watchpoint_line(self, found: Watchpoint) -> str:
         return f"watchpoint {found.number} at {found.address:#x}, {found.size} bytes: {found.words}"
@@ -302,11 +305,16 @@ class Commands:
         variable = self._scope().variable(rest)
         if variable is not None:
             return [f"{variable.type} {variable.text}"]
-        found = evaluate(rest, self._scope())
-        if not isinstance(found, Value):
-            return [str(found)]
-        bits = 32 if found.type == "i32" else 64
-        return [f"{found} ({found.number % 2**bits:#x})"]
+        return [self._shown(evaluate(rest, self._scope()))]
+
+    def _shown(self, found: Operand) -> str:
+        """A value as a line."""
+        if found.kind is not None:
+            return f"{found.kind.name} {found.kind.text(found.data, self.timeline.memory)}"
+        if found.value is not None:
+            bits = 32 if found.value.type == "i32" else 64
+            return f"{found.value} ({found.value.number % 2**bits:#x})"
+        return str(found.number)
 
     def help(self, rest: str) -> Lines:
         shown = [named(rest)] if rest else COMMANDS

@@ -119,7 +119,7 @@ class Debugger:
         """What an expression may name in the frame with a number; without a frame only the turn and memory."""
         frames = self.frames()
         return Scope(frames[number] if number < len(frames) else None, self.symbols.names, self.timeline.turn,
-                     self.timeline.memory, lambda: self.variables(number), self.globals)
+                     self.timeline.memory, lambda: self.variables(number), self.globals, self.symbols.type_named)
 
     # Moving by instructions.
 

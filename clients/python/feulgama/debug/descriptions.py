@@ -86,8 +86,12 @@ class Types:
                 yield self._member(member)
 
     def _member(self, die: Any) -> Member:
-        offset, bits = number_at(die, "DW_AT_data_member_location"), number_at(die, "DW_AT_bit_size")
-        return Member(name_of(die), offset, self.of(die), bits, number_at(die, "DW_AT_data_bit_offset") or 8 * offset)
+        offset, bits, kind = number_at(die, "DW_AT_data_member_location"), number_at(die, "DW_AT_bit_size"), self.of(die)
+        first = number_at(die, "DW_AT_data_bit_offset")
+        if "DW_AT_bit_offset" in die.attributes:  # of DWARF 3: counted from the greatest bit of what it is stored in
+            size = number_at(die, "DW_AT_byte_size") or kind.size
+            first = 8 * (offset + size) - number_at(die, "DW_AT_bit_offset") - bits
+        return Member(name_of(die), offset, kind, bits, first)
 
     def _variants(self, part: Any, name: str, size: int) -> CType:
         tag = part.get_DIE_from_attribute("DW_AT_discr") if "DW_AT_discr" in part.attributes else None

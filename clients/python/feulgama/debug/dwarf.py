@@ -14,7 +14,7 @@ from feulgama.wasm.module import Module
 
 try:
     from elftools.common.exceptions import DWARFError, ELFParseError
-    from elftools.construct import ConstructError
+    from elftools.construct import ConstructError, StaticField
     from elftools.dwarf.dwarfinfo import DebugSectionDescriptor, DwarfConfig, DWARFInfo
 except ImportError:
     IS_THERE = False
@@ -69,7 +69,10 @@ def dwarf_of(module: Module) -> Any:
         if f"debug_{name}_sec" in names:
             given[f"debug_{name}_sec"] = section(module, f".debug_{name}")
     config = DwarfConfig(little_endian=True, machine_arch="wasm", default_address_size=4)
-    return DWARFInfo(config=config, **given)
+    found = DWARFInfo(config=config, **given)
+    for unit in found.iter_CUs():  # the digest of a source in a line table of DWARF 5, which pyelftools 0.29 does not read
+        unit.structs.Dwarf_dw_form.setdefault("DW_FORM_data16", StaticField("", 16))
+    return found
 
 
 def section(module: Module, name: str) -> Any:

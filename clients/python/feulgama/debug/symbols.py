@@ -5,6 +5,8 @@ import re
 from collections.abc import Callable
 from pathlib import Path
 
+from feulgama.debug import c_types
+from feulgama.debug.c_types import CType
 from feulgama.debug.c_variables import Found
 from feulgama.debug.demangle import demangled
 from feulgama.debug.dwarf import FAULTS, lines_of, variables_of, why_no_lines
@@ -67,6 +69,16 @@ class Symbols:
             return self._variables.found(frame, self.instruction(place).offset, memory)
         except FAULTS:
             return []
+
+    def type_named(self, name: str) -> CType | None:
+        """The type with a name, as `unsigned int`, `u8` or `struct counts`; None if there is none."""
+        found = c_types.built_in(name)
+        if found is not None or self._variables is None:
+            return found
+        try:
+            return self._variables.type_named(name)
+        except FAULTS:
+            return None
 
     def why_no_variables(self) -> str:
         """Why there are no variables of C."""
