@@ -36,6 +36,7 @@ def parser() -> argparse.ArgumentParser:
     terminal.add_argument("--env", metavar="NAME=VALUE", type=variable, action="append", default=[],
                           help="a variable of the task's environment")
     terminal.add_argument("--memory", metavar="BYTES", type=int, help="the most memory that the task may have")
+    terminal.add_argument("--commands", metavar="FILE", type=Path, help="a file of commands that are done first")
     terminal.add_argument("module", metavar="MODULE", type=Path, help="a module, as bytes or as text")
     terminal.add_argument("args", metavar="ARG", nargs=argparse.REMAINDER, help="the task's arguments")
     commands.add_parser("dap", help="speaks the Debug Adapter Protocol on standard input and output")
@@ -53,6 +54,11 @@ def show_versions(shim_file: str | None) -> int:
     return 0
 
 
+def first_lines(file: Path | None) -> list[str]:
+    """The lines of a file of commands."""
+    return [] if file is None else file.read_text().splitlines()
+
+
 def main(words: Sequence[str] | None = None) -> int:
     """Does what the command line asks for; its status."""
     top = parser()
@@ -68,7 +74,7 @@ def main(words: Sequence[str] | None = None) -> int:
         with Shim(found.shim, workers=1) as shim:
             opened = open_debugger(shim, found.module, data, found.args, dict(found.env), found.memory)
             with contextlib.closing(opened.timeline):
-                return debug(Commands(opened), sys.stdin)
+                return debug(Commands(opened), sys.stdin, first_lines(found.commands))
     except (FeulgamaError, OSError) as error:
         print(f"feulgama: {error}", file=sys.stderr)
         return 1

@@ -40,6 +40,9 @@ class SecondReading:
     def __init__(self, file: Path) -> None:
         self.entries: dict[int, Entry] = {}
         self.units: list[Entry] = []
+        lines = subprocess.run([DUMP, "--debug-line", file], check=True, capture_output=True, text=True).stdout
+        self.prologue_ends = sorted(int(line.split()[0], 16) for line in lines.splitlines()
+                                    if line.startswith("0x") and "prologue_end" in line)
         self._read(subprocess.run([DUMP, "--debug-info", file], check=True, capture_output=True, text=True).stdout)
 
     def _read(self, text: str) -> None:
@@ -67,6 +70,10 @@ class SecondReading:
         if function is None:
             return {}
         base = function.attributes.get("DW_AT_frame_base", ")")[:-1]
+        begin = min([int(found, 16) for found in re.findall(r"\[?0x([0-9a-f]+)", function.attributes.get(
+            "DW_AT_low_pc", function.attributes.get("DW_AT_ranges", "").partition("[")[2]))] or [0])
+        if at < next((row for row in self.prologue_ends if row >= begin), 0):
+            base = ""  # it is not set up yet
         return self._inside(function, frame, at, memory, base)
 
     def _inside(self, entry: Entry, frame: Frame, at: int, memory: Memory, base: str) -> dict[str, bytes | None]:

@@ -1,7 +1,9 @@
 """The words of the terminal: commands, places, expressions and formats."""
 from __future__ import annotations
 
+import tempfile
 import unittest
+from pathlib import Path
 
 import feulgama
 from feulgama.debug import dwarf
@@ -32,7 +34,7 @@ class Terminal(unittest.TestCase):
         names = [word for command in COMMANDS for word in (command.name, *command.short)]
         self.assertEqual(len(names), len(set(names)))
         self.assertEqual(self.answer("backt"), self.answer("bt"))
-        self.assertEqual(self.fault("re"), "re is no command; is it reverse-step or reverse-line or reverse-continue?")
+        self.assertEqual(self.fault("re"), "re is no command; is it reverse-step or reverse-stepi or reverse-continue?")
         self.assertEqual(self.fault("dance"), "dance is no command; see help")
         self.assertEqual(len(self.answer("help")), len(COMMANDS))
         with self.assertRaises(Quit):
@@ -74,6 +76,74 @@ class Terminal(unittest.TestCase):
         for text in ("1 / 0", "(struct none *) 4", "*(void *) 4", "1.x", "1[0]", "&1",
                      "", "1 +", "(1", "1 2", "local", "local x", "local 99", "operand 99", "nothing", "?", "*70000"):
             self.assertTrue(self.fault(f"print {text}"), text)
+
+    @unittest.skipUnless(dwarf.IS_THERE, "needs python3-pyelftools")
+    def test_conditions(self) -> None:
+        """The text's words have 3 5 5 3 5 4 3 4 3 letters: `end_word` is called with these, in this order."""
+        self.answer("break end_word if length == 3")
+        lengths = []
+        while "ended" not in self.answer("continue")[-1]:
+            lengths.append(self.answer("print length"))
+        self.assertEqual(lengths, [["unsigned int 3"]] * 4)
+        self.assertIn("if length == 3, hit 4 times", self.answer("info breakpoints")[0])
+        self.answer("condition 1 length > 4")
+        for _ in range(3):
+            self.answer("reverse-continue")
+            self.assertEqual(self.answer("print length"), ["unsigned int 5"])
+        self.assertEqual(self.answer("reverse-continue")[0], "the begin of the run")
+        self.assertEqual(self.fault("condition 9 1"), "there is no breakpoint 9")
+        self.answer("condition 1 nothing > 4")
+        self.assertIn("breakpoint 1: nothing > 4: there is nothing named nothing in this frame", self.answer("continue"))
+
+    @unittest.skipUnless(dwarf.IS_THERE, "needs python3-pyelftools")
+    def test_counts_logs_and_what_stops_once(self) -> None:
+        self.answer("tbreak end_word")
+        self.answer("continue")
+        self.assertEqual(self.answer("info breakpoints"), ["no breakpoints"])
+        self.answer("goto 0")
+        self.answer("break end_word")
+        self.assertIn("stops after 6 more", self.answer("ignore 2 6")[0])
+        self.answer("continue")
+        self.assertEqual((self.answer("print length"), self.answer("print found.words")),
+                         (["unsigned int 3"], ["unsigned int 6"]))
+        self.answer("delete")
+        self.answer("goto 0")
+        self.answer("log end_word a word of {length}, {found.words} before it; {nothing}")
+        told = [line for line in self.answer("continue") if line.startswith("a word")]
+        self.assertEqual([line.partition(";")[0] for line in told],
+                         [f"a word of {length}, {count} before it" for count, length in enumerate("355354343")])
+        self.assertIn("(there is nothing named nothing in this frame)", told[0])
+
+    @unittest.skipUnless(dwarf.IS_THERE, "needs python3-pyelftools")
+    def test_habits(self) -> None:
+        """Lines, arguments, values at each stop, what a function returned, and breakpoints in a file."""
+        self.answer("break decimal if number == 3")
+        self.answer("display number * 2")
+        self.assertEqual(self.answer("continue")[-1], "1: number * 2 = 6")
+        self.assertIn("<decimal> (number=3, to=", self.answer("bt 1")[0])
+        self.assertIn("    unsigned int number = 3", self.answer("bt full 1"))
+        self.assertEqual(self.answer("undisplay"), [])
+        self.assertEqual(self.answer("finish")[-1], "returned unsigned int 1")
+        self.answer("goto 0")
+        self.assertIn("words.c:57", self.answer("next")[0])
+        self.assertIn("words.c:44", self.answer("step")[0])
+        turn = int(self.answer("print turn")[0])
+        self.assertIn(f"turn {turn + 4} ", self.answer("stepi 4")[0])
+        self.assertIn(f"turn {turn + 3} ", self.answer("reverse-stepi")[0])
+        self.assertIn(f"words.c is {CLIENT}/examples/words.c", self.answer("info source")[0])
+        file = Path(self.enterContext(tempfile.TemporaryDirectory())) / "saved"
+        self.answer("watch found.sum")
+        self.answer(f"save breakpoints {file}")
+        self.assertEqual(file.read_text(), "break decimal if number == 3\nwatch found.sum\n")
+        self.assertEqual(len(self.answer("help finish")), 1)
+
+    @unittest.skipUnless(dwarf.IS_THERE, "needs python3-pyelftools")
+    def test_parameters_before_they_are_there(self) -> None:
+        """At the first instruction of a function that is not optimized nothing wrong is shown."""
+        self.answer("break end_word:0")
+        self.answer("continue")
+        self.assertEqual(self.answer("info variables")[0],
+                         "unsigned int length = (its function has not set up its frame yet)")
 
     def test_memory(self) -> None:
         self.assertEqual(self.answer("x/4xw 1024"), ["0x00000400: 0x20656874 0x63697571 0x7262206b 0x206e776f"])

@@ -114,7 +114,7 @@ class Lines(WithEditor):
         self.assertEqual(self.editor.move("stepBack"), ("step", 50))
         self.assertEqual(self.editor.move("stepBack"), ("breakpoint", 49))
         self.assertEqual(self.editor.evaluate("turn"), turn)
-        self.assertEqual(self.editor.move("stepIn"), ("step", 34))
+        self.assertEqual(self.editor.move("stepIn"), ("step", 35))
         self.assertEqual(self.editor.move("stepOut")[0], "step")
         self.assertEqual(self.editor.move("stepBack", granularity="instruction")[0], "step")
         self.assertEqual(self.editor.move("continue"), ("breakpoint", 49))
@@ -160,6 +160,24 @@ class Lines(WithEditor):
     def children(self, reference: int) -> list[Body]:
         found: list[Body] = self.editor.ask("variables", variablesReference=reference)["body"]["variables"]
         return found
+
+    def test_conditions_counts_and_logs(self) -> None:
+        """`end_word` is called from line 49 with 3 5 5 3 5 4 3 4, and from line 53 with 3 letters."""
+        self.launch()
+        answer = self.editor.ask("setBreakpoints", source=SOURCE, breakpoints=[
+            {"line": 49, "condition": "length == 5"}, {"line": 53, "logMessage": "the last has {length}"},
+            {"line": 49, "hitCondition": "odd"}])["body"]["breakpoints"]
+        self.assertEqual([found["verified"] for found in answer], [True, True, False])
+        self.editor.ask("configurationDone")
+        self.editor.event("stopped")
+        self.assertEqual((self.editor.evaluate("length"), self.editor.evaluate("found.words")), ("5", "1"))
+        self.editor.ask("setBreakpoints", source=SOURCE, breakpoints=[
+            {"line": 49, "hitCondition": ">= 6"}, {"line": 53, "logMessage": "the last has {length}"}])
+        self.assertEqual(self.editor.move("continue"), ("breakpoint", 49))
+        self.assertEqual(self.editor.evaluate("found.words"), "7")
+        self.editor.ask("continue", threadId=1)
+        told = [self.editor.event("output")["body"] for _ in range(2)]
+        self.assertIn({"category": "console", "output": "the last has 3\n"}, told)
 
     def test_data_breakpoints(self) -> None:
         """words.c counts words in `found`, whose first member changes with each word."""

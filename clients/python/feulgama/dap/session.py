@@ -2,6 +2,7 @@
 from __future__ import annotations
 
 import codecs
+import re
 from collections.abc import Callable
 from functools import partial
 from pathlib import Path
@@ -24,6 +25,7 @@ CAPABILITIES = {
     "supportsConfigurationDoneRequest": True, "supportsFunctionBreakpoints": True, "supportsStepBack": True,
     "supportsEvaluateForHovers": True, "supportsReadMemoryRequest": True, "supportsDisassembleRequest": True,
     "supportsInstructionBreakpoints": True, "supportsSteppingGranularity": True, "supportsRestartRequest": True,
+    "supportsConditionalBreakpoints": True, "supportsHitConditionalBreakpoints": True, "supportsLogPoints": True,
     "supportsTerminateRequest": True, "supportsDataBreakpoints": True, "supportsExceptionInfoRequest": True,
     "exceptionBreakpointFilters": [{"filter": TRAPS, "label": "Traps", "default": True,
                                     "description": "Stop before an instruction that traps"}],
@@ -135,26 +137,40 @@ class Session:
         source = given.get("source") or {}
         key = f"{source.get('sourceReference') or ''} {source.get('path', source.get('name', ''))}"
         self._replace(key)
-        shown = [self._at_line(key, source, found["line"]) for found in given.get("breakpoints") or []]
+        shown = [self._at_line(key, source, found) for found in given.get("breakpoints") or []]
         self._writer.respond(request, {"breakpoints": shown})
 
-    def _at_line(self, key: str, source: Body, line: int) -> Body:
+    def _at_line(self, key: str, source: Body, found: Body) -> Body:
+        line = found["line"]
         places, told = self.views.places_in(source, line)
         if not places:
             return {"verified": False, "line": line, "message": f"line {line} has no instruction"}
-        added = self.debugger.add_breakpoint(f"{key}:{line}", places)
-        self._owned[key].append(added)
+        try:
+            added = self._added(key, f"{key}:{line}", places, found)
+        except BadCommandError as error:
+            return {"verified": False, "line": line, "message": str(error)}
         return {"id": added.number, "verified": True, "line": told, "source": source}
+
+    def _added(self, key: str, words: str, places: list[Place], found: Body) -> Breakpoint:
+        """A breakpoint with the conditions and the text that an editor gives it."""
+        count = re.fullmatch(r"(?:>=)?\s*(\d*)", str(found.get("hitCondition") or "").strip())
+        if count is None:
+            raise BadCommandError("a hit condition is a number: the run stops from that hit on")
+        added = self.debugger.add_breakpoint(words, places)
+        added.condition, added.ignore = str(found.get("condition") or ""), max(0, int(count[1] or 1) - 1)
+        added.log = found.get("logMessage") or None
+        self._owned[key].append(added)
+        return added
 
     def set_function_breakpoints(self, request: Message, given: Body) -> None:
         self._replace("functions")
-        shown = [self._named("functions", partial(self._places_named, found["name"]))
+        shown = [self._named("functions", partial(self._places_named, found["name"]), found)
                  for found in given.get("breakpoints") or []]
         self._writer.respond(request, {"breakpoints": shown})
 
     def set_instruction_breakpoints(self, request: Message, given: Body) -> None:
         self._replace("instructions")
-        shown = [self._named("instructions", partial(self._places_at, found))
+        shown = [self._named("instructions", partial(self._places_at, found), found)
                  for found in given.get("breakpoints") or []]
         self._writer.respond(request, {"breakpoints": shown})
 
@@ -191,13 +207,12 @@ class Session:
     def _places_at(self, found: Body) -> list[Place]:
         return [self.views.place_at(found["instructionReference"], found.get("offset", 0))]
 
-    def _named(self, key: str, places_of: Callable[[], list[Place]]) -> Body:
+    def _named(self, key: str, places_of: Callable[[], list[Place]], found: Body) -> Body:
         try:
             places = places_of()
-        except (NoPlaceError, NoValueError) as error:
+            added = self._added(key, key, places, found)
+        except (NoPlaceError, NoValueError, BadCommandError) as error:
             return {"verified": False, "message": str(error)}
-        added = self.debugger.add_breakpoint(key, places)
-        self._owned[key].append(added)
         source, line = self.views.source_of(places[0])
         return {"id": added.number, "verified": True, "source": source, "line": line}
 
@@ -236,6 +251,7 @@ class Session:
 
     def step_out(self, request: Message, given: Body) -> None:
         self._step(request, given, self.debugger.finish, self.debugger.finish)
+        self._console("".join(f"returned {found}\n" for found in self.debugger.returned))
 
     def step_back(self, request: Message, given: Body) -> None:
         self._step(request, given, self.debugger.step_back, self.debugger.step_line_back)
@@ -256,6 +272,7 @@ class Session:
     def _moved(self, reason: str, why: Why) -> None:
         """Tells what came of a move: what the task wrote, and where it stopped or how it ended."""
         self._new_output()
+        self._console("".join(f"{line}\n" for line in self.debugger.told()))
         if self.debugger.timeline.exit is not None and not self._launch.get("stopAtEnd"):
             self._ended()
         elif self.debugger.timeline.exit is not None:
@@ -294,6 +311,8 @@ class Session:
         return f"ended after {self.debugger.timeline.turn} turns: {self.debugger.timeline.exit}\n"
 
     def _console(self, text: str) -> None:
+        if not text:
+            return
         self._writer.event("output", {"category": "console", "output": text})
 
     # Looking.

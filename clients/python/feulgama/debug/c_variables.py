@@ -14,7 +14,7 @@ SCOPES = ("DW_TAG_lexical_block", "DW_TAG_inlined_subroutine", "DW_TAG_try_block
 VARIABLES = ("DW_TAG_variable", "DW_TAG_formal_parameter")
 OUTER = ("DW_TAG_namespace", "DW_TAG_module", "DW_TAG_structure_type", "DW_TAG_union_type", "DW_TAG_class_type",
          "DW_TAG_enumeration_type")
-LONGEST_VALUE = 4096
+LONGEST_VALUE, SLACK = 4096, 4
 WORDS = {"struct": "structure", "enum": "enumeration"}
 LEFT_OUT = b"\3\xff\xff\xff\xff"
 Range = tuple[int, int]
@@ -91,24 +91,32 @@ class Variables:
         self._dwarf, self._types = dwarf, Types()
         self._units = [Unit(unit.get_top_DIE(), dwarf) for unit in dwarf.iter_CUs()]
 
-    def found(self, frame: Frame, offset: int, memory: Memory) -> list[Found]:
+    def found(self, frame: Frame, offset: int, memory: Memory, is_early: bool = False) -> list[Found]:
         """The variables of a frame at an offset of the code, the parameters first, and then those of all functions of
-        the same unit; of two with one name the inner one."""
+        the same unit; of two with one name the inner one. `is_early` says that the offset is in a prologue."""
         units = [unit for unit in self._units if within(unit.ranges, offset)]
         by_name = {found.name: found for found in self.globals(memory, units)}
-        by_name |= {found.name: found for found in self.of_frame(frame, offset, memory)}
+        by_name |= {found.name: found for found in self.of_frame(frame, offset, memory, is_early)}
         return sorted(by_name.values(), key=lambda found: (found.is_global, not found.is_parameter, found.name))
 
-    def of_frame(self, frame: Frame, offset: int, memory: Memory) -> Iterator[Found]:
+    def of_frame(self, frame: Frame, offset: int, memory: Memory, is_early: bool) -> Iterator[Found]:
         """The variables of a frame, those of outer scopes first."""
         for unit in self._units:
             if within(unit.ranges, offset):
                 for function in unit.functions():
                     if within(function.ranges, offset):
                         base = expression_at(function.die, "DW_AT_frame_base", offset, self._dwarf)
-                        context = Context(frame, memory, address_of(function.die.cu, self._dwarf), base)
+                        context = Context(frame, memory, address_of(function.die.cu, self._dwarf), base, is_early)
                         yield from self._inside(function.die, offset, context)
                         return
+
+    def type_of_function(self, offset: int) -> CType | None:
+        """The type of what the function that begins at an offset of the code, or soon after it, returns."""
+        for unit in self._units:
+            for function in unit.functions() if within(unit.ranges, offset) or within(unit.ranges, offset + SLACK) else ():
+                if within(function.ranges, offset) or within(function.ranges, offset + SLACK):
+                    return self._types.of(function.die)
+        return None
 
     def type_named(self, name: str) -> CType | None:
         """The type with a name, or with a word as `struct` before it."""

@@ -3,6 +3,7 @@ from __future__ import annotations
 
 from collections.abc import Callable, Iterable
 from dataclasses import dataclass
+from pathlib import Path
 
 from feulgama.debug import c_types, render
 from feulgama.debug.c_types import CType
@@ -44,6 +45,7 @@ class Commands:
         self.timeline, self.symbols = debugger.timeline, debugger.symbols
         self.selected = 0
         self._listed: Place | None = None
+        self.displayed: dict[int, str] = {}
 
     def answer(self, line: str) -> Lines:
         """The lines that a line of the user's is answered. Raises what goes wrong as a FeulgamaError, and Quit."""
@@ -59,6 +61,7 @@ class Commands:
         """Where the run is now, after what it wrote on the way."""
         self.selected, self._listed = 0, None
         yield from self._new_output()
+        yield from self.debugger.told()
         if why in (Why.INTERRUPTED, Why.LIMIT, Why.BEGIN):
             yield {Why.INTERRUPTED: "interrupted", Why.LIMIT: "the turns asked for are made",
                    Why.BEGIN: "the begin of the run"}[why]
@@ -72,6 +75,14 @@ class Commands:
         if self.timeline.trap is not None:
             yield f"trap {self.timeline.trap}: the next instruction ends the task"
         yield from render.stop_lines(self.symbols, look.turn, look.place, look.depth)
+        for number, words in self.displayed.items():
+            yield f"{number}: {words} = {self._displayed(words)}"
+
+    def _displayed(self, words: str) -> str:
+        try:
+            return self._shown(evaluate(words, self._scope()))
+        except FeulgamaError as error:
+            return f"({error})"
 
     def changed(self) -> Lines:
         """What the writes changed that the run has stopped at."""
@@ -111,16 +122,18 @@ class Commands:
         limit = self.timeline.turn + count_of(rest) if rest else None
         return self.stopped(self.debugger.go_on(limit))
 
-    def step(self, rest: str) -> Lines:
+    def stepi(self, rest: str) -> Lines:
         return self.stopped(self.debugger.step(count_of(rest)))
 
-    def next(self, rest: str) -> Lines:
+    def nexti(self, rest: str) -> Lines:
         return self._repeated(self.debugger.next, rest)
 
-    def step_line(self, rest: str) -> Lines:
+    def step(self, rest: str) -> Lines:
+        if self.symbols.lines is None:
+            return self.stepi(rest)
         return self._repeated(lambda: self.debugger.step_line(False), rest)
 
-    def next_line(self, rest: str) -> Lines:
+    def next(self, rest: str) -> Lines:
         return self._repeated(lambda: self.debugger.step_line(True), rest)
 
     def _repeated(self, move: Callable[[], Why], rest: str) -> Lines:
@@ -134,7 +147,8 @@ class Commands:
     def finish(self, rest: str) -> Lines:
         taking_nothing(rest)
         self._frame()
-        return self.stopped(self.debugger.finish(self.selected))
+        lines = list(self.stopped(self.debugger.finish(self.selected)))
+        return [*lines, *(f"returned {found}" for found in self.debugger.returned)]
 
     def until(self, rest: str) -> Lines:
         if not rest:
@@ -142,10 +156,12 @@ class Commands:
         places, remark = self.symbols.places(rest, is_stop=True)
         return [*([remark] if remark else []), *self.stopped(self.debugger.until(places))]
 
-    def reverse_step(self, rest: str) -> Lines:
+    def reverse_stepi(self, rest: str) -> Lines:
         return self.stopped(self.debugger.step_back(count_of(rest)))
 
-    def reverse_line(self, rest: str) -> Lines:
+    def reverse_step(self, rest: str) -> Lines:
+        if self.symbols.lines is None or self.timeline.exit is not None:
+            return self.reverse_stepi(rest)
         return self._repeated(self.debugger.step_line_back, rest)
 
     def reverse_continue(self, rest: str) -> Lines:
@@ -159,12 +175,73 @@ class Commands:
     # Breakpoints.
 
     def break_(self, rest: str) -> Lines:
+        return self._added(rest)[1]
+
+    def tbreak(self, rest: str) -> Lines:
+        added, lines = self._added(rest)
+        added.is_temporary = True
+        return lines
+
+    def log(self, rest: str) -> Lines:
+        words, _, text = rest.partition(" ")
+        if not text:
+            raise BadCommandError("log takes a place and a text, in which {EXPRESSION} is its value")
+        added, lines = self._added(words)
+        added.log = text.strip()
+        return [*lines[:-1], self._breakpoint_line(added)]
+
+    def _added(self, rest: str) -> tuple[Breakpoint, list[str]]:
+        """A breakpoint at `[PLACE] [if CONDITION]`, and the lines that tell it."""
+        words, is_conditional, condition = (f" {rest} ").partition(" if ")
+        words = words.strip()
+        places, remark = self.symbols.places(words, is_stop=True) if words else ([self._place()], "")
+        added = self.debugger.add_breakpoint(words or str(places[0]), places)
+        added.condition = condition.strip() if is_conditional else ""
+        return added, [*([remark] if remark else []), self._breakpoint_line(added)]
+
+    def condition(self, rest: str) -> Lines:
+        number, _, condition = rest.partition(" ")
+        found = self._breakpoint(number)
+        found.condition = condition.strip()
+        return [self._breakpoint_line(found)]
+
+    def ignore(self, rest: str) -> Lines:
+        number, _, count = rest.partition(" ")
+        found = self._breakpoint(number)
+        found.ignore = found.hits + count_of(count, least=0)
+        return [self._breakpoint_line(found)]
+
+    def _breakpoint(self, word: str) -> Breakpoint:
+        found = self.debugger.breakpoints.get(int(word)) if word.isdigit() else None
+        if found is None:
+            raise BadCommandError(f"there is no breakpoint {word}".rstrip())
+        return found
+
+    def save(self, rest: str) -> Lines:
+        word, _, file = rest.partition(" ")
+        if not word or not "breakpoints".startswith(word) or not file.strip():
+            raise BadCommandError("save takes `breakpoints` and a file")
+        lines = [saved(found) for found in self.debugger.breakpoints.values()]
+        lines += [f"watch {found.words}" for found in self.debugger.watchpoints.values()]
+        try:
+            Path(file.strip()).write_text("".join(f"{line}\n" for line in lines))
+        except OSError as error:
+            raise BadCommandError(f"{file.strip()}: {error.strerror}") from error
+        return [f"{len(lines)} breakpoints are in {file.strip()}; feulgama debug --commands {file.strip()} sets them"]
+
+    def display(self, rest: str) -> Lines:
         if rest:
-            places, remark = self.symbols.places(rest, is_stop=True)
-        else:
-            places, remark = [self._place()], ""
-        added = self.debugger.add_breakpoint(rest or str(places[0]), places)
-        return [*([remark] if remark else []), self._breakpoint_line(added)]
+            self.displayed[max(self.displayed, default=0) + 1] = rest
+        return [f"{number}: {words} = {self._displayed(words)}" for number, words in self.displayed.items()
+                if not rest or words == rest]
+
+    def undisplay(self, rest: str) -> Lines:
+        number = count_of(rest)
+        if rest and number not in self.displayed:
+            raise BadCommandError(f"nothing is displayed under {number}")
+        for old in [number] if rest else list(self.displayed):
+            del self.displayed[old]
+        return []
 
     def delete(self, rest: str) -> Lines:
         number, breakpoints, watchpoints = count_of(rest), self.debugger.breakpoints, self.debugger.watchpoints
@@ -210,7 +287,11 @@ class Commands:
         return f"watchpoint {found.number} at {found.address:#x}, {found.size} bytes: {found.words}"
 
     def _breakpoint_line(self, found: Breakpoint) -> str:
-        return f"breakpoint {found.number} at {', '.join(map(self.symbols.told, found.places))}"
+        more = [f"if {found.condition}"] if found.condition else []
+        more += [f"logs {found.log}"] if found.log is not None else []
+        more += [f"hit {found.hits} time{'s' if found.hits != 1 else ''}"] if found.hits else []
+        more += [f"stops after {found.ignore - found.hits} more"] if found.ignore > found.hits else []
+        return ", ".join([f"breakpoint {found.number} at {', '.join(map(self.symbols.told, found.places))}", *more])
 
     # Looking.
 
@@ -219,7 +300,8 @@ class Commands:
             "breakpoints": self._info_breakpoints, "globals": self._info_globals,
             "locals": lambda: render.local_lines(self.symbols, self._frame()), "variables": self._info_variables,
             "stack": lambda: render.operand_lines(self._frame()),
-            "memory": self._info_memory, "output": self._info_output, "functions": self._info_functions}
+            "source": self._info_source, "memory": self._info_memory, "output": self._info_output,
+            "functions": self._info_functions}
         found = [name for name in shows if rest and name.startswith(rest)]
         if len(found) != 1:
             raise BadCommandError(f"info takes one of {', '.join(shows)}")
@@ -252,6 +334,14 @@ class Commands:
             yield f"{stream.name.lower()}: {len(written)} bytes"
             yield from (f"    {line}" for line in written.decode(errors="replace").splitlines())
 
+    def _info_source(self) -> Lines:
+        source = self.symbols.line_at(self._place())
+        if source is None:
+            return [why for why in [self.symbols.why_no_lines()] if why] or ["this instruction has no line"]
+        path = self.symbols.sources.path(source.file)
+        where = f"is {path.resolve()}" if path is not None else "is not there"
+        return [f"{source}; {source.file} {where}"]
+
     def _info_functions(self) -> Lines:
         imports = self.symbols.module.imports
         yield from (f"{index} {module}.{name}" for index, (module, name, _) in enumerate(imports))
@@ -260,12 +350,25 @@ class Commands:
                   f"{len(function.instructions)} instructions"
 
     def backtrace(self, rest: str) -> Lines:
+        first, _, count = rest.partition(" ")
+        is_full = first != "" and "full".startswith(first)
         frames = self.debugger.frames()
-        shown = frames[:count_of(rest)] if rest else frames
-        return [self._frame_line(number, frame) for number, frame in enumerate(shown)] or ["no frames"]
+        words = count.strip() if is_full else rest
+        shown = frames[:count_of(words)] if words else frames
+        for number, frame in enumerate(shown):
+            yield self._frame_line(number, frame, is_full)
+            if is_full:
+                yield from (f"    {one.type} {one.name} = {one.text}" for one in self.debugger.variables(number)
+                            if not one.is_global)
+        if not shown:
+            yield "no frames"
 
-    def _frame_line(self, number: int, frame: Frame) -> str:
-        return render.frame_line(self.symbols, number, frame, self.debugger.place_of(frame, number == 0))
+    def _frame_line(self, number: int, frame: Frame, is_full: bool = False) -> str:
+        place = self.debugger.place_of(frame, number == 0)
+        if is_full or not self.symbols.has_variables():
+            return render.frame_line(self.symbols, number, frame, place)
+        arguments = [f"{one.name}={one.text}" for one in self.debugger.variables(number) if one.is_parameter]
+        return render.call_line(self.symbols, number, frame, place, arguments)
 
     def frame(self, rest: str) -> Lines:
         number = count_of(rest, least=0) if rest else self.selected
@@ -320,7 +423,7 @@ class Commands:
         shown = [named(rest)] if rest else COMMANDS
         for command in shown:
             forms = ", ".join([command.name, *command.short])
-            yield f"{forms + ' ' + command.words:<34} {command.help}"
+            yield f"{forms + ' ' + command.words:<46} {command.help}"
 
     def quit(self, _rest: str) -> Lines:
         raise Quit
@@ -347,26 +450,44 @@ def taking_nothing(rest: str) -> None:
         raise BadCommandError(f"{rest} is one word too many")
 
 
+def saved(found: Breakpoint) -> str:
+    """The command that sets a breakpoint."""
+    if found.log is not None:
+        return f"log {found.words} {found.log}"
+    condition = f" if {found.condition}" if found.condition else ""
+    return f"{'tbreak' if found.is_temporary else 'break'} {found.words}{condition}"
+
+
 COMMANDS = [
     Command("run", ("r",), "[TURNS]", "runs from the first turn to a breakpoint or the end", Commands.run),
     Command("continue", ("c",), "[TURNS]", "runs on to a breakpoint or the end", Commands.continue_),
-    Command("step", ("s", "si"), "[TURNS]", "makes turns, up to a breakpoint", Commands.step),
-    Command("next", ("n", "ni"), "[COUNT]", "makes a turn, and runs over a call", Commands.next),
-    Command("step-line", ("sl",), "[COUNT]", "runs to another line of the source", Commands.step_line),
-    Command("next-line", ("nl",), "[COUNT]", "the same, over calls", Commands.next_line),
+    Command("step", ("s", "step-line", "sl"), "[COUNT]", "runs to another line; without lines it makes turns", Commands.step),
+    Command("next", ("n", "next-line", "nl"), "[COUNT]", "the same, over calls", Commands.next),
+    Command("stepi", ("si",), "[TURNS]", "makes turns, up to a breakpoint", Commands.stepi),
+    Command("nexti", ("ni",), "[COUNT]", "makes a turn, and runs over a call", Commands.nexti),
     Command("finish", ("fin",), "", "runs to where the frame has returned", Commands.finish),
-    Command("until", ("u",), "PLACE", "runs to a place", Commands.until),
-    Command("reverse-step", ("rs", "rsi"), "[TURNS]", "takes turns back", Commands.reverse_step),
-    Command("reverse-line", ("rl",), "[COUNT]", "goes back to the line before", Commands.reverse_line),
+    Command("until", ("u", "advance"), "PLACE", "runs to a place", Commands.until),
+    Command("reverse-step", ("rs", "reverse-line", "rl"), "[COUNT]", "goes back to the line before; without lines by turns",
+            Commands.reverse_step),
+    Command("reverse-stepi", ("rsi",), "[TURNS]", "takes turns back", Commands.reverse_stepi),
     Command("reverse-continue", ("rc",), "", "runs back to a breakpoint or the first turn", Commands.reverse_continue),
     Command("goto", ("g",), "TURN", "goes to a turn, forward or back", Commands.goto),
-    Command("break", ("b",), "[PLACE]", "sets a breakpoint: FUNC, FUNC:PLACE or FILE:LINE", Commands.break_),
+    Command("break", ("b",), "[PLACE] [if EXPRESSION]", "sets a breakpoint: FUNC, FUNC:PLACE or FILE:LINE",
+            Commands.break_),
+    Command("tbreak", ("tb",), "[PLACE] [if EXPRESSION]", "sets one that stops once", Commands.tbreak),
+    Command("log", ("dprintf",), "PLACE TEXT", "tells a text there, with {EXPRESSION} as its value", Commands.log),
+    Command("condition", ("cond",), "NUMBER [EXPRESSION]", "gives a breakpoint a condition, or takes it away",
+            Commands.condition),
+    Command("ignore", (), "NUMBER COUNT", "lets a breakpoint pass so many times", Commands.ignore),
+    Command("save", (), "breakpoints FILE", "writes the commands that set all breakpoints", Commands.save),
+    Command("display", (), "[EXPRESSION]", "shows a value at each stop", Commands.display),
+    Command("undisplay", (), "[NUMBER]", "ends that, or all of it", Commands.undisplay),
     Command("watch", ("wa",), "WHAT", "stops where a variable changes, or bytes: NAME, or ADDRESS [LENGTH]", Commands.watch),
     Command("last-write", ("lw",), "WHAT", "goes back to what wrote it last, also the same value", Commands.last_write),
     Command("delete", ("d",), "[NUMBER]", "takes a breakpoint or a watchpoint away, or all", Commands.delete),
-    Command("info", ("i",), "WHAT", "breakpoints, locals, variables, globals, stack, memory, output, functions",
+    Command("info", ("i",), "WHAT", "breakpoints, locals, variables, globals, stack, source, memory, output, functions",
             Commands.info),
-    Command("backtrace", ("bt", "where"), "[COUNT]", "the frames, the innermost first", Commands.backtrace),
+    Command("backtrace", ("bt", "where"), "[full] [COUNT]", "the frames, the innermost first", Commands.backtrace),
     Command("frame", ("f",), "[NUMBER]", "looks at a frame", Commands.frame),
     Command("x", (), "[/FORMAT] ADDRESS", "memory: x/4xw 1024, x/s local 0", Commands.examine),
     Command("list", ("l",), "[PLACE]", "the source, or the instructions, around a place", Commands.list_),

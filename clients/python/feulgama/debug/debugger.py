@@ -1,12 +1,13 @@
 """A debugger without a face: it moves a run to where a user wants it, by instructions, lines, calls and breakpoints."""
 from __future__ import annotations
 
+import re
 from collections.abc import Callable
 from dataclasses import dataclass
 
 from feulgama.debug.c_types import CType
 from feulgama.debug.c_variables import Found
-from feulgama.debug.expressions import Scope
+from feulgama.debug.expressions import NoValueError, Scope, evaluate
 from feulgama.debug.hunt import Search, at_any
 from feulgama.debug.lines import SourceLine
 from feulgama.debug.look import Look, Place
@@ -16,14 +17,26 @@ from feulgama.debug.writes import InterruptedSearchError, Writes
 from feulgama.model import Cause, Frame
 
 FIRST_WINDOW = 1_000_000
+BRACES = re.compile(r"\{([^{}]*)\}")
 
 
-@dataclass(frozen=True, slots=True)
+@dataclass(slots=True)
 class Breakpoint:
-    """A breakpoint of the user's: its number, the words that asked for it, and its places."""
+    """A breakpoint of the user's: its number, the words that asked for it, and its places. It stops a run if `condition`
+    is not 0, or there is none, and that for more than `ignore` times; `hits` counts them. With a text `log` it never
+    stops: the text is told, with the values of expressions in braces. One that `is_temporary` stops once."""
     number: int
     words: str
     places: tuple[Place, ...]
+    condition: str = ""
+    ignore: int = 0
+    log: str | None = None
+    is_temporary: bool = False
+    hits: int = 0
+
+    def is_plain(self) -> bool:
+        """Whether it stops each time, and nothing else comes of it."""
+        return not self.condition and self.log is None
 
 
 @dataclass(frozen=True, slots=True)
@@ -58,6 +71,8 @@ class Debugger:
         self.watchpoints: dict[int, Watchpoint] = {}
         self.stops_at_traps = True
         self._changes: list[Change] = []
+        self._told: list[str] = []
+        self.returned: list[str] = []
         self._numbers = 0
 
     # Breakpoints.
@@ -69,14 +84,57 @@ class Debugger:
         self.breakpoints[found.number] = found
         return found
 
+    def told(self) -> list[str]:
+        """What breakpoints have told since this was asked last."""
+        found, self._told = self._told, []
+        return found
+
+    def _holds(self, found: Breakpoint) -> bool:
+        """Whether the condition of a breakpoint holds here; also if it has no value, which is told."""
+        if not found.condition:
+            return True
+        try:
+            return evaluate(found.condition, self.scope(0)).whole() != 0
+        except NoValueError as error:
+            self._told.append(f"breakpoint {found.number}: {found.condition}: {error}")
+            return True
+
+    def _stops(self) -> bool:
+        """Whether a breakpoint at this turn stops the run. Its hits are counted, and what it logs is told."""
+        stops = False
+        for found in self.at_place():
+            if not self._holds(found):
+                continue
+            found.hits += 1
+            if found.hits <= found.ignore:
+                continue
+            if found.log is not None:
+                self._told.append(BRACES.sub(self._value_in_log, found.log))
+                continue
+            stops = True
+            if found.is_temporary:
+                self.breakpoints.pop(found.number)
+        return stops
+
+    def _value_in_log(self, match: re.Match[str]) -> str:
+        try:
+            found = evaluate(match[1], self.scope(0))
+        except NoValueError as error:
+            return f"({error})"
+        return str(found.number) if found.kind is None else found.kind.text(found.data, self.timeline.memory)
+
     def places(self) -> frozenset[Place]:
         """The places of all breakpoints."""
         return frozenset(place for found in self.breakpoints.values() for place in found.places)
 
-    def hit(self) -> list[Breakpoint]:
-        """The breakpoints that the run is at."""
+    def at_place(self) -> list[Breakpoint]:
+        """The breakpoints at this place, whether or not they stop a run."""
         place = self.timeline.look().place
         return [found for found in self.breakpoints.values() if place in found.places]
+
+    def hit(self) -> list[Breakpoint]:
+        """The breakpoints that stop a run here."""
+        return [found for found in self.at_place() if found.log is None and self._holds(found)]
 
     def add_watchpoint(self, words: str, address: int, size: int, kind: CType) -> Watchpoint:
         """Sets a watchpoint. Raises NotWatchableError if the bytes cannot be watched."""
@@ -131,8 +189,19 @@ class Debugger:
             return why
         return Why.TRAP if self.timeline.seek(turn - 1) is Why.FOUND else Why.INTERRUPTED
 
-    def _forward(self, search: Search, limit: int | None = None) -> Why:
-        return self._before_trap(lambda: self.timeline.forward(search, limit))
+    def _forward(self, search: Search, limit: int | None = None, is_goal: Callable[[Look], bool] | None = None) -> Why:
+        """Goes on to what is looked for; where that is a breakpoint and no goal, to one that stops the run."""
+        return self._before_trap(lambda: self._to_stop(search, limit, is_goal))
+
+    def _to_stop(self, search: Search, limit: int | None, is_goal: Callable[[Look], bool] | None = None) -> Why:
+        while True:
+            why = self.timeline.forward(search, limit)
+            if why is not Why.FOUND or is_goal is not None and is_goal(self.timeline.look()):
+                return why
+            if not self.at_place() or self._stops():
+                return why
+            if self.timeline.interrupted.is_set():
+                return Why.INTERRUPTED
 
     def go_on(self, limit: int | None = None) -> Why:
         """Runs to a breakpoint, after a write that is watched, or to the end, at most to this turn."""
@@ -155,7 +224,7 @@ class Debugger:
             return self.timeline.forward(at_any(frozenset())) if found is None else self._stop_after(found)
         goal = LAST_TURN if limit is None else limit
         while True:
-            why = self.timeline.forward(at_any(self.places()), min(begin + window, goal))
+            why = self._to_stop(at_any(self.places()), min(begin + window, goal))
             turn = self.timeline.turn
             found = self._nearest(lambda writes: writes.next_up_to(begin, turn, self.timeline.interrupted), min)
             if found is not None:
@@ -188,13 +257,20 @@ class Debugger:
         """Runs back to the last breakpoint, before the last write that is watched, or to the first turn."""
         self._changes, places, end = [], self.places(), self.timeline.turn
         written = self._nearest(lambda writes: writes.last(end, self.timeline.interrupted), max)
-        why = self.timeline.backward(at_any(places)) if places else Why.BEGIN
+        why = self._back_to_stop(places) if places else Why.BEGIN
         if written is not None and why is not Why.INTERRUPTED and (why is Why.BEGIN or written - 1 >= self.timeline.turn):
             self._stop_after(written)
             return self.timeline.seek(written - 1)
         if not places:
             self.timeline.seek(0)
         return why
+
+    def _back_to_stop(self, places: frozenset[Place]) -> Why:
+        """Goes back to a breakpoint whose condition holds, or to the first turn. Hits are not counted on the way back."""
+        while True:
+            why = self.timeline.backward(at_any(places))
+            if why is not Why.FOUND or self.hit():
+                return why
 
     def last_write(self, words: str, address: int, size: int, kind: CType) -> Change | None:
         """Goes back to before the last write to some bytes, also of the value that they had; None if none has written
@@ -232,8 +308,14 @@ class Debugger:
         return why
 
     def finish(self, frame: int = 0) -> Why:
-        """Runs to where a frame has returned, the innermost having the number 0."""
-        return self.return_to(self.timeline.look().depth - frame - 1)
+        """Runs to where a frame has returned, the innermost having the number 0. What it returned is in `returned`."""
+        frames, depth = self.frames(), self.timeline.look().depth - frame - 1
+        self.returned = []
+        why = self.return_to(depth)
+        after = self.frames()
+        if why is Why.FOUND and len(after) == depth and depth > 0 and not self.hit():
+            self.returned = self.symbols.returned(frames[frame].func, after[0], self.timeline.memory)
+        return why
 
     def return_to(self, depth: int) -> Why:
         """Runs to where there are at most this many frames, or to a breakpoint."""
@@ -243,12 +325,14 @@ class Debugger:
         if not outer:
             return self.go_on()
         back, most = outer[0]
-        search = Search(lambda look: look.place in own or look.place == back and look.depth <= most, own | {back})
-        return self._forward(search)
+
+        def is_back(look: Look) -> bool:
+            return look.place == back and look.depth <= most
+        return self._forward(Search(lambda look: look.place in own or is_back(look), own | {back}), None, is_back)
 
     def until(self, places: list[Place]) -> Why:
         """Runs to one of these places, or to a breakpoint."""
-        return self._forward(at_any(self.places() | set(places)))
+        return self._forward(at_any(self.places() | set(places)), None, lambda look: look.place in places)
 
     # Moving by lines.
 
@@ -266,9 +350,9 @@ class Debugger:
         from_, depth = (look.place.func, self.line()), look.depth
         while True:
             search = Search(lambda look: self._has_left(look, from_, depth), each_turn=True)
-            why = self._forward(search)
+            why = self._before_trap(lambda: self.timeline.forward(search))
             look = self.timeline.look()
-            if why is not Why.FOUND or self.hit():
+            if why is not Why.FOUND or self.at_place() and self._stops():
                 return why
             if look.depth > depth and (is_over or self.line() is None):
                 why = self.return_to(depth)
@@ -276,7 +360,18 @@ class Debugger:
                     return why
                 look = self.timeline.look()
             if self._is_elsewhere(look, from_, depth):
-                return Why.FOUND
+                return self._over_prologue(look) if look.depth > depth else Why.FOUND
+
+    def _over_prologue(self, look: Look) -> Why:
+        """From the begin of a function to where its parameters have their values."""
+        after = self.symbols.after_prologue(look.place) if look.place is not None and look.place.place == 0 else None
+        if after is None or after == look.place:
+            return Why.FOUND
+
+        def is_after(found: Look) -> bool:
+            return found.place == after and found.depth == look.depth
+        return self._forward(Search(lambda found: is_after(found) or found.place in self.places(),
+                                    self.places() | {after}), None, is_after)
 
     def _has_left(self, look: Look, from_: tuple[int, SourceLine | None], depth: int) -> bool:
         """Whether a run has called a function, is at another line, or is at a breakpoint."""

@@ -80,6 +80,16 @@ class Lines:
         place = first_from(function, ends[0].address) if ends else None
         return Place(function.index, 0) if place is None else place
 
+    def is_in_prologue(self, place: Place) -> bool:
+        """Whether a place is before the one at which the table says that its function's prologue ends."""
+        function = self._module.function(place.func)
+        if function is None:
+            return False
+        first = bisect.bisect_left(self._addresses, function.begin)
+        rows = self._rows[first:bisect.bisect_left(self._addresses, function.end)]
+        end = next((row.address for row in rows if row.ends_prologue), 0)
+        return function.instructions[place.place].offset < end
+
     def files_named(self, name: str) -> list[str]:
         """The files of the table whose paths end with a name."""
         return [file for file in self.files if file == name or file.endswith("/" + name)]

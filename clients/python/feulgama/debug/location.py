@@ -26,12 +26,13 @@ class NotThereError(FeulgamaError):
 
 @dataclass(frozen=True, slots=True)
 class Context:
-    """What an expression may read. `frame` is None without one; `base` is the expression of the function's frame, and
-    `address_of` knows the addresses of a unit by their index."""
+    """What an expression may read. `frame` is None without one; `base` is the expression of the function's frame, which is
+    not set up yet where `is_early` is set; and `address_of` knows the addresses of a unit by their index."""
     frame: Frame | None
     memory: Memory
     address_of: Callable[[int], int]
     base: bytes | None = None
+    is_early: bool = False
 
 
 @dataclass(frozen=True, slots=True)
@@ -140,6 +141,8 @@ class Machine:
         offset = self._reader.signed()
         if self._context.base is None:
             raise NotThereError("its function has no frame in memory")
+        if self._context.is_early:
+            raise NotThereError("its function has not set up its frame yet")
         base = Machine(self._context.base, Context(self._context.frame, self._context.memory, self._context.address_of))
         self._push(base.number() + offset, 32)
 

@@ -29,6 +29,13 @@ def frame_line(symbols: Symbols, number: int, frame: Frame, place: Place) -> str
     return f"{where}{f' {source}' if source is not None else ''} | {' | '.join(parts)}"
 
 
+def call_line(symbols: Symbols, number: int, frame: Frame, place: Place, arguments: list[str]) -> str:
+    """A frame as a call of its function."""
+    source = symbols.line_at(place)
+    name = symbols.names.function(frame.func).partition("(")[0]
+    return f"#{number} {place} <{name}> ({', '.join(arguments)}){f' {source}' if source is not None else ''}"
+
+
 def local_lines(symbols: Symbols, frame: Frame) -> list[str]:
     """The locals of a frame, with their names."""
     names = (symbols.names.local(frame.func, index) for index in range(len(frame.locals)))

@@ -66,9 +66,26 @@ class Symbols:
         try:
             if frame is None or place is None:
                 return sorted(self._variables.globals(memory), key=lambda found: found.name)
-            return self._variables.found(frame, self.instruction(place).offset, memory)
+            is_early = self.lines is not None and self.lines.is_in_prologue(place)
+            return self._variables.found(frame, self.instruction(place).offset, memory, is_early)
         except FAULTS:
             return []
+
+    def returned(self, func: int, frame: Frame, memory: Callable[[int, int], bytes]) -> list[str]:
+        """What a function has returned to a frame: its results, the last operands there; by the type of the source, if it
+        has one that is a number."""
+        function = self.module.function(func)
+        count = len(function.type.results) if function is not None else 0
+        values = frame.operands[len(frame.operands) - count:]
+        if function is None or self._variables is None or count != 1:
+            return list(map(str, values))
+        try:
+            kind = self._variables.type_of_function(function.begin)
+        except FAULTS:
+            kind = None
+        data = values[0].number.to_bytes(8, "little", signed=True)[:kind.size] if kind is not None else b""
+        return list(map(str, values)) if kind is None or kind.number(data) is None else \
+            [f"{kind.name} {kind.text(data, memory)}"]
 
     def type_named(self, name: str) -> CType | None:
         """The type with a name, as `unsigned int`, `u8` or `struct counts`; None if there is none."""
@@ -79,6 +96,14 @@ class Symbols:
             return self._variables.type_named(name)
         except FAULTS:
             return None
+
+    def has_variables(self) -> bool:
+        """Whether the module describes variables of C."""
+        return self._variables is not None
+
+    def why_no_lines(self) -> str:
+        """Why there are no lines; nothing if there are."""
+        return "" if self.lines is not None else why_no_lines(self.module)
 
     def why_no_variables(self) -> str:
         """Why there are no variables of C."""
@@ -102,9 +127,9 @@ class Symbols:
                 return at_line(self.lines, files, int(tail))
             return [self._checked(Place(func, int(tail))) for func in self.functions(head)], ""
         places = [self._checked(Place(func, 0)) for func in self.functions(words)]
-        return [self._after_prologue(place) if is_stop else place for place in places], ""
+        return [self.after_prologue(place) if is_stop else place for place in places], ""
 
-    def _after_prologue(self, place: Place) -> Place:
+    def after_prologue(self, place: Place) -> Place:
         """The instruction of a function that follows its prologue, if that is known."""
         function = self.module.function(place.func)
         return place if self.lines is None or function is None else self.lines.after_prologue(function)

@@ -1,10 +1,11 @@
 """The terminal of the debugger: reads lines, from a user or from a script, and shows what they are answered."""
 from __future__ import annotations
 
+import itertools
 import signal
 import sys
 import time
-from collections.abc import Callable, Iterator
+from collections.abc import Callable, Iterable, Iterator
 from pathlib import Path
 from types import FrameType
 from typing import TextIO
@@ -28,7 +29,7 @@ def words_for(commands: Commands, before: str) -> list[str]:
         files = [file.rpartition("/")[2] + ":" for file in lines.files] if lines is not None else []
         return [*commands.symbols.names.functions.values(), *files]
     if head in ("info", "i"):
-        return ["breakpoints", "locals", "variables", "globals", "stack", "memory", "output", "functions"]
+        return ["breakpoints", "locals", "variables", "globals", "stack", "source", "memory", "output", "functions"]
     return ["local", "operand", "turn"] if head in ("print", "p", "x") else []
 
 
@@ -69,7 +70,7 @@ def reader(commands: Commands) -> Callable[[], str]:
     return lambda: session.prompt(PROMPT)
 
 
-def scripted(source: TextIO) -> Iterator[str]:
+def scripted(source: Iterable[str]) -> Iterator[str]:
     """The lines of a script, each shown as if a user had written it."""
     for line in source:
         print(PROMPT + line.rstrip("\n"))
@@ -111,13 +112,13 @@ def answer(commands: Commands, line: str) -> None:
         signal.signal(signal.SIGINT, before)
 
 
-def debug(commands: Commands, source: TextIO) -> int:
-    """Answers the lines of a user or a script, up to its end or `quit`."""
+def debug(commands: Commands, source: TextIO, first: Iterable[str] = ()) -> int:
+    """Answers the lines of a user or a script, up to its end or `quit`; before them some others."""
     is_user = source.isatty()
     last = ""
     for shown in commands.stopped():
         print(shown)
-    for line in asked(commands) if is_user else scripted(source):
+    for line in itertools.chain(scripted(first), asked(commands) if is_user else scripted(source)):
         last = line.strip() or (last if is_user else "")
         if last.startswith("#"):
             continue
