@@ -1,4 +1,4 @@
-"""The session that is stored as an example."""
+"""The sessions that are stored as examples."""
 from __future__ import annotations
 
 import os
@@ -15,9 +15,12 @@ class Stored(unittest.TestCase):
     maxDiff = None
 
     @unittest.skipUnless(dwarf.IS_THERE, "needs python3-pyelftools")
-    def test_words(self) -> None:
-        with (FOLDER / "words.debug").open() as script:
-            run = subprocess.run([CLIENT / "bin/feulgama", "debug", "words.wasm"], stdin=script,
-                                 stdout=subprocess.PIPE, check=True, cwd=FOLDER, text=True,
-                                 env={**os.environ, "FEULGAMA_SHIM": SHIM})
-        self.assertEqual(run.stdout, (FOLDER / "words.expected").read_text())
+    def test_sessions(self) -> None:
+        scripts = sorted(FOLDER.glob("*.debug"))
+        self.assertEqual([script.stem for script in scripts], ["json", "table", "words"])
+        for script in scripts:
+            with self.subTest(script.stem), script.open() as lines:
+                run = subprocess.run([CLIENT / "bin/feulgama", "debug", f"{script.stem}.wasm"], stdin=lines,
+                                     stdout=subprocess.PIPE, check=True, cwd=FOLDER, text=True,
+                                     env={**os.environ, "FEULGAMA_SHIM": SHIM})
+                self.assertEqual(run.stdout, script.with_suffix(".expected").read_text())
