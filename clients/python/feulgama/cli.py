@@ -1,14 +1,19 @@
-"""The words of the command line: `feulgama debug` and `feulgama dap`."""
+"""The words of the command line: `feulgama debug`, `feulgama timeline` and `feulgama dap`."""
 from __future__ import annotations
 
 import argparse
 import contextlib
+import signal
 import sys
+import time
 from collections.abc import Sequence
 from pathlib import Path
 
 from feulgama.dap.adapter import serve
+from feulgama.debug.calls_over_time import told
 from feulgama.debug.commands import Commands
+from feulgama.debug.debugger import Debugger
+from feulgama.debug.page import page
 from feulgama.debug.terminal import debug
 from feulgama.errors import FeulgamaError
 from feulgama.opening import module_bytes, open_debugger
@@ -33,12 +38,16 @@ def parser() -> argparse.ArgumentParser:
     top.add_argument("--version", "-V", action="store_true", help="the versions of this package and of the shim")
     commands = top.add_subparsers(dest="command", metavar="COMMAND")
     terminal = commands.add_parser("debug", help="debugs a module in the terminal")
-    terminal.add_argument("--env", metavar="NAME=VALUE", type=variable, action="append", default=[],
-                          help="a variable of the task's environment")
-    terminal.add_argument("--memory", metavar="BYTES", type=int, help="the most memory that the task may have")
     terminal.add_argument("--commands", metavar="FILE", type=Path, help="a file of commands that are done first")
-    terminal.add_argument("module", metavar="MODULE", type=Path, help="a module, as bytes or as text")
-    terminal.add_argument("args", metavar="ARG", nargs=argparse.REMAINDER, help="the task's arguments")
+    picture = commands.add_parser("timeline", help="writes a page that shows a run: its calls over its turns")
+    picture.add_argument("-o", "--output", metavar="FILE", type=Path, required=True, help="the page, in HTML")
+    picture.add_argument("--turns", metavar="TURNS", type=int, default=100_000_000, help="the most turns that are run")
+    for command in (terminal, picture):
+        command.add_argument("--env", metavar="NAME=VALUE", type=variable, action="append", default=[],
+                             help="a variable of the task's environment")
+        command.add_argument("--memory", metavar="BYTES", type=int, help="the most memory that the task may have")
+        command.add_argument("module", metavar="MODULE", type=Path, help="a module, as bytes or as text")
+        command.add_argument("args", metavar="ARG", nargs=argparse.REMAINDER, help="the task's arguments")
     commands.add_parser("dap", help="speaks the Debug Adapter Protocol on standard input and output")
     return top
 
@@ -59,6 +68,30 @@ def first_lines(file: Path | None) -> list[str]:
     return [] if file is None else file.read_text().splitlines()
 
 
+class Progress:
+    """Says on standard error how far a run is, every two seconds."""
+
+    def __init__(self) -> None:
+        self._told = time.monotonic()
+
+    def __call__(self, turn: int, turns: int) -> None:
+        if time.monotonic() - self._told > 2:
+            self._told = time.monotonic()
+            print(f"feulgama: turn {turn} of {turns}", file=sys.stderr)
+
+
+def write_timeline(debugger: Debugger, file: Path, turns: int, title: str) -> int:
+    """Writes the page of a run; Ctrl-C ends the run at the turn that it has come to."""
+    interrupted = debugger.timeline.interrupted
+    before = signal.signal(signal.SIGINT, lambda _number, _frame: interrupted.set())
+    try:
+        story = told(debugger, turns, interrupted, Progress())
+    finally:
+        signal.signal(signal.SIGINT, before)
+    file.write_text(page(story, debugger.symbols, title))
+    return 0
+
+
 def main(words: Sequence[str] | None = None) -> int:
     """Does what the command line asks for; its status."""
     top = parser()
@@ -66,7 +99,7 @@ def main(words: Sequence[str] | None = None) -> int:
     if found.version:
         return show_versions(found.shim)
     if found.command is None:
-        top.error("a command is needed: debug or dap")
+        top.error("a command is needed: debug, timeline or dap")
     try:
         if found.command == "dap":
             return serve(found.shim)
@@ -74,6 +107,8 @@ def main(words: Sequence[str] | None = None) -> int:
         with Shim(found.shim, workers=1) as shim:
             opened = open_debugger(shim, found.module, data, found.args, dict(found.env), found.memory)
             with contextlib.closing(opened.timeline):
+                if found.command == "timeline":
+                    return write_timeline(opened, found.output, found.turns, found.module.name)
                 return debug(Commands(opened), sys.stdin, first_lines(found.commands))
     except (FeulgamaError, OSError) as error:
         print(f"feulgama: {error}", file=sys.stderr)

@@ -139,4 +139,4 @@ class Versions(unittest.TestCase):
         with self.assertRaises(SystemExit) as found, mock.patch("sys.stderr", io.StringIO()) as said:
             main([])
         self.assertEqual(found.exception.code, 2)
-        self.assertIn("a command is needed: debug or dap", said.getvalue())
+        self.assertIn("a command is needed: debug, timeline or dap", said.getvalue())

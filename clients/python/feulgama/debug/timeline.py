@@ -231,12 +231,16 @@ class Timeline:
             self.progress()
         return Why.LIMIT if track.turn == goal else Why.ENDED
 
+    def new_track(self) -> Track:
+        """A task of its own, before its first turn."""
+        return Track(self._shims, self._config)
+
     def writes(self, address: int, size: int, changes: bool) -> Writes:
         """The writes to some bytes in this run; only those that change one, if `changes` is set. Raises
         NotWatchableError if they cannot be watched."""
         key = address, size, changes
         if key not in self._writes:
-            track = Track(self._shims, self._config)
+            track = self.new_track()
             there = min(size, size_of(track) - address)
             if not 0 < size <= MOST_WATCHED or address < 0 or 0 < there < size or address + size > self.memory_size():
                 raise NotWatchableError(f"{size} bytes at {address:#x} cannot be watched: it takes 1 to {MOST_WATCHED}, which "

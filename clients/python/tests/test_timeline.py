@@ -1,0 +1,126 @@
+"""The page of a run: its calls are those of the second reading, and a browser draws them."""
+from __future__ import annotations
+
+import io
+import json
+import re
+import shutil
+import subprocess
+import tempfile
+import threading
+import unittest
+from contextlib import redirect_stderr
+from pathlib import Path
+from typing import Any
+from unittest import mock
+
+import feulgama
+from feulgama.cli import main
+from feulgama.debug import calls_over_time
+from feulgama.debug.calls_over_time import Story, told
+from feulgama.opening import open_debugger
+from tests.support import CLIENT, SHIM, TRAPPING_BYTES, callers, machine_of, some_programs, wasm
+
+WORDS = CLIENT / "examples/words.wasm"
+BROWSER = shutil.which("chromium")
+RECT = re.compile(r'<rect class="call"[^>]*data-func="(\d+)" data-begin="(\d+)" data-end="(\d+)" data-depth="(\d+)"')
+Calls = list[tuple[int, int, int, int]]
+
+
+def story_of(data: bytes, most: int = 100_000_000) -> Story:
+    with feulgama.Shim(SHIM) as shim:
+        debugger = open_debugger(shim, Path("module"), data, [], {}, None)
+        story = told(debugger, most, threading.Event(), lambda _turn, _turns: None)
+        debugger.timeline.close()
+    return story
+
+
+class SecondReading:
+    """The calls of a run, its memory and its output, turn by turn."""
+
+    def __init__(self, data: bytes, most: int) -> None:
+        machine = machine_of(data)
+        machine.args = [b"module"]
+        self.calls: Calls = []
+        self.output: list[tuple[int, int, str]] = []
+        self.memory = [(0, len(machine.memory))]
+        open_: list[tuple[Any, int]] = []
+        self.follow(machine, open_)
+        while machine.end is None and machine.turns < most:
+            before = {stream: len(machine.streams[stream]) for stream in (1, 2)}
+            machine.turn()
+            self.follow(machine, open_)
+            if len(machine.memory) != self.memory[-1][1]:
+                self.memory.append((machine.turns, len(machine.memory)))
+            for stream, length in before.items():
+                new = bytes(machine.streams[stream])[length:]
+                self.output += [(machine.turns, stream, new.decode(errors="replace"))] if new else []
+        for depth, (frame, begin) in enumerate(open_):
+            self.calls.append((frame.func, depth, begin, machine.turns))
+        self.turns = machine.turns
+
+    def follow(self, machine: Any, open_: list[tuple[Any, int]]) -> None:
+        frames = machine.frames if machine.end is None else []
+        while open_ and (len(open_) > len(frames) or open_[-1][0] is not frames[len(open_) - 1]):
+            frame, begin = open_.pop()
+            self.calls.append((frame.func, len(open_), begin, machine.turns))
+        open_ += [(frame, machine.turns) for frame in frames[len(open_):]]
+
+
+class Exact(unittest.TestCase):
+    def test_random_programs(self) -> None:
+        modules = [data for data, _ in some_programs(41, 6, 3000)]
+        while len(modules) < 14:
+            data = callers.program()
+            modules += [] if wasm.refusals_of(data) else [data]
+        modules += [WORDS.read_bytes(), (CLIENT / "examples/json.wasm").read_bytes()]
+        calls = 0
+        for data in modules:
+            story, second = story_of(data, 3000), SecondReading(data, 3000)
+            self.assertEqual((story.step, story.turns), (1, second.turns))
+            self.assertEqual(sorted((one.func, one.depth, one.begin, one.end) for one in story.calls), sorted(second.calls))
+            self.assertEqual((story.memory, story.output), (second.memory, second.output))
+            calls += len(second.calls)
+        self.assertGreater(calls, 60)
+
+    def test_a_trap(self) -> None:
+        story = story_of(TRAPPING_BYTES)
+        self.assertEqual((story.turns, story.end), (3, "trap unreachable, exit 134"))
+
+    def test_a_run_that_is_too_long_to_be_looked_at_turn_by_turn(self) -> None:
+        """Each call that is seen is one of the run's, as near as the looks are."""
+        with mock.patch.multiple(calls_over_time, EXACT=1000, SAMPLES=200):
+            story = story_of(WORDS.read_bytes())
+        second = SecondReading(WORDS.read_bytes(), 10_000)
+        self.assertEqual((story.step, story.turns), (40, 8069))
+        for one in story.calls:
+            near = [call for call in second.calls
+                    if call[:2] == (one.func, one.depth) and abs(call[2] - one.begin) <= 40]
+            self.assertTrue(near, one)
+        self.assertEqual([text for _, _, text in story.output], ["35\n"])
+
+
+class Page(unittest.TestCase):
+    def setUp(self) -> None:
+        self.folder = Path(self.enterContext(tempfile.TemporaryDirectory()))
+        self.file = self.folder / "words.html"
+        with redirect_stderr(io.StringIO()):
+            self.assertEqual(main(["--shim", SHIM, "timeline", "-o", str(self.file), str(WORDS)]), 0)
+
+    def test_it_needs_no_network(self) -> None:
+        text = self.file.read_text()
+        self.assertNotRegex(text.replace("http://www.w3.org/2000/svg", ""), r"https?:|src=|@import|<link")
+        self.assertIn("8069 turns, 57 calls; exit, exit 9. Each begin and end is exact to the turn.", text)
+
+    @unittest.skipIf(BROWSER is None, "needs Debian's chromium")
+    def test_in_a_browser(self) -> None:
+        """What is drawn are the calls of the second reading; a click shows the turn for the debugger's `goto`."""
+        run = subprocess.run([str(BROWSER), "--headless", "--no-sandbox", "--disable-gpu", f"--user-data-dir={self.folder}",
+                              "--dump-dom", f"{self.file.as_uri()}#14"], capture_output=True, text=True, check=True,
+                             timeout=60)
+        drawn = sorted((int(func), int(depth), int(begin), int(end))
+                       for func, begin, end, depth in RECT.findall(run.stdout))
+        self.assertEqual(drawn, sorted(SecondReading(WORDS.read_bytes(), 10_000).calls))
+        self.assertRegex(run.stdout, r'<div id="told">goto 14   count, turns 14 to \d+, depth 1</div>')
+        self.assertIn(f"turn 8052, stdout: {json.dumps(chr(10).join(['35', '']))}", run.stdout)
+        self.assertIn('data-size="65536"', run.stdout)
