@@ -1,0 +1,71 @@
+"""Modules that cannot be debugged: the message is the shim's own reason."""
+from __future__ import annotations
+
+import contextlib
+import io
+import subprocess
+import tempfile
+import unittest
+from pathlib import Path
+from unittest import mock
+
+import pytest
+
+import feulgama
+from feulgama import said
+from feulgama.cli import main
+from feulgama.opening import NeedsMemoryError, RefusedError, open_debugger
+from tests.support import CLIENT, IS_REFERENCE, SHIM
+
+HEAD, TYPE, FUNC, BODY = "0061736d01000000", "010401600000", "03020100", "0a040102000b"
+FLOATS = bytes.fromhex(HEAD + "0105016001" + "7c00")
+IMPORTS = bytes.fromhex(HEAD + TYPE + "020b0103656e7603666f6f0000" + FUNC + "070a01065f73746172740001" + BODY)
+MEMORY = bytes.fromhex(HEAD + TYPE + FUNC + "0503010011" + "070a01065f73746172740000" + BODY)
+
+
+class Refused(unittest.TestCase):
+    def setUp(self) -> None:
+        if IS_REFERENCE:  # it gives no reasons, and is not waited for
+            self.enterContext(mock.patch.object(said, "PATIENCE", 0.1))
+
+    def refusal(self, data: bytes) -> feulgama.FeulgamaError:
+        with feulgama.Shim(SHIM) as shim, self.assertRaises(feulgama.FeulgamaError) as found:
+            open_debugger(shim, Path("some.wasm"), data, [], {}, None)
+        return found.exception
+
+    def test_the_file_is_named(self) -> None:
+        for data in (FLOATS, IMPORTS, MEMORY):
+            self.assertTrue(str(self.refusal(data)).startswith("some.wasm: "))
+
+    def test_kinds(self) -> None:
+        self.assertIsInstance(self.refusal(FLOATS), RefusedError)
+        self.assertIsInstance(self.refusal(IMPORTS), RefusedError)
+        self.assertIsInstance(self.refusal(MEMORY), NeedsMemoryError)
+
+    @pytest.mark.program
+    def test_reasons(self) -> None:
+        """The words of the program may change: a part of each that says what is wrong."""
+        self.assertIn("floats are outside the profile", str(self.refusal(FLOATS)))
+        self.assertRegex(str(self.refusal(IMPORTS)), "22 BadImport.*foo")
+        self.assertRegex(str(self.refusal(MEMORY)), "9 Limit.*17 pages")
+
+    @pytest.mark.program
+    def test_as_the_command_check_says_it(self) -> None:
+        for data in (FLOATS, IMPORTS):
+            with tempfile.NamedTemporaryFile() as file:
+                file.write(data)
+                file.flush()
+                run = subprocess.run([SHIM, "check", "--task", "--explain", file.name], capture_output=True, check=False,
+                                     text=True)
+            self.assertIn(run.stderr.splitlines()[1].removeprefix("why: "), str(self.refusal(data)))
+
+    def test_the_command(self) -> None:
+        """One line on standard error, and status 1."""
+        file = Path(self.enterContext(tempfile.TemporaryDirectory())) / "floats.wasm"
+        file.write_bytes(FLOATS)
+        with contextlib.redirect_stderr(io.StringIO()) as told:
+            self.assertEqual(main(["--shim", SHIM, "debug", str(file)]), 1)
+            self.assertEqual(main(["--shim", SHIM, "debug", str(CLIENT / "none.wasm")]), 1)
+        lines = told.getvalue().splitlines()
+        self.assertEqual(len(lines), 2)
+        self.assertTrue(all(line.startswith("feulgama: ") for line in lines), lines)
