@@ -6,7 +6,7 @@ from pathlib import Path
 
 import pytest
 
-NEEDS = "needs the built program: name it by --program FILE, or by the environment variable FEULGAMA_SHIM"
+NEEDS = "needs the built program: name it by --program=FILE, or by the environment variable FEULGAMA_SHIM"
 
 
 def pytest_addoption(parser: pytest.Parser) -> None:

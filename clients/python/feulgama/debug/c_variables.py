@@ -91,15 +91,18 @@ class Variables:
         self._dwarf, self._types = dwarf, Types()
         self._units = [Unit(unit.get_top_DIE(), dwarf) for unit in dwarf.iter_CUs()]
 
-    def found(self, frame: Frame, offset: int, memory: Memory, is_early: bool = False) -> list[Found]:
+    def found(self, frame: Frame, offset: int, memory: Memory, is_early: bool = False,
+              wanted: str | None = None) -> list[Found]:
         """The variables of a frame at an offset of the code, the parameters first, and then those of all functions of
-        the same unit; of two with one name the inner one. `is_early` says that the offset is in a prologue."""
+        the same unit; of two with one name the inner one. `is_early` says that the offset is in a prologue. If a name is
+        wanted the others are left out."""
         units = [unit for unit in self._units if within(unit.ranges, offset)]
-        by_name = {found.name: found for found in self.globals(memory, units)}
-        by_name |= {found.name: found for found in self.of_frame(frame, offset, memory, is_early)}
+        by_name = {found.name: found for found in self.globals(memory, units, wanted)}
+        by_name |= {found.name: found for found in self.of_frame(frame, offset, memory, is_early, wanted)}
         return sorted(by_name.values(), key=lambda found: (found.is_global, not found.is_parameter, found.name))
 
-    def of_frame(self, frame: Frame, offset: int, memory: Memory, is_early: bool) -> Iterator[Found]:
+    def of_frame(self, frame: Frame, offset: int, memory: Memory, is_early: bool,
+                 wanted: str | None = None) -> Iterator[Found]:
         """The variables of a frame, those of outer scopes first."""
         for unit in self._units:
             if within(unit.ranges, offset):
@@ -107,7 +110,7 @@ class Variables:
                     if within(function.ranges, offset):
                         base = expression_at(function.die, "DW_AT_frame_base", offset, self._dwarf)
                         context = Context(frame, memory, address_of(function.die.cu, self._dwarf), base, is_early)
-                        yield from self._inside(function.die, offset, context)
+                        yield from self._inside(function.die, offset, context, wanted)
                         return
 
     def type_of_function(self, offset: int) -> CType | None:
@@ -127,23 +130,26 @@ class Variables:
                     return self._types.described(die)
         return None
 
-    def _inside(self, die: Any, offset: int, context: Context) -> Iterator[Found]:
+    def _inside(self, die: Any, offset: int, context: Context, wanted: str | None) -> Iterator[Found]:
         scopes = []
         for child in die.iter_children():
             if child.tag in VARIABLES:
-                if holding(child, "DW_AT_name") is not None:
+                if holding(child, "DW_AT_name") is not None and wanted in (None, name_of(child)):
                     yield self._value(name_of(child), child, offset, context, die.tag == "DW_TAG_subprogram")
             elif child.tag in SCOPES:
                 scopes.append(child)
         for scope in scopes:
             ranges = ranges_of(scope, self._dwarf)
             if not ranges and scope.tag == "DW_TAG_lexical_block" or within(ranges, offset):
-                yield from self._inside(scope, offset, context)
+                yield from self._inside(scope, offset, context, wanted)
 
-    def globals(self, memory: Memory, units: list[Unit] | None = None) -> Iterator[Found]:
-        """The variables of all functions, of these units or of all."""
+    def globals(self, memory: Memory, units: list[Unit] | None = None, wanted: str | None = None) -> Iterator[Found]:
+        """The variables of all functions, of these units or of all; of one name alone if that is wanted, or of which it is
+        the last part."""
         for unit in self._units if units is None else units:
             for name, die in unit.globals():
+                if wanted is not None and wanted != name and not name.endswith("::" + wanted):
+                    continue
                 context = Context(None, memory, address_of(die.cu, self._dwarf))
                 yield self._value(name, die, 0, context, False, is_global=True)
 

@@ -160,24 +160,25 @@ class Debugger:
             return Place(frame.func, frame.next)
         return self.symbols.call_of(frame)
 
-    def variables(self, number: int) -> list[Found]:
+    def variables(self, number: int, wanted: str | None = None) -> list[Found]:
         """The variables of C of the frame with a number from the innermost, and those of all functions beside it; after
-        the end, where there is no frame, those of all functions of the module."""
+        the end, where there is no frame, those of all functions of the module. If a name is wanted the others are left
+        out."""
         frames = self.frames()
         if number >= len(frames):
-            return self.globals()
+            return self.globals(wanted)
         place = self.place_of(frames[number], number == 0)
-        return self.symbols.variables(frames[number], place, self.timeline.memory)
+        return self.symbols.variables(frames[number], place, self.timeline.memory, wanted)
 
-    def globals(self) -> list[Found]:
+    def globals(self, wanted: str | None = None) -> list[Found]:
         """The variables of all functions of the module."""
-        return self.symbols.variables(None, None, self.timeline.memory)
+        return self.symbols.variables(None, None, self.timeline.memory, wanted)
 
     def scope(self, number: int) -> Scope:
         """What an expression may name in the frame with a number; without a frame only the turn and memory."""
         frames = self.frames()
         return Scope(frames[number] if number < len(frames) else None, self.symbols.names, self.timeline.turn,
-                     self.timeline.memory, lambda: self.variables(number), self.globals, self.symbols.type_named)
+                     self.timeline.memory, lambda name: self.variables(number, name), self.globals, self.symbols.type_named)
 
     # Moving by instructions.
 

@@ -46,18 +46,18 @@ class Operand:
 @dataclass(frozen=True, slots=True)
 class Scope:
     """What words may name: the frame, None of a task that has ended; the names; the turn; memory, by an address and a
-    number of bytes; the variables of C of the frame, and those of all functions of the module; and types."""
+    number of bytes; by a name the variables of C of the frame, and those of all functions of the module; and types."""
     frame: Frame | None
     names: Names
     turn: int
     memory: Callable[[int, int], bytes]
-    variables: Callable[[], list[Found]]
-    globals: Callable[[], list[Found]]
+    variables: Callable[[str], list[Found]]
+    globals: Callable[[str], list[Found]]
     type_named: Callable[[str], CType | None] = lambda _name: None
 
     def variable(self, name: str) -> Found | None:
         """The variable of C with a name, or with one of which it is the last part."""
-        return named(name, self.variables()) or named(name, self.globals())
+        return named(name, self.variables(name)) or named(name, self.globals(name))
 
     def at(self, address: int, kind: CType) -> Operand:
         """What is in memory at an address, by its type. Raises NoValueError if memory ends before."""

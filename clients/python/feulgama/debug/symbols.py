@@ -58,16 +58,18 @@ class Symbols:
             raise NoPlaceError(f"function {frame.func} has no call before {frame.next}")
         return Place(frame.func, places[-1])
 
-    def variables(self, frame: Frame | None, place: Place | None, memory: Callable[[int, int], bytes]) -> list[Found]:
+    def variables(self, frame: Frame | None, place: Place | None, memory: Callable[[int, int], bytes],
+                  wanted: str | None = None) -> list[Found]:
         """The variables of C of a frame that is at a place, and those of all functions beside it; without a frame those
-        of all functions of the module. None without descriptions, or if these have a fault."""
+        of all functions of the module. None without descriptions, or if these have a fault. If a name is wanted the
+        others are left out."""
         if self._variables is None:
             return []
         try:
             if frame is None or place is None:
-                return sorted(self._variables.globals(memory), key=lambda found: found.name)
+                return sorted(self._variables.globals(memory, None, wanted), key=lambda found: found.name)
             is_early = self.lines is not None and self.lines.is_in_prologue(place)
-            return self._variables.found(frame, self.instruction(place).offset, memory, is_early)
+            return self._variables.found(frame, self.instruction(place).offset, memory, is_early, wanted)
         except FAULTS:
             return []
 

@@ -64,6 +64,7 @@ class Timeline:
         self.progress: Callable[[], None] = lambda: None
         self.searching: Callable[[], None] = lambda: None
         self._shim, self._writes = shim, dict[tuple[int, int, bool], Writes]()
+        self._size = -1, 0  # a turn, and how many bytes memory has there
         self._told, self._told_turn = dict.fromkeys(Stream, 0), 0
 
     @property
@@ -106,7 +107,7 @@ class Timeline:
     def memory(self, address: int, length: int) -> bytes:
         """Bytes of memory from an address on; fewer where memory ends."""
         track, trail = self._with_memory()
-        length = max(0, min(length, size_of(track) - address))
+        length = max(0, min(length, self.memory_size() - address))
         found = b""
         for part in track.peek([(address + at, min(MOST_PEEK, length - at)) for at in range(0, length, MOST_PEEK)]):
             if isinstance(part, FeulgamaError):
@@ -116,7 +117,9 @@ class Timeline:
 
     def memory_size(self) -> int:
         """How many bytes of memory there are."""
-        return size_of(self._with_memory()[0])
+        if self._size[0] != self.turn:
+            self._size = self.turn, size_of(self._with_memory()[0])
+        return self._size[1]
 
     def _with_memory(self) -> tuple[Track, Trail | None]:
         """A task whose memory is that of this turn, or together with a trail tells it."""
