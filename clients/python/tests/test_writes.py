@@ -232,3 +232,11 @@ class NotWatchable(unittest.TestCase):
             list(commands.answer("watch 0x430"))
             with self.assertRaisesRegex(NotWatchableError, "too large to be watched"):
                 list(commands.answer("continue"))
+
+
+class ExactWithManyStores(Exact):
+    """The same where all stores are counted by one function, as in a module with more kinds of them than breakpoints."""
+
+    def setUp(self) -> None:
+        super().setUp()
+        self.enterContext(mock.patch.object(watched_module, "MOST_PROBES", 0))

@@ -24,12 +24,13 @@ from feulgama.wasm.writer import Code
 
 FIRST_STORE, LAST_STORE = 0x36, 0x3E
 WIDE_STORES = (0x37, 0x3C, 0x3D, 0x3E)
-MANY = 1024  # a power of two: after so many stops half as many writes are stopped at
+MANY = 256  # a power of two: after so many stops half as many writes are stopped at
 MOST_WATCHED = 64
 COUNTING = 4  # the instructions that count the turns of a store or a call
-# At the probe the turns of the store or the call are not counted yet, 8 at most, and whether it has written what is
+# At a probe the turns of the store or the call are not counted yet, 20 at most, and whether it has written what is
 # watched is not known: so the turn before it is known, at least.
-AT_PROBE = 9
+AT_PROBE = 21
+MOST_PROBES = 31  # a task has 32 breakpoints
 TYPES, FUNCTIONS, GLOBALS, ELEMENTS, CODE = 1, 3, 6, 9, 10
 EXTRA, HITS, NEXT, STEP, STOPS, OLD = range(6)
 
@@ -58,12 +59,12 @@ class Watch:
 
 @dataclass(frozen=True, slots=True)
 class Watched:
-    """The module. `stop` is where it stops, and `probe` where each store and each call comes by; at both the last operand
+    """The module. `stop` is where it stops, and each store and each call comes by one of the `probes`; there the last operand
     is the number of turns that were added. The turns of the original are the module's less that, and these more; at
     the probe they are at least so many, and its writes up to there are known."""
     data: bytes
     stop: Place
-    probe: Place
+    probes: frozenset[Place]
     more_at_stop: int
     more_at_probe: int
 
@@ -84,6 +85,9 @@ class Maker:
         self._types, self._own = len(module.types), len(module.imports) + len(module.indices)
         self._hit, self._account = self._own, self._own + 1
         self._helpers: dict[bytes, tuple[int, int, bytes]] = {}
+        self._probes: list[Place] = []
+        self._calls: set[Place] = set()
+        self._counts_inside = True
         self._check_table()
 
     def _check_table(self) -> None:
@@ -103,6 +107,13 @@ class Maker:
     def made(self, first: int, step: int) -> Watched:
         """The module."""
         bodies = [self._body(number) for number in range(len(self._module.functions))]
+        if len(self._probes) > MOST_PROBES:
+            self._counts_inside = False
+            self._helpers.clear()
+            self._probes.clear()
+            self._calls.clear()
+            bodies = [self._body(number) for number in range(len(self._module.functions))]
+            self._probes = [Place(self._account, 1), *(one for one in self._probes if one in self._calls)]
         hit, stop = self._hit_function()
         account = self._more(Code(), self._store_turns(COUNTING) - 1)
         helpers = sorted(self._helpers.values())
@@ -115,7 +126,7 @@ class Maker:
                                                            for number in self._initial(first, step)])
         found[CODE] = w.vector([*bodies, *added])
         data = HEAD + b"".join(bytes([number]) + w.sized(found[number]) for number in sorted(found))
-        return Watched(data, Place(self._hit, stop), Place(self._account, 1), 2, -AT_PROBE)
+        return Watched(data, Place(self._hit, stop), frozenset(self._probes), 2, -AT_PROBE)
 
     def _initial(self, first: int, step: int) -> list[int]:
         """What the added globals have at the first turn."""
@@ -161,13 +172,21 @@ class Maker:
         part = Reader(data, 1)
         part.unsigned()
         offset, size = part.unsigned(), op.ACCESSES[opcode][1]
-        code = Code().add(w.get(0), w.get(1), data, w.call(self._account), *self._overlaps(0, offset, size), w.IF)
+        code = self._counted_as_store(Code().add(w.get(0), w.get(1), data))
+        code.add(*self._overlaps(0, offset, size), w.IF)
         return self._types + (opcode in WIDE_STORES), code.add(w.call(self._hit)).end().body()
 
-    @staticmethod
-    def _store_turns(account: int) -> int:
+    def _counted_as_store(self, code: Code) -> Code:
+        """Counts the turns of a store: in the function itself, or if a task may not have so many breakpoints as there are
+        functions, in one that all call."""
+        if not self._counts_inside:
+            return code.add(w.call(self._account))
+        self._probes.append(Place(self._own + 2 + len(self._helpers), code.count + 1))
+        return self._more(code, self._store_turns(COUNTING) - 1)
+
+    def _store_turns(self, counting: int) -> int:
         """How many turns a store takes that has not written what is watched: its call, and all but the call of hit."""
-        return 1 + 10 + account
+        return 1 + 9 + counting + (not self._counts_inside)
 
     def _more(self, code: Code, turns: int) -> Code:
         """Counts turns that were added."""
@@ -179,13 +198,16 @@ class Maker:
         count = len(self._module.types[self._module.imports[index][2]].params)
 
         def code(more: int) -> Code:
-            found = Code().add(*map(w.get, range(count)), w.call(index), w.tee(count), w.call(self._account))
+            found = Code().add(*map(w.get, range(count)), w.call(index), w.tee(count))
             for number, (parameter, size) in enumerate(ranges):
                 found.add(*self._overlaps(parameter, 0, size), *([w.I32_OR] if number else []))
+            place = Place(self._own + 2 + len(self._helpers), found.count + 1)
+            self._calls.add(place)
+            if place not in self._probes:
+                self._probes.append(place)
             self._more(found, more)
             return found.add(w.get(count), w.I32_EQZ, w.I32_AND, w.IF)
-        # Its call is made in the place of the one that was there, and a part is counted as of a store.
-        more = code(0).count + COUNTING - (self._store_turns(COUNTING) - 1)
+        more = code(0).count  # its call is made in the place of the one that was there
         return code(more).add(w.call(self._hit)).end().body(1)
 
     def _hit_function(self) -> tuple[Code, int]:

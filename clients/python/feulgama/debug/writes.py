@@ -70,7 +70,7 @@ class Pass:
         """Takes note of a stop."""
         operands = requests.inspect("").result(look.line).frames[0].operands
         self._extra = operands[-1].number
-        if look.place == self._watched.probe:
+        if look.place in self._watched.probes:
             self._known = look.turn - self._extra + self._watched.more_at_probe
             return
         self._known = look.turn - self._extra + self._watched.more_at_stop
@@ -114,7 +114,7 @@ class Pass:
         """Says how far the original is, at the next store. If there is none for as long as the way was, all turns of that
         way are the original's own, but for those of a store that has begun before."""
         end = max(2 * self._track.turn - begin, self._track.turn + LEAST_WAY) + LONGEST_STORE
-        places = frozenset({self._watched.stop, self._watched.probe})
+        places = self._watched.probes | {self._watched.stop}
         hunt = Hunt(at_any(places), interrupted, is_patient=True)
         while self._track.exit is None and self._track.turn < end:
             if interrupted.is_set():
