@@ -3,12 +3,13 @@
 
     bench/inspects.py [PROGRAM] [--rounds N]
 
-A function calls itself until as many frames are there as are asked for, and pauses there at a breakpoint: 1 frame,
-1,024 frames of one value, 1,024 frames of 64 values, 2 frames with 65,000 operands of 20 digits, and 1,024 frames of a
-function of 190 KB, which jumps over most of it, without blocks round it and inside 250 of them: a body is walked twice for
-all frames of its function. `serve` is sent a row of inspects at once, through a pipe, and each reply is read; beside them a row of `state`, which is what any line costs. All are wall times of one request;
-N rounds (9), of the last two forms one, and the least time of each counts. The last line is what one more frame and one
-more value cost, by the second form against the first and the third against the second.
+A function calls itself until as many frames are there as are asked for, and pauses there at a breakpoint: 1 frame, 1,024
+frames of one value, 1,024 frames of 64 values, 2 frames with 65,000 operands of 20 digits, and 1,024 frames of a function of
+190 KB, which jumps over most of it, without blocks round it and inside 250 of them: a body is walked twice for all frames of
+its function. `serve` is sent a row of inspects at once, through a pipe, and each reply is read; beside them a row of `state`,
+which is what any line costs. All are wall times of one request; N rounds (9), of the last two forms one, and the least time
+of each counts. The last line is what one more frame and one more value cost, by the second form against the first and the
+third against the second.
 """
 import hashlib
 import json

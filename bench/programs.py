@@ -91,7 +91,8 @@ def main():
     program, rounds = arguments(3)
     names = sorted(name[:-2] for name in os.listdir(SOURCES) if name.endswith(".c"))
     ratios = []
-    print("%-10s %12s %8s %14s   %s" % ("program", "turns", "shim", "turns a second", "wasm-interp and jsc, each with its ratio"))
+    print("%-10s %12s %8s %14s   %s" % ("program", "turns", "shim", "turns a second",
+                                        "wasm-interp and jsc, each with its ratio"))
     with tempfile.TemporaryDirectory() as folder:
         empty = os.path.join(folder, "empty.wasm")
         with open(empty, "wb") as file:

@@ -20,8 +20,8 @@ from shared import arguments
 
 PROGRAM, ROUNDS = arguments(5)
 ENDLESS = '(module (type $e (func)) (func $s (type $e) loop $l br $l end) (export "_start" (func $s)))'
-COUNT = ('(module (type $e (func)) (func $s (type $e) (local $n i32) i32.const 20000000 local.set $n loop $l local.get $n i32.const 1 i32.sub '
-         'local.tee $n br_if $l end) (export "_start" (func $s)))')
+COUNT = ('(module (type $e (func)) (func $s (type $e) (local $n i32) i32.const 20000000 local.set $n loop $l local.get $n '
+         'i32.const 1 i32.sub local.tee $n br_if $l end) (export "_start" (func $s)))')
 NOTHING = '(module (type $e (func)) (func $s (type $e) nop) (export "_start" (func $s)))'
 CALLS = 4000
 

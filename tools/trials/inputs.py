@@ -2,10 +2,8 @@
 with the number that the second reading of the standards has where it reads the same thing."""
 from __future__ import annotations
 
-import hashlib
 import json
 import multiprocessing
-import random
 import sys
 from collections.abc import Callable, Iterator
 from pathlib import Path
@@ -71,14 +69,15 @@ def whole_module() -> bytes:
     body = turned + block(b"\x21\1\x21\0\x20\1\x20\0", b"\x02") + DROP + DROP
     body += block(i32(0) + b"\x0e\2\0\1\0", opcode=3) + i32(1) + block(NOP + b"\x05" + UNREACHABLE, opcode=4)
     body += i32(0) + b"\x11\0\0" + i32(16) + b"\x29\3\0" + i32(8) + b"\x40\0" + DROP + DROP + i32(3) + call(0)
-    return module_of(body, [EXIT, YIELD], [(1, I32), (1, I64)], [pair, swap], [(0, code(call(1) + DROP + b"\x0f"))],
-                   limits(1, 2), limits(2, 300), more={
+    more = {
         0: sized(b"name") + bytes(range(40)),
         6: vector([bytes([I64, 1]) + i64(-2**63) + END, bytes([I32, 0]) + i32(2**31 - 1) + END]),
         8: leb(3),
         9: vector([b"\0" + i32(0) + END + vector([leb(3), leb(2)])]),
         11: vector([b"\0" + i32(65_530) + END + sized(b"\xff" * 6), b"\0" + i32(0) + END + sized(b"")]),
-    })
+    }
+    return module_of(body, [EXIT, YIELD], [(1, I32), (1, I64)], [pair, swap], [(0, code(call(1) + DROP + b"\x0f"))],
+                     limits(1, 2), limits(2, 300), more=more)
 
 
 def wanted_of_modules(inputs: list[bytes]) -> list[list[bytes]]:

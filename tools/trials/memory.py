@@ -12,7 +12,7 @@ from reference.execute import Machine
 from reference.system_calls import MOST_OUTPUT
 from trials import scripts
 from trials.modules import digest_of
-from trials.program import OUT_OF_MEMORY, Report, Session, config_of, line_of, told_once
+from trials.program import OUT_OF_MEMORY, Report, Session, line_of, told_once
 
 LIMITS_KIB = range(16 * 1024, 64 * 1024 + 1, 4 * 1024)
 MIB = 1024

@@ -6,8 +6,8 @@ import json
 from dataclasses import dataclass, field
 
 from reference.board import Board
-from trials.modules import (DROP, EXIT, I32, I64, WRITE, block, call, code, digest_of, func_type, i32, i64, leb, limits,
-                            program, sized, vector)
+from trials.modules import (DROP, EXIT, I32, WRITE, block, call, code, digest_of, func_type, i32, i64, limits, program,
+                            sized, vector)
 from trials.program import NO_MEMORY, Session, agree, config_of, line_of
 
 PAGES = 256

@@ -9,8 +9,8 @@ from typing import Any
 
 from reference import wasm
 from reference.board import process_of, request_of
-from trials.modules import (DROP, END, EXIT, I32, I64, NOP, UNREACHABLE, block, call, code, exported, func_type, i32,
-                            i64, imported, leb, limits, module, program, repeated, signed, sized, vector)
+from trials.modules import (DROP, END, I32, I64, NOP, UNREACHABLE, block, call, code, exported, func_type, i32, imported,
+                            leb, limits, module, program, repeated, sized, vector)
 
 MODULE_BYTES = 262_144
 LINE_BYTES = 1_048_576
