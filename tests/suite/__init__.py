@@ -1,0 +1,1 @@
+"""What is tested outside the gate, and how it is run and counted."""

@@ -1,0 +1,1 @@
+"""Checks of the repository's files, which need no built program and no prover."""

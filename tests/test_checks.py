@@ -1,0 +1,172 @@
+"""Each check of check-ci finds its fault in a small tree, and finds none in the same tree without it."""
+from __future__ import annotations
+
+import subprocess
+from collections.abc import Callable
+from pathlib import Path
+
+import pytest
+
+from suite.checks import edits, layout, links, manifest, memory_words, programs, versions
+from suite.checks.tree import Tree
+
+# A repository in which nothing is wrong.
+FILES: dict[str, str] = {
+    "crates/file_commands/src/command.rt": 'const VERSION: &str = "0.2.0";\n\nfn whole() -> Result<u8, AllocError> {\n'
+                                           "    one_more(2).ok_or(AllocError)\n}\n",
+    "crates/file_commands/must-fail/less.edit": "file: src/command.rt\nold: one_more(2)\nnew: one_more(1)\n",
+    "crates/file_commands/attacks/more.edit": "file: src/command.rt\nold: one_more(2)\nnew: two_more(2)\n"
+                                              "old: two_more(2)\nnew: two_more(1)\n",
+    "tests/memory_words.txt": "# An impossible case is answered so.\n"
+                              "crates/file_commands/src/command.rt whole 1 one_more(2).ok_or(AllocError)\n",
+    "tests/manifest.txt": "crates/file_commands/*.edit 2 files  # rt ci\ntests/test_one.py 1 tests  # check-ci\n",
+    "tests/test_one.py": "def test_one() -> None:\n    assert True\n",
+    "CHANGELOG.md": "# Changelog\n\n## [Unreleased]\n\n## [0.2.0] - 2026-01-01\n\n## 0.1.0\n",
+    "README.md": "# A [name](docs/A.md#two-words) and `tests/test_one.py`\n\nSee [this](#a-name-and-teststest_onepy).\n",
+    "docs/A.md": "# A\n\n```\n[no](link.md)\n```\n\n## Two words\n\nwasm-shim 0.2.0\n",
+    "clients/python/feulgama/__init__.py": '__version__ = "0.2.0"\n',
+    "clients/python/pyproject.toml": '[project]\nversion = "0.2.0"\n',
+    "clients/oci/main.go": 'package main\n\nconst Version = "0.2.0"\n\nfunc main() {}\n',
+    ".ci/packages": "# A comment.\ngit\n",
+}
+CHECKS = [edits.check, memory_words.check, links.check, versions.check, manifest.check, layout.check]
+Check = Callable[[Tree], tuple[int, list[str]]]
+
+
+def tree_of(folder: Path, changes: dict[str, str | None]) -> Tree:
+    """The tree with these files in place of its own; None takes a file away."""
+    subprocess.run(["git", "init", "-q", str(folder)], check=True)
+    files: dict[str, str | None] = {**FILES, **changes}
+    for name, text in files.items():
+        if text is not None:
+            (folder / name).parent.mkdir(parents=True, exist_ok=True)
+            (folder / name).write_text(text)
+    return Tree(folder)
+
+
+@pytest.mark.parametrize("check", CHECKS, ids=[check.__module__ for check in CHECKS])
+def test_nothing_is_wrong(check: Check, tmp_path: Path) -> None:
+    count, faults = check(tree_of(tmp_path, {}))
+    assert faults == []
+    assert count > 0
+
+
+CODE = FILES["crates/file_commands/src/command.rt"]
+WRONG: dict[str, tuple[Check, dict[str, str | None], str]] = {
+    "a stale edit": (
+        edits.check, {"crates/file_commands/src/command.rt": CODE.replace("one_more(2)", "one_more(3)")}, "is 0 times"),
+    "an edit whose text is there twice": (
+        edits.check, {"crates/file_commands/src/command.rt": CODE + "// one_more(2)\n"}, "is 2 times"),
+    "an edit whose second pair no longer fits after the first": (
+        edits.check, {"crates/file_commands/attacks/more.edit": FILES["crates/file_commands/attacks/more.edit"].replace(
+            "old: two_more(2)", "old: one_more(2)")}, "is 0 times"),
+    "an edit of a file that is not there": (
+        edits.check, {"crates/file_commands/must-fail/less.edit": "file: src/gone.rt\nold: a\nnew: b\n"},
+        "src/gone.rt is not in"),
+    "an edit that changes nothing": (
+        edits.check, {"crates/file_commands/must-fail/less.edit": "file: src/command.rt\n"}, "changes nothing"),
+    "an edit of other lines": (
+        edits.check, {"crates/file_commands/must-fail/less.edit": "file: src/command.rt\nodl: a\n"},
+        "begins no line of an edit"),
+    "too many edits of the gate": (
+        edits.check, {f"crates/file_commands/must-fail/{n}.edit": FILES["crates/file_commands/must-fail/less.edit"]
+                      for n in range(90)}, "91 edits in must-fail/"),
+    "a lost test file": (manifest.check, {"tests/test_one.py": None}, "tests/test_one.py: tests/manifest.txt says 1 tests"),
+    "a lost test": (manifest.check, {"tests/test_one.py": "def no_test() -> None:\n    pass\n"}, "there are 0"),
+    "a lost edit": (manifest.check, {"crates/file_commands/attacks/more.edit": None}, "says 2 files, and there are 1"),
+    "a test file of no suite": (manifest.check, {"tests/test_two.py": "def test_two() -> None:\n    pass\n"},
+                                "tests/test_two.py: a file of tests that no line"),
+    "a broken link": (links.check, {"docs/A.md": None}, "leads to docs/A.md, which is not there"),
+    "a link to no heading": (
+        links.check, {"docs/A.md": "# A\n\n## Other words\n"}, "leads to a heading that docs/A.md has not"),
+    "a path in code that is gone": (links.check, {"tests/test_one.py": None}, "`tests/test_one.py` is not there"),
+    "another version of the program": (
+        versions.check, {"crates/file_commands/src/command.rt": CODE.replace("0.2.0", "0.3.0")},
+        "and crates/file_commands"),
+    "another version in the changelog": (
+        versions.check, {"CHANGELOG.md": "## [Unreleased]\n\n## 0.3.0 - 2026-02-02\n\n## 0.2.0\n"},
+        "CHANGELOG.md: says 0.3.0"),
+    "another version of the client": (
+        versions.check, {"clients/python/feulgama/__init__.py": '__version__ = "0.1.0"\n'}, "says 0.1.0"),
+    "another version of its package": (
+        versions.check, {"clients/python/pyproject.toml": '[project]\nversion = "0.1.0"\n'}, "says 0.1.0"),
+    "another version of a client in Go": (
+        versions.check, {"clients/oci/main.go": 'package main\n\nconst version = "0.1.0"\n'}, "says 0.1.0"),
+    "another version on a page": (versions.check, {"docs/A.md": "wasm-shim 0.1.0\n"}, "docs/A.md: says 0.1.0"),
+    "a word of memory without a reason": (
+        memory_words.check, {"crates/file_commands/src/command.rt": CODE + "fn b() -> Refusal {\n    Refusal::NoMemory\n}\n"},
+        "crates/file_commands/src/command.rt b: Refusal::NoMemory"),
+    "a reason for a word that is gone": (
+        memory_words.check, {"crates/file_commands/src/command.rt": 'const VERSION: &str = "0.2.0";\n'}, "remove it"),
+    "a list without the reason": (
+        memory_words.check, {"tests/memory_words.txt": FILES["tests/memory_words.txt"].partition("\n")[2]},
+        "no reason is given"),
+    "spaces at the end of a line": (layout.check, {"docs/A.md": "# A \n\n## Two words\n"}, "spaces at the end"),
+    "a tab": (layout.check, {"docs/A.md": "# A\n\n\tb\n"}, "has tabs"),
+    "carriage returns": (layout.check, {"docs/A.md": "# A\r\n"}, "carriage returns"),
+    "no line feed at the end": (layout.check, {"docs/A.md": "# A"}, "does not end with a line feed"),
+    "a file that is too long": (layout.check, {"tests/test_one.py": "pass\n" * 800}, "has 800 lines"),
+}
+
+
+@pytest.mark.parametrize("name", WRONG)
+def test_fault_is_found(name: str, tmp_path: Path) -> None:
+    check, changes, said = WRONG[name]
+    _, faults = check(tree_of(tmp_path, changes))
+    assert any(said in fault for fault in faults), faults
+
+
+def test_clients_may_be_missing(tmp_path: Path) -> None:
+    gone = {name: None for name in FILES if name.startswith("clients/")}
+    assert versions.check(tree_of(tmp_path, {**gone}))[1] == []
+
+
+def made_in(code: str) -> list[str]:
+    return [place.text for place in memory_words.places_in("a.rt", f"fn f() {{\n{code}\n}}\n")]
+
+
+@pytest.mark.parametrize("code", [
+    "Err(AllocError)", "a.ok_or(AllocError)?;", "a.map_err(|_| AllocError)", "return Err(Refusal::NoMemory);",
+    "Err(_) => Err(RunError::OutOfMemory),", "Stop::OutOfMemory => Driven::NoMemory,", "ReadError::Memory", "AllocError",
+    'let text = r#"a " b"#; Err(AllocError)', "if let Err(e) = f() { return Err(AllocError); }"])
+def test_word_of_memory_is_made(code: str) -> None:
+    assert made_in(code) == [code]
+
+
+@pytest.mark.parametrize("code", [
+    "fn g() -> Result<u8, AllocError>", "// Err(AllocError)", "use std::alloc::{\n    AllocError,\n};",
+    "impl From<AllocError> for E {",
+    "if let Err(Refusal::NoMemory) = answer {", "Err(Refusal::NoMemory) if some => None,", "refusal == Refusal::NoMemory",
+    "matches!(error, Refusal::NoMemory)", "ensures { e ≡ Refusal.NoMemory }", '"Err(AllocError)"', "ExportKind::Memory",
+    "fn from(_e: AllocError) -> E {", ") -> Result<(), AllocError>"])
+def test_word_of_memory_is_not_made(code: str) -> None:
+    assert made_in(code) == []
+
+
+def test_packages_that_are_missing_are_named(tmp_path: Path) -> None:
+    tree = tree_of(tmp_path, {".ci/packages": "git\nno-such-package-of-this-name\n"})
+    assert programs.missing(tree) == ["no-such-package-of-this-name"]
+
+
+def test_style_is_refused(tmp_path: Path) -> None:
+    assert programs.check_flake8(tree_of(tmp_path, {}))[1] == []
+    assert "E501" in programs.check_flake8(tree_of(tmp_path / "b", {"tests/test_one.py": f"A = {'1' * 200}\n"}))[1][0]
+
+
+def test_types_are_refused(tmp_path: Path) -> None:
+    setup = {"setup.cfg": "[mypy]\nstrict = True\n"}
+    assert programs.check_mypy(tree_of(tmp_path, {**setup}))[1] == []
+    wrong = tree_of(tmp_path / "b", {**setup, "tests/test_one.py": "def test_one():\n    pass\n"})
+    assert "no-untyped-def" in programs.check_mypy(wrong)[1][0]
+
+
+def test_form_of_go_is_refused(tmp_path: Path) -> None:
+    assert programs.check_go(tree_of(tmp_path, {}))[1] == []
+    faults = programs.check_go(tree_of(tmp_path / "b", {"clients/oci/main.go": "package main\nfunc main() {\n}\n"}))[1]
+    assert faults == ["gofmt -l: clients/oci/main.go: run gofmt -w on these"]
+
+
+def test_faults_of_go_are_refused(tmp_path: Path) -> None:
+    code = 'package main\n\nimport "fmt"\n\nfunc main() {\n\tfmt.Printf("%d\\n", "text")\n}\n'
+    faults = programs.check_go(tree_of(tmp_path, {"clients/oci/main.go": code}))[1]
+    assert "go vet of clients/oci" in faults[0]
