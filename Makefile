@@ -1,11 +1,18 @@
-# One command for each habit; `make help` lists them. PYTHON is Debian's, which has Debian's packages.
+# One command for each habit; `make help` lists them. PYTHON is Debian's, which has Debian's packages. PROGRAM is the built program
+# that the tests run, if it is not the one of this repository.
 PYTHON ?= /usr/bin/python3
 export PYTHON
+# The crates whose programs `check-all` runs beside the product's.
+TEST_PROGRAMS = both_machines reason_rows refusals
+# Suites that can be run one by one.
+SUITES = examples rows clients/python real-programs dap-emacs compare compare-text compare-reasons compare-serve-reasons \
+	serve-threads check-history refuse-allocations hostile
 
-.PHONY: help try build gate check-ci bench
+.PHONY: help try build build-tests gate check check-all check-ci bench fmt verdict plant attacks $(SUITES)
 
 help: ## what each target does
-	@sed -n 's/^\([a-z-]*\):.*## \(.*\)/\1\t\2/p' $(MAKEFILE_LIST) | expand -t 12
+	@sed -n 's/^\([a-z-]*\):.*## \(.*\)/\1\t\2/p' $(MAKEFILE_LIST) | expand -t 13
+	@echo "A suite of tests by its name, as in make compare: $(SUITES)" | fold -s -w 120
 
 try: ## serve the first run of examples/ by the program before any proof, after some two minutes
 	tools/try
@@ -13,11 +20,39 @@ try: ## serve the first run of examples/ by the program before any proof, after 
 build: ## prove the program's crates and build it, an hour from nothing
 	tools/build
 
+build-tests: ## prove and build the programs that only check-all runs
+	set -e; for name in $(TEST_PROGRAMS); do (cd crates/$$name && rt run </dev/null >/dev/null); done
+
 gate: ## what a change has to pass: check-ci, and then all proofs (rt ci), one to one and a half hours
 	.ci/run
+
+check: ## quick tests of the built program: examples, rows, clients; under ten minutes
+	tests/run all --quick
+
+check-all: ## every test outside the gate, one after another, with one summary; an hour
+	tests/run all
 
 check-ci: ## what needs no built program: edits, lists, links, versions, layout, types, unit tests; two minutes
 	@tests/run check-ci
 
 bench: ## the speed of the built program beside other engines (docs/BENCHMARKS.md), minutes
-	$(PYTHON) bench/programs.py
+	$(PYTHON) bench/programs.py $(PROGRAM)
+
+# Asserts that a crate is named.
+named = $(if $(NAME),,$(error NAME=.. names the crate))
+
+fmt: ## lay out a crate, NAME=.., and say which of its lines are too long
+	$(named)cd crates/$(NAME) && rt fmt
+	tools/wrap --say
+
+verdict: ## prove a crate, NAME=.., from nothing, with its tests and the libraries below
+	$(named)cd crates/$(NAME) && rt verdict
+
+plant: ## the wrong bodies that a contract lets through: NAME=crate WORD=function
+	$(named)$(if $(WORD),,$(error WORD=.. names the function))cd crates/$(NAME) && rt plant --only $(WORD)
+
+attacks: ## try the attacks on a crate, NAME=.., or on all; minutes each
+	tools/attacks $(NAME)
+
+$(SUITES):
+	tests/run all $@

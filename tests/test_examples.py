@@ -1,61 +1,77 @@
-#!/usr/bin/env bash
-# Runs each script of examples/ and compares its replies with those stored beside it. A script whose
-# name ends in .replay is run by replay, any other by serve. Each has 64 MiB of address space: nothing is
-# allocated for a count that bytes only declare. A script with reasons beside it, in a file NAME.why, is also served
-# with --explain: the replies stay, and standard error has these. Runs each module that is a text, and each line of
-# commands.txt as the words of a command, and compares what it writes to its two streams, and its status.
-set -eu
-top=$(cd "$(dirname "$0")/.." && pwd)
-"$top/tools/shim" --version >/dev/null
-cd "$top/examples"
-written=$(mktemp -d)
-trap 'rm -r "$written"' EXIT
-failed=0
+"""The scripts, texts and commands of examples/: what the built program answers is what is stored beside each.
 
-# What the program writes with these words, and its status.
-told() {
-    local status=0
-    (ulimit -v 65536 && exec "$top/tools/shim" "$@") </dev/null >"$written/out" 2>"$written/err" || status=$?
-    sed 's/^/out: /' "$written/out"
-    sed 's/^/err: /' "$written/err"
-    echo "status: $status"
-}
+A script whose name ends in .replay is run by replay, any other by serve; one with reasons beside it, in a file NAME.why, is
+also served with --explain: the replies stay, and standard error has these. A module that is a text is run, and so is each
+line of commands.txt as the words of a command: both streams and the status are compared. All but the scripts with reasons
+have 64 MiB of address space: nothing is allocated for a count that bytes only declare.
+"""
+from __future__ import annotations
 
-for script in *.jsonl; do
-    name=${script%.jsonl}
-    case $name in
-        *.replay) words="replay $script" ;;
-        *) words=serve ;;
-    esac
-    # shellcheck disable=SC2086
-    if (ulimit -v 65536 && "$top/tools/shim" $words <"$script") | diff - "$name.expected"; then
-        echo "ok $name"
-    else
-        failed=1
-    fi
-done
-for reasons in *.why; do
-    name=${reasons%.why}
-    if { "$top/tools/shim" serve --explain <"$name.jsonl" 2>&3 | diff - "$name.expected"; } 3>&1 | diff - "$reasons"; then
-        echo "ok $name, with reasons"
-    else
-        failed=1
-    fi
-done
-for module in *.wat; do
-    if told run "$module" | diff - "$module.expected"; then
-        echo "ok $module"
-    else
-        failed=1
-    fi
-done
-if while IFS= read -r words; do
-    echo "wasm-shim $words"
-    # shellcheck disable=SC2086
-    told $words
-done <commands.txt | diff - commands.expected; then
-    echo "ok commands"
-else
-    failed=1
-fi
-exit $failed
+import resource
+import subprocess
+from pathlib import Path
+
+import pytest
+
+from suite.places import EXAMPLES, built
+
+pytestmark = pytest.mark.program
+MEMORY = 64 * 1024 * 1024
+
+
+def limit() -> None:
+    resource.setrlimit(resource.RLIMIT_AS, (MEMORY, MEMORY))
+
+
+def run(words: list[str], script: Path = Path("/dev/null"), is_limited: bool = True) -> subprocess.CompletedProcess[bytes]:
+    """Runs the program under its own name in examples/, with a script as its input."""
+    with script.open("rb") as file:
+        return subprocess.run(["wasm-shim", *words], executable=built(), cwd=EXAMPLES, stdin=file, capture_output=True,
+                              timeout=300, preexec_fn=limit if is_limited else None, check=False)
+
+
+def told(words: list[str]) -> bytes:
+    """What the program writes with these words to its two streams, and its status."""
+    done = run(words)
+    lines = [kind + line for kind, stream in ((b"out: ", done.stdout), (b"err: ", done.stderr))
+             for line in stream.splitlines(keepends=True)]
+    return b"".join([*lines, f"status: {done.returncode}\n".encode()])
+
+
+def commands() -> list[tuple[str, bytes]]:
+    """The commands of commands.txt, each with what is stored for it."""
+    lines = (EXAMPLES / "commands.txt").read_text().splitlines()
+    stored = (EXAMPLES / "commands.expected").read_bytes()
+    found = []
+    for line, following in zip(lines, [*lines[1:], None]):
+        head = f"wasm-shim {line}\n".encode()
+        assert stored.startswith(head), f"commands.expected lacks `{line}`"
+        end = len(stored) if following is None else stored.index(f"\nwasm-shim {following}\n".encode()) + 1
+        found.append((line, stored[len(head):end]))
+        stored = stored[end:]
+    return found
+
+
+@pytest.mark.parametrize("name", sorted(path.stem for path in EXAMPLES.glob("*.jsonl")))
+def test_script(name: str) -> None:
+    script = EXAMPLES / f"{name}.jsonl"
+    words = ["replay", script.name] if name.endswith(".replay") else ["serve"]
+    assert run(words, script).stdout == (EXAMPLES / f"{name}.expected").read_bytes()
+
+
+@pytest.mark.parametrize("name", sorted(path.stem for path in EXAMPLES.glob("*.why")))
+def test_script_with_reasons(name: str) -> None:
+    done = run(["serve", "--explain"], EXAMPLES / f"{name}.jsonl", is_limited=False)
+    assert done.stdout == (EXAMPLES / f"{name}.expected").read_bytes()
+    assert done.stderr == (EXAMPLES / f"{name}.why").read_bytes()
+
+
+@pytest.mark.parametrize("name", sorted(path.name for path in EXAMPLES.glob("*.wat")))
+def test_text(name: str) -> None:
+    assert told(["run", name]) == (EXAMPLES / f"{name}.expected").read_bytes()
+
+
+@pytest.mark.parametrize("number", range(len((EXAMPLES / "commands.txt").read_text().splitlines())))
+def test_command(number: int) -> None:
+    line, stored = commands()[number]
+    assert told(line.split()) == stored

@@ -1,6 +1,6 @@
-;;; dap-screenshot.el --- a picture of Emacs' dap-mode with the adapter of clients/python -*- lexical-binding: t -*-
+;;; screenshot.el --- a picture of Emacs' dap-mode with the adapter of clients/python -*- lexical-binding: t -*-
 ;;; Commentary:
-;; Run by tools/dap-screenshot, in an Emacs with a window.  The environment variable FEULGAMA names the adapter's program,
+;; Run by tests/run dap-screenshot, in an Emacs with a window.  The environment variable FEULGAMA names the adapter's program,
 ;; EXAMPLES the folder with words.c and words.wasm, and RAW the file that the picture is written to.
 ;;; Code:
 (setq inhibit-startup-screen t
@@ -103,4 +103,4 @@
            (kill-emacs 1))))
 
 (run-with-timer 1 nil #'take-or-end)
-;;; dap-screenshot.el ends here
+;;; screenshot.el ends here

@@ -1,6 +1,6 @@
-;;; dap-emacs.el --- a session of Emacs' dap-mode with the adapter of clients/python -*- lexical-binding: t -*-
+;;; session.el --- a session of Emacs' dap-mode with the adapter of clients/python -*- lexical-binding: t -*-
 ;;; Commentary:
-;; Run by tools/dap-emacs in batch mode.  The environment variable FEULGAMA names the adapter's program, and EXAMPLES
+;; Run by tests/test_dap_emacs.py in batch mode.  The environment variable FEULGAMA names the adapter's program, and EXAMPLES
 ;; the folder with words.c and words.wasm.  Prints a line for each step; a step that fails ends Emacs with status 1.
 ;;; Code:
 (require 'dap-mode)
@@ -85,4 +85,4 @@
   (with-current-buffer (dap--debug-session-output-buffer session)
     (princ (format "output: %s\n" (string-trim (replace-regexp-in-string "\n" " | " (string-trim (buffer-string))))))))
 (kill-emacs 0)
-;;; dap-emacs.el ends here
+;;; session.el ends here

@@ -1,13 +1,12 @@
-#!/usr/bin/env python3
 """Checks that what several callers of `serve` were answered is a history that a board can have had.
 
-    tools/check-history [--order] [--states N] [--module FILE].. SCRIPT.. <REPLIES
-    tools/check-history --self-test [COUNT [SEED]]
+    tests/run check-history [--order] [--states N] [--module FILE].. SCRIPT.. <REPLIES
+    tests/run check-history --self-test [COUNT [SEED]]
 
 The SCRIPTs are those that `wasm-shim serve SCRIPT..` was given, in their order, and REPLIES is what it printed. The
 history is legal if there is one order of all calls, in which each caller's own calls keep their order, so that each
 reply is what one board answers at its place, where slices of tasks that run may have been made between any two calls.
-The board is in Python, in tools/history/ and tools/reference/, from docs/PROTOCOL.md and docs/definitions; it knows
+The board is in Python, in tests/suite/history/ and reference/, from docs/PROTOCOL.md and docs/definitions; it knows
 nothing of the program.
 
 It prints whether the history is legal, with --order also that order: caller, line, request and reply. If it is not, it
@@ -30,39 +29,36 @@ import hashlib
 import sys
 from pathlib import Path
 
-from history.report import report
-from history.search import MOST_STATES
-from history.trials import self_test
+from suite.history.report import report
+from suite.history.search import MOST_STATES
+from suite.history.trials import self_test
+from suite.summary import Summary
 
 
-def words_of() -> argparse.Namespace:
-    parser = argparse.ArgumentParser(prog="tools/check-history", description=__doc__,
+def words_of(words: list[str]) -> argparse.Namespace:
+    parser = argparse.ArgumentParser(prog="tests/run check-history", description=__doc__,
                                      formatter_class=argparse.RawDescriptionHelpFormatter)
     parser.add_argument("--order", action="store_true")
     parser.add_argument("--states", type=int, default=MOST_STATES, metavar="N")
     parser.add_argument("--module", type=Path, action="append", default=[], metavar="FILE")
     parser.add_argument("--self-test", action="store_true")
-    parser.add_argument("words", nargs="+" if "--self-test" not in sys.argv else "*", metavar="SCRIPT")
-    return parser.parse_args()
+    parser.add_argument("words", nargs="+" if "--self-test" not in words else "*", metavar="SCRIPT")
+    return parser.parse_args(words)
 
 
-def main() -> int:
-    words = words_of()
+def main(given: list[str]) -> int:
+    words = words_of(given)
     if words.self_test:
         count, seed = [*map(int, words.words), *[200, 1][len(words.words):]]
         faults, tried = self_test(count, seed)
-        print(*faults, f"{len(faults)} faults: {tried}", sep="\n")
-        return 1 if faults else 0
+        print(*faults, f"{len(faults)} faults: {', '.join(f'{number} {kind}' for kind, number in tried.items())}", sep="\n")
+        return Summary("check-history", sum(tried.values()) - len(faults), len(faults)).end()
     try:
         files, scripts = ([Path(name).read_bytes() for name in names] for names in (words.module, words.words))
     except OSError as error:
-        print(f"tools/check-history: {error}", file=sys.stderr)
+        print(f"check-history: {error}", file=sys.stderr)
         return 2
     modules = {"sha256:" + hashlib.sha256(data).hexdigest(): data for data in files}
     found = report(scripts, sys.stdin.buffer.read(), modules, words.order, words.states)
     print(*found.lines, sep="\n")
     return {True: 0, False: 1, None: 2}[found.is_legal]
-
-
-if __name__ == "__main__":
-    sys.exit(main())

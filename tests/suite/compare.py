@@ -1,22 +1,22 @@
-#!/usr/bin/env python3
 """Compares the built program with a second reading of the standards, over random modules and lines.
 
-    tools/compare [--dry | --both] [SEED [ROUNDS]]
+    tests/run compare [--dry | --both] [SEED [ROUNDS]]
 
-The second reading is tools/reference/: a decoder, a validator, a reader of lines and configs, a board and a debugger,
+The second reading is tests/suite/reference/: a decoder, a validator, a reader of lines and configs, a board and a debugger,
 written in Python from the standards and docs/PROTOCOL.md. A proof shows that the program does what the definitions say;
 this shows, as far as trials can, that the definitions say what was meant. A round is 60 modules, each put, created,
 started, run in random slices, asked for its state after each, stepped and inspected, and 120 lines,
 many of them bent, in replay and in serve. Most modules are valid programs that branch, call, trap and reach the
 memory's end; the rest are bent ones. After ten modules with a difference, or all rounds, those are printed, the
 smallest module first, and the status is 1; so it is at the first difference of other lines. Without words the seed is
-1, and there are 100 rounds. Build the program first (tools/shim --version). With --dry there is no program: the second
-reading alone answers, and what it answered is counted.
+1, and there are 100 rounds. Cases are modules, and scripts of other lines. Build the program first (make build); PROGRAM in
+the environment names another one. With --dry there is no program: the second reading alone answers, and what it answered is
+counted.
 
 With --both it is another program that is compared, `both_machines`, over the modules alone: it runs each on the machine
 that programs use and on the one that keeps labels, and prints what the second shows at random turns, and whether the
 first shows the same there. Both are to show the end, the output and the frames that the second reading has. Build it
-first (rt run </dev/null in crates/both_machines).
+first (rt run </dev/null in crates/both_machines); BOTH_MACHINES in the environment names another one.
 """
 import collections
 import hashlib
@@ -27,31 +27,34 @@ import random
 import subprocess
 import sys
 import tempfile
-from pathlib import Path
+from typing import Any
 
-from reference import callers, frames, generate, programs, wasm
-from reference.board import Board, Refused, line_of
-from reference.execute import Machine
+from suite.places import EXAMPLES, built
+from suite.reference import callers, frames, generate, programs, wasm
+from suite.reference.board import Board, Refused, line_of
+from suite.reference.execute import Machine
+from suite.summary import COULD_NOT, Summary
 
-TOP = Path(__file__).resolve().parent.parent
-PROGRAM = TOP / "crates/wasm_shim/out/wasm_shim"
-BOTH_MACHINES = TOP / "crates/both_machines/out/both_machines"
-FIRST_RUN = TOP / "examples/first_run.jsonl"
+FIRST_RUN = EXAMPLES / "first_run.jsonl"
+# A line, the reply or its number, and what differs from it.
+Difference = tuple[Any, bytes, bytes]
+# Modules with a difference: the size of each, its script, and the first difference.
+Differing = list[tuple[int, list[bytes], Difference]]
 
 
-def replies(lines, in_replay):
+def replies(lines: list[bytes], in_replay: bool) -> list[bytes]:
     script = b"\n".join([*lines, b""])
     if not in_replay:
-        run = subprocess.run([PROGRAM, "serve"], input=script, stdout=subprocess.PIPE, check=True)
+        run = subprocess.run([built(), "serve"], input=script, stdout=subprocess.PIPE, check=True)
     else:
         with tempfile.NamedTemporaryFile() as file:
             file.write(script)
             file.flush()
-            run = subprocess.run([PROGRAM, "replay", file.name], stdout=subprocess.PIPE, check=True)
+            run = subprocess.run([built(), "replay", file.name], stdout=subprocess.PIPE, check=True)
     return run.stdout.split(b"\n")[:-1]
 
 
-def some_module():
+def some_module() -> tuple[bytes, list[int]]:
     """A module, and budgets of the slices that run it."""
     chance = random.random()
     if chance < 0.02:
@@ -64,7 +67,7 @@ def some_module():
     return generate.bent(data) if random.random() < 0.06 else data, slices
 
 
-def stops(data):
+def stops(data: bytes) -> list[int]:
     """Budgets of slices that end at random turns of a module, and of one that goes on from there."""
     machine = Machine(wasm.Decoder(data).module())
     machine.run(3000)
@@ -72,26 +75,26 @@ def stops(data):
     return [max(1, end - before) for before, end in zip([0, *ends], ends)] + [10_000]
 
 
-def some_place():
+def some_place() -> dict[str, int]:
     return {"func": random.randint(0, 5), "place": random.choice([random.randint(0, 9), random.randint(0, 120)])}
 
 
-def looks():
+def looks() -> list[dict[str, Any]]:
     """Looks at a task, some while its slice is out."""
-    peek = {"op": "peek", "address": random.choice([0, 65_530, 65_536, random.randrange(70_000)]),
-            "length": random.choice([0, 1, 6, 256, 257])}
+    peek: dict[str, Any] = {"op": "peek", "address": random.choice([0, 65_530, 65_536, random.randrange(70_000)]),
+                            "length": random.choice([0, 1, 6, 256, 257])}
     return random.sample([{"op": "inspect"}, {"op": "inspect"}, peek], random.randint(1, 3))
 
 
-def debugging():
+def debugging() -> list[dict[str, Any]]:
     """Pauses a task, looks at it, makes some steps and lets it run on; at times with a breakpoint more or fewer."""
     counts = random.choices([1, 1, 1, 2, 2, 7, 30, 1000, 0, 1001], k=random.randint(0, 3))
-    steps = [line for count in counts for line in [{"op": "step", "count": count}, *looks()]]
-    breaks = [{"op": random.choice(["break", "unbreak"]), **some_place()} for _ in range(random.choice([0, 0, 1]))]
+    steps = [line for count in counts for line in [dict[str, Any](op="step", count=count), *looks()]]
+    breaks = [dict[str, Any](op=random.choice(["break", "unbreak"]), **some_place()) for _ in range(random.choice([0, 0, 1]))]
     return [{"op": "pause"}, *looks(), *breaks, *steps, {"op": "resume"}]
 
 
-def lines_of(name, data, slices):
+def lines_of(name: str, data: bytes, slices: list[int]) -> list[bytes]:
     """Lines that put, create and run a module, at times with a pause or a signal while a slice is out, and with
     breakpoints, steps and looks at its frames and its memory."""
     config = json.dumps({
@@ -103,28 +106,29 @@ def lines_of(name, data, slices):
         },
         "annotations": {"dev.shim.module": "sha256:" + hashlib.sha256(data).hexdigest()},
     })
-    lines = [
+    lines: list[dict[str, Any]] = [
         {"op": "put", "hex": data.hex()},
         {"op": "create", "id": name, "config": config},
     ]
     lines += [{"op": "break", "id": name, **some_place()} for _ in range(random.choice([0, 0, 1, 4]))]
     lines += [{"id": name, **look} for look in looks() if random.random() < 0.1]
     lines.append({"op": "start", "id": name})
-    states, others = [{"op": "state"}] * 37, [{"op": "pause"}, {"op": "kill", "signal": 9}]
+    states: list[dict[str, Any]] = [{"op": "state"}] * 37
+    others: list[dict[str, Any]] = [{"op": "pause"}, {"op": "kill", "signal": 9}]
     for number, budget in enumerate(slices, 1):
         between = random.choice([*states, *others, *looks()[:1] * 4])
-        slice_ = [{"op": "take", "budget": budget}, between, {"op": "return"}, {"op": "state"}]
+        slice_: list[dict[str, Any]] = [{"op": "take", "budget": budget}, between, {"op": "return"}, {"op": "state"}]
         slice_ += debugging() if random.random() < (0.1 if number == len(slices) else 0.5) else [{"op": "resume"}]
         lines += [{"id": name, **line} for line in slice_]
     lines += [{"op": "output", "id": name, "stream": stream} for stream in (1, 2)] + [{"op": "state", "id": name}]
     return [json.dumps(line).encode() for line in lines]
 
 
-def compare_modules(tally, differing, is_dry):
+def compare_modules(tally: "Tally", differing: Differing, is_dry: bool) -> None:
     """Runs 60 modules; adds those with another reply than the second reading's to the differing ones."""
     scripts, board = [lines_of(f"t{number}", *some_module()) for number in range(60)], Board(True)
     wanted = [[board.answer(line) for line in script] for script in scripts]
-    found = iter(sum(wanted, []) if is_dry else replies(sum(scripts, []), True))
+    found = iter(sum(wanted, list[bytes]()) if is_dry else replies(sum(scripts, list[bytes]()), True))
     for script, replies_ in zip(scripts, wanted):
         told = [(line, reply, next(found, b"")) for line, reply in zip(script, replies_)]
         first = next((reply for reply in told if reply[1] != reply[2]), None)
@@ -135,12 +139,12 @@ def compare_modules(tally, differing, is_dry):
         tally.ends[end_of(told[-1][1])] += 1
 
 
-def compare_machines(tally, differing):
+def compare_machines(tally: "Tally", differing: Differing) -> None:
     """Runs 60 modules on both machines; adds those that either shows in another way than the second reading."""
     modules = [(data, [*itertools.accumulate(slices)]) for data, slices in (some_module() for _ in range(60))]
     lines = [" ".join([data.hex(), *map(str, counts)]).encode() for data, counts in modules]
     script = b"\n".join([*lines, b""])
-    run = subprocess.run([BOTH_MACHINES], input=script, stdout=subprocess.PIPE, check=True)
+    run = subprocess.run([built("both_machines")], input=script, stdout=subprocess.PIPE, check=True)
     answers = [answer.split(b"\n") for answer in run.stdout.split(b"\n\n")] + [[]] * len(modules)
     for line, (data, counts), found in zip(lines, modules, answers):
         wanted = shown_at(data, counts)
@@ -153,7 +157,7 @@ def compare_machines(tally, differing):
         tally.ends[ending(wanted[-1])] += 1
 
 
-def shown_at(data, counts):
+def shown_at(data: bytes, counts: list[int]) -> list[bytes]:
     """What the program of both machines is to print of a module: a line after each of these counts of turns, or one for
     its refusal."""
     for number, place in wasm.refusals_of(data):
@@ -167,34 +171,34 @@ def shown_at(data, counts):
     return lines
 
 
-def told_end(end):
+def told_end(end: dict[str, Any] | None) -> str:
     """How a task has ended, in words."""
     if end is None:
         return "none"
-    cause = end["cause"]
+    cause: str = end["cause"]
     return {"exit": f"exit {end['exit']}", "trap": f"trap {end.get('trap')}"}.get(cause, cause)
 
 
-def ending(told):
+def ending(told: bytes) -> str:
     """How a module ended, by the last line of what is printed of it."""
     parts = told.decode().split("\t")
     return "refused" if len(parts) == 1 else "exit" if parts[1].startswith("exit") else parts[1]
 
 
-def end_of(state):
+def end_of(state: bytes) -> str:
     """How a task ended, by the reply to its last state."""
     members = json.loads(state)
-    return members.get("trap") or members.get("cause") or members.get("status") or "no task"
+    return str(members.get("trap") or members.get("cause") or members.get("status") or "no task")
 
 
-def show(line, wanted, found):
+def show(line: Any, wanted: bytes, found: bytes) -> None:
     """Prints a line and what it is answered, of long replies the part where they differ."""
     same = len(os.path.commonprefix([wanted, found]))
     part = slice(max(0, same - 400), same + 400)
     print(f"line    {line!r}\nwanted  {wanted[part]!r}\nanswer  {found[part]!r}")
 
 
-def of_requests():
+def of_requests() -> list[bytes]:
     """A content, and 120 lines that are mostly requests over it."""
     put = FIRST_RUN.read_bytes().splitlines()[0]
     data = bytes.fromhex(json.loads(put)["hex"])
@@ -202,10 +206,10 @@ def of_requests():
     return [put, *(generate.line(data, digest) for _ in range(120))]
 
 
-def waited_for(lines):
+def waited_for(lines: list[bytes]) -> list[bytes]:
     """The lines for `serve`: after each by which a task runs comes a wait for it, so that no reply hangs on how far
     the workers have come."""
-    board, found = Board(False), []
+    board, found = Board(False), list[bytes]()
     for line in lines:
         found.append(line)
         reply = json.loads(board.answer(line))
@@ -215,7 +219,7 @@ def waited_for(lines):
     return found
 
 
-def compare(lines, in_replay, tally, is_dry):
+def compare(lines: list[bytes], in_replay: bool, tally: "Tally", is_dry: bool) -> bool:
     """Whether all replies are as the second reading has them; says where the first one is not."""
     lines = lines if in_replay else waited_for(lines)
     board = Board(in_replay)
@@ -232,10 +236,11 @@ def compare(lines, in_replay, tally, is_dry):
 class Tally:
     """How many replies there were, by the refusal, and of inspects by what they show; and how modules ended."""
 
-    def __init__(self):
-        self.numbers, self.frames, self.blocks, self.ends = (collections.Counter() for _ in range(4))
+    def __init__(self) -> None:
+        self.numbers, self.frames, self.blocks = (collections.Counter[int]() for _ in range(3))
+        self.ends = collections.Counter[str]()
 
-    def add(self, line, reply):
+    def add(self, line: Any, reply: bytes) -> None:
         members = json.loads(reply)
         self.numbers[members.get("number", 0)] += 1
         if "frames" in members:
@@ -243,7 +248,7 @@ class Tally:
             self.frames[min(len(frames_), 3)] += 1
             self.blocks[min(max((len(frame["labels"]) for frame in frames_), default=0), 3)] += 1
 
-    def __str__(self):
+    def __str__(self) -> str:
         numbers = [f"{count} of {key}" if key else f"{count} accepted" for key, count in sorted(self.numbers.items())]
         ends = [f"{count} {key}" for key, count in sorted(self.ends.items())]
         return (f"{self.numbers.total()} replies: {', '.join(numbers)}\n"
@@ -252,14 +257,14 @@ class Tally:
                 f"{self.ends.total()} modules: {', '.join(ends)}")
 
 
-def shares(counts):
+def shares(counts: collections.Counter[int]) -> str:
     """How often there is each number, and its share; 3 stands for more too."""
     total = counts.total()
     told = [f"{count} of {key}{'+' * (key == 3)} ({100 * count / total:.0f}%)" for key, count in sorted(counts.items())]
     return ", ".join(told)
 
 
-def compare_round(mode, tally, differing):
+def compare_round(mode: str | None, tally: Tally, differing: Differing) -> bool:
     """Makes a round. Whether it can go on: a line that is no part of a module's script differs nowhere."""
     if mode == "--both":
         compare_machines(tally, differing)
@@ -269,17 +274,21 @@ def compare_round(mode, tally, differing):
     return all(compare(of_requests(), in_replay, tally, is_dry) for in_replay in (True, False))
 
 
-def main(words):
-    mode = words.pop(0) if words[:1] in (["--dry"], ["--both"]) else None
-    if len(words) > 2 or not all(word.isdigit() for word in words):
-        print(__doc__.strip(), file=sys.stderr)
-        return 2
-    seed, rounds = ([int(word) for word in words] + [1, 100][len(words):])
+def main(words: list[str]) -> int:
+    mode = words[0] if words[:1] in (["--dry"], ["--both"]) else None
+    numbers = words[1:] if mode else words
+    if len(numbers) > 2 or not all(word.isdigit() for word in numbers):
+        is_asked = numbers in (["-h"], ["--help"])
+        print((__doc__ or "").strip(), file=sys.stdout if is_asked else sys.stderr)
+        return 0 if is_asked else COULD_NOT
+    seed, rounds = ([int(word) for word in numbers] + [1, 100][len(numbers):])
     random.seed(seed)
-    tally, differing = Tally(), []
+    tally, differing, scripts, failed = Tally(), list[Any](), 0, 0
     for _ in range(rounds):
         if not compare_round(mode, tally, differing):
-            return 1
+            failed = 1
+            break
+        scripts += 0 if mode else 2
         if len(differing) >= 10:
             break
     for _, script, first in sorted(differing):
@@ -287,8 +296,6 @@ def main(words):
         show(*first)
     told = f"{len(differing)} modules differ" if differing else "no difference"
     print(tally, "nothing was compared" if mode == "--dry" else told, sep="\n")
-    return 1 if differing else 0
-
-
-if __name__ == "__main__":
-    sys.exit(main(sys.argv[1:]))
+    modules = 0 if mode == "--dry" else tally.ends.total()
+    name = f"compare{(mode or '').removeprefix('-')}"
+    return Summary(name, modules - len(differing) + scripts, len(differing) + failed).end()

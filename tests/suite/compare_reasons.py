@@ -1,7 +1,6 @@
-#!/usr/bin/env python3
 """Asserts that `--explain` changes nothing but for a line, over random files that are mostly broken.
 
-    tools/compare-reasons [SEED [COUNT]]
+    tests/run compare-reasons [SEED [COUNT]]
 
 Each file is given to `asm`, `check`, `check --task` or `run` (only if a second reading of the standards has it refused), the
 last two also with `--memory` and `--env`, with and without the option, by the program `reason_rows`, which ends with an
@@ -9,23 +8,27 @@ error where standard output, status or what is first on standard error differ. E
 line, and nothing else has one. Of a task the second reading says which refusals there may be. For a 7 it
 also says how far it came: no reason names an offset after that, and one that speaks of one byte names the last one that
 was read; and for an 8 which operands the instruction at fault finds, and which it takes if these are always the same.
-The files are bent modules of tools/reference and bent texts of examples/ and of the stored rows. Configs and
+The files are bent modules of tests/suite/reference and bent texts of examples/ and of the stored rows. Configs and
 lines of requests and replays, which are bent too, have a reason exactly if the second reading refuses them. Prints how
 often each refusal came, and ends with 1 at the first that is answered otherwise. Without words the seed is 1, and there
-are 10,000 in all. Build the program first (rt run </dev/null in crates/reason_rows).
+are 10,000 in all. Build the program first (rt run </dev/null in crates/reason_rows); REASON_ROWS in the environment names
+another one.
 """
+from __future__ import annotations
+
+import argparse
 import collections
+import contextlib
 import random
 import re
 import subprocess
-import sys
 from collections.abc import Sequence
-from pathlib import Path
+from unittest import mock
 
-from reference import board, generate, programs, wasm
+from suite.places import EXAMPLES, TOP, built
+from suite.reference import board, generate, programs, wasm
+from suite.summary import Summary
 
-TOP = Path(__file__).resolve().parent.parent
-PROGRAM = TOP / "crates/reason_rows/out/reason_rows"
 ROWS = TOP / "crates/reason_rows/stdin"
 # The digest of b"abc".
 DIGEST = "sha256:ba7816bf8f01cfea414140de5dae2223b00361a396177a9cb410ff61f20015ad"
@@ -55,20 +58,16 @@ class Tracked(wasm.Reader):
         Tracked.furthest = max(Tracked.furthest, self.base + self.at)
         return taken
 
-    def part(self) -> tuple["Tracked", bool]:
+    def part(self) -> tuple[Tracked, bool]:
         found, is_whole = super().part()
         return Tracked(found.data, self.base + self.at - len(found.data)), is_whole
 
 
 def read_bytes(data: bytes) -> int:
     """How many bytes the second reading has read before it found that they encode no module."""
-    plain, wasm.Reader, Tracked.furthest = wasm.Reader, Tracked, 0
-    try:
+    Tracked.furthest = 0
+    with mock.patch.object(wasm, "Reader", Tracked), contextlib.suppress(wasm.NotSpelled):
         wasm.Decoder(data).module()
-    except wasm.NotSpelled:
-        pass
-    finally:
-        wasm.Reader = plain
     return Tracked.furthest
 
 
@@ -129,7 +128,7 @@ def is_typed(data: bytes, reason: str) -> bool:
 
 def texts() -> list[str]:
     """Texts of modules: those of examples/ and of the stored rows."""
-    found = [path.read_text() for path in sorted((TOP / "examples").glob("*.wat"))]
+    found = [path.read_text() for path in sorted(EXAMPLES.glob("*.wat"))]
     rows = [row.split(" => ")[1] for row in ROWS.read_text().splitlines() if " => text " in row]
     return found + [row.removeprefix("text ").replace("\\n", "\n") for row in rows]
 
@@ -212,12 +211,18 @@ def rows(count: int) -> list[tuple[str, Wanted]]:
     return [row(sources) for _ in range(count)]
 
 
+class Differs(Exception):
+    """A row that is answered otherwise than it has to be."""
+
+
 def answers(asked: list[str]) -> list[str]:
     script = "".join(f"{row}\n" for row in asked).encode()
-    run = subprocess.run([PROGRAM], input=script, stdout=subprocess.PIPE, check=False)
+    run = subprocess.run([built("reason_rows")], input=script, stdout=subprocess.PIPE, check=False)
     found = run.stdout.decode("utf-8", "replace").splitlines()
     if run.returncode != 0:
-        sys.exit(f"ended with {run.returncode} at: {asked[len(found)] if len(found) < len(asked) else 'the end'}")
+        raise Differs(f"ended with {run.returncode} at: {asked[len(found)] if len(found) < len(asked) else 'the end'}")
+    if len(found) - 1 != len(asked):
+        raise Differs(f"{len(found) - 1} answers to {len(asked)} rows")
     return found[:-1]
 
 
@@ -230,29 +235,37 @@ def is_one_of(refusal: str, wanted: set[int]) -> bool:
     return refusal == "accepted" if not wanted else any(refusal.startswith(f"refused {n} ") for n in wanted)
 
 
-def main() -> None:
-    words = [int(word) for word in sys.argv[1:]]
-    random.seed(words[0] if words else 1)
-    asked = rows(words[1] if len(words) > 1 else 10_000)
-    found = answers([line for line, _ in asked])
-    if len(found) != len(asked):
-        sys.exit(f"{len(found)} answers to {len(asked)} rows")
+def refusal_told(line: str, wanted: Wanted, answer: str) -> str:
+    """The refusal of a row that is answered as it has to be."""
+    told, _, reason = answer.rpartition("\t")
+    refusal = refusal_of(told)
+    if (reason == "none") != (refusal == "accepted"):
+        raise Differs(f"{line}\n{told}\n{reason}")
+    if wanted is not None and not is_one_of(refusal, wanted):
+        raise Differs(f"{line}\n{told}\nin place of one of {sorted(wanted)}")
+    if refusal.startswith("refused 7") and not is_placed(bytes.fromhex(line.split(" => ")[1]), reason):
+        raise Differs(f"{line}\n{told}\n{reason}\nanother offset")
+    if refusal.startswith("refused 8") and not is_typed(bytes.fromhex(line.split(" => ")[1]), reason):
+        raise Differs(f"{line}\n{told}\n{reason}\nother operands")
+    return refusal
+
+
+def main(words: list[str]) -> int:
+    parser = argparse.ArgumentParser(prog="tests/run compare-reasons", description=__doc__,
+                                     formatter_class=argparse.RawDescriptionHelpFormatter)
+    parser.add_argument("seed", nargs="?", type=int, default=1, metavar="SEED")
+    parser.add_argument("count", nargs="?", type=int, default=10_000, metavar="COUNT")
+    given = parser.parse_args(words)
+    built("reason_rows")
+    random.seed(given.seed)
+    asked = rows(given.count)
     counts: collections.Counter[str] = collections.Counter()
-    for (line, wanted), answer in zip(asked, found):
-        told, _, reason = answer.rpartition("\t")
-        refusal = refusal_of(told)
-        counts[refusal] += 1
-        if (reason == "none") != (refusal == "accepted"):
-            sys.exit(f"{line}\n{told}\n{reason}")
-        if wanted is not None and not is_one_of(refusal, wanted):
-            sys.exit(f"{line}\n{told}\nin place of one of {sorted(wanted)}")
-        if refusal.startswith("refused 7") and not is_placed(bytes.fromhex(line.split(" => ")[1]), reason):
-            sys.exit(f"{line}\n{told}\n{reason}\nanother offset")
-        if refusal.startswith("refused 8") and not is_typed(bytes.fromhex(line.split(" => ")[1]), reason):
-            sys.exit(f"{line}\n{told}\n{reason}\nother operands")
+    try:
+        for (line, wanted), answer in zip(asked, answers([line for line, _ in asked])):
+            counts[refusal_told(line, wanted, answer)] += 1
+    except Differs as difference:
+        print(difference)
+        return Summary("compare-reasons", counts.total(), 1).end()
     for refusal, count in sorted(counts.items()):
         print(f"{count:6} {refusal}")
-
-
-if __name__ == "__main__":
-    main()
+    return Summary("compare-reasons", counts.total()).end()

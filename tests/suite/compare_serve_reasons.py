@@ -1,31 +1,32 @@
-#!/usr/bin/env python3
 """Asserts that `serve --explain --log` answers as `serve` does, over random lines, and says why each is refused.
 
-    tools/compare-serve-reasons [SEED [COUNT]]
+    tests/run compare-serve-reasons [SEED [COUNT]]
 
 The lines are bent requests, puts of bent modules and of texts, and creates from them; no task is started, so replies do not
 depend on when a worker runs. Standard output and status are to be the same with the options as without, and standard error is
 to have one line `why: line N, NUMBER NAME: ..` for each refused reply, one of the log for each of them, and one for each
 create. Prints how often each refusal came. Without words the seed is 1, and there are 10,000 lines. Build the program
-first (tools/shim --version); PROGRAM in the environment names another one.
+first (make build); PROGRAM in the environment names another one.
 """
+from __future__ import annotations
+
+import argparse
 import collections
 import hashlib
 import json
-import os
 import random
 import re
 import subprocess
-import sys
-from pathlib import Path
+from collections.abc import Iterator
+from typing import Any
 
-from reference import board, generate, programs
+from suite.places import EXAMPLES, built
+from suite.reference import board, generate, programs
+from suite.summary import Summary
 
-TOP = Path(__file__).resolve().parent.parent
-PROGRAM = os.environ.get("PROGRAM", str(TOP / "crates/wasm_shim/out/wasm_shim"))
 DIGEST = "sha256:ba7816bf8f01cfea414140de5dae2223b00361a396177a9cb410ff61f20015ad"
 WHY = re.compile(r"why: line (\d+), (\d+) (\w+): ..")
-TEXTS = [path.read_text() for path in sorted((TOP / "examples").glob("*.wat"))]
+TEXTS = [path.read_text() for path in sorted(EXAMPLES.glob("*.wat"))]
 
 
 def is_of_a_run(line: bytes) -> bool:
@@ -49,7 +50,8 @@ def made_lines() -> list[bytes]:
     data = generate.module() if random.random() < 0.5 else programs.program()
     data = generate.bent(data) if random.random() < 0.5 else data
     digest = "sha256:" + hashlib.sha256(data).hexdigest()
-    config = {"ociVersion": "1.0.2", "process": {"args": ["a"], "cwd": "/"}, "annotations": {"dev.shim.module": digest}}
+    config: dict[str, Any] = {"ociVersion": "1.0.2", "process": {"args": ["a"], "cwd": "/"},
+                              "annotations": {"dev.shim.module": digest}}
     if random.random() < 0.3:
         config["linux"] = {"resources": {"memory": {"limit": random.choice([0, 65_536, 16_777_216])}}}
     return [
@@ -76,32 +78,40 @@ def script(count: int) -> list[bytes]:
 
 def serve(lines: list[bytes], words: list[str]) -> tuple[int, list[str], list[str]]:
     text = b"".join(line.replace(b"\n", b" ") + b"\n" for line in lines)
-    run = subprocess.run([PROGRAM, "serve", *words], input=text, capture_output=True, check=False)
+    run = subprocess.run([built(), "serve", *words], input=text, capture_output=True, check=False)
     return run.returncode, run.stdout.decode().splitlines(), run.stderr.decode("utf-8", "replace").splitlines()
 
 
-def main() -> None:
-    words = [int(word) for word in sys.argv[1:]]
-    random.seed(words[0] if words else 1)
-    lines = script(words[1] if len(words) > 1 else 10_000)
-    status, plain, _ = serve(lines, [])
-    told_status, told, said = serve(lines, ["--explain", "--log"])
-    if (status, plain) != (told_status, told):
-        sys.exit("other replies or another status with --explain --log")
-    replies = [json.loads(reply) for reply in plain]
-    refused = [(n + 1, r["number"], r["error"]) for n, r in enumerate(replies) if not r["ok"]]
+def faults_of(said: list[str], replies: list[dict[str, Any]], refused: list[tuple[int, int, str]]) -> Iterator[str]:
+    """What is wrong with standard error, if anything is."""
     why = [WHY.match(line) for line in said if line.startswith("why:")]
     if [(int(m[1]), int(m[2]), m[3]) for m in why if m] != refused or None in why:
-        sys.exit("the lines `why:` are not those of the refusals")
+        yield "the lines `why:` are not those of the refusals"
     log = [line for line in said if line.startswith("log: ")]
     if len(log) + len(why) != len(said) or sum(" refused " in line for line in log) != len(refused):
-        sys.exit("the log has other refusals")
+        yield "the log has other refusals"
     created = sum(reply.get("status") == "created" and "n" not in reply for reply in replies)
     if sum(" created " in line for line in log) != created:
-        sys.exit("the log has other creates")
+        yield "the log has other creates"
+
+
+def main(words: list[str]) -> int:
+    parser = argparse.ArgumentParser(prog="tests/run compare-serve-reasons", description=__doc__,
+                                     formatter_class=argparse.RawDescriptionHelpFormatter)
+    parser.add_argument("seed", nargs="?", type=int, default=1, metavar="SEED")
+    parser.add_argument("count", nargs="?", type=int, default=10_000, metavar="COUNT")
+    given = parser.parse_args(words)
+    built()
+    random.seed(given.seed)
+    lines = script(given.count)
+    status, plain, _ = serve(lines, [])
+    told_status, told, said = serve(lines, ["--explain", "--log"])
+    replies = [json.loads(reply) for reply in plain]
+    refused = [(n + 1, r["number"], r["error"]) for n, r in enumerate(replies) if not r["ok"]]
+    faults = list(faults_of(said, replies, refused))
+    if (status, plain) != (told_status, told):
+        faults = ["other replies or another status with --explain --log"]
     for name, count in sorted(collections.Counter(f"{number} {name}" for _, number, name in refused).items()):
         print(f"{count:6} {name}")
-
-
-if __name__ == "__main__":
-    main()
+    print(*faults, sep="\n", end="\n" if faults else "")
+    return Summary("compare-serve-reasons", 0 if faults else len(replies), len(faults)).end()

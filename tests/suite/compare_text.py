@@ -1,26 +1,33 @@
-#!/usr/bin/env python3
 """Assembles texts of modules with this shim and with wat2wasm (wabt), and compares the bytes.
+
+    tests/run compare-text
 
 The texts are those of examples/*.wat, of the requests put_text of the worked rows, and a few more below.
 Prints a line for each text that is not the same or cannot be compared, and the counts; ends with 1 if any
 text is assembled differently. wat2wasm takes a larger language, so a text that only one of the two takes
 is told, and not counted as different. Of a block whose type is written by its index this assembler writes the index, and
 wat2wasm a shorter form where there is one: such bytes are the same if the modules are, but for that.
+
+Build the program first (make build); PROGRAM in the environment names another one. Needs Debian's wabt.
 """
-import glob
+from __future__ import annotations
+
+import argparse
 import json
-import os
 import subprocess
-import sys
 import tempfile
+from collections.abc import Iterator, Sequence
+from pathlib import Path
+from typing import Any
 
-from reference import wasm
+from suite.places import EXAMPLES, TOP, built, need
+from suite.reference import wasm
+from suite.summary import Summary
 
-TOP = os.path.dirname(os.path.dirname(os.path.abspath(__file__)))
-SHIM = os.path.join(TOP, "tools", "shim")
+ROWS = TOP / "crates/worked_rows/data"
 FRAME = ('(module (type $p (func (param i32))) (type $v (func)) (import "wasi_snapshot_preview1" "proc_exit"'
          ' (func $exit (type $p))) %s (func $s (type $v) %s) (export "_start" (func $s)))')
-# the fields before the function, and its body
+# The fields before the function, and its body.
 BODIES = [
     ("", ""),
     ("", "i32.const 7 call $exit"),
@@ -44,38 +51,43 @@ BODIES = [
 ]
 
 
-def run(words):
-    return subprocess.run(words, stdin=subprocess.DEVNULL, capture_output=True)
+def run(words: Sequence[str | Path]) -> subprocess.CompletedProcess[bytes]:
+    return subprocess.run(words, stdin=subprocess.DEVNULL, capture_output=True, check=False)
 
 
-def first_line(bytes_):
-    lines = bytes_.decode("utf-8", "replace").strip().splitlines()
+def first_line(told: bytes) -> str:
+    lines = told.decode("utf-8", "replace").strip().splitlines()
     return lines[0] if lines else "no message"
 
 
-def texts():
+def row_texts(path: Path) -> Iterator[tuple[str, str]]:
+    """The texts of a script of the worked rows, but for those that denote no module."""
+    with path.with_suffix(".expected").open("rb") as file:
+        replies = file.readlines()
+    with path.open("rb") as file:
+        lines = file.readlines()
+    for number, line in enumerate(lines, 1):
+        if b'"BadText"' in replies[number - 1]:
+            continue
+        try:
+            request = json.loads(line)
+        except ValueError:
+            continue
+        if isinstance(request, dict) and request.get("op") == "put_text" and isinstance(request.get("text"), str):
+            yield f"{path.relative_to(TOP)}:{number}", request["text"]
+
+
+def texts() -> Iterator[tuple[str, str]]:
     """Each text that has a module, with where it is from."""
-    for path in sorted(glob.glob(os.path.join(TOP, "examples", "*.wat"))):
-        with open(path, encoding="utf-8", newline="") as file:
-            yield os.path.relpath(path, TOP), file.read()
-    for path in sorted(glob.glob(os.path.join(TOP, "crates", "worked_rows", "data", "*.jsonl"))):
-        with open(path.removesuffix("jsonl") + "expected", "rb") as file:
-            replies = file.readlines()
-        with open(path, "rb") as file:
-            for number, line in enumerate(file, 1):
-                if b'"BadText"' in replies[number - 1]:
-                    continue  # there is no module to compare
-                try:
-                    request = json.loads(line)
-                except ValueError:
-                    continue
-                if isinstance(request, dict) and request.get("op") == "put_text" and isinstance(request.get("text"), str):
-                    yield "%s:%d" % (os.path.relpath(path, TOP), number), request["text"]
+    for path in sorted(EXAMPLES.glob("*.wat")):
+        yield str(path.relative_to(TOP)), path.read_bytes().decode()
+    for path in sorted(ROWS.glob("*.jsonl")):
+        yield from row_texts(path)
     for number, (fields, body) in enumerate(BODIES, 1):
-        yield "body %d" % number, FRAME % (fields, body)
+        yield f"body {number}", FRAME % (fields, body)
 
 
-def shorter(module, sequence):
+def shorter(module: Any, sequence: list[Any]) -> list[Any]:
     """The sequence with the type of each block in its shortest form."""
     found = []
     for opcode, *rest in sequence:
@@ -87,39 +99,41 @@ def shorter(module, sequence):
     return found
 
 
-def but_for_block_types(bytes_):
+def but_for_block_types(data: bytes) -> Any:
     """The module that bytes spell, with the types of its blocks in their shortest form."""
-    module = wasm.Decoder(bytes_).module()
+    module = wasm.Decoder(data).module()
     for func in module.funcs:
         func.body = shorter(module, func.body)
     return module
 
 
-def main():
-    same = different = single = 0
+def is_same(given: str, wanted: str) -> bool:
+    """Whether two spellings in hexadecimal are those of one module, but for the types of blocks."""
+    return given == wanted or but_for_block_types(bytes.fromhex(given)) == but_for_block_types(bytes.fromhex(wanted))
+
+
+def compared(folder: Path, name: str, text: str) -> str:
+    """What comes of a text: `the same`, `different` or `not compared`. Prints why, if it is not the same."""
+    source, target = folder / "m.wat", folder / "m.wasm"
+    source.write_bytes(text.encode())
+    ours = run([built(), "asm", source])
+    theirs = run(["wat2wasm", "--no-check", source, "-o", target])
+    if ours.returncode or theirs.returncode:
+        why = [first_line(ours.stderr)] if ours.returncode else []
+        why += ["wat2wasm: " + first_line(theirs.stderr)] if theirs.returncode else []
+        print(f"not compared: {name}: {'; '.join(why)}")
+        return "not compared"
+    given, wanted = ours.stdout.decode().strip(), target.read_bytes().hex()
+    if is_same(given, wanted):
+        return "the same"
+    print(f"different: {name}\n  asm      {given}\n  wat2wasm {wanted}")
+    return "different"
+
+
+def main(words: list[str]) -> int:
+    argparse.ArgumentParser(prog="tests/run compare-text", description=__doc__,
+                            formatter_class=argparse.RawDescriptionHelpFormatter).parse_args(words)
+    need({"wat2wasm": "wabt"})
     with tempfile.TemporaryDirectory() as folder:
-        source, target = os.path.join(folder, "m.wat"), os.path.join(folder, "m.wasm")
-        for name, text in texts():
-            with open(source, "w", encoding="utf-8", newline="") as file:
-                file.write(text)
-            ours = run([SHIM, "asm", source])
-            theirs = run(["wat2wasm", "--no-check", source, "-o", target])
-            if ours.returncode or theirs.returncode:
-                single += 1
-                why = [first_line(ours.stderr)] if ours.returncode else []
-                why += ["wat2wasm: " + first_line(theirs.stderr)] if theirs.returncode else []
-                print("not compared: %s: %s" % (name, "; ".join(why)))
-                continue
-            with open(target, "rb") as file:
-                wanted = file.read().hex()
-            given = ours.stdout.decode().strip()
-            if given == wanted or but_for_block_types(bytes.fromhex(given)) == but_for_block_types(bytes.fromhex(wanted)):
-                same += 1
-                continue
-            different += 1
-            print("different: %s\n  asm      %s\n  wat2wasm %s" % (name, given, wanted))
-    print("%d the same, %d different, %d not compared" % (same, different, single))
-    sys.exit(1 if different else 0)
-
-
-main()
+        found = [compared(Path(folder), name, text) for name, text in texts()]
+    return Summary("compare-text", found.count("the same"), found.count("different"), found.count("not compared")).end()

@@ -1,21 +1,22 @@
-#!/usr/bin/env python3
 """Tries `serve` with workers and several callers, as a supervisor would use it.
 
-    tools/serve-threads [--storm SECONDS] [PROGRAM]
-    tools/serve-threads --minutes N [PROGRAM]
+    tests/run serve-threads [--storm SECONDS] [PROGRAM]
+    tests/run serve-threads --minutes N [PROGRAM]
 
 What is looked at: replies that are read one by one, a kill of a task that never ends, callers that share a board, files
 that cannot be read, outputs that nobody reads, the end of input while a task runs, signals; that `--explain --log`
 change no reply of several callers, whatever becomes of standard error, and say what they have to; that 64 tasks get
 their share of 2 workers, and that a short task ends while others never do; what an idle shim costs; storms of four
 callers over a few tasks and contents, with 1, 2 and 4 workers, the replies of which have to be those of one history of
-one board (tools/check-history). Each part prints a line; the status is 1 if one is not as it should be. Build the
-program first (tools/shim --version).
+one board (tests/run check-history). Each part prints a line; the status is 1 if one is not as it should be. Build the
+program first (make build); PROGRAM, here or in the environment, names another one.
 
 With --minutes there are storms alone, with 4 workers, for N minutes: first a long one, of nearly as many calls as a
 board answers, and then many of some 11,000 calls, each with a program of its own, and what memory they need. Their
 callers go on in rounds, which are told to the search: without them few long histories can be decided.
 """
+from __future__ import annotations
+
 import argparse
 import collections
 import contextlib
@@ -26,39 +27,42 @@ import random
 import re
 import signal
 import subprocess
-import sys
 import tempfile
 import time
+from collections.abc import Callable, Iterator, Sequence
 from pathlib import Path
+from typing import Any
 
-from history import report, storms
+from suite.history import report, storms
+from suite.places import EXAMPLES, built
+from suite.summary import Summary
 
-TOP = Path(__file__).resolve().parent.parent
-FIRST_RUN = [json.loads(line) for line in (TOP / "examples/first_run.jsonl").read_text().splitlines()]
-FIRST_REPLIES = (TOP / "examples/first_run.expected").read_bytes()
+FIRST_RUN: list[dict[str, Any]] = [json.loads(line) for line in (EXAMPLES / "first_run.jsonl").read_text().splitlines()]
+FIRST_REPLIES = (EXAMPLES / "first_run.expected").read_bytes()
 ENDLESS = '(module (type $e (func)) (func $s (type $e) loop $l br $l end) (export "_start" (func $s)))'
 SHORT = '(module (type $e (func)) (func $s (type $e) nop nop nop) (export "_start" (func $s)))'
-PROGRAM = TOP / "crates/wasm_shim/out/wasm_shim"
 MOST_LINES, MOST_RESIDENT = 16_384, 64 * 1024  # KiB
 # How long the history of a storm is searched for, and how long once more if it is not decided then.
 MOST_STATES, MORE_STATES = 100_000, 2_000_000
 # In such a time each round of a storm is answered before the next one is written.
 SECONDS_OF_LONG = 10
 # The scripts of a caller, how many rounds they have, and the refusals that may come.
-KINDS = {"a storm": (storms.life, 500, (3, 4, 11)), "a storm with looks": (storms.looks, 300, (3, 4, 11, 12)),
-         "a storm of contents": (storms.stores, 500, (3, 4, 5, 6, 11))}
+KINDS: dict[str, tuple[Callable[[int], list[bytes]], int, tuple[int, ...]]] = {
+    "a storm": (storms.life, 500, (3, 4, 11)), "a storm with looks": (storms.looks, 300, (3, 4, 11, 12)),
+    "a storm of contents": (storms.stores, 500, (3, 4, 5, 6, 11))}
 # A line of standard error with --explain --log: the script, the line, and what it says of it.
 SAID = re.compile(rb"(?:why: |log: [\d.]+ )(\S+) line (\d+),? (\w+)")
 # Of requests that are refused after the first run: their numbers.
 REFUSED = (1, 4, 11)
-failures = []
+failures: list[str] = []
+passed: list[str] = []
 
 
-def line_of(request):
+def line_of(request: dict[str, Any]) -> bytes:
     return json.dumps(request).encode() + b"\n"
 
 
-def config(digest):
+def config(digest: str) -> str:
     process = {"args": ["a"], "cwd": "/"}
     return json.dumps({"ociVersion": "1.0.2", "process": process, "annotations": {"dev.shim.module": digest}})
 
@@ -66,32 +70,34 @@ def config(digest):
 class Caller:
     """A `serve` with one caller, over pipes."""
 
-    def __init__(self, *words):
-        self.process = subprocess.Popen([PROGRAM, "serve", *words], stdin=subprocess.PIPE, stdout=subprocess.PIPE,
+    def __init__(self, *words: str) -> None:
+        self.process = subprocess.Popen([built(), "serve", *words], stdin=subprocess.PIPE, stdout=subprocess.PIPE,
                                         stderr=subprocess.PIPE)
-        self.digests = {}
+        self.digests: dict[str, str] = {}
 
-    def ask(self, op, **members):
+    def ask(self, op: str, **members: Any) -> dict[str, Any]:
         """The reply to a request, read before anything else is sent."""
+        assert self.process.stdin is not None and self.process.stdout is not None
         self.process.stdin.write(line_of({"op": op, **members}))
         self.process.stdin.flush()
-        return json.loads(self.process.stdout.readline())
+        reply: dict[str, Any] = json.loads(self.process.stdout.readline())
+        return reply
 
-    def task(self, id, text):
+    def task(self, id: str, text: str) -> dict[str, Any]:
         """A task of the module that a text denotes, started."""
         if text not in self.digests:
             self.digests[text] = self.ask("put_text", text=text)["digest"]
         self.ask("create", id=id, config=config(self.digests[text]))
         return self.ask("start", id=id)
 
-    def end(self):
+    def end(self) -> tuple[int, bytes, bytes]:
         """Closes the input; the status, and what is written after that."""
         out, err = self.process.communicate(timeout=60)
         return self.process.returncode, out, err
 
 
 @contextlib.contextmanager
-def serving(*words):
+def serving(*words: str) -> Iterator[Caller]:
     caller = Caller(*words)
     try:
         yield caller
@@ -101,18 +107,17 @@ def serving(*words):
         caller.process.wait()
 
 
-def check(name, is_right, told=""):
+def check(name: str, is_right: bool, told: str = "") -> None:
     print(f"{'ok ' if is_right else 'BAD'} {name}{': ' if told else ''}{told}", flush=True)
-    if not is_right:
-        failures.append(name)
+    (passed if is_right else failures).append(name)
 
 
-def run(words, data=b"", **options):
-    return subprocess.run([PROGRAM, "serve", *words], input=data, stdout=subprocess.PIPE, stderr=subprocess.PIPE,
-                          check=False, timeout=120, **options)
+def run(words: Sequence[str], data: bytes = b"") -> subprocess.CompletedProcess[bytes]:
+    return subprocess.run([built(), "serve", *words], input=data, stdout=subprocess.PIPE, stderr=subprocess.PIPE,
+                          check=False, timeout=120)
 
 
-def first_run_as(id):
+def first_run_as(id: str) -> tuple[bytes, list[dict[str, Any]]]:
     """The requests of the first run for a task of another name, with the replies that they are to have."""
     replies = [json.loads(line) for line in FIRST_REPLIES.splitlines()]
     named = [dict(request, id=id) if "id" in request else request for request in FIRST_RUN]
@@ -120,7 +125,7 @@ def first_run_as(id):
     return b"".join(map(line_of, named)), wanted
 
 
-def try_first_run():
+def try_first_run() -> None:
     for workers in (1, 2, 4, 16):
         for _ in range(25):
             done = run(["--workers", str(workers)], b"".join(map(line_of, FIRST_RUN)))
@@ -130,7 +135,7 @@ def try_first_run():
     check("the first run, 25 times each with 1, 2, 4 and 16 workers", True)
 
 
-def try_one_by_one():
+def try_one_by_one() -> None:
     with serving() as caller:
         started = caller.task("a", ENDLESS)
         time.sleep(0.2)
@@ -146,7 +151,7 @@ def try_one_by_one():
           and (status, rest) == (0, b""))
 
 
-def try_pause():
+def try_pause() -> None:
     with serving("--workers", "1") as caller:
         caller.task("a", ENDLESS)
         time.sleep(0.1)
@@ -160,14 +165,14 @@ def try_pause():
           first == second and first["status"] == third["status"] == "paused" and third["n"] > first["n"] > 0)
 
 
-def try_end_of_input():
+def try_end_of_input() -> None:
     with serving() as caller:
         caller.task("a", ENDLESS)
         status, rest, told = caller.end()
     check("the end of input while a task runs", (status, rest, told) == (0, b"", b""))
 
 
-def try_signals():
+def try_signals() -> None:
     for number in (signal.SIGTERM, signal.SIGINT, signal.SIGHUP):
         with serving() as caller:
             caller.task("a", ENDLESS)
@@ -176,8 +181,10 @@ def try_signals():
         check(f"{number.name} during a slice ends the program", status == -number)
 
 
-def try_closed_output():
+def try_closed_output() -> None:
     with serving() as caller:
+        assert caller.process.stdin is not None and caller.process.stdout is not None
+        assert caller.process.stderr is not None
         caller.process.stdout.close()
         caller.process.stdin.write(line_of({"op": "state", "id": "a"}))
         caller.process.stdin.close()
@@ -185,8 +192,8 @@ def try_closed_output():
     check("an output that nobody reads", status == 1 and told.count(b"\n") == 1, told.decode().strip())
 
 
-def try_scripts(folder):
-    files, wanted = [], []
+def try_scripts(folder: Path) -> None:
+    files, wanted = list[Path](), list[dict[str, Any]]()
     for number in range(8):
         data, replies = first_run_as(f"t{number}")
         files.append(folder / f"s{number}")
@@ -214,23 +221,27 @@ def try_scripts(folder):
           and [id for id in found if id] == ["t0"] * 4 + ["t1"] * 4 and str(folder).encode() in done.stderr,
           done.stderr.decode().strip())
     with open(folder / "full", "wb"), open("/dev/full", "wb") as full:
-        done = subprocess.run([PROGRAM, "serve", files[0], files[1]], stdin=subprocess.DEVNULL, stdout=full,
+        done = subprocess.run([built(), "serve", files[0], files[1]], stdin=subprocess.DEVNULL, stdout=full,
                               stderr=subprocess.PIPE, check=False, timeout=60)
     check("several callers and a full disk", done.returncode == 1 and b"standard output" in done.stderr,
           done.stderr.decode().strip())
 
 
-def first_run_of_its_own(id):
+def sha256_of(data: bytes) -> str:
+    return hashlib.sha256(data).hexdigest()
+
+
+def first_run_of_its_own(id: str) -> bytes:
     """The requests of the first run for a task of this name, over a content that no other has: a custom section names it."""
     content = bytes.fromhex(FIRST_RUN[0]["hex"])
     own = content + bytes([0, 1 + len(id), len(id)]) + id.encode()
     requests = first_run_as(id)[0]
-    for told in (bytes.hex, lambda data: hashlib.sha256(data).hexdigest()):
-        requests = requests.replace(told(content).encode(), told(own).encode())
+    for old, new in ((content.hex(), own.hex()), (sha256_of(content), sha256_of(own))):
+        requests = requests.replace(old.encode(), new.encode())
     return requests
 
 
-def watched_script(path, id):
+def watched_script(path: Path, id: str) -> list[tuple[bytes, bytes, bytes]]:
     """Writes the first run for a task of this name, and requests that are refused so. What has to be said of them."""
     refused = [b"nothing\n", line_of({"op": "state", "id": "none"}), line_of({"op": "start", "id": id})]
     path.write_bytes(first_run_of_its_own(id) + b"".join(refused))
@@ -240,13 +251,13 @@ def watched_script(path, id):
     return [(str(path).encode(), str(line).encode(), what.encode()) for line, what in said]
 
 
-def said_in(errors):
+def said_in(errors: bytes) -> list[tuple[bytes, ...]] | None:
     """What the lines of standard error say; None for a line that is none of these."""
     found = [SAID.match(line) for line in errors.splitlines()]
-    return None if None in found else sorted(each.groups() for each in found)
+    return None if None in found else sorted(each.groups() for each in found if each is not None)
 
 
-def try_watched(folder):
+def try_watched(folder: Path) -> None:
     files = [folder / f"watched{number}" for number in range(3)]
     wanted = sorted(said for number, path in enumerate(files) for said in watched_script(path, f"w{number}"))
     words, options = ["--workers", "2", *map(str, files)], ["--explain", "--log"]
@@ -258,18 +269,18 @@ def try_watched(folder):
     check("the same with --explain --log, 20 times, and each is said",
           all((each.returncode, each.stdout) == (0, plain.stdout) and said_in(each.stderr) == wanted for each in told))
     for name, to in (("closed", "2>&-"), ("full", "2>/dev/full")):
-        shell = ["sh", "-c", f'exec "$@" {to}', "sh", PROGRAM, "serve", *options, *words]
+        shell = ["sh", "-c", f'exec "$@" {to}', "sh", str(built()), "serve", *options, *words]
         done = subprocess.run(shell, stdin=subprocess.DEVNULL, stdout=subprocess.PIPE, check=False, timeout=120)
         check(f"the same, and standard error is {name}", (done.returncode, done.stdout) == (0, plain.stdout))
 
 
-def try_words():
+def try_words() -> None:
     for words in (["--workers", "0"], ["--workers", "17"], ["--workers", "x"], ["--workers"], ["--worker", "1"]):
         done = run(words)
         check(f"serve {' '.join(words)}", done.returncode == 2 and done.stdout == b"" and done.stderr != b"")
 
 
-def try_shares():
+def try_shares() -> None:
     with serving("--workers", "2") as caller:
         digest = caller.ask("put_text", text=ENDLESS)["digest"]
         ids = [f"t{number}" for number in range(64)]
@@ -285,7 +296,7 @@ def try_shares():
     check("64 tasks get their share of 2 workers", spread < 0.1, f"within {100 * spread:.1f} % of {mean:.0f} turns")
 
 
-def try_short_among_long():
+def try_short_among_long() -> None:
     with serving("--workers", "2") as caller:
         for number in range(16):
             caller.task(f"t{number}", ENDLESS)
@@ -296,12 +307,12 @@ def try_short_among_long():
     check("a short task ends while 16 never do", ended["cause"] == "return" and took < 1, f"{1e3 * took:.1f} ms")
 
 
-def processor_seconds(pid):
+def processor_seconds(pid: int) -> float:
     fields = Path(f"/proc/{pid}/stat").read_text().rsplit(") ", 1)[1].split()
     return (int(fields[11]) + int(fields[12])) / os.sysconf("SC_CLK_TCK")
 
 
-def try_idle():
+def try_idle() -> None:
     with serving("--workers", "2") as caller:
         digest = caller.ask("put_text", text=SHORT)["digest"]
         for number in range(64):
@@ -316,16 +327,18 @@ def try_idle():
 class Storms:
     """Storms of four callers, one after the other, each with a `serve` of its own; what they add up to."""
 
-    def __init__(self, folder):
-        self.folder, self.most = folder, []
+    def __init__(self, folder: Path) -> None:
+        self.folder, self.most = folder, list[int]()
         # Of each kind what its replies were, and whether its histories were found to be legal (None: not decided).
-        self.numbers, self.found = collections.defaultdict(collections.Counter), collections.defaultdict(collections.Counter)
+        self.numbers: dict[str, collections.Counter[int]] = collections.defaultdict(collections.Counter)
+        self.found: dict[str, collections.Counter[bool | None]] = collections.defaultdict(collections.Counter)
 
-    def blow(self, name, workers, scripts, refusals, seconds=0):
+    def blow(self, name: str, workers: int, scripts: list[list[bytes]], refusals: tuple[int, ...],
+             seconds: float = 0) -> storms.Storm | None:
         """A storm that is as it should be: it ends, its replies are acceptances and these refusals, all of them
         together are not found to be illegal, and it needs no more memory than others. None of another, which is kept.
         Where the search is given up, the storm is counted as not decided."""
-        storm = storms.blown(PROGRAM, workers, scripts, self.folder, seconds)
+        storm = storms.blown(built(), workers, scripts, self.folder, seconds)
         found = report.report(storm.scripts, storm.printed, most=MOST_STATES, rounds=storm.rounds)
         if found.is_legal is None:
             found = report.report(storm.scripts, storm.printed, most=MORE_STATES, rounds=storm.rounds)
@@ -342,26 +355,26 @@ class Storms:
             check(f"{name}, workers: {workers}", False, "\n".join([*told, f"kept in {kept(storm)}"]))
         return storm if not told else None
 
-    def blow_each(self, workers, seconds_of_long=0):
+    def blow_each(self, workers: int, seconds_of_long: float = 0) -> bool:
         """Whether a storm of each kind is as it should be, and ten short ones, which are nearly always decided; so are
         long ones if they take some seconds."""
         return all(self.blow(name, workers, [script(count // part) for _ in range(storms.CALLERS)], refusals, seconds)
                    for name, (script, count, refusals) in KINDS.items()
                    for part, seconds in [(1, seconds_of_long)] + 10 * [(50, 0.02)])
 
-    def told_of(self, name):
+    def told_of(self, name: str) -> str:
         """What the storms of one kind add up to."""
         numbers, found = self.numbers[name], self.found[name]
         told = [f"{count} of {number}" if number else f"{count} accepted" for number, count in sorted(numbers.items())]
         return (f"{name}: {found[True]} legal, {found[None]} not decided; {numbers.total()} replies: "
                 f"{', '.join(told)}")
 
-    def __str__(self):
+    def __str__(self) -> str:
         return "; ".join([*map(self.told_of, self.numbers),
                           f"at most {min(self.most, default=0)} to {max(self.most, default=0)} KiB resident"])
 
 
-def kept(storm):
+def kept(storm: storms.Storm) -> Path:
     """A folder with the scripts and the replies of a storm."""
     folder = Path(tempfile.mkdtemp(prefix="storm-"))
     for number, script in enumerate(storm.scripts):
@@ -370,7 +383,7 @@ def kept(storm):
     return folder
 
 
-def try_storms(folder, seconds):
+def try_storms(folder: Path, seconds: float) -> None:
     for workers in (1, 2, 4):
         found, end, count = Storms(folder), time.monotonic() + seconds / 3, 0
         while count == 0 or time.monotonic() < end:
@@ -380,7 +393,7 @@ def try_storms(folder, seconds):
         check(f"{count} storms of four callers, workers: {workers}", True, str(found))
 
 
-def try_long_storm(folder, seconds):
+def try_long_storm(folder: Path, seconds: float) -> None:
     """A storm of nearly as many calls as a board answers, over a time, with what is resident as it goes on."""
     found = Storms(folder)
     scripts = [storms.life(MOST_LINES // 4 // len(storms.LIFE)) for _ in range(storms.CALLERS)]
@@ -391,7 +404,7 @@ def try_long_storm(folder, seconds):
               f"{found}; {at[0]} KiB after a tenth of it, {at[1]} after five and {at[2]} after nine")
 
 
-def try_minutes(folder, minutes):
+def try_minutes(folder: Path, minutes: float) -> None:
     """Storms for so many minutes, the first of which takes a fifth of them."""
     end, found, count = time.monotonic() + 60 * minutes, Storms(folder), 0
     try_long_storm(folder, 12 * minutes)
@@ -401,7 +414,7 @@ def try_minutes(folder, minutes):
     check(f"{count} storms of four callers, workers: 4", not failures, str(found))
 
 
-def try_journal():
+def try_journal() -> None:
     line = line_of({"op": "state", "id": "zz"})
     done = run([], line * 16_386 + b"nothing\n")
     found = [json.loads(reply).get("number") for reply in done.stdout.splitlines()]
@@ -409,19 +422,20 @@ def try_journal():
           and found == [4] * 16_384 + [15, 15, 1])
 
 
-def words_of(words):
-    parser = argparse.ArgumentParser(prog="tools/serve-threads", description=__doc__,
+def words_of(words: list[str]) -> argparse.Namespace:
+    parser = argparse.ArgumentParser(prog="tests/run serve-threads", description=__doc__,
                                      formatter_class=argparse.RawDescriptionHelpFormatter)
     parser.add_argument("--storm", type=float, default=5, metavar="SECONDS")
     parser.add_argument("--minutes", type=float, metavar="N")
-    parser.add_argument("program", nargs="?", default=PROGRAM, metavar="PROGRAM")
+    parser.add_argument("program", nargs="?", metavar="PROGRAM")
     return parser.parse_args(words)
 
 
-def main(words):
-    global PROGRAM
+def main(words: list[str]) -> int:
     given = words_of(words)
-    PROGRAM = given.program
+    if given.program is not None:
+        os.environ["PROGRAM"] = given.program
+    built()
     # What a shell starts in the background ignores some signals, and so would the programs that are started here.
     signal.signal(signal.SIGINT, signal.default_int_handler)
     signal.signal(signal.SIGHUP, signal.SIG_DFL)
@@ -429,7 +443,7 @@ def main(words):
         folder = Path(name)
         if given.minutes is not None:
             try_minutes(folder, given.minutes)
-            return 1 if failures else 0
+            return Summary("serve-threads", len(passed), len(failures)).end()
         for part in (try_first_run, try_one_by_one, try_pause, try_end_of_input, try_signals, try_closed_output,
                      try_words):
             part()
@@ -438,8 +452,4 @@ def main(words):
         for part in (try_shares, try_short_among_long, try_idle, try_journal):
             part()
         try_storms(folder, given.storm)
-    return 1 if failures else 0
-
-
-if __name__ == "__main__":
-    sys.exit(main(sys.argv[1:]))
+    return Summary("serve-threads", len(passed), len(failures)).end()

@@ -21,6 +21,8 @@ ANCHOR = re.compile(r"<a (?:id|name)=\"([^\"]+)\"")
 OUTSIDE = re.compile(r"[a-z][a-z0-9+.-]*:", re.IGNORECASE)
 # Paths in code, and in comments of programs, that have to be there.
 NAMED_PATH = re.compile(r"(?<![\w./-])(?P<path>(?:tools|tests|bench|docs)/[\w./-]*\w)")
+# Pages that tell of the past name programs as they were called then.
+PAST = {"CHANGELOG.md", "docs/BENCHMARKS.md"}
 # What has no file: names that stand for any of several.
 ANY = re.compile(r"[A-Z]{3,}$|\*|NAME")
 
@@ -58,7 +60,7 @@ class Pages:
         text = FENCE.sub("", self.tree.text(name))
         for match in LINK.finditer(CODE.sub("", text)):
             yield from self.fault(name, match["target"] or match["named"] or "")
-        for code in CODE.finditer(text):
+        for code in CODE.finditer(text if name not in PAST else ""):
             for path in NAMED_PATH.finditer(code["code"]):
                 if not ANY.search(path["path"]) and not self.is_there(name, path["path"]):
                     yield f"{name}: `{path['path']}` is not there"

@@ -1,1 +1,1 @@
-"""Histories of several callers over one board: which orders of their calls are legal (tools/check-history)."""
+"""Histories of several callers over one board: which orders of their calls are legal (tests/run check-history)."""

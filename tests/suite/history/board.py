@@ -3,12 +3,12 @@ store is that of the second reading."""
 import types
 import typing
 
-from history import tasks
-from history.calls import Call, History
-from history.courses import Course
-from history.tasks import Members, Task, line_of, refusal
-from reference import wasm
-from reference.board import ID, MOST_CONTENTS, MOST_TASKS, Board, Process, Refused, process_of
+from suite.history import tasks
+from suite.history.calls import Call, History
+from suite.history.courses import Course
+from suite.history.tasks import Members, Task, line_of, refusal
+from suite.reference import wasm
+from suite.reference.board import ID, MOST_CONTENTS, MOST_TASKS, Board, Process, Refused, process_of
 
 READS = {"state", "wait", "output", "inspect", "peek"}
 TO_TASKS = set(tasks.REQUESTS)

@@ -4,8 +4,8 @@ import hashlib
 import json
 import typing
 
-from history.tasks import Members, line_of, refusal
-from reference.board import MOST_LINE, NoJson, parse, request_of
+from suite.history.tasks import Members, line_of, refusal
+from suite.reference.board import MOST_LINE, NoJson, parse, request_of
 
 MOST_ENTRIES = 16_384
 Told = tuple[bytes, bytes]  # a line and its reply

@@ -3,9 +3,9 @@ when."""
 import json
 import typing
 
-from reference import wasm
-from reference.board import Process
-from reference.execute import Machine
+from suite.reference import wasm
+from suite.reference.board import Process
+from suite.reference.execute import Machine
 
 MOST_TURNS = 10**15
 LOOKED_AT = 20_000  # turns of a module that are looked at

@@ -1,10 +1,10 @@
 """What is told of a history: whether it is legal, in which order, and what no order explains."""
 import typing
 
-from history.board import Boards
-from history.calls import Call, History, Wrong, history_of
-from history.search import MOST_STATES, Verdict, decide
-from history.tasks import Members, line_of
+from suite.history.board import Boards
+from suite.history.calls import Call, History, Wrong, history_of
+from suite.history.search import MOST_STATES, Verdict, decide
+from suite.history.tasks import Members, line_of
 
 MOST_SHOWN = 40  # characters of a text
 

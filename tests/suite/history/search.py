@@ -2,8 +2,8 @@
 import bisect
 import typing
 
-from history.board import Boards
-from history.calls import History
+from suite.history.board import Boards
+from suite.history.calls import History
 
 BITS = 14  # of the position of a caller; a history has at most 16,384 calls
 MOST_STATES = 4_000_000

@@ -11,8 +11,8 @@ import time
 import typing
 from pathlib import Path
 
-from history.calls import lines_in, reply_in
-from history.written import request_as
+from suite.history.calls import lines_in, reply_in
+from suite.history.written import request_as
 
 LIFE = ["create {} endless", "start {}", "pause {}", "kill {}", "resume {}", "delete {}"]
 STORE = ["put short", "put short", "put endless", "remove short", "remove endless", "gc", "lease_create l",

@@ -3,8 +3,8 @@ them answers a request, and what slices make of it between two calls."""
 import json
 import typing
 
-from history.courses import MOST_TURNS, Course
-from reference.board import MOST_BREAKS, MOST_PEEK, MOST_STEPS, NAMES
+from suite.history.courses import MOST_TURNS, Course
+from suite.reference.board import MOST_BREAKS, MOST_PEEK, MOST_STEPS, NAMES
 
 MOST_SLICE = 10_000  # turns of a slice in `serve`
 UNKNOWN = "?"  # how a task has ended whose module is not known

@@ -5,11 +5,11 @@ import json
 import random
 import typing
 
-from history.calls import History, Wrong, history_of
-from history.search import decide
-from history.tasks import line_of, refusal
-from history.written import history_as, request_as
-from reference.board import Board
+from suite.history.calls import History, Wrong, history_of
+from suite.history.search import decide
+from suite.history.tasks import line_of, refusal
+from suite.history.written import history_as, request_as
+from suite.reference.board import Board
 
 PUT = ["put endless -> stored", "create x endless -> created"]
 RUNS = [*PUT, "start x -> running"]
@@ -257,8 +257,8 @@ def try_random(count: int) -> tuple[list[str], int, int]:
     return faults, legal, illegal
 
 
-def self_test(count: int, seed: int) -> tuple[list[str], str]:
-    """The faults of the checker, and what was tried."""
+def self_test(count: int, seed: int) -> tuple[list[str], dict[str, int]]:
+    """The faults of the checker, and how many histories of each kind were tried."""
     random.seed(seed)
     faults = [f"refused: {name}" for name, callers in RIGHT.items() if not is_legal(*history_as(callers))]
     faults += [f"accepted: {name}" for name, callers in WRONG.items() if is_legal(*history_as(callers))]
@@ -267,4 +267,4 @@ def self_test(count: int, seed: int) -> tuple[list[str], str]:
     told, legal, illegal = try_random(count)
     right = len(RIGHT) + sum(wanted for wanted, *_ in edges().values())
     wrong = len(RIGHT) + len(WRONG) + len(edges()) - right
-    return faults + told, f"{right} right and {wrong} wrong histories; of random ones {legal} legal and {illegal} not"
+    return faults + told, {"right": right, "wrong": wrong, "random and legal": legal, "random and not legal": illegal}

@@ -3,7 +3,7 @@ import hashlib
 import json
 import typing
 
-from history.tasks import Members, line_of, refusal
+from suite.history.tasks import Members, line_of, refusal
 
 # (type (func)) (func loop br 0 end) (export "_start" (func 0)), and the same with three nops for the loop
 ENDLESS = bytes.fromhex("0061736d0100000001040160000003020100070a01065f737461727400000a0901070003400c000b0b")

@@ -4,8 +4,8 @@ import json
 import re
 import typing
 
-from reference import wasm
-from reference.execute import Machine
+from suite.reference import wasm
+from suite.reference.execute import Machine
 
 MOST_LINE, MOST_CONTENTS, MOST_TASKS, MOST_DEPTH = 1_048_576, 256, 64, 127
 MOST_LEASES, MOST_MEMBERS, MOST_BREAKS, MOST_STEPS, MOST_PEEK = 64, 64, 32, 1000, 256

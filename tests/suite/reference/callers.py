@@ -1,10 +1,10 @@
 """Random valid modules that make system calls, many of them at the edges of memory and of the output streams."""
 import random
 
-from reference.generate import leb, sized, vector
-from reference.programs import func_type, get, i32, set_
-from reference.system_calls import CALLS, I32, MODULE
-from reference.wasm import PAGE
+from suite.reference.generate import leb, sized, vector
+from suite.reference.programs import func_type, get, i32, set_
+from suite.reference.system_calls import CALLS, I32, MODULE
+from suite.reference.wasm import PAGE
 
 WRITTEN, BUFFERS = 16, 64  # where fd_write tells how much it took, and where its buffers are told
 SIZES = (0, 1, 5, 100, 4_000, 30_000, PAGE - 200, PAGE, 2**32 - 1)

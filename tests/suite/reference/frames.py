@@ -2,9 +2,9 @@
 each frame: blocks in blocks that take values and give values, and calls inside them."""
 import random
 
-from reference.generate import leb
-from reference.programs import (ENTRY, I32, Outline, Writer, assembled, fuelled, i32, locals_of, nested, set_,
-                                some_const, some_kinds)
+from suite.reference.generate import leb
+from suite.reference.programs import (ENTRY, I32, Outline, Writer, assembled, fuelled, i32, locals_of, nested, set_,
+                                      some_const, some_kinds)
 
 
 class Nest(Writer):

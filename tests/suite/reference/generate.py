@@ -3,7 +3,7 @@ import hashlib
 import json
 import random
 
-from reference.wasm import FIXED, I32, I64, LOADS, STORES
+from suite.reference.wasm import FIXED, I32, I64, LOADS, STORES
 
 VALUE_TYPES = (I32, I64)
 EDGES = (0, 1, 7, -1, 63, 64, -64, -65, 2**31 - 1, -2**31)
@@ -286,7 +286,7 @@ def sections():
     return [(number, part) for number, part in found if part is not None]
 
 
-def bent(data):
+def bent(data: bytes) -> bytes:
     """The bytes with a few of them changed, added, left out or cut off."""
     data = bytearray(data)
     for _ in range(random.choice([1, 1, 1, 2, 3])):
@@ -302,7 +302,7 @@ def bent(data):
     return bytes(data)
 
 
-def module():
+def module() -> bytes:
     parts = sections()
     if random.random() < 0.05:
         random.shuffle(parts)
@@ -320,7 +320,7 @@ PIECES = ['"', ":", ",", "{", "}", "[", "]", "0", "1", "-0", "1.5", "1e2", "1e40
           '"op":"state"', '"id":"a"', '"x":1.5,', '"x":1,', '"env":[],', '"linux":{},', '"ociVersion":"1."', '"a":{"b":[1]},']
 
 
-def bent_text(text):
+def bent_text(text: str) -> str:
     for _ in range(random.choice([1, 1, 1, 2, 4])):
         at, kind = random.randrange(len(text) + 1), random.random()
         if kind < 0.45:
@@ -359,7 +359,7 @@ def linux():
     return part
 
 
-def config(digest):
+def config(digest: str) -> str:
     many = random.random() < 0.3
     digests = [digest] * 5 + ["sha256:" + "0" * 64, digest.upper(), digest[:-1]]
     process = {
@@ -411,7 +411,7 @@ def request(data, digest):
     return {"op": op, **kinds.get(op, {"id": name})}
 
 
-def line(data, digest):
+def line(data: bytes, digest: str) -> bytes:
     """A line without its line feed, over a content with that data and digest."""
     members = list(request(data, digest).items())
     random.shuffle(members)

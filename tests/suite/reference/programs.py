@@ -1,8 +1,8 @@
 """Random valid modules whose functions do something: blocks, loops, branches, calls, memory, traps, recursion."""
 import random
 
-from reference.generate import leb, sized, vector
-from reference.wasm import FIXED, I32, I64, LOADS, MOST_LOCALS, MOST_VALUES, PAGE, STORES
+from suite.reference.generate import leb, sized, vector
+from suite.reference.wasm import FIXED, I32, I64, LOADS, MOST_LOCALS, MOST_VALUES, PAGE, STORES
 
 EDGES = {
     I32: (0, 0, 1, 1, 2, -1, -1, 7, 31, 32, 33, 63, 64, 127, -128, 255, 2**15, 2**16 - 1, 2**31 - 1, -2**31),
@@ -558,7 +558,7 @@ def assembled(outline, codes):
     return b"\0asm\1\0\0\0" + b"".join(bytes([number]) + sized(part) for number, part in found if part is not None)
 
 
-def program():
+def program() -> bytes:
     """A valid module on which a task is created."""
     outline, codes = Outline(), []
     for number in range(1, len(outline.functions)):

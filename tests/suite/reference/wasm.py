@@ -1,7 +1,7 @@
 """Modules: what bytes spell, whether that is valid, and whether a task can be opened on it."""
 from dataclasses import dataclass, field
 
-from reference import system_calls
+from suite.reference import system_calls
 
 I32, I64 = 0x7F, 0x7E
 MOST_BYTES, MOST_FUNCTIONS, MOST_LOCALS, MOST_VALUES = 262_144, 4096, 1024, 65_536
@@ -9,9 +9,8 @@ MOST_NESTING, MOST_ENTRIES, MOST_PAGES, PAGE_CAP, PAGE = 256, 4096, 256, 16, 65_
 MOST_RESULTS = 1024
 
 # Instructions whose types never change: the opcode, and what they take and give.
-FIXED = {0x45: (I32,), 0x50: (I64,), 0xA7: (I64,), 0xAC: (I32,), 0xAD: (I32,)}
-FIXED = {code: (takes, (I32,)) for code, takes in FIXED.items()}
-FIXED |= {code: (takes, (I64,)) for code, (takes, _) in FIXED.items() if code in (0xAC, 0xAD)}
+FIXED: dict[int, tuple[tuple[int, ...], tuple[int, ...]]] = {
+    0x45: ((I32,), (I32,)), 0x50: ((I64,), (I32,)), 0xA7: ((I64,), (I32,)), 0xAC: ((I32,), (I64,)), 0xAD: ((I32,), (I64,))}
 FIXED |= {0xC0: ((I32,), (I32,)), 0xC1: ((I32,), (I32,))}
 FIXED |= {code: ((I64,), (I64,)) for code in range(0xC2, 0xC5)}
 FIXED |= {code: ((I32, I32), (I32,)) for code in range(0x46, 0x50)}
@@ -69,7 +68,7 @@ class Reader:
     def is_at_end(self):
         return self.at == len(self.data)
 
-    def take(self, count):
+    def take(self, count: int) -> bytes:
         if self.at + count > len(self.data):
             raise NotSpelled
         self.at += count

@@ -1,1 +1,1 @@
-"""What tools/hostile tries: hostile modules, texts and lines, with little memory and with none."""
+"""What tests/run hostile tries: hostile modules, texts and lines, with little memory and with none."""

@@ -14,10 +14,10 @@ import tempfile
 from dataclasses import dataclass, field
 from pathlib import Path
 
-from trials import scripts
-from trials.program import NO_MEMORY, TOP, Report, Session, agree, operation_of, told_once
+from suite.trials import scripts
+from suite.trials.program import NO_MEMORY, TOP, Report, Session, agree, operation_of, told_once
 
-SOURCE = TOP / "tools/refuse-allocations.c"
+SOURCE = TOP / "tests/suite/refuse_allocations.c"
 ALL = 2**60
 # How allocations are refused: the number of those in a row, whether only those by realloc are counted, and how
 # often a call is made again.
@@ -43,7 +43,7 @@ OWN = frozenset(folder.name for folder in (TOP / "crates").iterdir() if folder.i
 
 
 def library(folder: str) -> Path:
-    """The library that refuses allocations, which tools/refuse-allocations uses too."""
+    """The library that refuses allocations, which `tests/run refuse-allocations` uses too."""
     built = Path(folder) / "refuse.so"
     words = ["cc", "-O1", "-Wall", "-fno-builtin", "-fno-omit-frame-pointer", "-shared", "-fPIC"]
     subprocess.run([*words, "-o", built, SOURCE], check=True)

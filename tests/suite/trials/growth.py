@@ -7,9 +7,9 @@ import sys
 from dataclasses import dataclass
 from pathlib import Path
 
-from trials import shapes
-from trials.modules import digest_of
-from trials.program import Report, Session, config_of, line_of, number_of
+from suite.trials import shapes
+from suite.trials.modules import digest_of
+from suite.trials.program import Report, Session, config_of, line_of, number_of
 
 # More than these is flagged: the growth of the time for a byte from the least size to one that is four times as
 # large, which is 1 if the time is linear and 4 if it is quadratic; and seconds for 262,144 bytes.

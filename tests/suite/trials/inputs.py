@@ -8,12 +8,12 @@ import sys
 from collections.abc import Callable, Iterator
 from pathlib import Path
 
-from reference import callers, frames, programs, wasm
-from reference.board import NAMES, Board, Refused, line_of as reply_of
-from trials.modules import (DROP, END, EXIT, I32, I64, NOP, UNREACHABLE, YIELD, block, call, code, digest_of, func_type,
-                            i32, i64, leb, limits, program as module_of, sized, vector)
-from trials.program import TOP, Report, Session, agree, config_of, line_of, number_of
-from trials.scripts import LOOP
+from suite.reference import callers, frames, programs, wasm
+from suite.reference.board import NAMES, Board, Refused, line_of as reply_of
+from suite.trials.modules import (DROP, END, EXIT, I32, I64, NOP, UNREACHABLE, YIELD, block, call, code, digest_of, func_type,
+                                  i32, i64, leb, limits, program as module_of, sized, vector)
+from suite.trials.program import TOP, Report, Session, agree, config_of, line_of, number_of
+from suite.trials.scripts import LOOP
 
 BATCH = 400
 # There are nine inputs for each byte of the ten modules, and so more than 100,000 together.

@@ -7,12 +7,12 @@ import tempfile
 from pathlib import Path
 from typing import Any
 
-from reference import wasm
-from reference.execute import Machine
-from reference.system_calls import MOST_OUTPUT
-from trials import scripts
-from trials.modules import digest_of
-from trials.program import OUT_OF_MEMORY, Report, Session, line_of, told_once
+from suite.reference import wasm
+from suite.reference.execute import Machine
+from suite.reference.system_calls import MOST_OUTPUT
+from suite.trials import scripts
+from suite.trials.modules import digest_of
+from suite.trials.program import OUT_OF_MEMORY, Report, Session, line_of, told_once
 
 LIMITS_KIB = range(16 * 1024, 64 * 1024 + 1, 4 * 1024)
 MIB = 1024

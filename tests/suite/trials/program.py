@@ -13,7 +13,7 @@ from dataclasses import dataclass, field
 from pathlib import Path
 from typing import Any
 
-TOP = Path(__file__).resolve().parents[2]
+TOP = Path(__file__).resolve().parents[3]
 NO_MEMORY = b'{"error":"NoMemory","number":17,"ok":false}'
 OUT_OF_MEMORY = b"wasm-shim: out of memory\n"
 # Requests of a `serve` (docs/PROTOCOL.md); a session is left for a new one before it has as many.

@@ -12,14 +12,14 @@ from dataclasses import dataclass
 from pathlib import Path
 from typing import Any
 
-from reference import wasm
-from reference.board import Board, line_of as reply_of
-from reference.execute import Machine
-from trials import scripts, waits
-from trials.modules import (DROP, END, EXIT, I32, I64, NOP, UNREACHABLE, WRITE, block, call, code, digest_of, func_type,
-                            i32, i64, leb, limits, program, sized, vector)
-from trials.program import Report, Session, agree, config_of, line_of, replay
-from trials.scripts import LOOP
+from suite.reference import wasm
+from suite.reference.board import Board, line_of as reply_of
+from suite.reference.execute import Machine
+from suite.trials import scripts, waits
+from suite.trials.modules import (DROP, END, EXIT, I32, I64, NOP, UNREACHABLE, WRITE, block, call, code, digest_of, func_type,
+                                  i32, i64, leb, limits, program, sized, vector)
+from suite.trials.program import Report, Session, agree, config_of, line_of, replay
+from suite.trials.scripts import LOOP
 
 PAGE, MOST_PAGES, MOST_TASKS = 65_536, 256, 64
 TRAP = {"cause": "trap", "exit": 134}

@@ -5,10 +5,10 @@ from __future__ import annotations
 import json
 from dataclasses import dataclass, field
 
-from reference.board import Board
-from trials.modules import (DROP, EXIT, I32, WRITE, block, call, code, digest_of, func_type, i32, i64, limits, program,
-                            sized, vector)
-from trials.program import NO_MEMORY, Session, agree, config_of, line_of
+from suite.reference.board import Board
+from suite.trials.modules import (DROP, EXIT, I32, WRITE, block, call, code, digest_of, func_type, i32, i64, limits, program,
+                                  sized, vector)
+from suite.trials.program import NO_MEMORY, Session, agree, config_of, line_of
 
 PAGES = 256
 # A text, and the bytes that it denotes: the shortest form of what it says.

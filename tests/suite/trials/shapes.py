@@ -7,10 +7,10 @@ from collections.abc import Callable
 from dataclasses import dataclass
 from typing import Any
 
-from reference import wasm
-from reference.board import process_of, request_of
-from trials.modules import (DROP, END, I32, I64, NOP, UNREACHABLE, block, call, code, exported, func_type, i32, imported,
-                            leb, limits, module, program, repeated, sized, vector)
+from suite.reference import wasm
+from suite.reference.board import process_of, request_of
+from suite.trials.modules import (DROP, END, I32, I64, NOP, UNREACHABLE, block, call, code, exported, func_type, i32, imported,
+                                  leb, limits, module, program, repeated, sized, vector)
 
 MODULE_BYTES = 262_144
 LINE_BYTES = 1_048_576

@@ -7,10 +7,10 @@ import sys
 import time
 from pathlib import Path
 
-from trials import scripts, shapes
-from trials.modules import I32, NOP, WRITE, block, call, code, digest_of, func_type, i32, limits, program
-from trials.program import Report, Session, config_of, line_of
-from trials.scripts import LOOP
+from suite.trials import scripts, shapes
+from suite.trials.modules import I32, NOP, WRITE, block, call, code, digest_of, func_type, i32, limits, program
+from suite.trials.program import Report, Session, config_of, line_of
+from suite.trials.scripts import LOOP
 
 # Bytes of a page, and the pages of a memory whose config has no limit.
 PAGE, PAGES = 65_536, 16
@@ -34,7 +34,7 @@ def turns_of(session: Session, name: str) -> int:
 def slice_seconds(session: Session, name: str, workers: int, count: int = 3) -> float:
     """The processor time of a slice of a task that runs, as others like it do on all workers: the mean of this number
     of slices. A task's turns are counted at the end of a slice."""
-    turns, used = turns_of(session, name), []
+    turns, used = turns_of(session, name), list[float]()
     while len(used) <= count and session.has_room(1_000):
         now = turns_of(session, name)
         if now != turns:

@@ -1,0 +1,50 @@
+"""The rows that the gate runs, by the built program itself: the worked rows by `replay`, and the script of the program's own
+crate by `serve`.
+
+In the files of a row `<COUNT*TEXT>` is the text repeated that number of times.
+"""
+from __future__ import annotations
+
+import re
+import subprocess
+from pathlib import Path
+
+import pytest
+
+from suite.places import TOP, built
+
+pytestmark = pytest.mark.program
+ROWS = TOP / "crates/worked_rows"
+SERVED = TOP / "crates/wasm_shim"
+RUN = re.compile(rb"<(\d+)\*([^>]*)>")
+
+
+def spelled(data: bytes) -> bytes:
+    """The lines that a file spells."""
+    return RUN.sub(lambda match: int(match[1]) * match[2], data)
+
+
+@pytest.mark.parametrize("name", (ROWS / "stdin").read_text().splitlines())
+def test_row(name: str, tmp_path: Path) -> None:
+    script = tmp_path / "script"
+    script.write_bytes(spelled((ROWS / f"data/{name}.jsonl").read_bytes()))
+    done = subprocess.run([built(), "replay", script], stdin=subprocess.DEVNULL, capture_output=True, timeout=600, check=False)
+    wanted = spelled((ROWS / f"data/{name}.expected").read_bytes())
+    for number, (found, want) in enumerate(zip(done.stdout.splitlines(), wanted.splitlines()), 1):
+        assert found == want, f"line {number} of {name}"
+    assert (done.returncode, done.stdout) == (0, wanted)
+
+
+def test_serve() -> None:
+    words = (SERVED / "args").read_text().split()
+    with (SERVED / "stdin").open("rb") as script:
+        done = subprocess.run([built(), *words], stdin=script, capture_output=True, timeout=600, check=False)
+    assert done.stdout == (SERVED / "stdout").read_bytes()
+    assert done.returncode == 0
+
+
+def test_each_row_has_its_files() -> None:
+    names = (ROWS / "stdin").read_text().splitlines()
+    stems = {path.stem for path in (ROWS / "data").iterdir()}
+    assert sorted(stems) == sorted(names)
+    assert (ROWS / "stdout").read_text() == "".join(f"ok {name}\n" for name in names)

@@ -1,0 +1,141 @@
+"""How suites are counted and run, and the suites that need no built program."""
+from __future__ import annotations
+
+import os
+import subprocess
+import sys
+from pathlib import Path
+
+import pytest
+
+from suite import places, run_all
+from suite.__main__ import COMMANDS
+from suite.checks.tree import TOP, Tree
+from suite.summary import NotRun, Summary, read
+
+
+def run(*words: str, **more: str) -> subprocess.CompletedProcess[str]:
+    return subprocess.run([TOP / "tests/run", *words], env={**os.environ, "PYTHON": sys.executable, **more},
+                          capture_output=True, text=True, stdin=subprocess.DEVNULL, timeout=300, check=False)
+
+
+@pytest.mark.parametrize("summary", [Summary("a", 3), Summary("compare-both", 0, 2), Summary("clients/python", 1, 2, 3)])
+def test_summary_is_read_again(summary: Summary) -> None:
+    assert read(f"{summary}\n") == summary
+    assert summary.status == (1 if summary.failed else 0)
+
+
+@pytest.mark.parametrize("line", ["", "3 passed, 0 failed", "a: 3 passed", "a: 3 passed, 0 failed and more"])
+def test_other_lines_are_no_summary(line: str) -> None:
+    assert read(line) is None
+
+
+@pytest.mark.parametrize("name", COMMANDS)
+def test_help(name: str) -> None:
+    done = run(name, "--help")
+    assert (done.returncode, done.stderr) == (0, "")
+    assert f"tests/run {name}" in done.stdout
+
+
+def test_each_command_is_listed() -> None:
+    done = run("--help")
+    assert done.returncode == 0 and all(f"  {name} " in done.stdout for name in COMMANDS)
+    assert run("no-such-command").returncode == run().returncode == 2
+
+
+def test_each_suite_is_there() -> None:
+    files = {word for suite in run_all.SUITES if suite.folder == TOP for word in suite.command if word.endswith(".py")}
+    assert sorted(files) == Tree(TOP).matching("tests/test_*.py")
+    commands = {suite.name.split()[0] for suite in run_all.SUITES} & COMMANDS.keys()
+    assert COMMANDS.keys() - commands == {"all", "check-ci", "manifest", "dap-screenshot"}
+
+
+@pytest.mark.parametrize("name", ["compare", "compare-text", "compare-serve-reasons", "serve-threads", "hostile"])
+def test_what_has_no_program_is_not_run(name: str) -> None:
+    done = run(name, PROGRAM="/no/such/program")
+    assert done.returncode == 2
+    assert done.stdout.splitlines()[-1] == f"{name}: 0 passed, 0 failed, 1 not run"
+    assert "/no/such/program is not there: build it (make build)" in done.stdout or "apt-get install" in done.stdout
+
+
+def test_a_missing_package_is_named() -> None:
+    with pytest.raises(NotRun, match="apt-get install -y --no-install-recommends one two$"):
+        places.need({"no-such-command": "two", "no-such-command-either": "one", "sh": "dash"})
+
+
+def suite_of(name: str, code: str, folder: Path) -> run_all.Suite:
+    return run_all.Suite(name, (sys.executable, "-c", code), True, folder)
+
+
+@pytest.mark.parametrize(("code", "wanted"), [
+    ("print('x: 4 passed, 0 failed')", Summary("s", 4)),
+    ("print('x: 4 passed, 1 failed'); exit(1)", Summary("s", 4, 1)),
+    ("print('x: 0 passed, 0 failed, 1 not run'); exit(2)", Summary("s", 0, 0, 1)),
+    ("print('no summary')", Summary("s", 0, 1)),
+    ("print('x: 4 passed, 0 failed'); exit(1)", Summary("s", 0, 1)),
+    ("raise SystemExit(3)", Summary("s", 0, 1))])
+def test_what_a_suite_prints_is_counted(code: str, wanted: Summary, tmp_path: Path) -> None:
+    assert run_all.run(suite_of("s", code, tmp_path)) == wanted
+
+
+def test_all_is_the_sum(tmp_path: Path, monkeypatch: pytest.MonkeyPatch, capsys: pytest.CaptureFixture[str]) -> None:
+    monkeypatch.setattr(run_all, "SUITES", [suite_of("good", "print('x: 4 passed, 0 failed, 2 not run')", tmp_path),
+                                            suite_of("bad", "print('x: 1 passed, 1 failed'); exit(1)", tmp_path)])
+    assert run_all.main([]) == 1
+    assert capsys.readouterr().out.splitlines()[-1] == "all: 5 passed, 1 failed, 2 not run"
+    assert run_all.main(["good"]) == 0
+    with pytest.raises(SystemExit):
+        run_all.main(["ugly"])
+
+
+TESTS = """
+import pytest
+from suite.summary import NotRun
+
+def test_good() -> None:
+    pass
+
+def test_bad() -> None:
+    assert False
+
+@pytest.fixture
+def lacking() -> None:
+    raise NotRun("needs a package")
+
+def test_lacks(lacking: None) -> None:
+    pass
+
+def test_lacks_too() -> None:
+    raise NotRun("needs another")
+"""
+
+
+def test_tests_are_counted(tmp_path: Path) -> None:
+    (tmp_path / "test_some.py").write_text(TESTS)
+    done = subprocess.run([*run_all.PYTEST, "test_some.py"], cwd=tmp_path, capture_output=True, text=True, check=False,
+                          env={**os.environ, "PYTHONPATH": str(TOP / "tests"), "SUITE": "some"})
+    assert done.stdout.splitlines()[-1] == "some: 1 passed, 1 failed, 2 not run"
+    assert "needs a package" in done.stdout and "needs another" in done.stdout
+
+
+def test_second_reading_answers_itself() -> None:
+    done = run("compare", "--dry", "1", "1")
+    assert done.returncode == 0, done.stderr
+    assert done.stdout.splitlines()[-2:] == ["nothing was compared", "compare-dry: 0 passed, 0 failed"]
+    assert "60 modules" in done.stdout
+
+
+def test_checker_of_histories() -> None:
+    done = run("check-history", "--self-test", "20", "1")
+    assert done.returncode == 0, done.stdout
+    assert done.stdout.splitlines()[-1] == "check-history: 92 passed, 0 failed"
+
+
+def test_history_that_is_legal_or_not(tmp_path: Path) -> None:
+    script = tmp_path / "script"
+    script.write_text('{"op":"state","id":"x"}\n')
+    for reply, status in (('{"error":"NotFound","number":4,"ok":false}', 0),
+                          ('{"id":"x","n":0,"ok":true,"status":"created"}', 1)):
+        done = subprocess.run([TOP / "tests/run", "check-history", script], input=f"{reply}\n", capture_output=True, text=True,
+                              check=False)
+        assert done.returncode == status, done.stdout
