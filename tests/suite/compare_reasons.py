@@ -117,7 +117,9 @@ def is_typed(data: bytes, reason: str) -> bool:
     if not data.startswith(b"\0asm") or OF_AN_END.search(reason) or not OF_OPERANDS.search(reason):
         return True
     module = wasm.Decoder(data).module()
-    func, _ = wasm.fault_of(module).place
+    fault = wasm.fault_of(module)
+    assert fault is not None and fault.place is not None
+    func, _ = fault.place
     body = Stopped(module, module.funcs[func - len(module.imports)])
     try:
         body.check()

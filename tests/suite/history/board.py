@@ -95,7 +95,7 @@ class Boards:
         return [line_of(told) for told, _ in self.answers(state, request)]
 
     def on_store(self, state: BoardState, request: Members) -> tuple[Members, BoardState]:
-        board = Board(False)
+        board: typing.Any = Board(False)
         board.contents = {digest: self.modules.get(digest) for digest in state.contents}
         board.leases = {id: list(members) for id, members in state.leases}
         held = types.SimpleNamespace

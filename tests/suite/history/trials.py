@@ -142,7 +142,7 @@ def some_requests(count: int) -> list[bytes]:
 
 def slices_of(board: Board) -> list[bytes]:
     """What may happen between two calls: takes and returns."""
-    events = []
+    events = list[dict[str, typing.Any]]()
     for id, task in board.tasks.items():
         if task.out is not None:
             events.append({"op": "return", "id": id})

@@ -1,8 +1,11 @@
 """Lines, configs and the board: what each line is answered."""
+from __future__ import annotations
+
 import hashlib
 import json
 import re
 import typing
+from typing import Any, NoReturn
 
 from suite.reference import wasm
 from suite.reference.execute import Machine
@@ -25,41 +28,41 @@ class Fraction:
     """A number that is read as neither a u64 nor an i64."""
 
 
-def whole(text):
+def whole(text: str) -> int | Fraction:
     value = int(text) if len(text) < 400 else 10**400
     if value >= 2**64 or value < -2**63 or text.startswith("-0"):
         return fraction(text)
     return value
 
 
-def fraction(text):
+def fraction(text: str) -> Fraction:
     if float(text) in (float("inf"), float("-inf")):
         raise NoJson
     return Fraction()
 
 
-def no_constant(_text):
+def no_constant(_text: str) -> NoReturn:
     raise NoJson
 
 
-def is_scalar_text(value):
+def is_scalar_text(value: str) -> bool:
     return not any(0xD800 <= ord(character) < 0xE000 for character in value)
 
 
-def members(pairs):
+def members(pairs: list[tuple[str, Any]]) -> dict[str, Any]:
     for key, value in pairs:
         if not is_scalar_text(key) or not all_scalar(value):
             raise NoJson
     return dict(pairs)
 
 
-def all_scalar(value):
+def all_scalar(value: Any) -> bool:
     if isinstance(value, str):
         return is_scalar_text(value)
     return all(map(all_scalar, value)) if isinstance(value, list) else True
 
 
-def depth_of(text):
+def depth_of(text: str) -> int:
     """How many arrays and objects stand open at most; texts are passed over."""
     bare = re.sub(r'"(\\.|[^"\\])*"?', "", text, flags=re.DOTALL)
     depth = most = 0
@@ -69,7 +72,7 @@ def depth_of(text):
     return most
 
 
-def parse(text):
+def parse(text: str) -> Any:
     if text.startswith("\ufeff") or depth_of(text) > MOST_DEPTH:
         raise NoJson
     try:
@@ -82,13 +85,13 @@ def parse(text):
     return value
 
 
-def has_fraction(value):
+def has_fraction(value: Any) -> bool:
     if isinstance(value, dict):
         return any(map(has_fraction, value.values()))
     return any(map(has_fraction, value)) if isinstance(value, list) else isinstance(value, Fraction)
 
 
-def request_of(line, in_replay):
+def request_of(line: bytes, in_replay: bool) -> dict[str, Any] | None:
     """The members of a request or, in a replay, of an event line; None where the line is neither."""
     try:
         value = parse(line.decode("utf-8"))
@@ -96,11 +99,12 @@ def request_of(line, in_replay):
         return None
     if len(line) > MOST_LINE or not isinstance(value, dict) or not isinstance(value.get("op"), str):
         return None
-    keys = {"put": ["hex"], "remove": ["digest"], "lease_create": ["id"], "lease_add": ["digest", "id"],
-            "lease_delete": ["id"], "gc": [], "create": ["config", "id"], "start": ["id"], "pause": ["id"],
-            "resume": ["id"], "kill": ["id", "signal"], "delete": ["id"], "state": ["id"], "wait": ["id"],
-            "output": ["id", "stream"], "break": ["func", "id", "place"], "unbreak": ["func", "id", "place"],
-            "step": ["count", "id"], "inspect": ["id"], "peek": ["address", "id", "length"]}
+    keys: dict[str, list[str]] = {
+        "put": ["hex"], "remove": ["digest"], "lease_create": ["id"], "lease_add": ["digest", "id"],
+        "lease_delete": ["id"], "gc": [], "create": ["config", "id"], "start": ["id"], "pause": ["id"],
+        "resume": ["id"], "kill": ["id", "signal"], "delete": ["id"], "state": ["id"], "wait": ["id"],
+        "output": ["id", "stream"], "break": ["func", "id", "place"], "unbreak": ["func", "id", "place"],
+        "step": ["count", "id"], "inspect": ["id"], "peek": ["address", "id", "length"]}
     numbers = ("signal", "stream", "func", "place", "count", "address", "length")
     if in_replay:
         keys |= {"return": ["id"], "take": ["budget", "id"]}
@@ -120,19 +124,19 @@ def request_of(line, in_replay):
 
 class Process(typing.NamedTuple):
     digest: str
-    args: list
-    env: list
+    args: list[str]
+    env: list[str]
     cap: int
 
 
-def texts_of(value, least, most):
+def texts_of(value: list[Any] | None, least: int, most: int) -> list[str] | None:
     """A list of at least and at most these numbers of texts without U+0000; None for any other value."""
     if not isinstance(value, list) or not least <= len(value) <= most:
         return None
     return value if all(isinstance(text, str) and "\0" not in text for text in value) else None
 
 
-def cap_of(config):
+def cap_of(config: dict[str, Any]) -> int | None:
     """The most pages that a config lets a memory have; None where its part for Linux is malformed."""
     part = config
     for key in ("linux", "resources", "memory"):
@@ -145,7 +149,7 @@ def cap_of(config):
     return wasm.PAGE_CAP if limit == -1 else min(limit // wasm.PAGE, wasm.MOST_PAGES)
 
 
-def process_of(text):
+def process_of(text: str) -> Process | None:
     """The process that a config asks for; None where it is no config."""
     try:
         value = parse(text)
@@ -172,33 +176,36 @@ def process_of(text):
 
 
 class Refused(Exception):
-    def __init__(self, number, place=None):
+    def __init__(self, number: int, place: tuple[int, int] | None = None) -> None:
         super().__init__(number)
         self.number, self.place = number, place
 
-    def reply(self):
+    def reply(self) -> dict[str, Any]:
         reply = {"error": NAMES[self.number], "number": self.number, "ok": False}
         if self.place is not None:
             reply["func"], reply["place"] = self.place
         return reply
 
 
-def line_of(reply):
+def line_of(reply: dict[str, Any]) -> bytes:
     """The line of a reply, without its line feed."""
     return json.dumps(reply, separators=(",", ":"), sort_keys=True, ensure_ascii=False).encode()
 
 
 class Task:
-    def __init__(self, process, data):
-        self.process, self.data, self.turns, self.status, self.out, self.end = process, data, 0, "created", None, None
-        self.signal, self.breaks = None, []
+    def __init__(self, process: Process, data: bytes) -> None:
+        self.process, self.data, self.turns, self.status = process, data, 0, "created"
+        self.out: int | None = None
+        self.end: dict[str, Any] | None = None
+        self.signal: int | None = None
+        self.breaks: list[tuple[int | None, int]] = []
         self.machine = Machine(wasm.Decoder(data).module(), process.cap, process.args, process.env)
 
-    def start(self):
+    def start(self) -> None:
         self.status = "running"
         self.run(0)
 
-    def run(self, budget, pauses=False):
+    def run(self, budget: int, pauses: bool = False) -> None:
         self.machine.run(budget, self.breaks)
         self.turns, end = self.machine.turns, self.machine.end
         if end is not None:
@@ -208,23 +215,26 @@ class Task:
         elif pauses or self.status == "pausing" or self.machine.is_at(self.breaks):
             self.status = "paused"
 
-    def stop_by(self, signal):
+    def stop_by(self, signal: int) -> None:
         self.status = "stopped"
         self.end = {"cause": "kill", "exit": 128 + signal, "signal": signal}
 
-    def output(self, stream):
+    def output(self, stream: int) -> bytes:
         """What it has written."""
         return bytes(self.machine.streams[stream])
 
-    def state(self, name):
+    def state(self, name: str) -> dict[str, Any]:
         return {"id": name, "n": self.turns, "ok": True, "status": self.status, **(self.end or {})}
 
 
 class Board:
-    def __init__(self, in_replay):
-        self.in_replay, self.contents, self.leases, self.tasks = in_replay, {}, {}, {}
+    def __init__(self, in_replay: bool) -> None:
+        self.in_replay = in_replay
+        self.contents: dict[str, bytes] = {}
+        self.leases: dict[str, list[str]] = {}
+        self.tasks: dict[str, Task] = {}
 
-    def answer(self, line):
+    def answer(self, line: bytes) -> bytes:
         """The line that a line is answered."""
         request = request_of(line, self.in_replay)
         try:
@@ -235,7 +245,7 @@ class Board:
             reply = refused.reply()
         return line_of(reply)
 
-    def put_(self, hex):
+    def put_(self, hex: str) -> dict[str, Any]:
         data = bytes.fromhex(hex)
         digest = "sha256:" + hashlib.sha256(data).hexdigest()
         if len(data) > wasm.MOST_BYTES:
@@ -247,11 +257,11 @@ class Board:
         self.contents[digest] = data
         return {"digest": digest, "ok": True, "size": len(data)}
 
-    def is_held(self, digest):
+    def is_held(self, digest: str) -> bool:
         return any(digest in members for members in self.leases.values()) or any(
             task.process.digest == digest for task in self.tasks.values())
 
-    def remove_(self, digest):
+    def remove_(self, digest: str) -> dict[str, Any]:
         if not DIGEST.match(digest):
             raise Refused(2)
         if digest not in self.contents:
@@ -261,7 +271,7 @@ class Board:
         del self.contents[digest]
         return {"digest": digest, "ok": True}
 
-    def lease_create_(self, id):
+    def lease_create_(self, id: str) -> dict[str, Any]:
         if not ID.match(id):
             raise Refused(2)
         if id in self.leases:
@@ -271,7 +281,7 @@ class Board:
         self.leases[id] = []
         return {"id": id, "ok": True}
 
-    def lease_add_(self, digest, id):
+    def lease_add_(self, digest: str, id: str) -> dict[str, Any]:
         if not DIGEST.match(digest) or not ID.match(id):
             raise Refused(2)
         if id not in self.leases:
@@ -285,7 +295,7 @@ class Board:
         self.leases[id].append(digest)
         return {"digest": digest, "id": id, "ok": True}
 
-    def lease_delete_(self, id):
+    def lease_delete_(self, id: str) -> dict[str, Any]:
         if not ID.match(id):
             raise Refused(2)
         if id not in self.leases:
@@ -293,13 +303,13 @@ class Board:
         del self.leases[id]
         return {"id": id, "ok": True}
 
-    def gc_(self):
+    def gc_(self) -> dict[str, Any]:
         removed = [digest for digest in self.contents if not self.is_held(digest)]
         for digest in removed:
             del self.contents[digest]
         return {"ok": True, "removed": removed}
 
-    def create_(self, config, id):
+    def create_(self, config: str, id: str) -> dict[str, Any]:
         if not ID.match(id):
             raise Refused(2)
         if id in self.tasks:
@@ -317,35 +327,35 @@ class Board:
         self.tasks[id] = Task(process, data)
         return {"id": id, "ok": True, "status": "created"}
 
-    def task(self, name):
+    def task(self, name: str) -> Task:
         if not ID.match(name):
             raise Refused(2)
         if name not in self.tasks:
             raise Refused(4)
         return self.tasks[name]
 
-    def start_(self, id):
+    def start_(self, id: str) -> dict[str, Any]:
         task = self.task(id)
         if task.status != "created":
             raise Refused(11)
         task.start()
         return {"id": id, "ok": True, "status": task.status}
 
-    def pause_(self, id):
+    def pause_(self, id: str) -> dict[str, Any]:
         task = self.task(id)
         if task.status != "running":
             raise Refused(11)
         task.status = "paused" if task.out is None else "pausing"
         return {"id": id, "ok": True, "status": task.status}
 
-    def resume_(self, id):
+    def resume_(self, id: str) -> dict[str, Any]:
         task = self.task(id)
         if task.status != "paused":
             raise Refused(11)
         task.status = "running"
         return {"id": id, "ok": True, "status": task.status}
 
-    def kill_(self, id, signal):
+    def kill_(self, id: str, signal: int) -> dict[str, Any]:
         task = self.task(id)
         if signal not in (9, 15):
             raise Refused(13)
@@ -357,17 +367,17 @@ class Board:
             task.signal = signal
         return {"id": id, "ok": True, "status": task.status}
 
-    def delete_(self, id):
+    def delete_(self, id: str) -> dict[str, Any]:
         task = self.task(id)
         if task.status != "stopped":
             raise Refused(11)
         del self.tasks[id]
         return task.state(id)
 
-    def state_(self, id):
+    def state_(self, id: str) -> dict[str, Any]:
         return self.task(id).state(id)
 
-    def wait_(self, id):
+    def wait_(self, id: str) -> dict[str, Any]:
         task = self.task(id)
         if task.status in ("running", "pausing") and self.in_replay:
             raise Refused(12)
@@ -375,7 +385,7 @@ class Board:
             task.run(10**15)
         return task.state(id)
 
-    def output_(self, id, stream):
+    def output_(self, id: str, stream: int) -> dict[str, Any]:
         task = self.task(id)
         if stream not in (1, 2):
             raise Refused(13)
@@ -384,7 +394,7 @@ class Board:
         written = task.output(stream)
         return {"hex": written.hex(), "id": id, "ok": True, "size": len(written)}
 
-    def breakable(self, func, id, place):
+    def breakable(self, func: int, id: str, place: int) -> Task:
         task = self.task(id)
         if task.status not in ("created", "paused"):
             raise Refused(11)
@@ -392,7 +402,7 @@ class Board:
             raise Refused(13)
         return task
 
-    def break_(self, func, id, place):
+    def break_(self, func: int, id: str, place: int) -> dict[str, Any]:
         task = self.breakable(func, id, place)
         if (func, place) in task.breaks:
             raise Refused(3)
@@ -401,14 +411,14 @@ class Board:
         task.breaks.append((func, place))
         return {"id": id, "ok": True}
 
-    def unbreak_(self, func, id, place):
+    def unbreak_(self, func: int, id: str, place: int) -> dict[str, Any]:
         task = self.breakable(func, id, place)
         if (func, place) not in task.breaks:
             raise Refused(4)
         task.breaks.remove((func, place))
         return {"id": id, "ok": True}
 
-    def step_(self, count, id):
+    def step_(self, count: int, id: str) -> dict[str, Any]:
         task = self.task(id)
         if task.status != "paused":
             raise Refused(11)
@@ -417,13 +427,13 @@ class Board:
         task.run(count, True)
         return task.state(id)
 
-    def inspect_(self, id):
+    def inspect_(self, id: str) -> dict[str, Any]:
         task = self.task(id)
         if task.out is not None:
             raise Refused(12)
         return {"frames": task.machine.shown(), "id": id, "n": task.turns, "ok": True}
 
-    def peek_(self, address, id, length):
+    def peek_(self, address: int, id: str, length: int) -> dict[str, Any]:
         task = self.task(id)
         if task.out is not None:
             raise Refused(12)
@@ -431,17 +441,17 @@ class Board:
             raise Refused(13)
         return {"hex": task.machine.memory[address:address + length].hex(), "id": id, "ok": True}
 
-    def take_(self, budget, id):
+    def take_(self, budget: int, id: str) -> dict[str, bool]:
         task = self.tasks.get(id)
-        is_taken = task is not None and task.status == "running" and task.out is None
-        if is_taken:
-            task.out = budget
-        return {"ok": True, "taken": is_taken}
+        if task is None or task.status != "running" or task.out is not None:
+            return {"ok": True, "taken": False}
+        task.out = budget
+        return {"ok": True, "taken": True}
 
-    def return_(self, id):
+    def return_(self, id: str) -> dict[str, bool]:
         task = self.tasks.get(id)
-        is_out = task is not None and task.out is not None
-        if is_out:
-            task.run(task.out)
-            task.out = None
-        return {"ok": True, "returned": is_out}
+        if task is None or task.out is None:
+            return {"ok": True, "returned": False}
+        task.run(task.out)
+        task.out = None
+        return {"ok": True, "returned": True}

@@ -1,4 +1,6 @@
 """Random valid modules that make system calls, many of them at the edges of memory and of the output streams."""
+from __future__ import annotations
+
 import random
 
 from suite.reference.generate import leb, sized, vector
@@ -10,18 +12,18 @@ WRITTEN, BUFFERS = 16, 64  # where fd_write tells how much it took, and where it
 SIZES = (0, 1, 5, 100, 4_000, 30_000, PAGE - 200, PAGE, 2**32 - 1)
 
 
-def place(pages):
+def place(pages: int) -> int:
     """An address: anywhere in memory, at its end, or beyond it."""
     end = pages * PAGE
     return random.choice([0, 8, 60, 200, random.randrange(max(end, 1)), end - 8, end - 5, end - 4, end - 3, end, end + 1,
                           2**31, 2**32 - 1, 2**32 - 4]) % 2**32
 
 
-def word(number):
+def word(number: int) -> bytes:
     return i32(number - 2**32 if number >= 2**31 else number)
 
 
-def arguments(name, pages):
+def arguments(name: bytes, pages: int) -> bytes:
     if name == b"fd_write":
         at, count = (BUFFERS, random.choice([0, 1, 1, 1, 2, 3])) if random.random() < 0.8 else (
             place(pages), random.choice([0, 1, 8192, 2**32 - 1]))
@@ -32,13 +34,13 @@ def arguments(name, pages):
     return b"".join(map(word, given))
 
 
-def buffers(pages):
+def buffers(pages: int) -> bytes:
     """Addresses and lengths, as a data segment has them."""
     numbers = [number for _ in range(3) for number in (random.choice([0, 100, 5_000, place(pages)]), random.choice(SIZES))]
     return b"".join(number.to_bytes(4, "little") for number in numbers)
 
 
-def program():
+def program() -> bytes:
     """A module whose entry makes calls, mixes their results with words of its memory, and exits with the sum."""
     pages, names = random.choice([1, 1, 1, 2, 0]), random.sample(list(CALLS), random.randint(1, len(CALLS)))
     types = sorted({CALLS[name][:2] for name in names} | {((), ()), ((I32,), ())})

@@ -1,15 +1,19 @@
 """Random modules, configs and lines: mostly right, then bent a little."""
+from __future__ import annotations
+
 import hashlib
 import json
 import random
+from collections.abc import Callable
+from typing import Any
 
-from suite.reference.wasm import FIXED, I32, I64, LOADS, STORES
+from suite.reference.wasm import FIXED, I32, I64, LOADS, STORES, FuncType
 
 VALUE_TYPES = (I32, I64)
 EDGES = (0, 1, 7, -1, 63, 64, -64, -65, 2**31 - 1, -2**31)
 
 
-def leb(number, is_signed=False, most=5):
+def leb(number: int, is_signed: bool = False, most: int = 5) -> bytes:
     """A spelling of a number: the shortest one, or at times one with up to as many bytes as it may have."""
     groups = [number & 0x7F]
     number >>= 7
@@ -22,25 +26,26 @@ def leb(number, is_signed=False, most=5):
     return bytes(group | 0x80 for group in groups[:-1]) + bytes(groups[-1:])
 
 
-def vector(items):
+def vector(items: list[bytes]) -> bytes:
     return leb(len(items)) + b"".join(items)
 
 
-def sized(part):
+def sized(part: bytes) -> bytes:
     return leb(len(part)) + part
 
 
-def func_types():
-    found = [((I32,), ()), ((), ())]
+def func_types() -> list[FuncType]:
+    found: list[FuncType] = [((I32,), ()), ((), ())]
     for _ in range(random.choice([0, 0, 1, 2])):
         most = random.choice([1, 1, 2, 3])
-        found.append(tuple(tuple(random.choice(VALUE_TYPES) for _ in range(random.randint(0, count))) for count in (3, most)))
+        takes, gives = (tuple(random.choice(VALUE_TYPES) for _ in range(random.randint(0, count))) for count in (3, most))
+        found.append((takes, gives))
     if random.random() < 0.2:
         random.shuffle(found)
     return found
 
 
-def imports(types):
+def imports(types: list[FuncType]) -> list[tuple[bytes, bytes, int]]:
     found = [(b"wasi_snapshot_preview1", b"proc_exit", types.index(((I32,), ())))] * random.choice([1, 1, 1, 2, 0])
     if random.random() < 0.15:
         module = random.choice([b"wasi_snapshot_preview1", b"env", "ä".encode()])
@@ -48,7 +53,7 @@ def imports(types):
     return found
 
 
-def constant(kind):
+def constant(kind: int) -> bytes:
     bits = 32 if kind == I32 else 64
     number = random.choice([*EDGES, random.randint(-2**(bits - 1), 2**(bits - 1) - 1)])
     opcode, most = (b"\x41", 5) if kind == I32 else (b"\x42", 10)
@@ -59,7 +64,8 @@ class Shape:
     """What the instructions of a module may name: its types, the types of its functions, its globals, and whether it
     has a memory and a table."""
 
-    def __init__(self, types, functions, imported):
+    def __init__(self, types: list[FuncType], functions: list[int],
+                 imported: int) -> None:
         self.types, self.functions, self.imported = types, functions, imported
         self.globals = [(random.choice(VALUE_TYPES), random.randrange(2)) for _ in range(random.choice([0, 0, 1, 3]))]
         self.has_memory, self.has_table = random.random() < 0.6, random.random() < 0.3
@@ -69,11 +75,11 @@ class Shape:
 class Body:
     """Random instructions, mostly well typed."""
 
-    def __init__(self, shape, locals_, results):
+    def __init__(self, shape: Shape, locals_: list[int], results: tuple[int, ...]) -> None:
         self.shape, self.locals, self.results = shape, locals_, results
         self.left = random.choice([0, 3, 8, 20])
 
-    def sequence(self, params, results, labels):
+    def sequence(self, params: tuple[int, ...], results: tuple[int, ...], labels: list[tuple[int, ...]]) -> bytes:
         stack, code = [*params], b""
         while self.left > 0 and random.random() < 0.9:
             self.left -= 1
@@ -88,15 +94,16 @@ class Body:
             code += constant(kind)
         return code
 
-    def instruction(self, stack, labels):
+    def instruction(self, stack: list[int], labels: list[tuple[int, ...]]) -> tuple[bytes, bool]:
         """One instruction, and whether the operands are free after it."""
-        choices = [self.constant, self.constant, self.drop, self.call]
+        choices: list[Callable[[list[int], list[tuple[int, ...]]], tuple[bytes, bool]]] = [
+            self.constant, self.constant, self.drop, self.call]
         if not self.shape.is_plain:
             choices += [self.fixed] * 4 + [self.variable] * 3 + [self.memory] * 2
             choices += [self.block, self.block, self.branch, self.select, self.other]
         return random.choice(choices)(stack, labels)
 
-    def takes(self, stack, kinds):
+    def takes(self, stack: list[int], kinds: tuple[int, ...]) -> bytes:
         """Takes operands of these types, or pushes constants for those that are not there."""
         code, there = b"", len(stack)
         while there and tuple(stack[len(stack) - there:]) != tuple(kinds[:there]):
@@ -107,30 +114,30 @@ class Body:
             code += b"".join(constant(kind) for kind in kinds[there:])
         return code
 
-    def constant(self, stack, _labels):
+    def constant(self, stack: list[int], _labels: list[tuple[int, ...]]) -> tuple[bytes, bool]:
         stack.append(random.choice(VALUE_TYPES))
         return constant(stack[-1]), False
 
-    def drop(self, stack, _labels):
+    def drop(self, stack: list[int], _labels: list[tuple[int, ...]]) -> tuple[bytes, bool]:
         if not stack and random.random() < 0.95:
             return b"", False
         del stack[-1:]
         return b"\x1a", False
 
-    def select(self, stack, _labels):
+    def select(self, stack: list[int], _labels: list[tuple[int, ...]]) -> tuple[bytes, bool]:
         kind = random.choice(VALUE_TYPES)
         code = self.takes(stack, (kind, kind, I32))
         stack.append(kind)
         return code + b"\x1b", False
 
-    def fixed(self, stack, _labels):
+    def fixed(self, stack: list[int], _labels: list[tuple[int, ...]]) -> tuple[bytes, bool]:
         opcode = random.choice(list(FIXED))
         takes, gives = FIXED[opcode]
         code = self.takes(stack, takes)
         stack += gives
         return code + bytes([opcode]), False
 
-    def variable(self, stack, _labels):
+    def variable(self, stack: list[int], _labels: list[tuple[int, ...]]) -> tuple[bytes, bool]:
         opcode = random.randrange(0x20, 0x25)
         known = self.locals if opcode < 0x23 else [kind for kind, _ in self.shape.globals]
         if not known:
@@ -143,7 +150,7 @@ class Body:
             stack.append(known[index])
         return code + bytes([opcode]) + leb(index if random.random() < 0.99 else len(known)), False
 
-    def memory(self, stack, _labels):
+    def memory(self, stack: list[int], _labels: list[tuple[int, ...]]) -> tuple[bytes, bool]:
         if not self.shape.has_memory and random.random() < 0.98:
             return b"", False
         kind = random.random()
@@ -160,7 +167,7 @@ class Body:
         align = random.randrange(count.bit_length() + (random.random() < 0.02))
         return code + bytes([opcode]) + leb(align) + leb(random.choice([0, 1, 65_535, 2**32 - 1])), False
 
-    def call(self, stack, _labels):
+    def call(self, stack: list[int], _labels: list[tuple[int, ...]]) -> tuple[bytes, bool]:
         shape = self.shape
         if shape.has_table and not shape.is_plain and random.random() < 0.3:
             index = random.randrange(len(shape.types))
@@ -176,7 +183,7 @@ class Body:
         stack += results
         return code, False
 
-    def block(self, stack, labels):
+    def block(self, stack: list[int], labels: list[tuple[int, ...]]) -> tuple[bytes, bool]:
         opcode = random.choice([2, 3, 4])
         params, results, kind = self.block_type()
         code = self.takes(stack, (*params, I32) if opcode == 4 else params) + bytes([opcode]) + kind
@@ -187,7 +194,7 @@ class Body:
         stack += results
         return code + b"\x0b", False
 
-    def block_type(self):
+    def block_type(self) -> tuple[tuple[int, ...], tuple[int, ...], bytes]:
         """What a block takes and gives, and the bytes that say so."""
         if random.random() < 0.6:
             results = random.choice([(), (), (I32,), (I64,)])
@@ -196,7 +203,7 @@ class Body:
         params, results = self.shape.types[index] if index < len(self.shape.types) else ((), ())
         return params, results, leb(index, is_signed=True)
 
-    def branch(self, stack, labels):
+    def branch(self, stack: list[int], labels: list[tuple[int, ...]]) -> tuple[bytes, bool]:
         label = random.randrange(len(labels) + (random.random() < 0.02))
         types = labels[label] if label < len(labels) else ()
         kind = random.random()
@@ -210,7 +217,7 @@ class Body:
         others = [random.choice(alike) for _ in range(random.randint(0, 3))]
         return self.takes(stack, (*types, I32)) + b"\x0e" + vector([leb(other) for other in others]) + leb(label), True
 
-    def other(self, stack, _labels):
+    def other(self, stack: list[int], _labels: list[tuple[int, ...]]) -> tuple[bytes, bool]:
         kind = random.random()
         if kind < 0.5:
             return b"\x01", False
@@ -219,7 +226,7 @@ class Body:
         return self.takes(stack, self.results) + b"\x0f", True
 
 
-def func(shape, type_index):
+def func(shape: Shape, type_index: int) -> bytes:
     params, results = shape.types[type_index] if type_index < len(shape.types) else ((), ())
     counts = (0, 1, 2, 5, 1023, 1024) if random.random() < 0.1 else range(5)
     runs = [(random.choice(counts), random.choice(VALUE_TYPES)) for _ in range(random.randint(0, 2))]
@@ -228,18 +235,18 @@ def func(shape, type_index):
     return vector([leb(count) + bytes([kind]) for count, kind in runs]) + code + b"\x0b"
 
 
-def limits(most):
+def limits(most: int) -> bytes:
     least = random.choice([0, 1, 1, 2, most, most + 1] if random.random() < 0.3 else [0, 1, 2])
     if random.random() < 0.6:
         return b"\0" + leb(least)
     return b"\1" + leb(least) + leb(random.choice([least, least + 1, 65_536, 65_537, max(0, least - 1)]))
 
 
-def offset():
+def offset() -> bytes:
     return b"\x41" + leb(random.choice([0, 0, 1, 65_535]), is_signed=True) + b"\x0b"
 
 
-def segments(shape, functions):
+def segments(shape: Shape, functions: int) -> tuple[list[bytes], list[bytes]]:
     elements = [leb(0) + offset() + vector([leb(random.randrange(functions + (random.random() < 0.02)))
                                             for _ in range(random.randint(0, 2))])
                 for _ in range(random.choice([0, 1, 2]) if shape.has_table else 0) if functions]
@@ -248,14 +255,14 @@ def segments(shape, functions):
     return elements, data
 
 
-def custom():
+def custom() -> bytes:
     if random.random() >= 0.05:
         return b""
     name = random.choice([b"name", b"", *[b"a"] * 7, b"\xff"])
     return b"\0" + sized(sized(name) + random.randbytes(random.randint(0, 5)))
 
 
-def sections():
+def sections() -> list[tuple[int, bytes]]:
     types = func_types()
     imported = imports(types)
     indices = [random.randrange(len(types) + (random.random() < 0.02)) if random.random() < 0.4
@@ -341,7 +348,7 @@ ENTRIES = ["A=1", "A=1", "B=", "ä=x", "==x", "=x", "A", "", "A=\0", "ä=", 1, N
 MEMORY_LIMITS = [-1, 0, 65_535, 65_536, 131_071, 1_048_576, 2_000_000, 16_777_216, 2**64 - 1, 2**64, -2, 1.0, "1", None, True]
 
 
-def entries():
+def entries() -> Any:
     """An environment, at times one that a config may not have."""
     if random.random() < 0.1:
         return random.choice([None, {}, "A=1", 1])
@@ -351,11 +358,15 @@ def entries():
     return [random.choice(ENTRIES[:5] if good else ENTRIES) for _ in range(random.choice([0, 1, 1, 2, 64, 65]))]
 
 
-def linux():
+# Values of other kinds than that of a part.
+MALFORMED: list[Any] = [None, [], {}]
+
+
+def linux() -> dict[str, Any]:
     """A part for Linux, at times cut short or malformed."""
-    part = {"limit": random.choice(MEMORY_LIMITS)} if random.random() < 0.9 else {}
+    part: dict[str, Any] = {"limit": random.choice(MEMORY_LIMITS)} if random.random() < 0.9 else {}
     for key in ("memory", "resources", "linux"):
-        part = {key: random.choice([None, [], {}]) if random.random() < 0.05 else part}
+        part = {key: random.choice(MALFORMED) if random.random() < 0.05 else part}
     return part
 
 
@@ -382,13 +393,14 @@ OTHERS = ["sha256:" + hashlib.sha256(data).hexdigest() for data in (b"", b"abc",
 BUDGETS = [1, 1, 2, 1_000_000, 0, 1_000_001, 1.0, -1, 2**64 - 1, 2**64, True, None, "1"]
 
 
-def request(data, digest):
+def request(data: bytes, digest: str) -> dict[str, Any]:
     name = random.choice(IDS if random.random() < 0.3 else "aab")
     texts = [data.hex(), data.hex(), data.hex().upper(), "", "616263", "ABcd", "0", "0g", "00" * random.randint(0, 9)]
     named = random.choice([digest, digest, *OTHERS, digest.upper(), digest[:-1], "sha256:" + "0" * 64, ""])
     lease = random.choice(IDS) if random.random() < 0.2 else random.choice("lm")
-    place = {"func": random.choice([1, 1, 0, 2, 2**64, -1, "1", 1.0]), "place": random.choice([0, 0, 1, 2, 2**32, -1, "0"])}
-    kinds = {
+    place: dict[str, Any] = {"func": random.choice([1, 1, 0, 2, 2**64, -1, "1", 1.0]),
+                             "place": random.choice([0, 0, 1, 2, 2**32, -1, "0"])}
+    kinds: dict[str, dict[str, Any]] = {
         "break": {"id": name, **place},
         "unbreak": {"id": name, **place},
         "step": {"id": name, "count": random.choice([1, 1, 2, 1000, 0, 1001, 2**64, -1, "1", 1.0, None])},

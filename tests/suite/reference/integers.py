@@ -1,44 +1,47 @@
 """Operators on integers (4.3.2), over numbers from 0 to 2^N - 1, where N is 32 or 64."""
+from __future__ import annotations
+
+from collections.abc import Callable
 from functools import partial
 
 
 class Trap(Exception):
     """The task ends with the trap of this name."""
 
-    def __init__(self, name):
+    def __init__(self, name: str) -> None:
         super().__init__(name)
         self.name = name
 
 
-def signed(bits, number):
-    return number - 2**bits if number >= 2**(bits - 1) else number
+def signed(bits: int, number: int) -> int:
+    return number - (1 << bits) if number >= 1 << (bits - 1) else number
 
 
-def quotient(a, b):
+def quotient(a: int, b: int) -> int:
     """Towards zero."""
     if b == 0:
         raise Trap("integer divide by zero")
     return abs(a) // abs(b) * (1 if (a < 0) == (b < 0) else -1)
 
 
-def div_s(bits, a, b):
+def div_s(bits: int, a: int, b: int) -> int:
     found = quotient(signed(bits, a), signed(bits, b))
     if found == 2**(bits - 1):
         raise Trap("integer overflow")
     return found
 
 
-def rem_s(bits, a, b):
+def rem_s(bits: int, a: int, b: int) -> int:
     a, b = signed(bits, a), signed(bits, b)
     return a - b * quotient(a, b)
 
 
-def rotl(bits, a, b):
+def rotl(bits: int, a: int, b: int) -> int:
     count = b % bits
     return a << count | a >> (bits - count)
 
 
-def trailing_zeros(bits, a):
+def trailing_zeros(bits: int, a: int) -> int:
     return next((count for count in range(bits) if a >> count & 1), bits)
 
 
@@ -82,15 +85,15 @@ NUMBERS = [
 SIGN_EXTENSIONS = [(0xC0, 8, 32), (0xC1, 16, 32), (0xC2, 8, 64), (0xC3, 16, 64), (0xC4, 32, 64)]
 
 
-def extended(low, bits, a):
-    return signed(low, a % 2**low) % 2**bits
+def extended(low: int, bits: int, a: int) -> int:
+    return signed(low, a % (1 << low)) % (1 << bits)
 
 
-def within(bits, operator, *operands):
-    return operator(bits, *operands) % 2**bits
+def within(bits: int, operator: Callable[..., int], *operands: int) -> int:
+    return operator(bits, *operands) % (1 << bits)
 
 
-def operators():
+def operators() -> dict[int, Callable[..., int]]:
     """By opcode, functions of the operands."""
     found = {0xA7: lambda a: a % 2**32, 0xAC: lambda a: signed(32, a) % 2**64, 0xAD: lambda a: a}
     found |= {code: partial(extended, low, bits) for code, low, bits in SIGN_EXTENSIONS}

@@ -195,7 +195,8 @@ def check_with_reading(report: Report, case: Case) -> None:
     cap = wasm.PAGE_CAP if case.limit is None else min(case.limit // PAGE, MOST_PAGES)
     machine = Machine(wasm.Decoder(case.data).module(), cap, case.args)
     machine.run(case.turns + 1)
-    if (machine.end, machine.turns, len(machine.streams[1])) != (case.end, case.turns, case.written):
+    found = machine.end, machine.turns, len(machine.streams[1])
+    if found != (case.end, case.turns, case.written):
         report.fault(f"{case.name}: the second reading has {machine.end} after {machine.turns} turns, "
                      f"{len(machine.streams[1])} bytes")
 
