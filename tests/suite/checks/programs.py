@@ -12,8 +12,6 @@ from suite.checks.tree import Tree
 
 PACKAGES = ".ci/packages"
 CLIENT = "clients/python"
-# Commands of tools/ with types; the others have none.
-TYPED_TOOLS = ("tools/build", "tools/reached")
 # Neither leaves a file in the repository.
 MYPY = (sys.executable, "-m", "mypy", "--cache-dir", "/dev/null")
 PYTEST = (sys.executable, "-B", "-m", "pytest", "-q", "-p", "no:cacheprovider")
@@ -42,7 +40,8 @@ def missing(tree: Tree) -> list[str]:
 
 def run(name: str, command: Sequence[str], folder: Path, **more: str) -> list[str]:
     """Runs a program. Nothing if it ended well, or else the end of what it printed."""
-    done = subprocess.run(command, cwd=folder, env={**os.environ, **more}, stdin=subprocess.DEVNULL, stdout=subprocess.PIPE,
+    given = {**os.environ, "PYTHONDONTWRITEBYTECODE": "1", **more}
+    done = subprocess.run(command, cwd=folder, env=given, stdin=subprocess.DEVNULL, stdout=subprocess.PIPE,
                           stderr=subprocess.STDOUT, text=True, errors="replace", check=False)
     if done.returncode == 0:
         return []
@@ -67,7 +66,7 @@ def check_mypy(tree: Tree) -> Result:
     names = tree.matching("tests/*.py")
     words = ["--config-file", str(tree.root / "setup.cfg"), "--scripts-are-modules"]
     roots = sorted({name.split("/")[1] for name in names})
-    tools = [str(tree.root / name) for name in TYPED_TOOLS if tree.has(name)]
+    tools = [str(tree.root / name) for name in python_files(tree) if name.startswith("tools/")]
     return len(names) + len(tools), run("mypy", [*MYPY, *words, *roots, *tools], tree.root / "tests")
 
 
