@@ -78,6 +78,12 @@ def test_what_a_suite_prints_is_counted(code: str, wanted: Summary, tmp_path: Pa
     assert run_all.run(suite_of("s", code, tmp_path)) == wanted
 
 
+def test_what_needs_the_program_is_not_run_without(tmp_path: Path, monkeypatch: pytest.MonkeyPatch) -> None:
+    monkeypatch.setenv("PROGRAM", "/no/such/program")
+    suite = run_all.Suite("s", ("false",), folder=tmp_path, needs_program=True)
+    assert run_all.run(suite) == Summary("s", 0, 0, 1)
+
+
 def test_all_is_the_sum(tmp_path: Path, monkeypatch: pytest.MonkeyPatch, capsys: pytest.CaptureFixture[str]) -> None:
     monkeypatch.setattr(run_all, "SUITES", [suite_of("good", "print('x: 4 passed, 0 failed, 2 not run')", tmp_path),
                                             suite_of("bad", "print('x: 1 passed, 1 failed'); exit(1)", tmp_path)])

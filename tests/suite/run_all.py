@@ -26,18 +26,19 @@ PYTEST = (sys.executable, "-B", "-m", "pytest", "-q", "-p", "no:cacheprovider", 
 
 @dataclass(frozen=True)
 class Suite:
-    """A suite: its command line, the folder that it is run in, whether it is quick, and more variables of its
-    environment."""
+    """A suite: its command line, the folder that it is run in, whether it is quick, more variables of its environment,
+    and whether all of it needs the program, and would not say so itself."""
     name: str
     command: tuple[str, ...]
     is_quick: bool = False
     folder: Path = TOP
     more: dict[str, str] = field(default_factory=dict)
+    needs_program: bool = False
 
 
-def of_tests(name: str, *files: str, is_quick: bool = True, folder: Path = TOP) -> Suite:
-    """A suite of test files."""
-    return Suite(name, (*PYTEST, *files), is_quick, folder, {"SUITE": name})
+def of_tests(name: str, *files: str) -> Suite:
+    """A suite of test files, all of which are quick."""
+    return Suite(name, (*PYTEST, *files), True, TOP, {"SUITE": name})
 
 
 def of_command(*words: str, is_quick: bool = False) -> Suite:
@@ -49,7 +50,7 @@ SUITES = [
     of_tests("own-tests", "tests/test_checks.py", "tests/test_gate.py", "tests/test_suites.py", "tests/test_tools.py"),
     of_tests("examples", "tests/test_examples.py"),
     of_tests("rows", "tests/test_rows.py"),
-    of_tests("clients/python", "tests", folder=CLIENT),
+    Suite("clients/python", (*PYTEST, "tests"), True, CLIENT, {"SUITE": "clients/python"}, needs_program=True),
     of_tests("real-programs", "tests/test_real_programs.py"),
     of_tests("dap-emacs", "tests/test_dap_emacs.py"),
     of_command("check-history", "--self-test", is_quick=True),
@@ -76,6 +77,11 @@ def environment(suite: Suite) -> dict[str, str]:
 def run(suite: Suite) -> Summary:
     """Runs a suite, and shows what it prints. A suite that ends without a summary has failed."""
     print(f"== {suite.name}", flush=True)
+    try:
+        _ = suite.needs_program and built()
+    except NotRun as lack:
+        print(f"not run: {lack}", flush=True)
+        return Summary(suite.name, not_run=1)
     found = None
     with subprocess.Popen(suite.command, cwd=suite.folder, env=environment(suite), stdin=subprocess.DEVNULL,
                           stdout=subprocess.PIPE, stderr=subprocess.STDOUT, text=True, errors="replace") as process:
