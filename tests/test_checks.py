@@ -160,6 +160,37 @@ def test_types_are_refused(tmp_path: Path) -> None:
     assert "no-untyped-def" in programs.check_mypy(wrong)[1][0]
 
 
+CLIENT_TESTS = """
+import time
+import unittest
+
+class Some(unittest.TestCase):
+    def test_plain(self) -> None:
+        pass
+
+    async def test_late(self) -> None:
+        begin = time.monotonic()
+
+def test_soon() -> None:
+    time.perf_counter()
+"""
+
+
+def test_tests_by_the_clock_are_told_apart() -> None:
+    assert programs.tests_by_the_clock("t.py", CLIENT_TESTS) == ["t.py::test_soon", "t.py::Some::test_late"]
+    assert len(programs.tests_by_the_clock("t.py", CLIENT_TESTS + "# simulated_shim\n")) == 3
+
+
+def test_what_goes_by_the_clock_is_tried_again(tmp_path: Path) -> None:
+    late = "import time\nfrom pathlib import Path\n\ndef test_late() -> None:\n    time.monotonic()\n" \
+        "    with Path('tries').open('a') as file:\n        file.write('x')\n    assert len(Path('tries').read_text()) >= {}\n"
+    name = "clients/python/tests/test_late.py"
+    tree = tree_of(tmp_path / "a", {name: late.format(3)})
+    assert programs.check_client_times(tree) == (1, [])
+    assert programs.check_client_tests(tree)[1] != [], "no test is left"
+    assert "test_late" in programs.check_client_times(tree_of(tmp_path / "b", {name: late.format(4)}))[1][0]
+
+
 def test_form_of_go_is_refused(tmp_path: Path) -> None:
     assert programs.check_go(tree_of(tmp_path, {}))[1] == []
     faults = programs.check_go(tree_of(tmp_path / "b", {"clients/oci/main.go": "package main\nfunc main() {\n}\n"}))[1]

@@ -1,7 +1,9 @@
 """Checks that are other programs: of types, style and form, and the tests that need no built program."""
 from __future__ import annotations
 
+import ast
 import os
+import re
 import subprocess
 import sys
 import tempfile
@@ -15,6 +17,9 @@ CLIENT = "clients/python"
 # Neither leaves a file in the repository.
 MYPY = (sys.executable, "-m", "mypy", "--cache-dir", "/dev/null")
 PYTEST = (sys.executable, "-B", "-m", "pytest", "-q", "-p", "no:cacheprovider")
+# What a test calls that looks at a clock, and how often such tests are tried.
+CLOCK = re.compile(r"\b(monotonic|perf_counter|asyncio\.timeout)\(")
+TRIES = 3
 # How much of a program's output is shown if it fails.
 SHOWN = 40
 Result = tuple[int, list[str]]
@@ -78,12 +83,43 @@ def check_client_types(tree: Tree) -> Result:
     return len(files), run("mypy", [*MYPY, *parts], folder)
 
 
-def check_client_tests(tree: Tree) -> Result:
-    """The tests of the client for Python, over the second reading in place of the program."""
+def tests_by_the_clock(name: str, text: str) -> list[str]:
+    """The tests of a file that read a clock, or whose shim does, each as pytest names it."""
+    tree = ast.parse(text)
+    owners: list[tuple[str, ast.Module | ast.ClassDef]] = [("", tree)]
+    owners += [(f"{node.name}::", node) for node in tree.body if isinstance(node, ast.ClassDef)]
+    return [f"{name}::{owner}{node.name}" for owner, inside in owners for node in inside.body
+            if isinstance(node, (ast.FunctionDef, ast.AsyncFunctionDef)) and node.name.startswith("test")
+            and ("simulated_shim" in text or CLOCK.search(ast.unparse(node)))]
+
+
+def client_tests(tree: Tree) -> tuple[list[str], list[str]]:
+    """The files of the client's tests, and those of the tests that go by the clock."""
+    files = [name.removeprefix(f"{CLIENT}/") for name in tree.matching(f"{CLIENT}/tests/test_*.py")]
+    return files, [test for name in files for test in tests_by_the_clock(name, tree.text(f"{CLIENT}/{name}"))]
+
+
+def run_client_tests(tree: Tree, *words: str) -> list[str]:
+    """Runs tests of the client over the second reading in place of the program."""
     folder = tree.root / CLIENT
-    shim = folder / "tests/reference_shim.py"
-    count = len(tree.matching(f"{CLIENT}/tests/test_*.py"))
-    return count, run("tests of clients/python", [*PYTEST, "tests"], folder, FEULGAMA_SHIM=str(shim))
+    return run("tests of clients/python", [*PYTEST, *words], folder, FEULGAMA_SHIM=str(folder / "tests/reference_shim.py"))
+
+
+def check_client_tests(tree: Tree) -> Result:
+    """The tests of the client for Python that come out the same however fast the machine is."""
+    files, by_clock = client_tests(tree)
+    return len(files), run_client_tests(tree, *files, *(word for test in by_clock for word in ("--deselect", test)))
+
+
+def check_client_times(tree: Tree) -> Result:
+    """The other tests of the client. A machine that does much else may be late, so each is tried again if one fails."""
+    _, by_clock = client_tests(tree)
+    faults: list[str] = []
+    for _ in range(TRIES if by_clock else 0):
+        faults = run_client_tests(tree, *by_clock)
+        if not faults:
+            break
+    return len(by_clock), faults
 
 
 def check_own_tests(tree: Tree) -> Result:
