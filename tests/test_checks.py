@@ -7,7 +7,7 @@ from pathlib import Path
 
 import pytest
 
-from suite.checks import edits, layout, links, manifest, memory_words, programs, versions
+from suite.checks import edits, layout, links, manifest, memory_words, programs, run, versions
 from suite.checks.tree import Tree
 
 # A repository in which nothing is wrong.
@@ -146,6 +146,41 @@ def test_word_of_memory_is_not_made(code: str) -> None:
 def test_packages_that_are_missing_are_named(tmp_path: Path) -> None:
     tree = tree_of(tmp_path, {".ci/packages": "git\nno-such-package-of-this-name\n"})
     assert programs.missing(tree) == ["no-such-package-of-this-name"]
+
+
+def test_nothing_is_passed_over_without_a_package(monkeypatch: pytest.MonkeyPatch, capsys: pytest.CaptureFixture[str]) -> None:
+    monkeypatch.setattr(programs, "missing", lambda _tree: ["mypy", "golang-go"])
+    assert run.main(["layout"]) == 1
+    told = capsys.readouterr()
+    assert told.err == "check-ci: packages are missing: apt-get install -y --no-install-recommends mypy golang-go\n"
+    assert told.out == "check-ci: 0 passed, 1 failed\n"
+
+
+def test_checks_are_counted(monkeypatch: pytest.MonkeyPatch, capsys: pytest.CaptureFixture[str]) -> None:
+    monkeypatch.setattr(programs, "missing", lambda _tree: [])
+    monkeypatch.setattr(run, "CHECKS", {"good": lambda _tree: (3, []), "bad": lambda _tree: (2, ["a.md: is wrong"])})
+    assert run.main([]) == 1
+    lines = capsys.readouterr().out.splitlines()
+    assert "good: ok (3 looked at, 0 s)" in lines and "a.md: is wrong" in lines
+    assert lines[-1] == "check-ci: 1 passed, 1 failed"
+    assert run.main(["good"]) == 0
+    assert run.main(["ugly"]) == 2
+
+
+def faults_of_tools(tree: Tree) -> list[str]:
+    """Which commands over tools/ failed."""
+    for path in (tree.root / "tools").iterdir():
+        path.chmod(0o755)
+    return [fault.partition(": ended")[0] for fault in programs.check_tools(tree)[1]]
+
+
+def test_scripts_are_read(tmp_path: Path) -> None:
+    good = {"tools/wrap": "#!/bin/sh\nexit 0\n", "tools/reached": "#!/bin/sh\nexit 0\n"}
+    wrong = {"tools/some": ("#!/usr/bin/env bash\nif\n", "bash -n tools/some"),
+             "tools/wrap": ("#!/bin/sh\nexit 1\n", "tools/wrap --say")}
+    assert faults_of_tools(tree_of(tmp_path / "good", {**good})) == []
+    for name, (text, said) in wrong.items():
+        assert faults_of_tools(tree_of(tmp_path / Path(name).name, {**good, name: text})) == [said]
 
 
 def test_style_is_refused(tmp_path: Path) -> None:
