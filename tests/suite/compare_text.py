@@ -27,6 +27,8 @@ from suite.summary import Summary
 ROWS = TOP / "crates/worked_rows/data"
 FRAME = ('(module (type $p (func (param i32))) (type $v (func)) (import "wasi_snapshot_preview1" "proc_exit"'
          ' (func $exit (type $p))) %s (func $s (type $v) %s) (export "_start" (func $s)))')
+# Texts of which wat2wasm is known to write other bytes than the text denotes, and why.
+WRONG = {'(module(start 4294967295))': "wat2wasm takes the index 2^32 - 1 for none, and leaves the section out"}
 # The fields before the function, and its body.
 BODIES = [
     ("", ""),
@@ -118,8 +120,9 @@ def compared(folder: Path, name: str, text: str) -> str:
     source.write_bytes(text.encode())
     ours = run([built(), "asm", source])
     theirs = run(["wat2wasm", "--no-check", source, "-o", target])
-    if ours.returncode or theirs.returncode:
-        why = [first_line(ours.stderr)] if ours.returncode else []
+    if ours.returncode or theirs.returncode or text in WRONG:
+        why = [WRONG[text]] if text in WRONG else []
+        why += [first_line(ours.stderr)] if ours.returncode else []
         why += ["wat2wasm: " + first_line(theirs.stderr)] if theirs.returncode else []
         print(f"not compared: {name}: {'; '.join(why)}")
         return "not compared"
