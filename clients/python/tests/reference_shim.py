@@ -1,5 +1,5 @@
 #!/usr/bin/env python3
-"""The second reading of the standards (tools/reference), and a shim that it answers, for tests without the built program.
+"""The second reading of the standards (tests/suite/reference), and a shim that it answers, for tests without the built program.
 
     reference_shim.py serve
     reference_shim.py asm FILE      (a file of bytes alone)
@@ -22,21 +22,21 @@ EMPTY_MODULE = {"hex": "0061736d01000000"}
 
 
 def load_second_reading() -> None:
-    """Makes the package `reference` of this repository one that can be imported."""
-    folder = TOP / "tools/reference"
-    spec = importlib.util.spec_from_file_location("reference", folder / "__init__.py",
+    """Makes the package `suite` of this repository, which has the second reading, one that can be imported."""
+    folder = TOP / "tests/suite"
+    spec = importlib.util.spec_from_file_location("suite", folder / "__init__.py",
                                                   submodule_search_locations=[str(folder)])
     if spec is None or spec.loader is None:
         raise ImportError(f"there is no package {folder}")
-    sys.modules["reference"] = importlib.util.module_from_spec(spec)
-    spec.loader.exec_module(sys.modules["reference"])
+    sys.modules["suite"] = importlib.util.module_from_spec(spec)
+    spec.loader.exec_module(sys.modules["suite"])
 
 
 load_second_reading()
 
-from reference import callers, frames, programs, wasm  # noqa: E402
-from reference.board import Board  # noqa: E402
-from reference.execute import Machine  # noqa: E402
+from suite.reference import callers, frames, programs, wasm  # noqa: E402
+from suite.reference.board import Board  # noqa: E402
+from suite.reference.execute import Machine  # noqa: E402
 
 __all__ = ["Machine", "callers", "frames", "programs", "wasm"]
 
