@@ -1,5 +1,6 @@
 -- A wait that is due is not answered Busy.
-use Rattle.std.proofs.Common.{◌≡◌, ℕ, List, Bool, true, false, Option, Some, None, Ok, Err, sym, ap, subst, refl, ◌∙◌}
+use Rattle.std.proofs.lemmas.Bool.{eqb-true}
+use Rattle.std.proofs.Common.{◌≡◌, ℕ, List, length, Bool, true, false, Option, Some, None, Ok, Err, sym, ap, subst, refl, ◌∙◌}
 use Rattle.std.specs.Prelude.{◌↔◌, ◌||◌, not, if◌then◌else◌}
 use Rattle.wasm_ast.specs.Identifiers.{is_id}
 use Rattle.wasm_ast.specs.declared.refusal.Refusal.TheVariants as refusal
@@ -10,8 +11,8 @@ use Rattle.task_board.specs.BoardState.{Task, BoardState, task_of}
 use Rattle.task_board.specs.Refusals.{unless_allowed}
 use Rattle.task_board.specs.Settled.{is_settled}
 use Rattle.task_board.specs.Step.{Answer, DecidedBy, OnFound, on_wait}
-use Rattle.call_journal.specs.Books.{BookValue, HasCalled, is_due, is_journalled}
-use Rattle.call_journal.specs.Seats.{Known}
+use Rattle.call_journal.specs.Books.{BookValue, HasCalled, is_due, is_full, is_journalled}
+use Rattle.call_journal.specs.Seats.{Known, most_entries}
 
 module _ (s s' : BoardState) (a : Answer) (busy : a ≡ Err refusal.Busy) where
   no_task : (b : Bool) → DecidedBy (if not b then Some refusal.BadId else Some refusal.NotFound) ⊥ s a s' → ⊥
@@ -30,18 +31,32 @@ module _ (s s' : BoardState) (a : Answer) (busy : a ≡ Err refusal.Busy) where
   settled id (Some t) due d =
       allowed_task (is_id id) (allowed call.Wait t.status) _ due (λ both. let is = both.0 in cc) d
 
-due_or_closed :
+due_or_full :
     (old new : BookValue) (was now : Known) (id : List ℕ) (a : Answer) (b : Bool)
-    → (b || is_settled (task_of id old.journalled.board.tasks)) ≡ true → (b ≡ true → a ≡ Err refusal.Closed)
+    → (b || is_settled (task_of id old.journalled.board.tasks)) ≡ true → (b ≡ true → a ≡ Err refusal.JournalFull)
     → HasCalled old new was now (request.Wait id) a → a ≡ Err refusal.Busy → ⊥
-due_or_closed old new was now id a true due closed called busy = let shut = closed refl in cc
-due_or_closed old new was now id a false due closed called busy =
+due_or_full old new was now id a true due full called busy = let none = full refl in cc
+due_or_full old new was now id a false due full called busy =
     settled old.journalled.board new.journalled.board a busy id (task_of id old.journalled.board.tasks) due
     called.makes.answers
+
+due_or_closed :
+    (old new : BookValue) (was now : Known) (id : List ℕ) (a : Answer) (b : Bool)
+    → (b || (is_full old.journalled || is_settled (task_of id old.journalled.board.tasks))) ≡ true
+    → (b ≡ true → a ≡ Err refusal.Closed)
+    → (b ≡ false → is_full old.journalled ≡ true → a ≡ Err refusal.JournalFull)
+    → HasCalled old new was now (request.Wait id) a → a ≡ Err refusal.Busy → ⊥
+due_or_closed old new was now id a true due closed full called busy = let shut = closed refl in cc
+due_or_closed old new was now id a false due closed full called busy =
+    due_or_full old new was now id a (is_full old.journalled) due (full refl) called busy
 
 pub never_busy :
     (old new : BookValue) (was now : Known) (id : List ℕ) (a : Answer) → is_due old.journalled id ≡ true
     → ((a ≡ Err refusal.Closed) ↔ (old.journalled.closed ≡ true))
+    → ((a ≡ Err refusal.JournalFull) ↔ ((old.journalled.closed ≡ false)
+    × (length old.journalled.journal ≡ most_entries)))
     → (is_journalled a ≡ true → HasCalled old new was now (request.Wait id) a) → a ≡ Err refusal.Busy → ⊥
-never_busy old new was now id a due closed called busy =
-    due_or_closed old new was now id a old.journalled.closed due closed.1 (called (ap is_journalled busy)) busy
+never_busy old new was now id a due closed full called busy =
+    due_or_closed old new was now id a old.journalled.closed due closed.1
+    (λ shut most. full.1 (shut, eqb-true (length old.journalled.journal) most_entries most))
+    (called (ap is_journalled busy)) busy

@@ -7,7 +7,7 @@ use Rattle.task_board.specs.BoardState.{task_of}
 use Rattle.task_board.specs.Settled.{is_settled}
 use Rattle.task_board.specs.Step.{Answer}
 use Rattle.call_journal.specs.Journalled.{JournalValue, IsSame, Makes}
-use Rattle.call_journal.specs.Seats.{Known, Extends}
+use Rattle.call_journal.specs.Seats.{Known, Extends, most_entries}
 
 -- the board with its journal, how many seats there are, and the ledger's total: the sum of the seats' shares
 pub record BookValue : Type 0 where
@@ -44,9 +44,13 @@ pub record IsUnchanged (old new : BookValue) : Type 0 where
   pub seats : new.seats ≡ old.seats
   pub total : new.total ≡ old.total
 
+-- the journal takes no other call
+abbrev pub is_full : JournalValue → Bool
+is_full s = length s.journal == most_entries
+
 -- a wait for the task with an id is not answered Busy
 abbrev pub is_due : JournalValue → List ℕ → Bool
-is_due s id = s.closed || is_settled (task_of id s.board.tasks)
+is_due s id = s.closed || (is_full s || is_settled (task_of id s.board.tasks))
 
 -- a worker has nothing to do: the board is not closed, and no task waits for a worker
 abbrev pub is_idle : JournalValue → Bool

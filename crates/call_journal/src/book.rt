@@ -1,6 +1,6 @@
 //! The book: the board with its journal, the row's cells as far as they hold it, and the ledger.
 ghost use Rattle.std.specs.Prelude.{◌≡◌, ◌↔◌, ◌≢◌, ◌⊎◌, ◌+◌, ◌<◌, ◌≤◌, ◌==◌, [], ◌∷◌, ◌++◌, length, true, false, not, Err, None, IfOk, IfSome, IfNone, IsSome, IsOk, IfErr, OnErr};
-ghost use Rattle.call_journal.specs.Books.{is_due, is_idle, is_refused, is_journalled, HasCalled, IsUnchanged};
+ghost use Rattle.call_journal.specs.Books.{is_due, is_full, is_idle, is_refused, is_journalled, HasCalled, IsUnchanged};
 ghost use Rattle.call_journal.specs.Replay.{IsReplay};
 ghost use Rattle.task_requests.specs.declared.request.Request.TheVariants as request;
 ghost use Rattle.task_requests.specs.declared.event.Event.TheVariants as event;
@@ -202,8 +202,15 @@ impl<R: Row> Book<R> {
         answer
     }
 
-    /// Whether a call `wait` for the task with an id is not answered Busy: the book is closed, or the task is
-    /// not there, or it is created, paused or stopped.
+    /// Whether the journal takes no other call.
+    pub fn is_full(&self) -> bool
+        ensures { result ≡ is_full self.now.journalled }
+    {
+        self.board.is_full()
+    }
+
+    /// Whether a call `wait` for the task with an id is not answered Busy: the book is closed, its journal is
+    /// full, or the task is not there, or it is created, paused or stopped.
     pub fn is_due(&self, id: &Text) -> bool
         ensures { result ≡ is_due self.now.journalled id.now }
     {

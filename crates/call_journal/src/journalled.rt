@@ -11,7 +11,7 @@ ghost use Rattle.task_board.specs.Sound.{IsBoard};
 ghost use Rattle.task_board.specs.Step.{Step};
 ghost use Rattle.task_board.specs.Tickets.{CanLend, Lends, ticket_in};
 ghost use Rattle.task_board.specs.Waiting.{enter_again, waiting_ticket, without};
-ghost use Rattle.call_journal.specs.Books.{is_due, is_journalled};
+ghost use Rattle.call_journal.specs.Books.{is_due, is_full, is_journalled};
 ghost use Rattle.call_journal.specs.Journalled.{IsSame, Makes, IsSlice};
 ghost use Rattle.call_journal.specs.Records.{entry_on};
 ghost use Rattle.call_journal.specs.Replay.{IsReplay, IsLegal, MayAnswer};
@@ -135,11 +135,18 @@ impl JournalledBoard {
         Ok(())
     }
 
+    /// Whether the journal takes no other call.
+    pub fn is_full(&self) -> bool
+        ensures { result ≡ is_full self.now }
+    {
+        self.journal.len() == MOST_ENTRIES
+    }
+
     /// Whether a wait for the task with an id is not answered Busy.
     pub fn is_due(&self, id: &Text) -> bool
         ensures { result ≡ is_due self.now id.now }
     {
-        self.closed || self.board.is_settled(id.as_str())
+        self.closed || self.is_full() || self.board.is_settled(id.as_str())
     }
 
     /// Takes all memory that a seat's call needs, and makes its entry. `NoMemory` if that fails.

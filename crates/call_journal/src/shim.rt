@@ -31,6 +31,7 @@ use wasm_ast::{Refusal, Text};
 // |---|---|---|---|
 // | a caller, in `wait` | its task is created, paused, stopped or gone | a pause or a kill of an idle task | `call_quietly` |
 // | | | the return of a slice of a task that does not run on | `give_back` |
+// | | or the journal is full, and answers `JournalFull` | the last call that it takes | `call_quietly` |
 // | a worker, in `next` | a task waits for a worker | a start or a resume | `call`, or the caller's next call, `wake` or `wait` |
 // | | | a ticket that is put back | `offer`, `wait_again` |
 // | both | the shim is closed | `close` | `close` |
@@ -112,7 +113,7 @@ impl<R: Row> Shim<R> {
         let mut shared = self.shared.lock(rt);
         self.tell_worker(&shared);
         let answer = shared.book.call(&self.cells, &mut seat, request);
-        if settles(&answer) {
+        if settles(&answer) || shared.book.is_full() {
             self.tell_callers(&shared);
         }
         (seat, answer)
@@ -138,8 +139,8 @@ impl<R: Row> Shim<R> {
         self.tell_worker(&shared);
     }
 
-    /// Waits until the task with an id is created, paused or stopped, or is not there, or the shim is closed;
-    /// then makes the call `wait` once, without letting go of the lock in between. It is not answered Busy.
+    /// Waits until the task with an id is created, paused or stopped, or is not there, the journal is full, or
+    /// the shim is closed; then makes the call `wait` once, without letting go of the lock in between. It is not answered Busy.
     pub fn wait<W: Wait>(
         &self,
         rt: &W,
