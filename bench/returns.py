@@ -4,9 +4,10 @@
     bench/returns.py [PROGRAM] [--rounds N]
 
 The same loop of 140 million turns runs by `serve` as a module of 96 bytes and as the same with a custom section, up to 262,144
-bytes in all; with arguments of 65,536 bytes; and with 32 breakpoints in a function that does not run. A wait makes slices of 10,000 turns. The time is that of the clock, less that of the same lines without the
-starts and waits. Plain and changed take turns, N rounds (15); the speed of the changed over the plain is the median of the
-rounds, and the least and the most are shown beside it. Prints one line for each number of workers and tasks.
+bytes in all; with arguments of 65,536 bytes; and with 32 breakpoints in a function that does not run. A wait makes slices of
+10,000 turns. The time is that of the clock, less that of the same lines without the starts and waits. Plain and changed take
+turns, N rounds (15); the speed of the changed over the plain is the median of the rounds, and the least and the most are shown
+beside it. Prints one line for each number of workers and tasks.
 """
 import hashlib
 import json
@@ -33,7 +34,7 @@ def signed(number: int) -> bytes:
 
 
 def looping(size: int) -> bytes:
-    """A module of this size, or of the least: its entry counts down, and its other function has 64 instructions and never runs."""
+    """A module of this size, or of the least: its entry counts down. Its other function, of 64 instructions, never runs."""
     entry = b"\x01\x01\x7f\x41" + signed(TURNS // IN_A_ROUND) + b"\x21\0\x03\x40\x20\0\x41\x01\x6b\x22\0\x0d\0\x0b\x0b"
     idle = b"\0" + b"\x01" * 64 + b"\x0b"
     sections = ((1, b"\x01\x60\0\0"), (3, b"\x02\0\0"), (7, b"\x01\x06_start\0\0"), (10, b"\x02" + sized(entry) + sized(idle)))
