@@ -1,5 +1,5 @@
 #!/usr/bin/env python3
-"""The second reading of the standards (tests/suite/reference), and a shim that it answers, for tests without the built program.
+"""The second reading of the standards (tests/suite/reference), and a shim that it answers: for tests without the program.
 
     reference_shim.py serve
     reference_shim.py asm FILE      (a file of bytes alone)
@@ -41,7 +41,7 @@ from suite.reference.execute import Machine  # noqa: E402
 __all__ = ["Machine", "callers", "frames", "programs", "wasm"]
 
 
-class SlicedBoard(Board):  # type: ignore[misc]
+class SlicedBoard(Board):
     """A board whose tasks run while others ask for them."""
 
     def state_(self, id: str) -> Any:
@@ -51,7 +51,7 @@ class SlicedBoard(Board):  # type: ignore[misc]
         return super().state_(id)
 
 
-class EagerBoard(Board):  # type: ignore[misc]
+class EagerBoard(Board):
     """A board whose tasks run at once."""
 
     def start_(self, id: str) -> Any:
