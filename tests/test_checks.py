@@ -196,8 +196,11 @@ def test_types_are_refused(tmp_path: Path) -> None:
 
 
 CLIENT_TESTS = """
+import threading
 import time
 import unittest
+
+import pytest
 
 class Some(unittest.TestCase):
     def test_plain(self) -> None:
@@ -206,24 +209,38 @@ class Some(unittest.TestCase):
     async def test_late(self) -> None:
         begin = time.monotonic()
 
+class Waits(unittest.TestCase):
+    def wait(self) -> None:
+        time.sleep(1)
+
+    def test_by_its_class(self) -> None:
+        self.wait()
+
 def test_soon() -> None:
-    time.perf_counter()
+    threading.Timer(1, print).start()
 """
 
 
 def test_tests_by_the_clock_are_told_apart() -> None:
-    assert programs.tests_by_the_clock("t.py", CLIENT_TESTS) == ["t.py::test_soon", "t.py::Some::test_late"]
-    assert len(programs.tests_by_the_clock("t.py", CLIENT_TESTS + "# simulated_shim\n")) == 3
+    late = ["t.py::test_soon", "t.py::Some::test_late", "t.py::Waits::test_by_its_class"]
+    assert programs.unmarked_tests("t.py", CLIENT_TESTS) == late
+    assert len(programs.unmarked_tests("t.py", CLIENT_TESTS + "# simulated_shim\n")) == 4
+    assert programs.unmarked_tests("t.py", CLIENT_TESTS + "pytestmark = pytest.mark.clock\n") == []
+    marked = CLIENT_TESTS.replace("class Waits", "@pytest.mark.clock\nclass Waits").replace(
+        "    async", "    @pytest.mark.clock\n    async")
+    assert programs.unmarked_tests("t.py", marked) == late[:1]
 
 
-def test_what_goes_by_the_clock_is_tried_again(tmp_path: Path) -> None:
-    late = "import time\nfrom pathlib import Path\n\ndef test_late() -> None:\n    time.monotonic()\n" \
-        "    with Path('tries').open('a') as file:\n        file.write('x')\n    assert len(Path('tries').read_text()) >= {}\n"
-    name = "clients/python/tests/test_late.py"
-    tree = tree_of(tmp_path / "a", {name: late.format(3)})
-    assert programs.check_client_times(tree) == (1, [])
-    assert programs.check_client_tests(tree)[1] != [], "no test is left"
-    assert "test_late" in programs.check_client_times(tree_of(tmp_path / "b", {name: late.format(4)}))[1][0]
+def test_what_goes_by_the_clock_is_not_run(tmp_path: Path) -> None:
+    name, plain = "clients/python/tests/test_late.py", "def test_plain() -> None:\n    assert {}\n"
+    setup = {"clients/python/pyproject.toml": '[tool.pytest.ini_options]\nmarkers = ["clock: late"]\n'}
+    late = "import time\n\nimport pytest\n\n{}def test_late() -> None:\n    assert time.monotonic() < 0\n\n\n"
+    marked = late.format("@pytest.mark.clock\n")
+    assert programs.check_client_tests(tree_of(tmp_path / "a", {**setup, name: marked + plain.format(True)})) == (1, [])
+    wrong = tree_of(tmp_path / "b", {**setup, name: marked + plain.format(False)})
+    assert "test_plain" in programs.check_client_tests(wrong)[1][0]
+    faults = programs.check_client_tests(tree_of(tmp_path / "c", {**setup, name: late.format("") + plain.format(True)}))[1]
+    assert f"{name}::test_late: goes by the clock, and is not marked by pytest.mark.clock" in faults
 
 
 def test_form_of_go_is_refused(tmp_path: Path) -> None:
@@ -236,3 +253,52 @@ def test_faults_of_go_are_refused(tmp_path: Path) -> None:
     code = 'package main\n\nimport "fmt"\n\nfunc main() {\n\tfmt.Printf("%d\\n", "text")\n}\n'
     faults = programs.check_go(tree_of(tmp_path, {"clients/oci/main.go": code}))[1]
     assert "go vet of clients/oci" in faults[0]
+
+
+GO_TEST = """package one
+
+import "testing"
+
+func TestOne(t *testing.T) {
+\tif One() != 1 {
+\t\tt.Error("not one")
+\t}
+}
+"""
+GO_CLOCK = """package one
+
+import (
+\t"testing"
+\t"time"
+)
+
+func TestLate(t *testing.T) {
+\ttime.Sleep(1)
+}
+"""
+
+
+def test_tests_of_go_are_run(tmp_path: Path) -> None:
+    """Over packages of their own, as those of clients/oci."""
+    files = {"clients/oci/src/a/one/one.go": "package one\n\nfunc One() int { return 1 }\n",
+             "clients/oci/src/a/one/one_test.go": GO_TEST,
+             "clients/oci/src/a/two/two.go": 'package two\n\nimport "a/one"\n\nvar Two = one.One() + 1\n'}
+    tree = tree_of(tmp_path / "a", {**files})
+    assert programs.check_go(tree) == (4, [])
+    assert programs.check_oci_tests(tree) == (1, [])
+    wrong = {**files, "clients/oci/src/a/one/one.go": "package one\n\nfunc One() int { return 2 }\n"}
+    assert "not one" in programs.check_oci_tests(tree_of(tmp_path / "b", {**wrong}))[1][0]
+
+
+def test_tests_of_go_by_the_clock_say_so(tmp_path: Path) -> None:
+    name = "clients/oci/src/a/one/late_test.go"
+    assert list(programs.unmarked_go_tests(tree_of(tmp_path / "a", {name: GO_CLOCK}))) == [
+        f"{name}: TestLate goes by the clock, and does not call byTheClock(t)"]
+    marked = GO_CLOCK.replace("\ttime.Sleep", "\tbyTheClock(t)\n\ttime.Sleep")
+    assert list(programs.unmarked_go_tests(tree_of(tmp_path / "b", {name: marked}))) == []
+
+
+def test_tests_of_images_are_run(tmp_path: Path) -> None:
+    name = "clients/oci/test/test_image.py"
+    assert programs.check_oci_tests(tree_of(tmp_path / "a", {name: "def test_one() -> None:\n    pass\n"})) == (1, [])
+    assert programs.check_oci_tests(tree_of(tmp_path / "b", {name: "def test_one() -> None:\n    assert False\n"}))[1]

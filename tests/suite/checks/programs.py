@@ -14,12 +14,18 @@ from suite.checks.tree import Tree
 
 PACKAGES = ".ci/packages"
 CLIENT = "clients/python"
+CONTAINERS = "clients/oci/test"
 # Neither leaves a file in the repository.
 MYPY = (sys.executable, "-m", "mypy", "--cache-dir", "/dev/null")
 PYTEST = (sys.executable, "-B", "-m", "pytest", "-q", "-p", "no:cacheprovider")
-# What a test calls that looks at a clock, and how often such tests are tried.
-CLOCK = re.compile(r"\b(monotonic|perf_counter|asyncio\.timeout)\(")
-TRIES = 3
+# What a test calls that looks at a clock or waits for it, and the shim that goes by one. A machine that does much else may be
+# late, so a test that has these is marked, and `make check` runs it.
+CLOCK = re.compile(r"\b(monotonic|perf_counter|asyncio\.timeout|threading\.Timer|time\.sleep|call_later)\(")
+SIMULATED = "simulated_shim"
+ALL_MARKED = re.compile(r"^pytestmark = pytest\.mark\.clock$", re.MULTILINE)
+# The same in Go, where such a test calls byTheClock, which passes over it if the tests are to be short.
+GO_CLOCK = re.compile(r"\btime\.(?:Now|Since|Sleep|After)\(")
+GO_TEST = re.compile(r"^func (?P<name>(?:Test|Fuzz)\w*)\(.*?^}", re.MULTILINE | re.DOTALL)
 # How much of a program's output is shown if it fails.
 SHOWN = 40
 Result = tuple[int, list[str]]
@@ -67,12 +73,17 @@ def check_flake8(tree: Tree) -> Result:
 
 
 def check_mypy(tree: Tree) -> Result:
-    """Types of tests/ and tools/, by setup.cfg."""
+    """Types of tests/, tools/ and the tests with container hosts, by setup.cfg."""
     names = tree.matching("tests/*.py")
     words = ["--config-file", str(tree.root / "setup.cfg"), "--scripts-are-modules"]
     roots = sorted({name.split("/")[1] for name in names})
     tools = [str(tree.root / name) for name in python_files(tree) if name.startswith("tools/")]
-    return len(names) + len(tools), run("mypy", [*MYPY, *words, *roots, *tools], tree.root / "tests")
+    faults = run("mypy", [*MYPY, *words, *roots, *tools], tree.root / "tests")
+    containers = [name for name in python_files(tree) if name.startswith(f"{CONTAINERS}/")]
+    if containers:
+        roots = sorted({name.removeprefix(f"{CONTAINERS}/").split("/")[0] for name in containers})
+        faults += run(f"mypy of {CONTAINERS}", [*MYPY, *words, *roots], tree.root / CONTAINERS)
+    return len(names) + len(tools) + len(containers), faults
 
 
 def check_client_types(tree: Tree) -> Result:
@@ -83,43 +94,40 @@ def check_client_types(tree: Tree) -> Result:
     return len(files), run("mypy", [*MYPY, *parts], folder)
 
 
-def tests_by_the_clock(name: str, text: str) -> list[str]:
-    """The tests of a file that read a clock, or whose shim does, each as pytest names it."""
+def is_marked(node: ast.FunctionDef | ast.AsyncFunctionDef | ast.ClassDef) -> bool:
+    """Whether a test, or a class of tests, is marked as one that goes by the clock."""
+    return any("mark.clock" in ast.unparse(decorator) for decorator in node.decorator_list)
+
+
+def unmarked_of(inside: ast.Module | ast.ClassDef, is_simulated: bool) -> Iterator[str]:
+    """The tests of a module or a class that go by the clock, by themselves or by what their class has for all of them."""
+    functions = [node for node in inside.body if isinstance(node, (ast.FunctionDef, ast.AsyncFunctionDef))]
+    late = {node.name for node in functions if is_simulated or CLOCK.search(ast.unparse(node))}
+    shares = isinstance(inside, ast.ClassDef) and any(not name.startswith("test") for name in late) and not is_simulated
+    for node in functions:
+        if node.name.startswith("test") and (shares or node.name in late) and not is_marked(node):
+            yield node.name
+
+
+def unmarked_tests(name: str, text: str) -> list[str]:
+    """The tests of a file that go by the clock and are not marked so, each as pytest names it."""
     tree = ast.parse(text)
+    if ALL_MARKED.search(text):
+        return []
     owners: list[tuple[str, ast.Module | ast.ClassDef]] = [("", tree)]
-    owners += [(f"{node.name}::", node) for node in tree.body if isinstance(node, ast.ClassDef)]
-    return [f"{name}::{owner}{node.name}" for owner, inside in owners for node in inside.body
-            if isinstance(node, (ast.FunctionDef, ast.AsyncFunctionDef)) and node.name.startswith("test")
-            and ("simulated_shim" in text or CLOCK.search(ast.unparse(node)))]
-
-
-def client_tests(tree: Tree) -> tuple[list[str], list[str]]:
-    """The files of the client's tests, and those of the tests that go by the clock."""
-    files = [name.removeprefix(f"{CLIENT}/") for name in tree.matching(f"{CLIENT}/tests/test_*.py")]
-    return files, [test for name in files for test in tests_by_the_clock(name, tree.text(f"{CLIENT}/{name}"))]
-
-
-def run_client_tests(tree: Tree, *words: str) -> list[str]:
-    """Runs tests of the client over the second reading in place of the program."""
-    folder = tree.root / CLIENT
-    return run("tests of clients/python", [*PYTEST, *words], folder, FEULGAMA_SHIM=str(folder / "tests/reference_shim.py"))
+    owners += [(f"{node.name}::", node) for node in tree.body if isinstance(node, ast.ClassDef) and not is_marked(node)]
+    return [f"{name}::{owner}{test}" for owner, inside in owners for test in unmarked_of(inside, SIMULATED in text)]
 
 
 def check_client_tests(tree: Tree) -> Result:
-    """The tests of the client for Python that come out the same however fast the machine is."""
-    files, by_clock = client_tests(tree)
-    return len(files), run_client_tests(tree, *files, *(word for test in by_clock for word in ("--deselect", test)))
-
-
-def check_client_times(tree: Tree) -> Result:
-    """The other tests of the client. A machine that does much else may be late, so each is tried again if one fails."""
-    _, by_clock = client_tests(tree)
-    faults: list[str] = []
-    for _ in range(TRIES if by_clock else 0):
-        faults = run_client_tests(tree, *by_clock)
-        if not faults:
-            break
-    return len(by_clock), faults
+    """The tests of the client for Python over the second reading, but for those that go by the clock: these are marked."""
+    folder = tree.root / CLIENT
+    files = tree.matching(f"{CLIENT}/tests/test_*.py")
+    faults = [f"{test}: goes by the clock, and is not marked by pytest.mark.clock" for name in files
+              for test in unmarked_tests(name, tree.text(name))]
+    words = [*PYTEST, "-m", "not clock", *(name.removeprefix(f"{CLIENT}/") for name in files)]
+    faults += run("tests of clients/python", words, folder, FEULGAMA_SHIM=str(folder / "tests/reference_shim.py"))
+    return len(files), faults
 
 
 def check_own_tests(tree: Tree) -> Result:
@@ -143,19 +151,38 @@ def go_folders(tree: Tree) -> list[str]:
     return sorted({"/".join(name.split("/")[:2]) for name in tree.matching("*.go")})
 
 
-def go_faults(tree: Tree, folder: str, cache: str) -> Iterator[str]:
-    """What gofmt and go vet say of the packages of a folder."""
-    names = tree.matching(f"{folder}/*.go")
-    done = subprocess.run(["gofmt", "-l", *names], cwd=tree.root, stdout=subprocess.PIPE, stderr=subprocess.STDOUT, text=True,
-                          check=False)
-    if done.returncode or done.stdout:
-        yield f"gofmt -l: {' '.join(done.stdout.split())}: run gofmt -w on these"
-    yield from run(f"go vet of {folder}", ["go", "vet", "./..."], tree.root / folder, GO111MODULE="off",
-                   GOPATH="/usr/share/gocode", GOFLAGS="", GOCACHE=cache)
+def go_run(tree: Tree, folder: str, *words: str) -> list[str]:
+    """Runs go on the packages of a client, over Debian's libraries only."""
+    with tempfile.TemporaryDirectory(prefix="go-cache-") as made:
+        cache = os.environ.get("GOCACHE") or (str(Path.home() / ".cache/go-build") if os.environ.get("HOME") else made)
+        return run(f"go {words[0]} of {folder}", ["go", *words, "./..."], tree.root / folder, GO111MODULE="off", GOPROXY="off",
+                   GOFLAGS="", CGO_ENABLED="0", GOPATH=f"{tree.root / folder}:/usr/share/gocode", GOCACHE=cache)
 
 
 def check_go(tree: Tree) -> Result:
-    """Form and faults of Go's sources."""
-    with tempfile.TemporaryDirectory(prefix="go-cache-") as folder:
-        cache = os.environ.get("GOCACHE") or (str(Path.home() / ".cache/go-build") if os.environ.get("HOME") else folder)
-        return len(tree.matching("*.go")), [fault for name in go_folders(tree) for fault in go_faults(tree, name, cache)]
+    """Form and faults of Go's sources, by gofmt and go vet."""
+    names = tree.matching("*.go")
+    faults = []
+    done = subprocess.run(["gofmt", "-l", *names], cwd=tree.root, stdout=subprocess.PIPE, stderr=subprocess.STDOUT, text=True,
+                          check=False) if names else None
+    if done and (done.returncode or done.stdout):
+        faults.append(f"gofmt -l: {' '.join(done.stdout.split())}: run gofmt -w on these")
+    return len(names), faults + [fault for folder in go_folders(tree) for fault in go_run(tree, folder, "vet")]
+
+
+def unmarked_go_tests(tree: Tree) -> Iterator[str]:
+    """The tests in Go that go by the clock and do not say so, a sentence each."""
+    for name in tree.matching("*_test.go"):
+        for test in GO_TEST.finditer(tree.text(name)):
+            if GO_CLOCK.search(test.group()) and "byTheClock(t)" not in test.group():
+                yield f"{name}: {test['name']} goes by the clock, and does not call byTheClock(t)"
+
+
+def check_oci_tests(tree: Tree) -> Result:
+    """The tests of clients in Go that need no container host and do not go by the clock, and those of tools/image."""
+    images = tree.matching("clients/oci/test/test_*.py")
+    faults = list(unmarked_go_tests(tree)) + [fault for folder in go_folders(tree)
+                                              for fault in go_run(tree, folder, "test", "-short", "-count=1")]
+    if images:
+        faults += run("tests of tools/image", [*PYTEST, *images], tree.root)
+    return len(tree.matching("*_test.go")) + len(images), faults

@@ -20,9 +20,9 @@ from suite.checks.tree import TOP, Tree
 CHECKS: dict[str, Callable[[Tree], tuple[int, list[str]]]] = {
     # The longest first.
     "client-tests": programs.check_client_tests,
-    "client-times": programs.check_client_times,
     "client-types": programs.check_client_types,
     "own-tests": programs.check_own_tests,
+    "oci-tests": programs.check_oci_tests,
     "types": programs.check_mypy,
     "style": programs.check_flake8,
     "go": programs.check_go,

@@ -19,6 +19,14 @@ func TestMain(m *testing.M) {
 	os.Exit(m.Run())
 }
 
+// byTheClock passes over a test that a busy machine may fail, if the tests are to be short.
+func byTheClock(t *testing.T) {
+	t.Helper()
+	if testing.Short() {
+		t.Skip("goes by the clock")
+	}
+}
+
 func supervisor(t *testing.T, words ...string) *exec.Cmd {
 	t.Helper()
 	command := exec.Command(os.Args[0], words...)
@@ -52,6 +60,7 @@ func TestStatuses(t *testing.T) {
 }
 
 func TestSignalsAreHandedOn(t *testing.T) {
+	byTheClock(t)
 	for number, want := range map[syscall.Signal]int{
 		syscall.SIGTERM: 143, syscall.SIGINT: 130, syscall.SIGHUP: 129, syscall.SIGUSR1: 138,
 	} {
@@ -78,6 +87,7 @@ func TestSignalsAreHandedOn(t *testing.T) {
 }
 
 func TestSignalsThatStay(t *testing.T) {
+	byTheClock(t)
 	for _, number := range []syscall.Signal{syscall.SIGCHLD, syscall.SIGURG, syscall.SIGPIPE, syscall.SIGWINCH} {
 		if isForChild(number) {
 			t.Errorf("%v is handed on", number)
@@ -100,6 +110,7 @@ func TestSignalsThatStay(t *testing.T) {
 }
 
 func TestAwait(t *testing.T) {
+	byTheClock(t)
 	command := exec.Command("/bin/sh", "-c", "exec /bin/sh -c 'read word; sleep 60 & wait'")
 	begin, err := command.StdinPipe()
 	if err != nil {
@@ -130,6 +141,7 @@ func TestAwait(t *testing.T) {
 }
 
 func TestAwaitOfWhatHasEnded(t *testing.T) {
+	byTheClock(t)
 	command := exec.Command("/bin/true")
 	if err := command.Start(); err != nil {
 		t.Fatal(err)

@@ -110,7 +110,7 @@ func TestWhatIsNoFileIsRefused(t *testing.T) {
 		want["/zero"] = "a device"
 	}
 	for path, word := range want {
-		done := time.AfterFunc(10*time.Second, func() { panic(path + " holds up the reader") })
+		done := time.AfterFunc(time.Minute, func() { panic(path + " holds up the reader") })
 		got, err := Look(root, path)
 		done.Stop()
 		if err == nil || !strings.Contains(err.Error(), word) || got != nil {
