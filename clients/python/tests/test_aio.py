@@ -13,6 +13,8 @@ from pathlib import Path
 from typing import Any
 from unittest import mock
 
+import pytest
+
 import feulgama
 from feulgama.model import Cause, Exit, Status
 from tests.support import EXIT_7, FOREVER_BYTES, IS_REFERENCE, SHIM, machine_of, module_of
@@ -129,6 +131,7 @@ class Running(unittest.IsolatedAsyncioTestCase):
 
 
 class Broken(unittest.IsolatedAsyncioTestCase):
+    @pytest.mark.clock
     async def test_no_reply(self) -> None:
         kinds = {"ends": feulgama.ShimEndedError, "half": feulgama.ShimEndedError, "closes": feulgama.ShimEndedError,
                  "words": feulgama.BadReplyError, "list": feulgama.BadReplyError, "keys": feulgama.BadReplyError}
@@ -145,6 +148,7 @@ class Killed(unittest.IsolatedAsyncioTestCase):
     def setUp(self) -> None:
         random.seed(1)
 
+    @pytest.mark.clock
     def test_one_after_another(self) -> None:
         slowest = 0.0
         for number in range(KILLS):
@@ -190,6 +194,7 @@ class Killed(unittest.IsolatedAsyncioTestCase):
         shim.kill(id)
         return id
 
+    @pytest.mark.clock
     def test_while_a_task_runs_for_ever(self) -> None:
         with feulgama.Shim(SHIM) as shim:
             id = self.started(shim)
@@ -199,6 +204,7 @@ class Killed(unittest.IsolatedAsyncioTestCase):
                 shim.wait(id)
             self.assertLess(time.monotonic() - begin, 1.2)
 
+    @pytest.mark.clock
     async def test_many_at_once(self) -> None:
         asyncio.get_running_loop().set_debug(False)
         for number in range(KILLS):

@@ -30,7 +30,7 @@ class Editor:
                                         stdin=subprocess.PIPE, stdout=subprocess.PIPE)
         self.events: list[Body] = []
         self.count = 0
-        self.timer = threading.Timer(60, self.process.kill)
+        self.timer = threading.Timer(600, self.process.kill)
         self.timer.start()
 
     def send(self, command: str, **arguments: Any) -> None:
@@ -290,6 +290,7 @@ class Forever(WithEditor):
         self.launch(program=file.name)
         self.editor.ask("configurationDone")
 
+    @pytest.mark.clock
     def test_pause(self) -> None:
         for _ in range(3):
             time.sleep(0.2)
@@ -301,6 +302,7 @@ class Forever(WithEditor):
             self.assertEqual(self.editor.evaluate("local 0"), f"i32:{(turn + 1) // 6}")
             self.assertTrue(self.editor.ask("continue", threadId=1)["success"])
 
+    @pytest.mark.clock
     def test_disconnect_while_it_runs(self) -> None:
         begin = time.monotonic()
         self.assertTrue(self.editor.ask("disconnect")["success"])

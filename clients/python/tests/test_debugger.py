@@ -180,6 +180,7 @@ class Forever(unittest.TestCase):
         frame, = self.debugger.frames()
         self.assertEqual((frame.next, frame.locals[0].number), (turn % 6, (turn + 1) // 6))
 
+    @pytest.mark.clock
     def test_it_can_be_broken_off(self) -> None:
         """Each search ends soon after an interrupt, at a turn whose state is right."""
         self.debugger.add_breakpoint("none", [Place(0, 0)])
@@ -260,6 +261,7 @@ class Runs(unittest.TestCase):
             self.assertIs(timeline.forward(third), Why.FOUND)
             self.assertIn("i32:196608", map(str, timeline.inspection().frames[1].locals))
 
+    @pytest.mark.clock
     def test_it_can_be_broken_off(self) -> None:
         with mock.patch.object(hunts, "RUN_AFTER", 0):
             timeline = self.opened().timeline

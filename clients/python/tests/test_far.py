@@ -10,6 +10,8 @@ from collections.abc import Callable
 from pathlib import Path
 from unittest import mock
 
+import pytest
+
 import feulgama
 from feulgama.debug.debugger import Debugger
 from feulgama.debug.hunt import Search
@@ -20,6 +22,8 @@ from feulgama.opening import open_debugger
 from feulgama.requests import JOURNAL
 from tests.support import FOREVER_BYTES
 
+# Its shim goes by the clock.
+pytestmark = pytest.mark.clock
 SIMULATED = Path(__file__).with_name("simulated_shim.py")
 
 

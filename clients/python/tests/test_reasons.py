@@ -30,11 +30,13 @@ class Lines(unittest.TestCase):
                          ('there is no task "a"', "invalid JSON at line 1 column 1", None))
         self.assertEqual(found.other(), "a word\nlast")
 
+    @pytest.mark.clock
     def test_one_that_comes_late(self) -> None:
         found = Said()
         threading.Timer(0.2, found.feed, [b"why: line 1, 5 NoContent: remove: late\n"]).start()
         self.assertEqual(found.why(1), "late")
 
+    @pytest.mark.clock
     def test_a_shim_that_gives_none(self) -> None:
         """It is waited for once, and not at its end."""
         found = Said()
@@ -53,6 +55,8 @@ class Given(unittest.TestCase):
 
     def setUp(self) -> None:
         self.enterContext(mock.patch.dict(os.environ, EXPLAIN=LONG))
+        for module in (said, feulgama.aio):  # however slow the machine is
+            self.enterContext(mock.patch.object(module, "PATIENCE", 60))
 
     def test_one(self) -> None:
         with feulgama.Shim(REFERENCE) as shim, self.assertRaises(feulgama.NotFoundError) as found:
@@ -81,6 +85,7 @@ class Given(unittest.TestCase):
                 return [getattr(refused, "why") for refused in found]
         self.assertEqual(asyncio.run(reasons()), [LONG] * 300)
 
+    @pytest.mark.clock
     def test_asyncio_without_reasons(self) -> None:
         async def waited() -> float:
             async with feulgama.AsyncShim(REFERENCE) as shim:

@@ -167,6 +167,7 @@ class Serve(unittest.TestCase):
             self.assertIn("--workers", found.exception.said)
 
 
+@pytest.mark.clock
 class Broken(unittest.TestCase):
     """A program that does not do what a shim does."""
 
@@ -193,6 +194,10 @@ class Broken(unittest.TestCase):
         error = self.asked("new")
         self.assertIs(type(error), feulgama.RefusalError)
         self.assertEqual(getattr(error, "number"), 99)
+
+
+class Absent(unittest.TestCase):
+    """A shim that is not there, or no more."""
 
     def test_not_there(self) -> None:
         with self.assertRaises(feulgama.NoShimError):

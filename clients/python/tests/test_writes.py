@@ -200,6 +200,7 @@ class Speed(unittest.TestCase):
         self.commands = Commands(open_debugger(shim, Path("module"), assemble(self.LOOP, [SHIM]), [], {}, None))
         self.addCleanup(self.commands.timeline.close)
 
+    @pytest.mark.clock
     def test_cost(self) -> None:
         """Each round writes; of three million the last one is found, and the one that changes what few do."""
         begin = time.monotonic()
@@ -217,6 +218,7 @@ class Speed(unittest.TestCase):
             list(self.commands.answer("continue"))
             self.assertEqual(list(self.commands.answer("x/dw 16")), [f"0x00000010: {value}"])
 
+    @pytest.mark.clock
     def test_it_can_be_broken_off(self) -> None:
         list(self.commands.answer("watch 48"))
         threading.Timer(0.3, self.commands.timeline.interrupted.set).start()
