@@ -14,6 +14,8 @@ from pathlib import Path
 from typing import Any
 from unittest import mock
 
+import pytest
+
 import feulgama
 from feulgama.cli import main
 from feulgama.debug import calls_over_time
@@ -112,6 +114,7 @@ class Page(unittest.TestCase):
         self.assertNotRegex(text.replace("http://www.w3.org/2000/svg", ""), r"https?:|src=|@import|<link")
         self.assertIn("8069 turns, 57 calls; exit, exit 9. Each begin and end is exact to the turn.", text)
 
+    @pytest.mark.clock
     @unittest.skipIf(BROWSER is None, "needs Debian's chromium")
     def test_in_a_browser(self) -> None:
         """What is drawn are the calls of the second reading; a click shows the turn for the debugger's `goto`."""
