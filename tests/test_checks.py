@@ -92,6 +92,14 @@ WRONG: dict[str, tuple[Check, dict[str, str | None], str]] = {
         versions.check, {"clients/python/pyproject.toml": '[project]\nversion = "0.1.0"\n'}, "says 0.1.0"),
     "another version of a client in Go": (
         versions.check, {"clients/oci/main.go": 'package main\n\nconst version = "0.1.0"\n'}, "says 0.1.0"),
+    "another version of the runtime": (
+        versions.check, {"clients/oci/src/version/version.go": 'package version\n\nconst Number = "0.1.0"\n'}, "says 0.1.0"),
+    "a file of the version without one": (
+        versions.check, {"clients/oci/src/version/version.go": "package version\n"}, "version.go: says no version"),
+    "another version of the package's own file": (
+        versions.check, {"clients/python/feulgama/version.py": '__version__ = "0.1.0"\n'}, "says 0.1.0"),
+    "another version of the runtime on a page": (
+        versions.check, {"docs/A.md": "# A\n\n## Two words\n\nfeulgama-oci version 0.1.0\n"}, "docs/A.md: says 0.1.0"),
     "another version on a page": (versions.check, {"docs/A.md": "wasm-shim 0.1.0\n"}, "docs/A.md: says 0.1.0"),
     "a word of memory without a reason": (
         memory_words.check, {"crates/file_commands/src/command.rt": CODE + "fn b() -> Refusal {\n    Refusal::NoMemory\n}\n"},

@@ -12,11 +12,13 @@ NUMBER = r"(\d+\.\d+\.\d+)"
 
 @dataclass(frozen=True)
 class Source:
-    """Files that say the version, and how. Some have to say it; of the others one may be missing, or say nothing."""
+    """Files that say the version, and how. Some have to be there and say it, some say it if they are there; the others may say
+    nothing."""
     pattern: str
     said: re.Pattern[str]
     has_to: bool = False
     is_first: bool = False
+    says: bool = False
 
 
 SOURCES = [
@@ -25,11 +27,14 @@ SOURCES = [
     # The newest section with a number: all below it are older.
     Source("CHANGELOG.md", re.compile(rf"^## \[?{NUMBER}\]?", re.MULTILINE), has_to=True, is_first=True),
     Source("clients/*/pyproject.toml", re.compile(rf"^version = \"{NUMBER}\"", re.MULTILINE), is_first=True),
+    Source("clients/*/version.py", re.compile(rf"^__version__ = \"{NUMBER}\"", re.MULTILINE), says=True),
+    Source("clients/*/version/version.go", re.compile(rf"^const Number = \"{NUMBER}\"", re.MULTILINE), says=True),
     Source("clients/*/__init__.py", re.compile(rf"^__version__(?:: [\w\[\].]+)? = \"{NUMBER}\"", re.MULTILINE)),
     Source("clients/*/package.json", re.compile(rf"\"version\": \"{NUMBER}\"")),
     Source("clients/*.go", re.compile(rf"^\s*(?:const |var )?[vV]ersion(?: string)?\s*=\s*\"{NUMBER}\"", re.MULTILINE)),
     Source("*debian/changelog", re.compile(rf"^[a-z][\w+.-]* \({NUMBER}", re.MULTILINE), is_first=True),
     Source("*.md", re.compile(rf"wasm-shim(?:-\w+)? {NUMBER}")),
+    Source("*.md", re.compile(rf"feulgama-oci(?: version)? {NUMBER}")),
     Source("*.expected", re.compile(rf"wasm-shim(?:-\w+)? {NUMBER}")),
     Source("crates/*.rt", re.compile(rf"wasm-shim(?:-\w+)? {NUMBER}")),
 ]
@@ -50,6 +55,8 @@ def check(tree: Tree) -> tuple[int, list[str]]:
     found = list(said(tree))
     faults = [f"{source.pattern}: no version is said there" for source in SOURCES
               if source.has_to and not any(name == source.pattern for name, _ in found)]
+    faults += [f"{name}: says no version" for source in SOURCES if source.says
+               for name in tree.matching(source.pattern) if not source.said.search(tree.text(name))]
     if faults:
         return len(found), faults
     program, version = found[0]
