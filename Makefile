@@ -8,10 +8,10 @@ TEST_PROGRAMS = both_machines reason_rows refusals
 SUITES = examples rows clients/python real-programs dap-emacs compare compare-text compare-reasons compare-serve-reasons \
 	serve-threads check-history refuse-allocations hostile
 
-.PHONY: help try build build-tests gate check check-all check-ci bench fmt verdict plant attacks $(SUITES)
+.PHONY: help try build build-tests gate check check-all check-ci check-containers bench fmt verdict plant attacks $(SUITES)
 
 help: ## what each target does
-	@sed -n 's/^\([a-z-]*\):.*## \(.*\)/\1\t\2/p' $(MAKEFILE_LIST) | expand -t 13
+	@sed -n 's/^\([a-z-]*\):.*## \(.*\)/\1\t\2/p' $(MAKEFILE_LIST) | expand -t 18
 	@echo "A suite of tests by its name, as in make compare: $(SUITES)" | fold -s -w 120
 
 try: ## serve the first run of examples/ by the program before any proof, after some two minutes
@@ -34,6 +34,9 @@ check-all: ## every test outside the gate, one after another, with one summary; 
 
 check-ci: ## what needs no built program: edits, lists, links, versions, layout, types, unit tests; two minutes
 	@tests/run check-ci
+
+check-containers: ## feulgama-oci under runc, podman, docker and containerd: as root, minutes; names packages that are missing
+	clients/oci/test/run $(if $(PROGRAM),--program $(PROGRAM))
 
 bench: ## the speed of the built program beside other engines (docs/BENCHMARKS.md), minutes
 	$(PYTHON) bench/programs.py $(PROGRAM)
