@@ -1,4 +1,4 @@
-"""The words of the command line: `feulgama debug`, `feulgama timeline` and `feulgama dap`."""
+"""The words of the command line: `feulgama debug`, `feulgama timeline`, `feulgama dap` and `feulgama lower`."""
 from __future__ import annotations
 
 import argparse
@@ -16,6 +16,7 @@ from feulgama.debug.debugger import Debugger
 from feulgama.debug.page import page
 from feulgama.debug.terminal import debug
 from feulgama.errors import FeulgamaError
+from feulgama.lowering import command as lowering
 from feulgama.opening import module_bytes, open_debugger
 from feulgama.program import program, version_of
 from feulgama.shim import Shim
@@ -32,7 +33,7 @@ def variable(text: str) -> tuple[str, str]:
 
 def parser() -> argparse.ArgumentParser:
     """What the command line may be."""
-    top = argparse.ArgumentParser(prog="feulgama", description="Debugs WebAssembly modules as tasks of a shim.")
+    top = argparse.ArgumentParser(prog="feulgama", description="Debugs and lowers WebAssembly modules, the tasks of a shim.")
     top.add_argument("--shim", metavar="FILE", help="the shim's program (by default that of FEULGAMA_SHIM, or wasm-shim "
                                                     "on PATH, or the one that tools/shim builds in a clone)")
     top.add_argument("--version", "-V", action="store_true", help="the versions of this package and of the shim")
@@ -49,6 +50,7 @@ def parser() -> argparse.ArgumentParser:
         command.add_argument("module", metavar="MODULE", type=Path, help="a module, as bytes or as text")
         command.add_argument("args", metavar="ARG", nargs=argparse.REMAINDER, help="the task's arguments")
     commands.add_parser("dap", help="speaks the Debug Adapter Protocol on standard input and output")
+    lowering.add_options(commands.add_parser("lower", help="translates a module to the shim's profile"))
     return top
 
 
@@ -99,11 +101,13 @@ def main(words: Sequence[str] | None = None) -> int:
     if found.version:
         return show_versions(found.shim)
     if found.command is None:
-        top.error("a command is needed: debug, timeline or dap")
+        top.error("a command is needed: debug, timeline, dap or lower")
     try:
         if found.command == "dap":
             return serve(found.shim)
         data = module_bytes(found.module, found.shim)
+        if found.command == "lower":
+            return lowering.run(found, data)
         with Shim(found.shim, workers=1) as shim:
             opened = open_debugger(shim, found.module, data, found.args, dict(found.env), found.memory)
             with contextlib.closing(opened.timeline):

@@ -19,6 +19,7 @@ import feulgama
 from feulgama import program as programs
 from feulgama.cli import main
 from tests.support import CLIENT, SHIM
+from tests.written_modules import FILL, Written, operands
 
 NEEDED = [name for name in ("setuptools", "wheel", "pip", "ensurepip") if importlib.util.find_spec(name) is None]
 EXAMPLES = CLIENT / "examples"
@@ -55,6 +56,12 @@ class Wheel(unittest.TestCase):
     def test_command(self) -> None:
         self.assertEqual(ran(self.bin / "feulgama", "--shim", SHIM, "--version").splitlines()[0], "feulgama 0.1.0")
         self.assertIn("usage: feulgama", ran(self.bin / "feulgama", "--help"))
+
+    def test_lowering(self) -> None:
+        """The functions that it puts into modules are in the wheel."""
+        file = self.folder / "fill.wasm"
+        file.write_bytes(Written(operands(0, 7, 9) + FILL).bytes())
+        self.assertEqual(ran(self.bin / "feulgama", "lower", "--list", file), "1 memory.fill\n")
 
     def test_library(self) -> None:
         """It is imported from the environment, with its types, and runs a module."""
@@ -139,4 +146,4 @@ class Versions(unittest.TestCase):
         with self.assertRaises(SystemExit) as found, mock.patch("sys.stderr", io.StringIO()) as said:
             main([])
         self.assertEqual(found.exception.code, 2)
-        self.assertIn("a command is needed: debug, timeline or dap", said.getvalue())
+        self.assertIn("a command is needed: debug, timeline, dap or lower", said.getvalue())
