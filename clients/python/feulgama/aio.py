@@ -14,6 +14,7 @@ from typing import Any, Self, TypeVar
 from feulgama.calls import Calls
 from feulgama.config import Config, digest_of
 from feulgama.errors import BadReplyError, ExistsError, FeulgamaError, NoShimError, RefusalError, ShimEndedError
+from feulgama.lowering import lower as lowered
 from feulgama.model import Ran, Stream
 from feulgama.operation import Awaits, Request
 from feulgama.program import serving
@@ -200,9 +201,10 @@ class AsyncShim(Calls, Awaits):
         return digest_of(data)
 
     async def run(self, module: bytes, args: Sequence[str] = ("module",), env: Mapping[str, str] | None = None,
-                  memory_limit: int | None = None) -> Ran:
+                  memory_limit: int | None = None, lower: bool = False) -> Ran:
         """Runs a module to its end as one task, which is deleted then. The module stays stored: another coroutine
-        may run it too."""
+        may run it too. With `lower` it is lowered first, which raises LoweringError if that cannot be done."""
+        module = lowered(module).data if lower else module
         config = Config(digest_of(module), args, env or {}, memory_limit)
         await self.ensure(module)
         task = (await self.create(config)).id

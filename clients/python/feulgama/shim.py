@@ -12,6 +12,7 @@ from typing import Self, TypeVar
 from feulgama.calls import Calls
 from feulgama.config import Config, digest_of
 from feulgama.errors import BadReplyError, ExistsError, FeulgamaError
+from feulgama.lowering import lower as lowered
 from feulgama.model import Ran, Stream
 from feulgama.operation import Asks, Request
 from feulgama.pipe import Pipe
@@ -109,9 +110,10 @@ class Shim(Calls, Asks):
         return digest_of(data)
 
     def run(self, module: bytes, args: Sequence[str] = ("module",), env: Mapping[str, str] | None = None,
-            memory_limit: int | None = None) -> Ran:
+            memory_limit: int | None = None, lower: bool = False) -> Ran:
         """Runs a module to its end as one task, which is deleted then. A module that was not stored before is
-        removed again."""
+        removed again. With `lower` it is lowered first, which raises LoweringError if that cannot be done."""
+        module = lowered(module).data if lower else module
         config = Config(digest_of(module), args, env or {}, memory_limit)
         is_new = self._put_new(module)
         try:
