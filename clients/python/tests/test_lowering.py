@@ -12,6 +12,8 @@ import time
 import unittest
 from pathlib import Path
 
+import pytest
+
 import feulgama
 from feulgama.cli import main
 from feulgama.lowering import LoweringError, Options, lower
@@ -181,15 +183,44 @@ class Lowered(unittest.TestCase):
         parts.main = w.i32(3) + b"\x11\x02\0\x1a"
         self.assertEqual(result(parts.bytes())[1], "uninitialized element")
 
+    def test_all_at_once(self) -> None:
+        """Imports that move are the same ones in calls, in the table, as exports and as names."""
+        data = m.rich()
+        self.assertEqual(result(data), (m.RICH_SAYS, None))
+        found = lower(data)
+        module = decode(found.data)
+        self.assertEqual([name for _, name, _ in module.imports], ["fd_write"])
+        self.assertEqual((module.exports["close"], module.exports["own"]), (1, 2))
+        names = names_of(module)
+        self.assertEqual([names.function(at) for at in range(3)], ["write", "close", "own"])
+        once = ("fd_close", "data count", "data segment of a later form", "extended constant", "select with a type",
+                "memory.init", "data.drop", "memory.fill", "memory.copy")
+        self.assertEqual(found.replaced, {**dict.fromkeys(once, 1), "element segment of a later form": 3,
+                                          "long index of a table": 2})
+
+    def test_a_plain_table_of_imports(self) -> None:
+        """A segment of version 1.0 whose functions have moved."""
+        main = m.operands(9, 0) + b"\x11\x02\0" + m.store_result(0) + m.show(0, 1, 1)
+        data = Written(main, [m.imported("fd_close", 2), m.WRITER], [m.TO_CLOSE], globals_=[m.RESULT],
+                       table=b"\x01\x70\0\x01", elements=[b"\0" + w.i32(0) + b"\x0b\x01\0"]).bytes()
+        self.assertEqual(result(data), (b"\x08", None))
+
+    def test_the_start_function(self) -> None:
+        """One of the module's own keeps its number, after an import that is replaced as well."""
+        data = Written(m.show(0, 1, 1), [m.imported("fd_close", 2), m.WRITER], [m.TO_CLOSE], globals_=[m.RESULT],
+                       functions=[(0, w.i32(5) + m.store_result(0))], start=b"\x02").bytes()
+        self.assertEqual(result(data), (b"\5", None))
+
     def test_twice_is_once(self) -> None:
-        for data in ranges(3, 40):
+        for data in (*ranges(3, 40), m.rich()):
             once = lower(data)
             again = lower(once.data)
             self.assertEqual((again.data, again.replaced), (once.data, {}))
 
     def test_places_stay(self) -> None:
         """Each instruction of the original is one instruction, at its place, and its offset is known."""
-        data = Written(m.operands(7, 8, 0) + m.COPY + m.operands(1, 2, 3) + m.FILL + m.show(0, 3), [m.WRITER]).bytes()
+        main = m.operands(7, 8, 0) + m.COPY + m.operands(1, 2, 3) + m.FILL + code("i32.const 0 if nop else nop end")
+        data = Written(main + m.show(0, 3), [m.WRITER]).bytes()
         found = lower(data)
         after = decode(found.data)
         original, = found.originals
@@ -296,6 +327,7 @@ class Refused(unittest.TestCase):
             "element.*no function 9": Written(b"", table=b"\x01\x70\0\x01", elements=[b"\0" + w.i32(0) + b"\x0b\x01\x09"]),
             "data.*several": Written(b"", data=[b"\x02\x01" + w.i32(0) + b"\x0b\0"]),
             "global 0, which is no constant": Written(b"", globals_=[b"\x7f\0\x23\0\x0b"]),
+            "reads global 0, which": Written(b"", globals_=[m.RESULT, b"\x7f\0\x23\0\x0b"]),
             "does not give one i32": Written(b"", globals_=[b"\x7f\0" + w.i64(0) + b"\x0b"]),
         }
         for words, part in parts.items():
@@ -313,10 +345,11 @@ class Refused(unittest.TestCase):
         self.assertIn("fd_close: it is refused", self.refusal(data, Options(frozenset(["fd_close"]))))
         self.assertEqual(lower(data, Options(frozenset(["fd_read"]))).replaced, {"fd_close": 1})
 
+    @pytest.mark.clock
     def test_hostile_bytes(self) -> None:
         """Mutated modules end with a reason or with a module, which needs no lowering again, and soon."""
         random.seed(5)
-        sources = ranges(9, 20)
+        sources = [*ranges(9, 10), *[m.rich()] * 10]
         begin, refused = time.monotonic(), 0
         for number in range(10_000):
             data = bytearray(random.choice(sources))

@@ -2,7 +2,7 @@
 from __future__ import annotations
 
 from collections.abc import Sequence
-from dataclasses import dataclass, field
+from dataclasses import dataclass
 
 from feulgama.lowering.words import code
 from feulgama.wasm import writer as w
@@ -50,7 +50,8 @@ class Written:
     locals_: bytes = b"\0"
     has_count: bool = False
     customs: bytes = b""
-    _sections: bytes = field(init=False, default=b"")
+    exports: Sequence[bytes] = ()
+    start: bytes = b""
 
     def bytes(self) -> bytes:
         """The module."""
@@ -59,8 +60,8 @@ class Written:
         parts = [(1, w.vector([VOID, WRITE, *self.types])), (2, w.vector([*self.imports])),
                  (3, w.vector([w.unsigned(kind) for kind, _ in bodies])), (4, self.table), (5, b"\x01\0\x01"),
                  (6, w.vector([*self.globals_])),
-                 (7, b"\x02" + text("memory") + b"\x02\0" + text("_start") + b"\0" + start),
-                 (9, w.vector([*self.elements])), (12, w.unsigned(len(self.data)) if self.has_count else b""),
+                 (7, w.vector([text("memory") + b"\x02\0", text("_start") + b"\0" + start, *self.exports])),
+                 (8, self.start), (9, w.vector([*self.elements])), (12, w.unsigned(len(self.data)) if self.has_count else b""),
                  (10, w.vector([w.sized((self.locals_ if body is self.main else b"\0") + body + b"\x0b")
                                 for _, body in bodies])),
                  (11, w.vector([*self.data]))]
@@ -68,10 +69,10 @@ class Written:
                                if part not in (b"", b"\0")) + self.customs
 
 
-def show(begin: int, size: int) -> bytes:
-    """Writes bytes of memory to standard output, by function 0. The last 32 bytes of the page are the call's."""
+def show(begin: int, size: int, writer: int = 0) -> bytes:
+    """Writes bytes of memory to standard output by a function. The last 32 bytes of the page are the call's."""
     return code(f"i32.const 65504 i32.const {begin} i32.store i32.const 65508 i32.const {size} i32.store "
-                "i32.const 1 i32.const 65504 i32.const 1 i32.const 65512 call 0 drop")
+                f"i32.const 1 i32.const 65504 i32.const 1 i32.const 65512 call {writer} drop")
 
 
 def operands(*numbers: int) -> bytes:
@@ -85,3 +86,22 @@ def store_result(at: int) -> bytes:
 
 RESULT = b"\x7f\x01" + w.i32(0) + b"\x0b"  # the global for store_result
 WRITER = imported("fd_write", 1)
+
+
+def rich() -> bytes:
+    """A module that has something of all that is replaced, and runs to its end. Function 1 is `fd_write`; the table has 0, the
+    call that is replaced, 1 and a function of the module's own."""
+    names = b"\x01" + w.sized(w.vector([w.unsigned(at) + text(name) for at, name in enumerate(("close", "write", "own"))]))
+    closing = b"".join(w.i32(fd) + w.i32(0) + b"\x11\x02\x80\0" + store_result(at) for at, fd in enumerate((1, 9)))
+    calls = w.i32(2) + b"\x10\0" + store_result(2) + w.i32(2) + b"\x11\x03\0" + store_result(3) + operands(7, 8, 0)
+    ranges = operands(4, 2, 0) + init(1) + drop(1) + operands(7, 65, 3) + FILL + operands(20, 0, 8) + COPY
+    main = closing + calls + b"\x1c\x01\x7f" + store_result(4) + ranges + show(0, 30, 1)
+    elements = [b"\x04" + w.i32(0) + b"\x0b\x01\xd2\0\x0b", b"\x02\0" + w.i32(1) + b"\x0b\0\x02\x01\x02", b"\x03\0\x01\x02"]
+    return Written(main, [imported("fd_close", 2), WRITER], [TO_CLOSE, b"\x60\0\x01\x7f"], [active(0, b""), b"\x01\x03abc"],
+                   elements, [RESULT, b"\x7f\0" + operands(2, 3) + b"\x6a\x0b"], [(3, w.i32(77))], b"\x01\x70\0\x03",
+                   has_count=True, customs=b"\0" + w.sized(text("name") + names),
+                   exports=[text("close") + b"\0\0", text("own") + b"\0\x02"]).bytes()
+
+
+# What it writes: the answers of the calls, the function's number, the chosen operand, the bytes that were filled in.
+RICH_SAYS = bytes((0, 8, 0, 77, 8, 0, 0)) + b"AAA" + bytes(10) + bytes((0, 8, 0, 77, 8, 0, 0)) + b"A" + bytes(2)
