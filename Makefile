@@ -32,7 +32,7 @@ check: ## quick tests of the built program: examples, rows, clients; under ten m
 check-all: ## every test outside the gate, one after another, with one summary; an hour
 	tests/run all
 
-check-ci: ## what needs no built program: edits, lists, links, versions, layout, types, unit tests; two minutes
+check-ci: ## what needs no built program: edits, lists, links, versions, layout, types, unit tests; two to five minutes
 	@tests/run check-ci
 
 check-containers: ## feulgama-oci under runc, podman, docker and containerd: as root, minutes; names packages that are missing
