@@ -301,7 +301,8 @@ class Refused(unittest.TestCase):
                    b"\xfc\x02": "saturates", b"\xfc\x0e\0\0": "tables", b"\xfc\x99\x01": "no instruction",
                    b"\x27": "no instruction", b"\x11\0\x01": "several", b"\xfc\x0a\0\x01": "several memories",
                    b"\x02\x7c": "f64: floats", b"\x1c\x01\x7d": "f32", b"\x28\x42\0\0": "several memories",
-                   b"\xfc\x08\0\0": "section 12", b"\x10\xff\xff\xff\xff\xff\x01": "bits"}
+                   b"\xfc\x08\0\0": "section 12", b"\x10\xff\xff\xff\xff\xff\x01": "bits",
+                   b"\x10\xff\xff\xff\xff\x1f": "32 bits", b"\x10\x80\x80\x80\x80\x80\0": "32 bits"}
         for instruction, words in refused.items():
             said = self.refusal(Written(b"\x01\x02\x40\x0b" + instruction).bytes())
             self.assertRegex(said, f"^offset [0-9]+, function 0, place 2: .*{words}")
@@ -337,7 +338,9 @@ class Refused(unittest.TestCase):
         for data, words in ((b"", "do not begin"), (HEAD[:7], "do not begin"), (b"\0asm\x0d\0\x01\0", "component"),
                             (HEAD + b"\x0d\x02\x01\0", "exceptions"), (HEAD + b"\x0e\0", "section 14"),
                             (HEAD + b"\x03\x01\0\x01\x01\0", "section 1 cannot"), (HEAD + b"\x01\x05\0", "too late"),
-                            (HEAD + b"\x01\x02\0\0", "bytes follow"), (HEAD + b"\x0a" + w.sized(bytes(2**20)), "1048576")):
+                            (HEAD + b"\x01\x02\0\0", "bytes follow"), (HEAD + b"\x0c\x01\x01", "how many data"),
+                            (HEAD + b"\x05\x03\x01\x03\x01", "shared"), (HEAD + b"\x05\x03\x01\x04\x01", "64 bits"),
+                            (HEAD + b"\x0a" + w.sized(bytes(2**20)), "1048576")):
             self.assertIn(words, self.refusal(data))
 
     def test_a_call_that_is_not_wanted(self) -> None:
@@ -423,7 +426,7 @@ class Command(unittest.TestCase):
             self.assertEqual(self.call("-o", str(self.out), "--seed", seed)[:2], (0, ""))
             with feulgama.Shim(SHIM) as shim:
                 said.append(shim.run(self.out.read_bytes()).stdout)
-        self.assertEqual(said, [xorshift(1, 8), xorshift(1, 8), xorshift(2, 8)])
+        self.assertEqual(said, [m.xorshift(1, 8), m.xorshift(1, 8), m.xorshift(2, 8)])
 
     def test_refused(self) -> None:
         status, out, err = self.call("--refuse", "random_get", "-o", str(self.out))
@@ -433,14 +436,3 @@ class Command(unittest.TestCase):
     def test_standard_output(self) -> None:
         run = subprocess.run([TOP / "clients/python/bin/feulgama", "lower", self.file], capture_output=True, check=True)
         self.assertEqual(run.stdout, lower(self.file.read_bytes()).data)
-
-
-def xorshift(state: int, count: int) -> bytes:
-    """Marsaglia's xorshift with the shifts 13, 7 and 17: bits 32 to 39 of each number."""
-    found = bytearray()
-    for _ in range(count):
-        state ^= state << 13 & 2**64 - 1
-        state ^= state >> 7
-        state ^= state << 17 & 2**64 - 1
-        found.append(state >> 32 & 255)
-    return bytes(found)

@@ -116,14 +116,19 @@ class Answers(unittest.TestCase):
         times = [BEGINNING + 1000 * at for at in range(4)]
         self.assertEqual(written(calls, 1000, 40), bytes(5) + struct.pack("<QQQQQ", *times, 1000))
 
+    def test_random_numbers(self) -> None:
+        """They go on from call to call, from the seed of the page."""
+        calls = [Call("random_get", "ii", (1000 + 4 * at, 4), SUCCESS) for at in range(3)]
+        self.assertEqual(written(calls, 1000, 13), bytes(3) + m.xorshift(0x9E3779B97F4A7C15, 12) + b"\0")
+
     def after_poll(self, subscriptions: list[bytes]) -> tuple[int, list[bytes], int]:
         """The answer of a poll, its events, and the clock afterwards."""
         count = len(subscriptions)
         calls = [Call("poll_oneoff", "iiii", (1000, 2000, count, 1992), SUCCESS),
                  Call("clock_time_get", "ili", (0, 0, 1984), SUCCESS)]
-        said = written(calls, 1984, 16 + 32 * count, b"".join(subscriptions))
+        said = written(calls, 1984, 16 + 32 * count, b"".join(subscriptions).ljust(1200, b"\xff"))
         clock, number = struct.unpack_from("<QI", said, 2)
-        return said[0], [said[18 + 32 * at:50 + 32 * at] for at in range(number)], clock
+        return said[0], [said[18 + 32 * at:50 + 32 * at] for at in range(min(number, count))], clock
 
     def test_poll(self) -> None:
         """Streams are ready at once. Without one the first time comes, and the clock shows it."""

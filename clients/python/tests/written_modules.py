@@ -105,3 +105,14 @@ def rich() -> bytes:
 
 # What it writes: the answers of the calls, the function's number, the chosen operand, the bytes that were filled in.
 RICH_SAYS = bytes((0, 8, 0, 77, 8, 0, 0)) + b"AAA" + bytes(10) + bytes((0, 8, 0, 77, 8, 0, 0)) + b"A" + bytes(2)
+
+
+def xorshift(state: int, count: int) -> bytes:
+    """Marsaglia's xorshift with the shifts 13, 7 and 17: bits 32 to 39 of each number."""
+    found = bytearray()
+    for _ in range(count):
+        state ^= state << 13 & 2**64 - 1
+        state ^= state >> 7
+        state ^= state << 17 & 2**64 - 1
+        found.append(state >> 32 & 255)
+    return bytes(found)
