@@ -7,7 +7,7 @@ from pathlib import Path
 
 import pytest
 
-from suite.checks import edits, layout, links, manifest, memory_words, programs, run, versions
+from suite.checks import edits, layout, links, manifest, memory_words, named_code, programs, run, versions
 from suite.checks.tree import Tree
 
 # A repository in which nothing is wrong.
@@ -23,13 +23,18 @@ FILES: dict[str, str] = {
     "tests/test_one.py": "def test_one() -> None:\n    assert True\n",
     "CHANGELOG.md": "# Changelog\n\n## [Unreleased]\n\n## [0.2.0] - 2026-01-01\n\n## 0.1.0\n",
     "README.md": "# A [name](docs/A.md#two-words) and `tests/test_one.py`\n\nSee [this](#a-name-and-teststest_onepy).\n",
+    "docs/Map.md": "# Map\n\n| Question | File | Functions |\n|---|---|---|\n"
+                   "| what is one more? | `file_commands/src/command.rt` | `whole`, `Command::whole` |\n\n"
+                   "| Crate | Where to look first |\n|---|---|\n| `file_commands` | `src/command.rt` |\n\n"
+                   "See `file_commands/src/*.rt` and `file_commands/src`.\n",
+    "crates.txt": "# A comment: none.\nfile_commands may_wait=1: clap\n",
     "docs/A.md": "# A\n\n```\n[no](link.md)\n```\n\n## Two words\n\nwasm-shim 0.2.0\n",
     "clients/python/feulgama/__init__.py": '__version__ = "0.2.0"\n',
     "clients/python/pyproject.toml": '[project]\nversion = "0.2.0"\n',
     "clients/oci/main.go": 'package main\n\nconst Version = "0.2.0"\n\nfunc main() {}\n',
     ".ci/packages": "# A comment.\ngit\n",
 }
-CHECKS = [edits.check, memory_words.check, links.check, versions.check, manifest.check, layout.check]
+CHECKS = [edits.check, memory_words.check, links.check, named_code.check, versions.check, manifest.check, layout.check]
 Check = Callable[[Tree], tuple[int, list[str]]]
 
 
@@ -52,6 +57,7 @@ def test_nothing_is_wrong(check: Check, tmp_path: Path) -> None:
 
 
 CODE = FILES["crates/file_commands/src/command.rt"]
+MAP = FILES["docs/Map.md"]
 WRONG: dict[str, tuple[Check, dict[str, str | None], str]] = {
     "a stale edit": (
         edits.check, {"crates/file_commands/src/command.rt": CODE.replace("one_more(2)", "one_more(3)")}, "is 0 times"),
@@ -80,6 +86,22 @@ WRONG: dict[str, tuple[Check, dict[str, str | None], str]] = {
     "a link to no heading": (
         links.check, {"docs/A.md": "# A\n\n## Other words\n"}, "leads to a heading that docs/A.md has not"),
     "a path in code that is gone": (links.check, {"tests/test_one.py": None}, "`tests/test_one.py` is not there"),
+    "a function that is gone": (
+        named_code.check, {"crates/file_commands/src/command.rt": CODE.replace("fn whole", "fn wholes")},
+        "has no function whole"),
+    "a file of a function that is gone": (
+        named_code.check, {"crates/file_commands/src/command.rt": None}, "crates/file_commands/src/command.rt is not there"),
+    "a question without a function": (
+        named_code.check, {"docs/Map.md": MAP.replace("`whole`, `Command::whole`", "")}, "names 1 files and 0 functions"),
+    "a crate that the map lacks": (
+        named_code.check, {"crates.txt": "file_commands:\nwasm_ast: core\n"}, "the table of crates lacks wasm_ast"),
+    "a crate of the map that is gone": (named_code.check, {"crates.txt": "wasm_ast:\n"}, "file_commands is no crate of"),
+    "a file of the map that is gone": (
+        named_code.check, {"docs/Map.md": MAP.replace("| `src/command.rt` |", "| `src/gone.rt` |")},
+        "src/gone.rt is not there"),
+    "a path of a crate that is gone": (
+        named_code.check, {"docs/Map.md": MAP.replace("`file_commands/src`", "`file_commands/proofs/`")},
+        "`file_commands/proofs/` is not there"),
     "another version of the program": (
         versions.check, {"crates/file_commands/src/command.rt": CODE.replace("0.2.0", "0.3.0")},
         "and crates/file_commands"),

@@ -14,7 +14,7 @@ import time
 from collections.abc import Callable
 from dataclasses import dataclass
 
-from suite.checks import edits, layout, links, manifest, memory_words, programs, versions
+from suite.checks import edits, layout, links, manifest, memory_words, named_code, programs, versions
 from suite.checks.tree import TOP, Tree
 
 CHECKS: dict[str, Callable[[Tree], tuple[int, list[str]]]] = {
@@ -30,6 +30,7 @@ CHECKS: dict[str, Callable[[Tree], tuple[int, list[str]]]] = {
     "edits": edits.check,
     "memory-words": memory_words.check,
     "links": links.check,
+    "named-code": named_code.check,
     "versions": versions.check,
     "manifest": manifest.check,
     "layout": layout.check,
