@@ -1,7 +1,8 @@
+use Rattle.call_journal.specs.Desks.{spot_names}
 use Rattle.caller_tests.proofs.stories.drives.Given as goal
 
 abbrev pub ghosts-driven-J-Row : goal.ghosts-driven-J-Row
-ghosts-driven-J-Row g a = record { cells = a.cells }
+ghosts-driven-J-Row g a = record { cells = a.cells; slots = spot_names a.desk }
 
 abbrev pub ghosts-driven-J-Ledger : goal.ghosts-driven-J-Ledger
 ghosts-driven-J-Ledger g a = record { name = a.blank.name; parts = a.blank.parts }
