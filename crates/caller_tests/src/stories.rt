@@ -6,7 +6,7 @@ ghost use Rattle.call_journal.specs.Seats.{most_seats};
 
 use crate::histories::{four_callers, full_journal, two_callers, two_seats};
 use crate::storm::storm;
-use crate::waking::{Waking, waking};
+use crate::waking::{Sleepers, waking};
 use crate::workers::{Meeting, large_output, run_by_two};
 use call_journal::{Cells, Desk, MOST_SEATS, Row, Shim};
 use callers::{Driven, NoNotes, drive};
@@ -39,7 +39,7 @@ pub enum Story<'a> {
     /// `large_output` of `workers`.
     LargeOutput,
     /// `waking`.
-    Waking(Waking<'a>),
+    Waking(Sleepers<'a>),
 }
 
 fn cells(alloc: Global) -> Result<Cells, Refusal> {

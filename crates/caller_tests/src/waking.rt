@@ -13,7 +13,7 @@ use std::thread::Threads;
 
 /// What another caller asks while two wait for a task that never ends, and how they are answered then.
 #[derive(Clone, Copy)]
-pub struct Waking<'a> {
+pub struct Sleepers<'a> {
     /// How often the other caller asks for the state of no task first, so that the two sleep.
     pub before: usize,
     /// The lines that it asks after that.
@@ -43,18 +43,24 @@ fn check_ends<R: Row, A: Abort>(rt: &A, told: &[Told<'_, R>], end: &str) {
     }
 }
 
+// The lines of two callers that ask the same, and of a third one.
+fn two_and_one<'a>(same: &'a [u8], other: &'a [u8]) -> [&'a [u8]; 3] {
+    [same, same, other]
+}
+
 /// Starts an endless task, and then lets two callers wait for it while a third one asks. None if lines come
 /// to no end.
 pub fn waking<R: Row + Send + Sync, W: Threads + Wait + Abort + Sync>(
     rt: &W,
     alloc: Global,
     shim: &Shim<R>,
-    story: Waking<'_>,
+    story: Sleepers<'_>,
 ) -> Option<()> {
     let mut other = repeated(alloc, STATE, story.before)?;
     other.extend_from_slice(story.asked.as_bytes()).ok()?;
+    let wait = repeated(alloc, WAIT_LINE, 1)?;
     let begin = [ENDLESS_LINES.as_bytes()];
-    let all = [WAIT_LINE.as_bytes(), WAIT_LINE.as_bytes(), other.as_slice()];
+    let all = two_and_one(wait.as_slice(), other.as_slice());
     let (begin, all) = (begin.as_slice(), all.as_slice());
     let run = move || {
         side_by_side(rt, alloc, shim, begin)?;
@@ -67,7 +73,7 @@ pub fn waking<R: Row + Send + Sync, W: Threads + Wait + Abort + Sync>(
 
 #[test]
 fn a_kill_wakes_those_that_wait(rt: HostRuntime) -> Result<(), Fail> {
-    let story = Waking {
+    let story = Sleepers {
         before: 500,
         asked: "{\"op\":\"kill\",\"id\":\"a\",\"signal\":9}\n",
         answered: "\"ok\":true,\"signal\":9,\"status\":\"stopped\"}\n",
@@ -77,7 +83,7 @@ fn a_kill_wakes_those_that_wait(rt: HostRuntime) -> Result<(), Fail> {
 
 #[test]
 fn a_pause_wakes_those_that_wait(rt: HostRuntime) -> Result<(), Fail> {
-    let story = Waking {
+    let story = Sleepers {
         before: 500,
         asked: "{\"op\":\"pause\",\"id\":\"a\"}\n",
         answered: "\"ok\":true,\"status\":\"paused\"}\n",
@@ -87,7 +93,7 @@ fn a_pause_wakes_those_that_wait(rt: HostRuntime) -> Result<(), Fail> {
 
 #[test]
 fn a_full_journal_wakes_those_that_wait(rt: HostRuntime) -> Result<(), Fail> {
-    let story = Waking {
+    let story = Sleepers {
         before: 16_384,
         asked: "",
         answered: "{\"error\":\"JournalFull\",\"number\":15,\"ok\":false}\n",
