@@ -25,14 +25,15 @@ use wasm_ast::{Refusal, Text};
 
 /// A shim: a book that callers and workers share, and the cells that hold its journal.
 //
-// Who sleeps, until when, what makes that true, and who tells:
+// Who sleeps, until when, what makes that true, and where it is told. A task has settled if it is created,
+// paused, stopped or gone.
 //
-// | Sleeps | Until | Made true by | Told by `tell_callers` or `tell_worker` in |
+// | Sleeps | Until | Made true by | Told in |
 // |---|---|---|---|
-// | a caller, in `wait` | its task is created, paused, stopped or gone | a pause or a kill of an idle task | `call_quietly` |
-// | | | the return of a slice of a task that does not run on | `give_back` |
-// | | or the journal is full, and answers `JournalFull` | the last call that it takes | `call_quietly` |
-// | a worker, in `next` | a task waits for a worker | a start or a resume | `call`, or the caller's next call, `wake` or `wait` |
+// | a caller, in `wait` | its task has settled | pause or kill of an idle task | `call_quietly` |
+// | | | the return of a slice, if the task stops or pauses | `give_back` |
+// | | the journal is full | the call that fills it | `call_quietly` |
+// | a worker, in `next` | a task waits for it | start, resume | `call`; next call, `wake`, `wait` |
 // | | | a ticket that is put back | `offer`, `wait_again` |
 // | both | the shim is closed | `close` | `close` |
 #[derive(Drop)]
@@ -139,8 +140,9 @@ impl<R: Row> Shim<R> {
         self.tell_worker(&shared);
     }
 
-    /// Waits until the task with an id is created, paused or stopped, or is not there, the journal is full, or
-    /// the shim is closed; then makes the call `wait` once, without letting go of the lock in between. It is not answered Busy.
+    /// Waits until the task with an id is created, paused or stopped, or is not there, the journal
+    /// is full, or the shim is closed; then makes the call `wait` once, without letting go of the
+    /// lock in between. It is not answered Busy.
     pub fn wait<W: Wait>(
         &self,
         rt: &W,

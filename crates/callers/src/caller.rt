@@ -198,9 +198,9 @@ fn serve_line<J: Row, W: Sink, H: Wait, N: Notes>(
 /// Answers each line of a caller's reader by one line, written and flushed before the next line is
 /// waited for, until the reader is at its end. A line that is no request is answered `BadRequest`.
 /// A fault of a stream is told only if that stream has failed. A worker is woken for a task that was
-/// started at the latest when the line after the start was read and is no wait for that task. The seat is that of the caller, and is given back.
-/// The notes are told each line and its answer, after its reply; what is answered and written is
-/// the same, whatever they do.
+/// started at the latest when the line after the start was read and is no wait for that task. The
+/// seat is that of the caller, and is given back. The notes are told each line and its answer,
+/// after its reply; what is answered and written is the same, whatever they do.
 pub fn drive<J: Row, R: Source, W: Sink, H: Wait, N: Notes>(
     rt: &H,
     alloc: Global,

@@ -206,7 +206,8 @@ pub fn held_contents_stay()
 /// fits, it goes on to fit after each event but the return of its task's slice, whether its slice has been
 /// run or not, and after that it does not fit. Two loans that fit and are of one task are of one slot.
 pub fn loans_fit_until_they_return()
-    ensures taken { (s : BoardState) (ticket : TicketValue) (budget : ℕ) (l : Lent) (s' : BoardState)
+    ensures taken { (s : BoardState) (ticket : TicketValue) (budget : ℕ) (l : Lent)
+        (s' : BoardState)
         → IsBoard s → Lends s ticket budget l s' → Fits l s'.tasks }
     ensures stay { (s : BoardState) (e : Event) (r : EventReply) (s' : BoardState) (l : Lent)
         → IsBoard s → Step s e r s' → (e ≡ event.Return l.id → ⊥) → Fits l s.tasks

@@ -66,13 +66,15 @@ write_both_spec 𝓤 𝓛 𝓜 𝓡 wired T L =
     let t' : B.Denot = record { marker = t.marker; name = t.name; value = x } in
     let Said : Type 0 = (t.value ≡ s.value) × (s' ≡ s') × (t' ≡ t') in
     qed 𝓛
-    (((‵ (flft κs.0 qs.0) ⊛ ‵ (flft κs.1.0 qs.1.0) ⊛ ‵ (fsep (flft κs.1.1.0 qs.1.1.0) (fsep (flft κs.1.1.1.0 qs.1.1.1.0) ftrue)))
+    (((‵ (flft κs.0 qs.0) ⊛ ‵ (flft κs.1.0 qs.1.0) ⊛ ‵
+    (fsep (flft κs.1.1.0 qs.1.1.0) (fsep (flft κs.1.1.1.0 qs.1.1.1.0) ftrue)))
     ⊛ ‵ (owns (types_at En.signature.params κs) a y.0.4))
     ∷ raw (fact 𝓤 _) ∷ raw (fact 𝓤 Asks) ∷ []) ∵ keep ! (2 ∷ 0 ∷ []) $
     heard ! Asks (λ asks. split ! $ split3 ! $ move ! (3 ∷ []) $ fsplit ! $ fsplit3 ! $ drop ! $
     move ! (2 ∷ []) $ fsplit ! $ fsplit3 ! $ drop ! $ keep ! (3 ∷ 4 ∷ 5 ∷ 0 ∷ 1 ∷ 6 ∷ 7 ∷ []) $
     -- [the borrow of the stub, and its token; that of the slip, and its token; the other tokens]
-    enter ! 𝓣.C 𝓣.Λ fn (u ∷ w ∷ p ∷ []) Post $ alloc_all ! (λ l. pass_all ! refl ((tt, tt), ((tt, tt), ((tt, tt), tt))) $
+    enter ! 𝓣.C 𝓣.Λ fn (u ∷ w ∷ p ∷ []) Post $ alloc_all !
+    (λ l. pass_all ! refl ((tt, tt), ((tt, tt), ((tt, tt), tt))) $
     opens ! tt A m.ref_ptr.0 m.ref_ptr.1 (λ cs. move ! (5 ∷ 6 ∷ 7 ∷ []) $
     opens ! tt B n.ref_ptr.0 n.ref_ptr.1 (λ ds. move ! (1 ∷ []) $ fsplit ! $ move ! (7 ∷ []) $ fsplit ! $
     move ! (3 ∷ 1 ∷ []) $

@@ -10,8 +10,12 @@ returns-clause-set c =
     let ps = c.self.inside.places.items in
     let i = c.args.slot in
     let p = c.in_ok-place.place.now in
-    let at : slice_get ps i ≡ Some p = slice_get_read ps (length ps) i p refl c.in_ok-place.ensures.item.3.0 c.in_ok-place.ensures.value in
-    subst (λ (ds : List Spot). IfSome c.lend.result (λ s. IsSetAt i (Some c.args.loan.now) ds (slice_set ps i c.lend.new.self))) c.self.view_is
+    let at :
+    slice_get ps i ≡ Some p =
+    slice_get_read ps (length ps) i p refl c.in_ok-place.ensures.item.3.0 c.in_ok-place.ensures.value in
+    subst
+    (λ (ds : List Spot). IfSome c.lend.result
+    (λ s. IsSetAt i (Some c.args.loan.now) ds (slice_set ps i c.lend.new.self))) c.self.view_is
     (lent_set _ _ c.lend.result ps i p c.lend.new.self (Some c.args.loan.now) at c.lend.ensures.some)
 
 pub returns-clause-none : goal.returns-clause-none
@@ -19,6 +23,10 @@ returns-clause-none c =
     let ps = c.self.inside.places.items in
     let i = c.args.slot in
     let p = c.in_ok-place.place.now in
-    let at : slice_get ps i ≡ Some p = slice_get_read ps (length ps) i p refl c.in_ok-place.ensures.item.3.0 c.in_ok-place.ensures.value in
-    subst (λ (ds : List Spot). IfNone c.lend.result ((name_at i (spot_names ds) ≡ None) ⊎ (is_some (lent_at i ds) ≡ true))) c.self.view_is
+    let at :
+    slice_get ps i ≡ Some p =
+    slice_get_read ps (length ps) i p refl c.in_ok-place.ensures.item.3.0 c.in_ok-place.ensures.value in
+    subst
+    (λ (ds : List Spot). IfNone c.lend.result
+    ((name_at i (spot_names ds) ≡ None) ⊎ (is_some (lent_at i ds) ≡ true))) c.self.view_is
     (lent_there _ c.lend.result ps i p at c.lend.ensures.none)
