@@ -23,8 +23,6 @@ mod stories;
 #[cfg(test)]
 mod storm;
 #[cfg(test)]
-mod waking;
-#[cfg(test)]
 mod workers;
 #[cfg(test)]
 mod writers;
