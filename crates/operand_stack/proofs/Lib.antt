@@ -1,6 +1,5 @@
 pub mod Crosses
 pub mod ContentLemmas
 pub mod RowLemmas
-pub mod Rows
 pub mod ViewLemmas
 pub mod WordLemmas

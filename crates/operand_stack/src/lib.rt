@@ -2,7 +2,6 @@
 //! the WebAssembly Core Specification 1.0.
 #![tactic(auto)]
 
-mod block;
 pub mod laws;
 mod move_down;
 mod stack;

@@ -5,8 +5,8 @@ ghost use Rattle.std.specs.Mem.Slots.{slots_items, slots_len, SamePlaces};
 ghost use Rattle.operand_stack.specs.Inside.Blocks.{HasUpTo};
 ghost use Rattle.operand_stack.specs.Inside.Contents.{below, joined};
 
-use crate::block::{forget, no_places};
 use core::slots::Slots;
+use raw_block::{forget, no_places};
 use std::mem;
 
 /// Moves the words after the place `from` down to the places after `to`, `count` of them, at once: they may

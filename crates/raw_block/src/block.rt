@@ -5,7 +5,7 @@ ghost use Rattle.std.specs.Prelude.{◌≡◌, ℕ, IfOk};
 ghost use Rattle.std.specs.Vec.Ownership.{FitsInBlock};
 ghost use Rattle.std.specs.Mem.Slots.{slots_len, slots_ptr};
 ghost use denote.RawPtr.{Ptr};
-ghost use Rattle.operand_stack.specs.Inside.Deeds.{deed_owns};
+ghost use Rattle.raw_block.specs.Deeds.{deed_owns};
 
 use core::slots::Slots;
 use std::alloc::{AllocError, Allocator};
@@ -15,9 +15,9 @@ use std::mem::{align_of, size_of};
 /// The right to give the block of `len` places at `at` back to `alloc`. It takes no space.
 pub struct Deed<T, A: Allocator> {
     mark: PhantomData<*const (T, A)>,
-    ghost at: { Ptr },
-    ghost len: { ℕ },
-    ghost alloc: { A },
+    pub ghost at: { Ptr },
+    pub ghost len: { ℕ },
+    pub ghost alloc: { A },
 }
 
 impl<T, A: Allocator> Model for Deed<T, A> {

@@ -33,11 +33,11 @@ use Rattle.std_alloc.proofs.VecSteps.El.{El, args, sz, elτ}
 use Rattle.std_alloc.proofs.VecSteps.Shapes.{after}
 use Rattle.std_alloc.proofs.vec.Blocks.{el, all}
 use Rattle.std_alloc.proofs.vec.Spares.{Row, parts_typed, Into, at_into, Into-goes, Into-gives}
-use Rattle.operand_stack.proofs.Rows.{slot_at, Dd, mark, mark_had}
-use Rattle.operand_stack.specs.contracts.block.free.{ended, clauses}
-use Rattle.operand_stack.specs.contracts.block.free.Key.{name as #self}
-use Rattle.operand_stack.proofs.block.free.Statement.{statement}
-use Rattle.operand_stack.proofs.block.free.Code as compiled
+use Rattle.raw_block.proofs.Rows.{slot_at, Dd, mark, mark_had}
+use Rattle.raw_block.specs.contracts.block.free.{ended, clauses}
+use Rattle.raw_block.specs.contracts.block.free.Key.{name as #self}
+use Rattle.raw_block.proofs.block.free.Statement.{statement}
+use Rattle.raw_block.proofs.block.free.Code as compiled
 
 pub free_spec : {M : Type 1} → statement M
 free_spec 𝓤 𝓛 𝓜 𝓡 wired X W LT LW g d dd met md =

@@ -26,11 +26,11 @@ use Rattle.core.proofs.slots.Slots.from_raw_parts.Met as callee
 use Rattle.std.proofs.raw_atomic.Walks.{proved_at, leaves}
 use Rattle.std_alloc.proofs.VecSteps.El.{El, sz}
 use Rattle.std_alloc.proofs.vec.Spares.{Row, From, at_from, Made, from_goes, from_gives}
-use Rattle.operand_stack.proofs.Rows.{slot_at, then_runs, out_of_block}
-use Rattle.operand_stack.specs.contracts.block.no_places.{ended, clauses}
-use Rattle.operand_stack.specs.contracts.block.no_places.Key.{name as #self}
-use Rattle.operand_stack.proofs.block.no_places.Statement.{statement}
-use Rattle.operand_stack.proofs.block.no_places.Code as compiled
+use Rattle.raw_block.proofs.Rows.{slot_at, then_runs, out_of_block}
+use Rattle.raw_block.specs.contracts.block.no_places.{ended, clauses}
+use Rattle.raw_block.specs.contracts.block.no_places.Key.{name as #self}
+use Rattle.raw_block.proofs.block.no_places.Statement.{statement}
+use Rattle.raw_block.proofs.block.no_places.Code as compiled
 
 pub no_places_spec : {M : Type 1} → statement M
 no_places_spec 𝓤 𝓛 𝓜 𝓡 wired T L =

@@ -45,11 +45,11 @@ use Rattle.std_alloc.proofs.VecSteps.El.{El, R, args, sz, elτ}
 use Rattle.std_alloc.proofs.VecSteps.Shapes.{after, head, arm_body}
 use Rattle.std_alloc.proofs.vec.Blocks.{el, all}
 use Rattle.std_alloc.proofs.vec.Spares.{Row, From, at_from, Made, from_goes, from_gives}
-use Rattle.operand_stack.proofs.Rows.{slot_at, then_runs, out_of_block, Dd, Mark, mark, mark_made}
-use Rattle.operand_stack.specs.contracts.block.allocate.{ended, clauses}
-use Rattle.operand_stack.specs.contracts.block.allocate.Key.{name as #self}
-use Rattle.operand_stack.proofs.block.allocate.Statement.{statement}
-use Rattle.operand_stack.proofs.block.allocate.Code as compiled
+use Rattle.raw_block.proofs.Rows.{slot_at, then_runs, out_of_block, Dd, Mark, mark, mark_made}
+use Rattle.raw_block.specs.contracts.block.allocate.{ended, clauses}
+use Rattle.raw_block.specs.contracts.block.allocate.Key.{name as #self}
+use Rattle.raw_block.proofs.block.allocate.Statement.{statement}
+use Rattle.raw_block.proofs.block.allocate.Code as compiled
 
 pub allocate_spec : {M : Type 1} → statement M
 allocate_spec 𝓤 𝓛 𝓜 𝓡 wired T W LT LW g d dd met md =

@@ -28,11 +28,11 @@ use Rattle.std_alloc.proofs.VecSteps.El.{El}
 use Rattle.std_alloc.proofs.VecSteps.Shapes.{after}
 use Rattle.std_alloc.proofs.vec.Blocks.{el, all}
 use Rattle.std_alloc.proofs.vec.Spares.{Row, parts_typed, Into, at_into, Into-goes, Into-gives}
-use Rattle.operand_stack.proofs.Rows.{slot_at}
-use Rattle.operand_stack.specs.contracts.block.forget.{ended, clauses}
-use Rattle.operand_stack.specs.contracts.block.forget.Key.{name as #self}
-use Rattle.operand_stack.proofs.block.forget.Statement.{statement}
-use Rattle.operand_stack.proofs.block.forget.Code as compiled
+use Rattle.raw_block.proofs.Rows.{slot_at}
+use Rattle.raw_block.specs.contracts.block.forget.{ended, clauses}
+use Rattle.raw_block.specs.contracts.block.forget.Key.{name as #self}
+use Rattle.raw_block.proofs.block.forget.Statement.{statement}
+use Rattle.raw_block.proofs.block.forget.Code as compiled
 
 pub forget_spec : {M : Type 1} → statement M
 forget_spec 𝓤 𝓛 𝓜 𝓡 wired X L =

@@ -14,7 +14,7 @@ use denote.Signature.{Slot, plain}
 use denote.Struct.Struct.{Struct}
 use denote.Struct.Owning.{shape}
 use Rattle.std_alloc.proofs.VecSteps.El.{El, R, P}
-use Rattle.operand_stack.specs.contracts.block.Deed as D-type
+use Rattle.raw_block.specs.contracts.block.Deed as D-type
 
 abbrev pub slot_at : {n : ℕ} → ℕ → List (Slot n) → Slot n
 slot_at k [] = plain (λ _. unit)

@@ -1,8 +1,8 @@
 use denote.RattleType.{RattleType}
 use denote.Param.Send.{IsSend, Frees}
 use Rattle.core.specs.declared.alloc.Allocator.{Ghosts}
-use Rattle.operand_stack.proofs.Crosses.{deed_send}
-use Rattle.operand_stack.specs.contracts.block.Deed.{the_row}
+use Rattle.raw_block.proofs.Crosses.{deed_send}
+use Rattle.raw_block.specs.contracts.block.Deed.{the_row}
 
 pub send : (R A : RattleType) (g : Ghosts A.Denot) → IsSend A → Frees g g.dealloc_token → IsSend (the_row R A g)
 send R A g s = deed_send R A g
