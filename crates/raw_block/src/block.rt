@@ -1,16 +1,38 @@
 //! A block of memory: a row of places, each empty or with a value, over a raw pointer, and the
 //! right to free it.
 
-ghost use Rattle.std.specs.Prelude.{◌≡◌, ℕ, IfOk};
+ghost use Rattle.std.specs.Prelude.{◌≡◌, ◌≤◌, ℕ, IfOk, take, ⊤};
 ghost use Rattle.std.specs.Vec.Ownership.{FitsInBlock};
-ghost use Rattle.std.specs.Mem.Slots.{slots_len, slots_ptr};
+ghost use Rattle.std.specs.Mem.Slots.{slots_filled, slots_items, slots_len, slots_ptr};
+ghost use Rattle.std.specs.Mem.Slots.Ownership.{Filled};
 ghost use denote.RawPtr.{Ptr};
 ghost use Rattle.raw_block.specs.Deeds.{deed_owns};
+ghost use Rattle.raw_block.specs.Starts.{BeginsAt};
 
 use core::slots::Slots;
 use std::alloc::{AllocError, Allocator};
 use std::marker::{Model, PhantomData};
 use std::mem::{align_of, size_of};
+use std::slice;
+
+/// Where a row of places begins. It owns nothing.
+pub struct Start<T> {
+    ptr: *mut T,
+}
+
+impl<T> Clone for Start<T> {
+    ghost is_clone = { λ x y. y ≡ x };
+
+    ghost is_infallible = { λ _. ⊤ };
+
+    fn clone(&self) -> Result<Start<T>, AllocError> {
+        Ok(*self)
+    }
+}
+
+impl<T> Copy for Start<T> {}
+
+unsafe impl<T> Send for Start<T> {}
 
 /// The right to give the block of `len` places at `at` back to `alloc`. It takes no space.
 pub struct Deed<T, A: Allocator> {
@@ -26,21 +48,21 @@ impl<T, A: Allocator> Model for Deed<T, A> {
 
 unsafe impl<T, A: Allocator + Send> Send for Deed<T, A> {}
 
-/// A block of `len` empty places. `_like` only shows that the type has a value.
+/// A block of `len` empty places, and where it begins. `_like` only shows that the type has a value.
 pub fn allocate<T, A: Allocator>(
     alloc: &A,
     len: usize,
     _like: &T,
-) -> Result<(Slots<T>, Deed<T, A>), AllocError>
+) -> Result<(Slots<T>, Start<T>, Deed<T, A>), AllocError>
     requires { FitsInBlock T.row len }
-    ensures { IfOk result (λ r. (slots_len r.0 ≡ len) × (r.1.at ≡ slots_ptr r.0) × (r.1.len ≡ len)
-        × (r.1.alloc ≡ alloc.now)) }
+    ensures { IfOk result (λ r. (slots_len r.0 ≡ len) × BeginsAt r.0 r.1 × (r.2.at ≡ slots_ptr r.0)
+        × (r.2.len ≡ len) × (r.2.alloc ≡ alloc.now)) }
 {
     match alloc.allocate(len * size_of::<T>(), align_of::<T>()) {
         Ok(block) => {
             let ptr = block as *mut T;
             let row = unsafe { Slots::from_raw_parts(ptr, len) };
-            Ok((row, Deed { mark: PhantomData }))
+            Ok((row, Start { ptr }, Deed { mark: PhantomData }))
         }
         Err(refused) => Err(refused),
     }
@@ -70,4 +92,14 @@ pub fn forget<T>(row: Slots<T>)
     requires { slots_len row ≡ 0 }
 {
     let _parts = unsafe { row.into_raw_parts() };
+}
+
+/// The values of the first `len` places of a row, as a slice.
+#[inline(always)]
+pub fn front<T>(row: &Slots<T>, start: Start<T>, len: usize) -> &[T]
+    requires { BeginsAt row.now start × (len ≤ slots_len row.now)
+        × Filled (slots_filled row.now) 0 len }
+    ensures { result.now ≡ take len (slots_items row.now) }
+{
+    unsafe { slice::from_raw_parts(start.ptr, len) }
 }

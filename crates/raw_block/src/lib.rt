@@ -4,4 +4,4 @@
 
 mod block;
 
-pub use block::{Deed, allocate, forget, free, no_places};
+pub use block::{Deed, Start, allocate, forget, free, front, no_places};

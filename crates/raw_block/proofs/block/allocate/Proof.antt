@@ -12,14 +12,14 @@ use prog.Wp.{Env, Wp, WpFn, after_seq, at_return}
 use contract.BorrowLft.{◌⊑◌}
 use contract.Monad.{fact, fact_i}
 use contract.Running.{tables}
-use types.Kit.{Post as After, any_q, ⋆, ‵, raw, ◌⊛◌, some, given, later, prop, settles, at_ret, ◌$◌, ◌∵◌, !, qed, by, move, keep, use0, use1, use2, split, split3, join, pick, learn, regoal, fsplit, fjoin, feq_l, await}
+use types.Kit.{Post as After, any_q, ⋆, ‵, raw, ◌⊛◌, some, given, later, prop, settles, at_ret, ◌$◌, ◌∵◌, !, qed, by, move, keep, use0, use1, use2, use3, split, split3, join, pick, learn, regoal, fsplit, fjoin, feq_l, await}
 use types.Part.{whole, agg}
 use types.Match.{live, vrt, in_variant}
 use types.Run.{stop, fld, of_opd, bin, lit, size_word, align_word, no_more, and_then, first, blocks, switches_on, exec, returns, enter}
 use types.ByLocal.{alloc_all, pass_all, free_all, look_at, get, get_in, get_tag, is, sets, sets_last, lands_as, lands_last, env}
 use denote.RattleType.{RattleType, owns}
 use denote.Laws.{Is}
-use denote.RawPtr.{block_ptr}
+use denote.RawPtr.{Ptr, block_ptr, InBlock}
 use denote.Signature.{types_at}
 use denote.Steps.{nothing, heard, owned}
 use denote.Struct.Struct.{Struct, Struct-Makes}
@@ -39,13 +39,14 @@ use Rattle.core.proofs.slots.Slots.from_raw_parts.Met as callee
 use Rattle.std.proofs.raw_atomic.Walks.{proved_at, leaves}
 use Rattle.std.specs.Prelude.{IfOk, Ok, Err}
 use Rattle.std.specs.Vec.Ownership.{FitsInBlock}
-use Rattle.std_alloc.proofs.Pairs.{pair_of, pair_val}
+use Rattle.std_alloc.proofs.RcSteps.{word, word-Good}
 use Rattle.std_alloc.proofs.ResultValues.{ok_of, err_of}
 use Rattle.std_alloc.proofs.VecSteps.El.{El, R, args, sz, elτ}
 use Rattle.std_alloc.proofs.VecSteps.Shapes.{after, head, arm_body}
 use Rattle.std_alloc.proofs.vec.Blocks.{el, all}
 use Rattle.std_alloc.proofs.vec.Spares.{Row, From, at_from, Made, from_goes, from_gives}
-use Rattle.raw_block.proofs.Rows.{slot_at, then_runs, out_of_block, Dd, Mark, mark, mark_made}
+use Rattle.raw_block.specs.Starts.{BeginsAt}
+use Rattle.raw_block.proofs.Rows.{slot_at, then_runs, out_of_block, Dd, Mark, mark, mark_made, St, word_made, three_val, three_of}
 use Rattle.raw_block.specs.contracts.block.allocate.{ended, clauses}
 use Rattle.raw_block.specs.contracts.block.allocate.Key.{name as #self}
 use Rattle.raw_block.proofs.block.allocate.Statement.{statement}
@@ -85,11 +86,11 @@ allocate_spec 𝓤 𝓛 𝓜 𝓡 wired T W LT LW g d dd met md =
     let s : ℕ = sz E in let al : ℕ = capped (align (elτ E)) in
     let fits = are.1.0.1 in
     let Asks : Type 0 = FitsInBlock (R E) n in
-    let Two : RattleType = Tuple (Row E ∷ Dd E ∷ []) in
-    let Out : RattleType = RS.the_row Two AE.the_row in
+    let Three : RattleType = Tuple (Row E ∷ St E ∷ Dd E ∷ []) in
+    let Out : RattleType = RS.the_row Three AE.the_row in
     let Says :
     Out.Denot → Type 0 =
-    λ r. IfOk r (λ p. (slots_len p.0 ≡ n) × (p.1.at ≡ slots_ptr p.0) × (p.1.len ≡ n) × (p.1.alloc ≡ a)) in
+    λ r. IfOk r (λ p. (slots_len p.0 ≡ n) × BeginsAt p.0 p.1 × (p.2.at ≡ slots_ptr p.0) × (p.2.len ≡ n) × (p.2.alloc ≡ a)) in
     let exits :
     (r : Out.Denot) (v : Val) → Says r
     → ent 𝓤
@@ -135,8 +136,9 @@ allocate_spec 𝓤 𝓛 𝓜 𝓡 wired T W LT LW g d dd met md =
     answers Z ! 𝓜.mem 𝓡.returns a (block_ty (el E) n) v
     (λ b o e.
     let words : WT (row_val b o n) = (tt, (record { fits = fits }, tt)) in
-    let pair : Val = pair_val (row_val b o n) mark in
-    let both_fit : WT (live 0 (vcons pair vnil)) = (record { fits = lit< tt }, ((words, ((tt, tt), tt)), tt)) in
+    let p : Ptr = block_ptr b o in
+    let triple : Val = three_val (row_val b o n) (word p) mark in
+    let all_fit : WT (live 0 (vcons triple vnil)) = (record { fits = lit< tt }, ((words, ((tt, tt), ((tt, tt), tt))), tt)) in
     let y' = at_from E 𝓛 𝓜.mem 𝓡.returns κT qT b o n xs fs in
     lands_as ! e refl (Answer-typed true b o) $ first ! $ switches_on !
     (get_tag ! (vrt ! refl (fld ! refl (stop !))) (whole !)) $ exec ! C Λ En (arm_body 0 both) Then $
@@ -158,24 +160,30 @@ allocate_spec 𝓤 𝓛 𝓜 𝓡 wired T W LT LW g d dd met md =
     (‵ ((Row E).own_val r (row_val b o n ∷ [])) ⊛ ‵ (flft κT qT)))))
     (from_gives E 𝓛 𝓜.mem 𝓡.returns κT qT b o n xs fs w) $
     await ! tt $ pick ! (λ r. learn ! (λ made. split ! $
-    let deed : (Dd E).Denot = record { mark = record {}; at = block_ptr b o; len = n; alloc = a } in
+    let start : (St E).Denot = record { ptr = p } in
+    let deed : (Dd E).Denot = record { mark = record {}; at = p; len = n; alloc = a } in
     regoal !
     (λ (u : Val). settles En (place 11 []) u (out_of_block 𝓛 (then_runs 𝓛 C Λ En (after 3 (arm_body 0 both)) Then)))
     (made.0) refl $ lands_last ! refl (tt, words) $
     exec ! C Λ En (after 3 (arm_body 0 both)) Then $
     sets ! (of_opd ! (get ! refl)) refl (tt, words) $ sets ! (of_opd ! (get ! refl)) refl (tt, words) $
+    sets ! (agg ! (and_then ! (get ! refl) (no_more !))) refl (word-Good [] p) $
     sets ! (agg ! (no_more !)) refl (tt, tt) $ sets ! (agg ! (and_then ! (get ! refl) (no_more !))) refl
     (tt, (tt, tt)) $
-    sets ! (agg ! (and_then ! (get ! refl) (and_then ! (get ! refl) (no_more !)))) refl (tt, (words, ((tt, tt), tt))) $
-    sets_last ! (agg ! (and_then ! (lit ! tt) (and_then ! (get ! refl) (no_more !)))) refl (tt, both_fit) $
-    exec ! C Λ En (after 3 fn.body) (at_ret En Post) $ sets ! (of_opd ! (get ! refl)) refl (tt, both_fit) $
+    sets ! (agg ! (and_then ! (get ! refl) (and_then ! (get ! refl) (and_then ! (get ! refl) (no_more !))))) refl
+    (tt, (words, ((tt, tt), ((tt, tt), tt)))) $
+    sets_last ! (agg ! (and_then ! (lit ! tt) (and_then ! (get ! refl) (no_more !)))) refl (tt, all_fit) $
+    exec ! C Λ En (after 3 fn.body) (at_ret En Post) $ sets ! (of_opd ! (get ! refl)) refl (tt, all_fit) $
     -- [the row; T's token; the right to free the block; the other tokens]
-    move ! (2 ∷ []) $ use0 𝓛 (‵ ((Mark E).own_val (tt, tt) (mark ∷ []))) (mark_made E 𝓛) $ fjoin ! $ move
-    ! (1 ∷ 0 ∷ []) $
-    use2 𝓛 (‵ (Two.own_val (r, deed) (pair ∷ []))) (pair_of 𝓛 (Row E) (Dd E) r deed (row_val b o n) mark) $
-    use1 𝓛 (‵ (Out.own_val (Ok (r, deed)) (live 0 (vcons pair vnil) ∷ []))) (ok_of 𝓛 Two AE.the_row (r, deed) pair) $
+    move ! (2 ∷ []) $ use0 𝓛 (‵ ((Mark E).own_val (tt, tt) (mark ∷ []))) (mark_made E 𝓛) $ fjoin ! $
+    word_made ! p $ move ! (2 ∷ 0 ∷ 1 ∷ []) $
+    use3 𝓛 (‵ (Three.own_val (r, start, deed) (triple ∷ [])))
+    (three_of 𝓛 (Row E) (St E) (Dd E) r start deed (row_val b o n) (word p) mark) $
+    use1 𝓛 (‵ (Out.own_val (Ok (r, start, deed)) (live 0 (vcons triple vnil) ∷ [])))
+    (ok_of 𝓛 Three AE.the_row (r, start, deed) triple) $
     returns ! (look_at ! 0 refl) $ free_all ! refl $ keep ! (0 ∷ 2 ∷ 3 ∷ 1 ∷ 4 ∷ []) $ by !
-    (exits (Ok (r, deed)) (live 0 (vcons pair vnil)) (made.1.1, sym made.1.0, refl, refl))))))
+    (exits (Ok (r, start, deed)) (live 0 (vcons triple vnil))
+    (made.1.1, (subst InBlock (sym made.1.0) tt, sym made.1.0), sym made.1.0, refl, refl))))))
     (λ e.
     let Refusal : RattleType = Struct (Declared.shape AE.the_type) in
     let none : Val = live 1 (vcons (vstruct vnil) vnil) in
@@ -189,6 +197,6 @@ allocate_spec 𝓤 𝓛 𝓜 𝓡 wired T W LT LW g d dd met md =
     (tt, (record { fits = lit< tt }, (tt, tt))) $
     owned ! Refusal (Is Refusal) (Struct-Makes 𝓛 (Declared.shape AE.the_type) tt) tt (vstruct vnil ∷ [])
     (tt, (refl, tt)) $
-    use1 𝓛 (‵ (Out.own_val (Err (record {})) (none ∷ []))) (err_of 𝓛 Two AE.the_row (record {}) (vstruct vnil)) $
+    use1 𝓛 (‵ (Out.own_val (Err (record {})) (none ∷ []))) (err_of 𝓛 Three AE.the_row (record {}) (vstruct vnil)) $
     returns ! (look_at ! 0 refl) $ free_all ! refl $ keep ! (0 ∷ 1 ∷ 2 ∷ 3 ∷ 4 ∷ []) $ by !
     (exits (Err (record {})) none tt)))))))))
