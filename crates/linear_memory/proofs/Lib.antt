@@ -1,2 +1,4 @@
+pub mod Crosses
+pub mod OwnerLemmas
 pub mod WordLemmas
 pub mod ZeroLemmas

@@ -1,7 +1,6 @@
 -- Zeros that follow a list of bytes.
-use Rattle.std.proofs.Common.{◌≡◌, ℕ, zero, suc, ◌+◌, ◌*◌, ◌/◌, ◌-◌, ◌<◌, ◌≤◌, ◌^◌, min, List, [], ◌∷◌, ◌++◌, length, take, drop, replicate, get_or, refl, sym, ap, ◌∙◌, arith, length-append, length-take, length-drop, append_assoc, pow-add, Bool, true, false, Some, None, if◌then◌else◌, Vec, Global}
-use Rattle.std.specs.Vec.{with_items}
-use Rattle.std.proofs.lemmas.List.{length-replicate, take_all, take-append-le, drop-append-le, take-replicate, drop-replicate, replicate-append-replicate, take_min, drop_min, with_items_is}
+use Rattle.std.proofs.Common.{◌≡◌, ℕ, zero, suc, ◌+◌, ◌*◌, ◌/◌, ◌-◌, ◌<◌, ◌≤◌, ◌^◌, min, List, [], ◌∷◌, ◌++◌, length, take, drop, replicate, get_or, refl, sym, ap, ◌∙◌, arith, length-append, length-take, length-drop, append_assoc, append-nil, take-append-drop, pow-add, Bool, true, false, Some, None, if◌then◌else◌}
+use Rattle.std.proofs.lemmas.List.{length-replicate, take_all, take-append-le, drop-append-le, take-replicate, drop-replicate, replicate-append-replicate, take_min, drop_min}
 use Rattle.std.proofs.lemmas.Bool.Decides.{nat_tests}
 use Rattle.std.proofs.Math.Pow.{pow_mono}
 use Rattle.linear_memory.specs.Memory.{Memory, little_endian, low_bytes, byte_count, is_inside, range, read_at, loaded, with_range, written_at, page_bytes, can_grow, grown}
@@ -124,15 +123,43 @@ written_far xs ys ws m n size most a is_m is_n more h within inside =
     ap (λ u. record { bytes = u; cap = most })
     (front ∙ ap (λ u. take a u ++ (ws ++ drop (a + length ws) u)) same) ∙ sym whole
 
--- the same of vectors
-pub written_far_items : (v w : Vec ℕ Global) (all ws : List ℕ) (size most a : ℕ)
-    → all ≡ take a w.items ++ (ws ++ drop (a + length ws) w.items)
-    → w.items ≡ v.items ++ replicate (w.len - v.len) 0 → v.len ≤ w.len → w.len ≤ size → a + length ws ≤ w.len
-    → with_front (with_items w all).items w.len size most ≡ written_at (with_front v.items v.len size most) a ws
-written_far_items v w all ws size most a is_all more h within inside =
-    let count : length all ≡ w.len = ap length is_all ∙ (written_length w.items ws a (omega arith) ∙ sym w.ok.0) in
-    ap (λ u. with_front u w.len size most) (with_items_is w all count ∙ is_all)
-    ∙ written_far v.items w.items ws v.len w.len size most a v.ok.0 w.ok.0 more h within inside
+-- the bytes of a row after a store, of which a front is written
+take_written : (ys ws : List ℕ) (n a : ℕ) → a + length ws ≤ n → n ≤ length ys
+    → take n (take a ys ++ (ws ++ drop (a + length ws) ys))
+    ≡ take a (take n ys) ++ (ws ++ drop (a + length ws) (take n ys))
+take_written ys ws n a inside le =
+    let put : List ℕ → List ℕ = λ u. take a u ++ (ws ++ drop (a + length ws) u) in
+    let front : List ℕ = take n ys in
+    let long : length front ≡ n = omega (arith, length-take n ys) in
+    let whole = written_in_front front (drop n ys) ws a (omega (arith, long)) in
+    let count = written_length front ws a (omega (arith, long)) in
+    ap (λ u. take n (put u)) (sym (take-append-drop n ys))
+    ∙ (ap (take n) (sym whole)
+    ∙ (take-append-le n (put front) (drop n ys) (omega (arith, count, long))
+    ∙ take_all n (put front) (omega (arith, count, long))))
+
+pub front_count : (xs : List ℕ) (n : ℕ) → n ≤ length xs → n ≡ length (take n xs)
+front_count xs n le = omega (arith, length-take n xs)
+
+-- zeros are written after the front of a row, and then bytes into it
+pub stored_far : (xs ys zs ws : List ℕ) (m n size most a : ℕ) → m ≤ length xs → n ≤ length ys
+    → zs ≡ take a ys ++ (ws ++ drop (a + length ws) ys)
+    → take n ys ≡ take m xs ++ replicate (n - m) 0 → m ≤ n → n ≤ size → a + length ws ≤ n
+    → with_front (take n zs) n size most ≡ written_at (with_front (take m xs) m size most) a ws
+stored_far xs ys zs ws m n size most a old new is_zs more h within inside =
+    ap (λ u. with_front u n size most) (ap (take n) is_zs ∙ take_written ys ws n a inside new)
+    ∙ written_far (take m xs) (take n ys) ws m n size most a (front_count xs m old) (front_count ys n new) more h within
+    inside
+
+-- bytes are written into the front, and it stays as long
+pub stored_near : (xs zs ws : List ℕ) (n size most a : ℕ) → n ≤ length xs
+    → zs ≡ take a xs ++ (ws ++ drop (a + length ws) xs) → n ≤ size → a + length ws ≤ n
+    → with_front (take n zs) n size most ≡ written_at (with_front (take n xs) n size most) a ws
+stored_near xs zs ws n size most a old is_zs within inside =
+    let none : n - n ≡ 0 = omega arith in
+    let same : take n xs ≡ take n xs ++ replicate (n - n) 0 =
+    sym (ap (λ k. take n xs ++ replicate k 0) none ∙ append-nil (take n xs)) in
+    stored_far xs xs zs ws n n size most a old old is_zs same (omega arith) within inside
 
 -- ---- ranges
 

@@ -6,6 +6,8 @@ ghost use Rattle.linear_memory.specs.Memory.{new_memory, page_bytes, max_pages, 
 use crate::width::Width;
 use crate::words::{load_2, load_4, load_8, number_of, store_bytes, store_word};
 use crate::zeros::extend;
+use core::slots::Slots;
+use raw_block::{Deed, Start, allocate, free, front};
 use std::alloc::Global;
 use std::marker::Model;
 
@@ -15,15 +17,18 @@ pub const PAGE_BYTES: usize = 65_536;
 /// The most pages of a memory.
 pub const MAX_PAGES: u32 = 256;
 
-/// A memory, as contracts see it the list of its bytes and its cap in pages. The room for all pages of
-/// the cap is reserved from the start, and nothing is written into it: zeros are written when something
-/// is stored after them. So `bytes` is the front of the memory that is written, and what follows it, up
-/// to the size of `pages`, is zeros.
-#[derive(Drop)]
+/// A memory, as contracts see it the list of its bytes and its cap in pages. They are in one block, which
+/// has a place for each byte of the pages of the cap from the start, and nothing is written into it then:
+/// zeros are written when something is stored after them. So the first `front` bytes are written, and what
+/// follows them, up to the size of `pages`, is zeros.
 pub struct LinearMemory {
-    bytes: Vec<u8>,
+    block: Slots<u8>,
+    start: Start<u8>,
+    front: usize,
     pages: u32,
     cap: u32,
+    deed: Deed<u8, Global>,
+    alloc: Global,
 }
 
 impl Model for LinearMemory {
@@ -31,16 +36,38 @@ impl Model for LinearMemory {
 
     ghost Value = { Memory };
 
-    ghost use Rattle.std.specs.Prelude.{◌≤◌, ◌*◌, ◌-◌, ◌++◌, replicate, vec_len, vec_capacity};
+    ghost use Rattle.std.specs.Prelude.{◌≡◌, ◌≤◌, ◌*◌, ◌-◌, ◌++◌, replicate, take};
+    ghost use Rattle.std.specs.Mem.Slots.{slots_items, slots_len};
 
     ghost view = { λ m. record {
-      bytes = m.bytes.items ++ replicate (m.pages * page_bytes - vec_len m.bytes) 0;
+      bytes = take m.front (slots_items m.block) ++ replicate (m.pages * page_bytes - m.front) 0;
       cap = m.cap;
     } };
 
-    ghost invariant = { λ m. (vec_len m.bytes ≤ m.pages * page_bytes) × (m.pages ≤ m.cap)
-        × (m.cap ≤ max_pages)
-        × (m.cap * page_bytes ≤ vec_capacity m.bytes) };
+    ghost use Rattle.raw_block.specs.Starts.{BeginsAt};
+    ghost use Rattle.linear_memory.specs.Inside.Fronts.{HasFront, IsOwner};
+
+    ghost invariant = { λ m. HasFront m.block m.front × (m.front ≤ m.pages * page_bytes)
+        × (m.pages ≤ m.cap) × (m.cap ≤ max_pages) × (slots_len m.block ≡ m.cap * page_bytes)
+        × BeginsAt m.block m.start × IsOwner m.deed m.block m.alloc };
+}
+
+// A memory may go to another thread: its block is its own.
+unsafe impl Send for LinearMemory {}
+
+impl Drop for LinearMemory {
+    fn drop(self) {
+        let LinearMemory {
+            block,
+            start: _,
+            front: _,
+            pages: _,
+            cap: _,
+            deed,
+            alloc,
+        } = self;
+        free(&alloc, block, deed);
+    }
 }
 
 /// The bytes of a range, in two parts.
@@ -58,13 +85,17 @@ impl LinearMemory {
         requires { (min ≤ cap) × (cap ≤ max_pages) }
         ensures { IfSome result (λ m. m ≡ new_memory min cap) }
     {
-        let Ok(bytes) = Vec::with_capacity(alloc, cap as usize * PAGE_BYTES) else {
+        let Ok((block, start, deed)) = allocate(&alloc, cap as usize * PAGE_BYTES, &0u8) else {
             return None;
         };
         Some(LinearMemory {
-            bytes,
+            block,
+            start,
+            front: 0,
             pages: min,
             cap,
+            deed,
+            alloc,
         })
     }
 
@@ -72,7 +103,7 @@ impl LinearMemory {
     pub fn ranged(&self)
         ensures { All (λ b. b < 256) self.now.bytes }
     {
-        bytes_ranged(self.bytes.as_slice());
+        bytes_ranged(front(&self.block, self.start, self.front));
     }
 
     /// The size in pages.
@@ -126,7 +157,7 @@ impl LinearMemory {
         ensures number { IfSome result (λ n. loaded self.now address width ≡ Some n) }
         ensures range { IfSome result (λ n. n < 2 ^ (8 * byte_count width)) }
     {
-        let bytes = self.bytes.as_slice();
+        let bytes = front(&self.block, self.start, self.front);
         if address.saturating_add(width.bytes() as u64) > bytes.len() as u64 {
             return None;
         }
@@ -175,11 +206,11 @@ impl LinearMemory {
             × (self.new ≡ stored self.old address width number) }
         ensures stays { result ≡ false → self.new ≡ self.old }
     {
-        if address.saturating_add(width.bytes() as u64) > self.bytes.len() as u64 {
+        if address.saturating_add(width.bytes() as u64) > self.front as u64 {
             return false;
         }
         let at = address as usize;
-        store_word(self.bytes.as_mut_slice(), at, width, number);
+        store_word(&mut self.block, at, width, number);
         true
     }
 
@@ -194,8 +225,8 @@ impl LinearMemory {
         if end > size as u64 {
             return false;
         }
-        extend(&mut self.bytes, end as usize, size);
-        store_word(self.bytes.as_mut_slice(), address as usize, width, number);
+        self.front = extend(&mut self.block, self.front, end as usize, size);
+        store_word(&mut self.block, address as usize, width, number);
         true
     }
 
@@ -208,11 +239,11 @@ impl LinearMemory {
         if address > size || size - address < count {
             return None;
         }
-        let front = self.bytes.len();
-        let start = front.min(address as usize);
-        let end = front.min((address + count) as usize);
+        let bytes = front(&self.block, self.start, self.front);
+        let start = bytes.len().min(address as usize);
+        let end = bytes.len().min((address + count) as usize);
         Some(RangeBytes {
-            written: &self.bytes[start..end],
+            written: &bytes[start..end],
             zeros: count as usize - (end - start),
         })
     }
@@ -231,8 +262,8 @@ impl LinearMemory {
             return true;
         }
         let start = address as usize;
-        extend(&mut self.bytes, start + bytes.len(), size);
-        store_bytes(self.bytes.as_mut_slice(), start, bytes);
+        self.front = extend(&mut self.block, self.front, start + bytes.len(), size);
+        store_bytes(&mut self.block, start, bytes);
         true
     }
 }

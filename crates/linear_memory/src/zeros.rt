@@ -1,24 +1,48 @@
 //! Zeros that are written late.
 
-ghost use Rattle.std.specs.Prelude.{◌≡◌, ◌≤◌, ◌-◌, ◌++◌, replicate, vec_len, vec_capacity};
+ghost use Rattle.std.specs.Prelude.{◌≡◌, ◌≤◌, ◌-◌, ◌++◌, replicate, take};
+ghost use Rattle.std.specs.Mem.Slots.{slots_items, slots_len, SamePlaces};
+ghost use Rattle.linear_memory.specs.Inside.Fronts.{HasFront};
+
+use core::slots::Slots;
 
 /// Zeros are written up to the end of a block of this number of bytes. A page is whole blocks.
 const BLOCK_BYTES: usize = 4_096;
 
-/// Writes zeros after the bytes until there are `end` of them, and up to the end of that block, but at
-/// most to `size`. Nothing is written if there are enough. No memory is taken.
-pub(crate) fn extend(bytes: &mut Vec<u8>, end: usize, size: usize)
-    requires within { (end ≤ size) × (vec_len bytes.old ≤ size) }
-    requires room { (size ≤ vec_capacity bytes.old) × (size ≤ 16_777_216) }
-    ensures zeros { bytes.new.items
-        ≡ bytes.old.items ++ replicate (vec_len bytes.new - vec_len bytes.old) 0 }
-    ensures written { (end ≤ vec_len bytes.new) × (vec_len bytes.old ≤ vec_len bytes.new)
-        × (vec_len bytes.new ≤ size) }
-    ensures room { vec_capacity bytes.old ≤ vec_capacity bytes.new }
+/// Writes zeros after the first `front` bytes of a row until `end` of them are written, and up to the end
+/// of that block, but at most to `size`. Nothing is written if there are enough. Gives how many are
+/// written then. No memory is taken.
+pub(crate) fn extend(row: &mut Slots<u8>, front: usize, end: usize, size: usize) -> usize
+    requires within { (end ≤ size) × (front ≤ size) }
+    requires room { (size ≤ slots_len row.old) × (size ≤ 16_777_216) }
+    requires written { HasFront row.old front }
+    ensures zeros { take result (slots_items row.new)
+        ≡ take front (slots_items row.old) ++ replicate (result - front) 0 }
+    ensures more { (end ≤ result) × (front ≤ result) × (result ≤ size) }
+    ensures written { HasFront row.new result }
+    ensures places { SamePlaces row.old row.new }
 {
-    if end <= bytes.len() {
-        return;
+    if end <= front {
+        return front;
     }
     let whole = (end + (BLOCK_BYTES - 1)) / BLOCK_BYTES * BLOCK_BYTES;
-    bytes.resize(whole.min(size), 0).unwrap();
+    let to = whole.min(size);
+    fill(row, front, to);
+    to
+}
+
+/// Writes zeros from a place on. The loop writes nothing else, so that it becomes one fill.
+fn fill(row: &mut Slots<u8>, from: usize, to: usize)
+    requires within { (from ≤ to) × (to ≤ slots_len row.old) }
+    requires written { HasFront row.old from }
+    ensures zeros { take to (slots_items row.new)
+        ≡ take from (slots_items row.old) ++ replicate (to - from) 0 }
+    ensures written { HasFront row.new to }
+    ensures places { SamePlaces row.old row.new }
+{
+    let mut i = from;
+    while i < to {
+        row.put(i, 0);
+        i += 1;
+    }
 }

@@ -1,19 +1,40 @@
-use Rattle.std.proofs.Common.{◌≡◌, ◌+◌, ◌*◌, ◌∙◌, ◌++◌, ap, sym, arith, List, ℕ, length, take, drop}
+use Rattle.std.proofs.Common.{◌≡◌, ◌*◌, ◌∙◌, ap, sym, arith, length, take}
+use Rattle.std.specs.Mem.Slots.{slots_items, slots_counts}
 use Rattle.linear_memory.specs.Memory.{page_bytes}
-use Rattle.linear_memory.proofs.ZeroLemmas.{written_far_items, whole_size}
+use Rattle.linear_memory.proofs.OwnerLemmas.{start_kept, owner_kept}
+use Rattle.linear_memory.proofs.ZeroLemmas.{front_count, stored_far, whole_size}
 use Rattle.linear_memory.proofs.memory.LinearMemory.write_range.Goals as goal
+
+pub invariant_of-self : goal.invariant_of-self
+invariant_of-self c =
+    let m = c.self.inside in
+    let far = c.extend-self-inside.ensures.places in
+    let near = c.store_bytes.ensures.places in
+    let front = front_count (slots_items m.block) m.front (omega (arith, (slots_counts m.block).0)) in
+    let size : length c.args.self.now.bytes ≡ m.pages * page_bytes =
+    sym (ap (λ v. length v.bytes) c.self.view_is)
+    ∙ whole_size (take m.front (slots_items m.block)) m.front (m.pages * page_bytes) m.cap front (omega arith) in (
+      c.store_bytes.ensures.written c.extend-self-inside.result c.extend-self-inside.ensures.written,
+      omega (arith, size),
+      omega arith,
+      omega arith,
+      omega (arith, far.count, near.count),
+      start_kept _ _ m.start near (start_kept _ _ m.start far c.self.invariant.5),
+      owner_kept m.deed _ _ m.alloc near (owner_kept m.deed _ _ m.alloc far c.self.invariant.6),
+    )
 
 pub returns-clause-written : goal.returns-clause-written
 returns-clause-written c =
+    let m = c.self.inside in
     let ws = c.args.bytes.now in
-    let put : List ℕ → List ℕ = λ ys. take c.args.address ys ++ (ws ++ drop (c.args.address + length ws) ys) in
-    let front = c.self.inside.bytes in
-    let size : length c.args.self.now.bytes ≡ c.self.inside.pages * page_bytes =
-    sym (ap (λ m. length m.bytes) c.self.view_is)
-    ∙ whole_size front.items front.len (c.self.inside.pages * page_bytes) c.self.inside.cap (omega arith) (omega arith)
-    in
+    let front = front_count (slots_items m.block) m.front (omega (arith, (slots_counts m.block).0)) in
+    let size : length c.args.self.now.bytes ≡ m.pages * page_bytes =
+    sym (ap (λ v. length v.bytes) c.self.view_is)
+    ∙ whole_size (take m.front (slots_items m.block)) m.front (m.pages * page_bytes) m.cap front (omega arith) in
     rw (← c.self.view_is)
-    (written_far_items front c.extend.new.bytes c.store_bytes.new.bytes ws (c.self.inside.pages * page_bytes)
-    c.self.inside.cap c.args.address (c.store_bytes.ensures ∙ ap put c.as_mut_slice.ensures.value)
-    c.extend.ensures.zeros
-    (omega arith) (omega arith) (omega arith))
+    (stored_far (slots_items m.block) (slots_items c.extend-self-inside.new.row) (slots_items c.store_bytes.new.row) ws
+    m.front c.extend-self-inside.result (m.pages * page_bytes) m.cap c.args.address
+    (omega (arith, (slots_counts m.block).0))
+    (omega (arith, (slots_counts c.extend-self-inside.new.row).0, c.extend-self-inside.ensures.written.0))
+    c.store_bytes.ensures.bytes c.extend-self-inside.ensures.zeros (omega arith) (omega (arith, size))
+    (omega arith))
