@@ -161,6 +161,29 @@ stored_near xs zs ws n size most a old is_zs within inside =
     sym (ap (λ k. take n xs ++ replicate k 0) none ∙ append-nil (take n xs)) in
     stored_far xs xs zs ws n n size most a old old is_zs same (omega arith) within inside
 
+-- bytes of the front are read
+part_of_front : (xs zs : List ℕ) (a k : ℕ) → a + k ≤ length xs → take k (drop a (xs ++ zs)) ≡ take k (drop a xs)
+part_of_front xs zs a k h =
+    let rest = length-drop a xs in
+    ap (take k) (drop-append-le a xs zs (omega (arith, h))) ∙ take-append-le k (drop a xs) zs (omega (arith, h, rest))
+
+pub loaded_near : (xs : List ℕ) (n size most a : ℕ) (w : Width) (number : ℕ) → n ≤ length xs → n ≤ size
+    → a + byte_count w ≤ n → number ≡ little_endian (take (byte_count w) (drop a xs))
+    → loaded (with_front (take n xs) n size most) a w ≡ Some number
+loaded_near xs n size most a w number le within inside is_number =
+    let k = byte_count w in
+    let front : List ℕ = take n xs in
+    let m = with_front front n size most in
+    let count = front_count xs n le in
+    let size_is = whole_size front n size most count within in
+    let fits : is_inside m a k ≡ true = grind (arith, nat_tests) in
+    let same : range m a k ≡ take k (drop a xs) =
+    part_of_front front (replicate (size - n) 0) a k (omega (arith, count))
+    ∙ (sym (part_of_front front (drop n xs) a k (omega (arith, count)))
+    ∙ ap (λ u. take k (drop a u)) (take-append-drop n xs)) in
+    ap (λ b. if b then Some (little_endian (range m a k)) else None) fits
+    ∙ (ap (λ u. Some (little_endian u)) same ∙ ap Some (sym is_number))
+
 -- ---- ranges
 
 took : (n : ℕ) (xs ys : List ℕ) → take n (xs ++ ys) ≡ take n xs ++ take (n - length xs) ys

@@ -4,7 +4,7 @@ ghost use Rattle.std.specs.Prelude.{◌≡◌, ◌≤◌, ◌<◌, ◌*◌, ◌^
 ghost use Rattle.linear_memory.specs.Memory.{new_memory, page_bytes, max_pages, is_inside, read_at, written_at, byte_count, loaded, stored, grown, grow_result};
 
 use crate::width::Width;
-use crate::words::{load_2, load_4, load_8, number_of, store_bytes, store_word};
+use crate::words::{load_word, number_of, store_bytes, store_word};
 use crate::zeros::extend;
 use core::slots::Slots;
 use raw_block::{Deed, Start, allocate, free, front};
@@ -157,18 +157,10 @@ impl LinearMemory {
         ensures number { IfSome result (λ n. loaded self.now address width ≡ Some n) }
         ensures range { IfSome result (λ n. n < 2 ^ (8 * byte_count width)) }
     {
-        let bytes = front(&self.block, self.start, self.front);
-        if address.saturating_add(width.bytes() as u64) > bytes.len() as u64 {
+        if address.saturating_add(width.bytes() as u64) > self.front as u64 {
             return None;
         }
-        let at = address as usize;
-        let number = match width {
-            Width::One => u64::from(bytes[at]),
-            Width::Two => u64::from(load_2(bytes, at)),
-            Width::Four => u64::from(load_4(bytes, at)),
-            Width::Eight => load_8(bytes, at),
-        };
-        Some(number)
+        Some(load_word(&self.block, address as usize, width))
     }
 
     /// `load` where a byte is after those that are written.

@@ -4,41 +4,74 @@
 ghost use Rattle.std.specs.Prelude.{◌≡◌, ◌+◌, ◌*◌, ◌<◌, ◌≤◌, ◌^◌, ◌++◌, length, take, drop};
 ghost use Rattle.std.specs.Mem.Slots.{slots_items, slots_len, SamePlaces};
 ghost use Rattle.linear_memory.specs.Memory.{byte_count, little_endian, low_bytes};
-ghost use Rattle.linear_memory.specs.Inside.Fronts.{KeepsFronts};
+ghost use Rattle.linear_memory.specs.Inside.Fronts.{HasFront, KeepsFronts};
 
 use crate::width::Width;
 use core::slots::Slots;
 
+// A load reads bytes that are written.
+
 #[inline(always)]
-pub(crate) fn load_2(bytes: &[u8], at: usize) -> u16
-    requires { at + 2 ≤ length bytes.now }
-    ensures { result ≡ little_endian (take 2 (drop at bytes.now)) }
+fn load_2(row: &Slots<u8>, at: usize) -> u16
+    requires { HasFront row.now (at + 2) }
+    ensures { result ≡ little_endian (take 2 (drop at (slots_items row.now))) }
 {
-    u16::from_le_bytes([bytes[at], bytes[at + 1]])
+    u16::from_le_bytes([*row.get(at), *row.get(at + 1)])
 }
 
 #[inline(always)]
-pub(crate) fn load_4(bytes: &[u8], at: usize) -> u32
-    requires { at + 4 ≤ length bytes.now }
-    ensures { result ≡ little_endian (take 4 (drop at bytes.now)) }
+fn load_4(row: &Slots<u8>, at: usize) -> u32
+    requires { HasFront row.now (at + 4) }
+    ensures { result ≡ little_endian (take 4 (drop at (slots_items row.now))) }
 {
-    u32::from_le_bytes([bytes[at], bytes[at + 1], bytes[at + 2], bytes[at + 3]])
+    u32::from_le_bytes([
+        *row.get(at),
+        *row.get(at + 1),
+        *row.get(at + 2),
+        *row.get(at + 3),
+    ])
 }
 
 #[inline(always)]
-pub(crate) fn load_8(bytes: &[u8], at: usize) -> u64
-    requires { at + 8 ≤ length bytes.now }
-    ensures { result ≡ little_endian (take 8 (drop at bytes.now)) }
+fn load_8(row: &Slots<u8>, at: usize) -> u64
+    requires { HasFront row.now (at + 8) }
+    ensures { result ≡ little_endian (take 8 (drop at (slots_items row.now))) }
 {
     u64::from_le_bytes([
-        bytes[at],
-        bytes[at + 1],
-        bytes[at + 2],
-        bytes[at + 3],
-        bytes[at + 4],
-        bytes[at + 5],
-        bytes[at + 6],
-        bytes[at + 7],
+        *row.get(at),
+        *row.get(at + 1),
+        *row.get(at + 2),
+        *row.get(at + 3),
+        *row.get(at + 4),
+        *row.get(at + 5),
+        *row.get(at + 6),
+        *row.get(at + 7),
+    ])
+}
+
+/// The number of this width at a place.
+#[inline(always)]
+pub(crate) fn load_word(row: &Slots<u8>, at: usize, width: Width) -> u64
+    requires { HasFront row.now (at + byte_count width) }
+    ensures number { result
+        ≡ little_endian (take (byte_count width) (drop at (slots_items row.now))) }
+    ensures range { result < 2 ^ (8 * byte_count width) }
+{
+    match width {
+        Width::One => u64::from(*row.get(at)),
+        Width::Two => u64::from(load_2(row, at)),
+        Width::Four => u64::from(load_4(row, at)),
+        Width::Eight => load_8(row, at),
+    }
+}
+
+/// The number of eight bytes.
+fn number_of_eight(bytes: &[u8]) -> u64
+    requires { 8 ≤ length bytes.now }
+    ensures { result ≡ little_endian (take 8 bytes.now) }
+{
+    u64::from_le_bytes([
+        bytes[0], bytes[1], bytes[2], bytes[3], bytes[4], bytes[5], bytes[6], bytes[7],
     ])
 }
 
@@ -50,7 +83,7 @@ pub(crate) fn number_of(bytes: &[u8]) -> u64
 {
     let mut word = [0u8; 8];
     word[..bytes.len()].copy_from_slice(bytes);
-    load_8(&word, 0)
+    number_of_eight(&word)
 }
 
 // Stores of a word write some bytes of a row of places, and leave the others as they are.

@@ -3,9 +3,9 @@ use Rattle.linear_memory.specs.Memory.{little_endian}
 use Rattle.linear_memory.proofs.ZeroLemmas.{filled_word, number_below}
 use Rattle.linear_memory.proofs.words.number_of.Goals as goal
 
-number : (c : goal.After-load_8) → c.load_8.result ≡ little_endian c.args.bytes.now
+number : (c : goal.After-number_of_eight) → c.number_of_eight.result ≡ little_endian c.args.bytes.now
 number c =
-    c.load_8.ensures ∙ (ap (λ u. little_endian (take 8 (u ++ drop (length c.args.bytes.now) (replicate 8 0))))
+    c.number_of_eight.ensures ∙ (ap (λ u. little_endian (take 8 (u ++ drop (length c.args.bytes.now) (replicate 8 0))))
     c.copy_from_slice.ensures.after ∙ filled_word c.args.bytes.now c.requires)
 
 pub returns-clause-number : goal.returns-clause-number
