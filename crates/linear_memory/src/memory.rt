@@ -198,7 +198,8 @@ impl LinearMemory {
             × (self.new ≡ stored self.old address width number) }
         ensures stays { result ≡ false → self.new ≡ self.old }
     {
-        if address.saturating_add(width.bytes() as u64) > self.front as u64 {
+        let end = address.saturating_add(width.bytes() as u64);
+        if end > self.front as u64 {
             return false;
         }
         let at = address as usize;
