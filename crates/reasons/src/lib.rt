@@ -6,9 +6,7 @@
 #![tactic(auto)]
 
 mod bad_text;
-mod body;
 mod branches;
-mod code;
 mod command_line;
 mod config;
 mod config_texts;
@@ -19,23 +17,20 @@ mod first_bytes;
 mod floats;
 mod hints;
 mod invalid;
-mod items;
 mod json;
 mod limits;
 mod line;
 mod line_keys;
+mod located;
 mod module;
 mod operands;
 mod outside;
-mod parts;
 mod place;
 mod process_texts;
 mod request;
 mod request_facts;
-mod sections;
 mod shown;
 mod spelling;
-mod stop;
 mod task;
 mod token;
 mod type_names;

@@ -8,6 +8,7 @@ use Rattle.wasm_binary.specs.declared.fault.Fault.TheVariants as fault
 use Rattle.wasm_binary.specs.Grammar.{Spells}
 use Rattle.wasm_binary.specs.Opcodes.{preamble}
 use Rattle.wasm_binary.specs.Limits.{Over, too_many_bytes}
+use Rattle.wasm_binary.specs.declared.fault.Spot.{Spot}
 use Rattle.wasm_binary.specs.declared.fault.ReadError.{ReadError}
 use Rattle.wasm_binary.specs.declared.fault.ReadError.TheVariants as errors
 use Rattle.wasm_binary.specs.Inside.Reading.{Fails, strip_preamble, read_module}
@@ -23,8 +24,9 @@ or_else d (Err e) = d
 
 -- the fault that a call answered
 pub by_fault :
-    {X : Type 0} (e : ReadError) (f g : Fault) (r : Result X Fault) → e ≡ errors.Fault f → f ≡ g → Fails e r → r ≡ Err g
-by_fault {X} e f g r p q h = subst (λ k. r ≡ Err k) q (subst (λ d. Fails d r) p h)
+    {X : Type 0} (e : ReadError) (f : Fault) (s : Spot) (g : Fault) (r : Result X Fault) → e ≡ errors.Fault f s → f ≡ g
+    → Fails e r → r ≡ Err g
+by_fault {X} e f s g r p q h = subst (λ k. r ≡ Err k) q (subst (λ d. Fails d r) p h)
 
 sound_by : {X : Type 0} (P : X → Type 0) (Q : Type 0) (r s : Result X Fault) → Sound P Q r → r ≡ s → SoundAnswer P Q s
 sound_by P Q r s h e = subst (SoundAnswer P Q) e h.sound

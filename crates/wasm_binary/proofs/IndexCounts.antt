@@ -53,5 +53,5 @@ too_many (suc n) bytes lt =
 -- what counts more has a count
 pub has_count : (e : ReadError) (bytes : List ℕ) → CountsMore bytes → Fails e (read_u32 bytes) → e ≢ errors.Memory → ⊥
 has_count errors.Memory bytes more fails other = other refl
-has_count (errors.Fault f) bytes (n, rest, is, lt) fails other =
+has_count (errors.Fault f s) bytes (n, rest, is, lt) fails other =
     let clash : Ok (n, rest) ≡ Err f = sym is ∙ fails in cc

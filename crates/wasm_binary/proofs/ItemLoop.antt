@@ -35,7 +35,7 @@ pub ends :
     → with_front front (read_items read (count - i) bytes) ≡ total → Fails e total
 unfolding read_items
 ends read errors.Memory front count i bytes total lt h so_far = tt
-ends read (errors.Fault f) front count i bytes total lt h so_far =
+ends read (errors.Fault f s) front count i bytes total lt h so_far =
     let k : count - i ≡ suc (count - (i + 1)) = omega arith in
     let one : with_front front (read_items read (count - i) bytes) ≡ Err f = rw (k, h) refl in
     sym so_far ∙ one

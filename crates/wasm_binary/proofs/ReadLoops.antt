@@ -37,7 +37,7 @@ pub op_fails :
     → with_front front (read_ops inner (most - i) bytes) ≡ total → Fails e total
 unfolding read_ops
 op_fails inner errors.Memory front most i bytes total lt b h so_far = tt
-op_fails inner (errors.Fault f) front most i bytes total lt b h so_far =
+op_fails inner (errors.Fault f s) front most i bytes total lt b h so_far =
     let k : most - i ≡ suc (most - (i + 1)) = omega arith in
     let one : with_front front (read_ops inner (most - i) bytes) ≡ Err f = rw (k, b, h) refl in
     sym so_far ∙ one
@@ -121,7 +121,7 @@ pub run_count_fails :
     → with_front front (read_runs true before (count - i) bytes) ≡ total → Fails e total
 unfolding read_runs
 run_count_fails errors.Memory front before count i bytes total lt h so_far = tt
-run_count_fails (errors.Fault f) front before count i bytes total lt h so_far =
+run_count_fails (errors.Fault f s) front before count i bytes total lt h so_far =
     let k : count - i ≡ suc (count - (i + 1)) = omega arith in
     let one : with_front front (read_runs true before (count - i) bytes) ≡ Err f = rw (k, h) refl in
     sym so_far ∙ one
@@ -146,7 +146,7 @@ pub run_type_fails :
     → with_front front (read_runs true before (count - i) bytes) ≡ total → Fails e total
 unfolding read_runs
 run_type_fails errors.Memory front before count i bytes n mid total lt a fits h so_far = tt
-run_type_fails (errors.Fault f) front before count i bytes n mid total lt a fits h so_far =
+run_type_fails (errors.Fault f s) front before count i bytes n mid total lt a fits h so_far =
     let k : count - i ≡ suc (count - (i + 1)) = omega arith in
     let one :
     with_front front (read_runs true before (count - i) bytes) ≡ Err f =
@@ -192,7 +192,7 @@ pub code_fails :
     → with_front front (read_entries true types (drop i indices) bytes) ≡ total → Fails e total
 unfolding read_entries
 code_fails types errors.Memory front indices i index bytes total lt is h so_far = tt
-code_fails types (errors.Fault f) front indices i index bytes total lt is h so_far =
+code_fails types (errors.Fault f s) front indices i index bytes total lt is h so_far =
     let k :
     drop i indices ≡ index ∷ drop (i + 1) indices =
     drop_more indices i 0 lt ∙ ap (λ n. n ∷ drop (i + 1) indices) (sym is) in
@@ -228,7 +228,7 @@ pub custom_fails :
     → skip_some_customs (most - i) bytes ≡ total → Fails e total
 unfolding skip_some_customs
 custom_fails errors.Memory most i bytes total lt b h so_far = tt
-custom_fails (errors.Fault f) most i bytes total lt b h so_far =
+custom_fails (errors.Fault f s) most i bytes total lt b h so_far =
     let k : most - i ≡ suc (most - (i + 1)) = omega arith in
     let one : skip_some_customs (most - i) bytes ≡ Err f = rw (k, b, h) refl in
     sym so_far ∙ one

@@ -4,9 +4,9 @@ ghost use Rattle.std.specs.Prelude.{◌≡◌, ◌+◌, ◌++◌, ◌≤◌, tru
 ghost use Rattle.wasm_ast.specs.Limits.{max_locals, params_of};
 ghost use Rattle.wasm_binary.specs.Inside.Reading.{Gives, read_runs, read_locals, read_code, read_sized, read_entries, read_codes};
 
-use crate::fault::{Fault, ReadError};
+use crate::fault::{Fault, Limited, Number, ReadError, Spot, What, Whole};
 use crate::instructions::read_expression;
-use crate::numbers::{at_most, read_u32, skip_exact};
+use crate::numbers::{at_most, read_number, skip_exact};
 use crate::types::read_val_type;
 use std::alloc::{AllocFailed, Global};
 use wasm_ast::{Func, FuncType, MAX_LOCALS, Sequence, ValType};
@@ -18,6 +18,13 @@ fn push_run(items: &mut Vec<ValType>, count: u32, t: ValType) -> Result<(), Allo
         items.push(t)?;
     }
     Ok(())
+}
+
+// That there are this many locals more than this many before them, which are too many.
+fn too_many(before: usize, more: u32, bytes: &[u8]) -> Spot {
+    let what = Limited::Locals;
+    let found = (before as u64).saturating_add(u64::from(more));
+    Spot::at(bytes, What::Over { what, found })
 }
 
 // The locals of this number of runs, with this many parameters before them, and the rest. A count
@@ -35,9 +42,9 @@ fn read_runs(
     let mut before = params;
     let mut rest = bytes;
     for _ in 0..count {
-        let (n, from_type) = read_u32(rest)?;
+        let (n, from_type) = read_number(Number::Limited(Limited::Locals), rest)?;
         if n as usize > MAX_LOCALS - before {
-            return Err(ReadError::Fault(Fault::Over));
+            return Err(ReadError::Fault(Fault::Over, too_many(before, n, rest)));
         }
         let (t, next) = read_val_type(from_type)?;
         push_run(&mut items, n, t)?;
@@ -56,9 +63,9 @@ fn read_locals(
     ensures { Gives (λ x. (x.0.items, x.1.now)) result (read_locals true params bytes.now) }
 {
     if params > MAX_LOCALS {
-        return Err(ReadError::Fault(Fault::Over));
+        return Err(ReadError::Fault(Fault::Over, too_many(params, 0, bytes)));
     }
-    let (count, rest) = read_u32(bytes)?;
+    let (count, rest) = read_number(Number::Runs, bytes)?;
     read_runs(alloc, params, count, rest)
 }
 
@@ -105,10 +112,13 @@ fn read_entry<'a>(
         (read_sized (read_code true (params_of types.now type_index) type_index)
         bytes.now) }
 {
-    let (size, rest) = read_u32(bytes)?;
+    let (size, rest) = read_number(Number::BodySize, bytes)?;
     let params = params_of(types, type_index);
-    let (func, left) = read_code(alloc, params, type_index, at_most(size, rest))?;
-    let rest = skip_exact(size, left, rest)?;
+    let (func, left) = match read_code(alloc, params, type_index, at_most(size, rest)) {
+        Ok(read) => read,
+        Err(error) => return Err(error.within(Whole::Body, size, rest)),
+    };
+    let rest = skip_exact(Whole::Body, size, left, rest)?;
     Ok((func, rest))
 }
 
@@ -142,9 +152,11 @@ pub fn read_codes<'a>(
     ensures { Gives (λ x. (x.0.items, x.1.now)) result
         (read_codes true types.now indices.now bytes.now) }
 {
-    let (count, rest) = read_u32(bytes)?;
-    if count as usize != indices.len() {
-        return Err(ReadError::Fault(Fault::Bad));
+    let (bodies, rest) = read_number(Number::Bodies, bytes)?;
+    let funcs = indices.len();
+    if bodies as usize != funcs {
+        let spot = Spot::at(bytes, What::Bodies { funcs, bodies });
+        return Err(ReadError::Fault(Fault::Bad, spot));
     }
     read_entries(alloc, types, indices, rest)
 }

@@ -1,12 +1,11 @@
 //! Readers of what follows the opcodes of instructions without bodies (5.4).
 
-ghost use Rattle.std.specs.Prelude.{◌≡◌, Err};
+ghost use Rattle.std.specs.Prelude.{◌≡◌, Some, IsErrAnd};
 ghost use Rattle.wasm_ast.specs.declared.instr.Simple.TheVariants.{Load, Store};
 ghost use Rattle.wasm_binary.specs.declared.fault.Fault.TheVariants.{Bad};
-ghost use Rattle.wasm_binary.specs.declared.fault.ReadError.TheVariants as errors;
-ghost use Rattle.wasm_binary.specs.Inside.Reading.{CountsMore, Gives, read_mem_arg, with_index, read_index, read_reserved, read_call_indirect, read_const, read_br_table, no_offset, read_immediates};
+ghost use Rattle.wasm_binary.specs.Inside.Reading.{CountsMore, Gives, fault_of, read_mem_arg, with_index, read_index, read_reserved, read_call_indirect, read_const, read_br_table, no_offset, read_immediates};
 
-use crate::fault::ReadError;
+use crate::fault::{ReadError, Wanted, What};
 use crate::numbers::{read_s32, read_s64, read_u32, skip_byte};
 use crate::opcodes::RESERVED;
 use crate::vectors::read_indices;
@@ -54,7 +53,7 @@ pub fn read_index(simple: Simple, bytes: &[u8]) -> Result<(Simple, &[u8]), ReadE
 pub fn read_reserved(simple: Simple, bytes: &[u8]) -> Result<(Simple, &[u8]), ReadError>
     ensures { Gives (λ x. (x.0, x.1.now)) result (read_reserved simple bytes.now) }
 {
-    let rest = skip_byte(RESERVED, bytes)?;
+    let rest = skip_byte(RESERVED, What::Wanted(Wanted::Immediates), bytes)?;
     Ok((simple, rest))
 }
 
@@ -71,7 +70,7 @@ pub fn read_call_indirect(bytes: &[u8]) -> Result<(Simple, &[u8]), ReadError>
 #[tactic(auto, unfolding(crate::specs::Inside::Reading::read_br_table))]
 pub fn read_br_table(alloc: Global, bytes: &[u8]) -> Result<(Simple, &[u8]), ReadError>
     ensures value { Gives (λ x. (x.0, x.1.now)) result (read_br_table bytes.now) }
-    ensures count { CountsMore bytes.now → result ≡ Err (errors.Fault Bad) }
+    ensures count { CountsMore bytes.now → IsErrAnd result (λ e. fault_of e ≡ Some Bad) }
 {
     let (labels, rest) = read_indices(alloc, bytes)?;
     let (other, rest) = read_u32(rest)?;

@@ -2,15 +2,15 @@
 
 ghost use Rattle.std.specs.Prelude.{◌≡◌, ◌++◌, ◌∷◌, [], true, map, OnOk};
 ghost use Rattle.wasm_ast.specs.View.{op_of};
-ghost use Rattle.wasm_binary.specs.Inside.Reading.{Gives, read_else, read_if, read_enclosed, read_nested, opens_block, read_op, is_end, read_body, inner_of, read_expression};
+ghost use Rattle.wasm_binary.specs.Inside.Reading.{Gives, read_else, read_if, read_enclosed, read_nested, read_simple, opens_block, read_op, is_end, read_body, inner_of, read_expression};
 
-use crate::fault::{Fault, ReadError};
+use crate::fault::{Fault, ReadError, Spot, Wanted, What};
 use crate::numbers::{read_byte, skip_byte, strip_byte};
 use crate::opcodes::{BLOCK, ELSE, END, IF, LOOP};
 use crate::read_opcodes::read_simple;
 use crate::types::read_block_type;
 use std::alloc::{AllocError, Global};
-use wasm_ast::{BlockType, Body, Instr, MAX_NESTING};
+use wasm_ast::{BlockType, Body, Instr, MAX_NESTING, Simple};
 
 // The else arm of an `if` and its end, and the rest. The arm is empty if none is written.
 #[cycle(read)]
@@ -20,11 +20,11 @@ fn read_else(alloc: Global, more: usize, bytes: &[u8]) -> Result<(Vec<Instr>, &[
         (read_else (read_body more) bytes.now) }
 {
     let Some(rest) = strip_byte(ELSE, bytes) else {
-        let rest = skip_byte(END, bytes)?;
+        let rest = skip_byte(END, What::Else, bytes)?;
         return Ok((Vec::new(alloc), rest));
     };
     let (arm, rest) = read_body(alloc, more, rest)?;
-    let rest = skip_byte(END, rest)?;
+    let rest = skip_byte(END, What::Else, rest)?;
     Ok((arm, rest))
 }
 
@@ -55,7 +55,7 @@ fn read_enclosed(
 {
     let (block_type, rest) = read_block_type(bytes)?;
     let (instrs, rest) = read_body(alloc, more, rest)?;
-    let rest = skip_byte(END, rest)?;
+    let rest = skip_byte(END, What::Else, rest)?;
     let body = Body::new(alloc, instrs)?;
     Ok(((block_type, body), rest))
 }
@@ -85,6 +85,19 @@ fn read_nested(
     Ok((instr, rest))
 }
 
+const INSTRUCTION: What = What::Wanted(Wanted::Instruction);
+
+// The instruction without a body that has this opcode, and the rest. What is wrong after the opcode is
+// told of all that follows it.
+fn read_plain(alloc: Global, opcode: u8, bytes: &[u8]) -> Result<(Simple, &[u8]), ReadError>
+    ensures { Gives (λ x. (x.0, x.1.now)) result (read_simple opcode bytes.now) }
+{
+    match read_simple(alloc, opcode, bytes) {
+        Ok(read) => Ok(read),
+        Err(error) => Err(error.after_opcode(bytes)),
+    }
+}
+
 // Whether an instruction with this opcode has bodies.
 #[tactic(auto, unfolding(crate::specs::Inside::Reading::opens_block))]
 fn opens_block(opcode: u8) -> bool
@@ -99,14 +112,14 @@ fn opens_block(opcode: u8) -> bool
 fn read_instr(alloc: Global, more: usize, bytes: &[u8]) -> Result<(Instr, &[u8]), ReadError>
     ensures { Gives (λ x. (op_of x.0, x.1.now)) result (read_op (inner_of more) bytes.now) }
 {
-    let (opcode, rest) = read_byte(bytes)?;
+    let (opcode, rest) = read_byte(INSTRUCTION, bytes)?;
     if opens_block(opcode) {
         if more == 0 {
-            return Err(ReadError::Fault(Fault::Over));
+            return Err(ReadError::Fault(Fault::Over, Spot::at(bytes, What::TooDeep)));
         }
         return read_nested(alloc, more - 1, opcode, rest);
     }
-    let (simple, rest) = read_simple(alloc, opcode, rest)?;
+    let (simple, rest) = read_plain(alloc, opcode, rest)?;
     Ok((Instr::Simple(simple), rest))
 }
 
@@ -149,7 +162,7 @@ fn read_body(alloc: Global, more: usize, bytes: &[u8]) -> Result<(Vec<Instr>, &[
         add(&mut items, instr)?;
         rest = next;
     }
-    Err(ReadError::Fault(Fault::Bad))
+    Err(ReadError::Fault(Fault::Bad, Spot::at(rest, INSTRUCTION)))
 }
 
 /// An expression (5.4.6), and the rest.
@@ -158,7 +171,7 @@ pub fn read_expression(alloc: Global, bytes: &[u8]) -> Result<(Body, &[u8]), Rea
     ensures { Gives (λ x. (x.0, x.1.now)) result (read_expression true bytes.now) }
 {
     let (instrs, rest) = read_body(alloc, MAX_NESTING, bytes)?;
-    let rest = skip_byte(END, rest)?;
+    let rest = skip_byte(END, What::Else, rest)?;
     let body = Body::new(alloc, instrs)?;
     Ok((body, rest))
 }

@@ -63,8 +63,8 @@ pub fn decode(alloc: Global, bytes: &[u8]) -> Result<Module, Refusal>
     match sections::read_module(alloc, bytes) {
         Ok(module) => Ok(module),
         Err(ReadError::Memory) => Err(Refusal::NoMemory),
-        Err(ReadError::Fault(Fault::Bad)) => Err(Refusal::BadModule),
-        Err(ReadError::Fault(Fault::Over)) => Err(Refusal::Limit),
+        Err(ReadError::Fault(Fault::Bad, _)) => Err(Refusal::BadModule),
+        Err(ReadError::Fault(Fault::Over, _)) => Err(Refusal::Limit),
     }
 }
 

@@ -4,17 +4,17 @@ ghost use Rattle.std.specs.Prelude.{◌≡◌, ◌≢◌, ℕ, ◌<◌, ◌≤�
 ghost use Rattle.wasm_binary.specs.declared.fault.ReadError.TheVariants as errors;
 ghost use Rattle.wasm_binary.specs.Inside.Reading.{Gives, read_byte, begins_with, skip_byte, read_byte_vector, read_unsigned, read_last_unsigned, read_last_signed, read_signed, read_u32, skip_exact};
 
-use crate::fault::{Fault, ReadError};
+use crate::fault::{Fault, Number, ReadError, Spot, Wanted, What, Whole, cut, longer};
 
-/// The first byte, and the rest.
+/// The first byte, which is to be this, and the rest.
 #[tactic(auto, unfolding(crate::specs::Inside::Reading::read_byte))]
-pub fn read_byte(bytes: &[u8]) -> Result<(u8, &[u8]), ReadError>
+pub fn read_byte(what: What, bytes: &[u8]) -> Result<(u8, &[u8]), ReadError>
     ensures value { Gives (λ x. (x.0, x.1.now)) result (read_byte bytes.now) }
     ensures small { IfOk result (λ x. x.0 < 2 ^ 8) }
     ensures no_memory { result ≢ Err errors.Memory }
 {
     match bytes {
-        [] => Err(ReadError::Fault(Fault::Bad)),
+        [] => Err(ReadError::Fault(Fault::Bad, Spot::at(bytes, what))),
         [first, rest @ ..] => Ok((*first, rest)),
     }
 }
@@ -31,16 +31,26 @@ pub fn strip_byte(byte: u8, bytes: &[u8]) -> Option<&[u8]>
     }
 }
 
-/// The rest after this byte, which has to be the first.
+/// The rest after this byte, which has to be the first; what is wrong if it is not.
 #[tactic(auto, unfolding(crate::specs::Inside::Reading::skip_byte))]
-pub fn skip_byte(byte: u8, bytes: &[u8]) -> Result<&[u8], ReadError>
+pub fn skip_byte(byte: u8, what: What, bytes: &[u8]) -> Result<&[u8], ReadError>
     ensures { Gives (λ x. x.now) result (skip_byte byte bytes.now) }
 {
     match strip_byte(byte, bytes) {
         Some(rest) => Ok(rest),
-        None => Err(ReadError::Fault(Fault::Bad)),
+        None => Err(ReadError::Fault(Fault::Bad, Spot::at(bytes, what))),
     }
 }
+
+// What a number's bytes are, and the place of one that is none. Both are told by who reads the number and
+// knows what it is.
+const BYTE: What = What::Wanted(Wanted::Byte);
+
+const NO_PLACE: Spot = Spot {
+    left: 0,
+    ended: false,
+    what: BYTE,
+};
 
 // An unsigned number of this many bits, and the rest.
 #[tactic(auto, unfolding(crate::specs::Inside::Reading::read_unsigned, crate::specs::Inside::Reading::read_byte))]
@@ -50,13 +60,13 @@ fn read_unsigned(bits: u32, bytes: &[u8]) -> Result<(u64, &[u8]), ReadError>
     ensures small { IfOk result (λ x. x.0 < 2 ^ bits) }
     ensures no_memory { result ≢ Err errors.Memory }
 {
-    let (first, rest) = read_byte(bytes)?;
+    let (first, rest) = read_byte(BYTE, bytes)?;
     if first < 128 {
         let last = read_last_unsigned(bits, first)?;
         return Ok((last, rest));
     }
     if bits <= 7 {
-        return Err(ReadError::Fault(Fault::Bad));
+        return Err(ReadError::Fault(Fault::Bad, NO_PLACE));
     }
     let (high, rest) = read_unsigned(bits - 7, rest)?;
     Ok((128 * high + (u64::from(first) - 128), rest))
@@ -76,7 +86,7 @@ fn read_last_unsigned(bits: u32, byte: u8) -> Result<u64, ReadError>
     if last < 1 << bits {
         Ok(last)
     } else {
-        Err(ReadError::Fault(Fault::Bad))
+        Err(ReadError::Fault(Fault::Bad, NO_PLACE))
     }
 }
 
@@ -87,13 +97,13 @@ fn read_signed(bits: u32, bytes: &[u8]) -> Result<(u64, &[u8]), ReadError>
     ensures value { Gives (λ x. (x.0, x.1.now)) result (read_signed bits bytes.now) }
     ensures small { IfOk result (λ x. x.0 < 2 ^ bits) }
 {
-    let (first, rest) = read_byte(bytes)?;
+    let (first, rest) = read_byte(BYTE, bytes)?;
     if first < 128 {
         let last = read_last_signed(bits, first)?;
         return Ok((last, rest));
     }
     if bits <= 7 {
-        return Err(ReadError::Fault(Fault::Bad));
+        return Err(ReadError::Fault(Fault::Bad, NO_PLACE));
     }
     let (high, rest) = read_signed(bits - 7, rest)?;
     Ok((128 * high + (u64::from(first) - 128), rest))
@@ -111,12 +121,12 @@ fn read_last_signed(bits: u32, byte: u8) -> Result<u64, ReadError>
         if 2 * byte < all {
             Ok(byte as u64)
         } else {
-            Err(ReadError::Fault(Fault::Bad))
+            Err(ReadError::Fault(Fault::Bad, NO_PLACE))
         }
     } else if 255 < 2 * byte + all {
         Ok((all - (128 - byte)) as u64)
     } else {
-        Err(ReadError::Fault(Fault::Bad))
+        Err(ReadError::Fault(Fault::Bad, NO_PLACE))
     }
 }
 
@@ -135,6 +145,18 @@ pub fn read_u32(bytes: &[u8]) -> Result<(u32, &[u8]), ReadError>
     Ok((n as u32, rest))
 }
 
+/// This number of 32 bits, and the rest.
+#[inline(always)]
+pub fn read_number(number: Number, bytes: &[u8]) -> Result<(u32, &[u8]), ReadError>
+    ensures value { Gives (λ x. (x.0, x.1.now)) result (read_u32 bytes.now) }
+    ensures no_memory { result ≢ Err errors.Memory }
+{
+    match read_u32(bytes) {
+        Ok(read) => Ok(read),
+        Err(error) => Err(error.at(bytes, What::Number(number))),
+    }
+}
+
 // The bits of a signed number of 32 bits from its second, its third or its fourth byte on, and the rest.
 // They are functions of their own, since recursion passes each result through memory.
 #[tactic(auto, unfolding(crate::specs::Inside::Reading::read_signed, crate::specs::Inside::Reading::read_byte))]
@@ -142,7 +164,7 @@ fn read_s11(bytes: &[u8]) -> Result<(u64, &[u8]), ReadError>
     ensures value { Gives (λ x. (x.0, x.1.now)) result (read_signed 11 bytes.now) }
     ensures small { IfOk result (λ x. x.0 < 2 ^ 11) }
 {
-    let (first, rest) = read_byte(bytes)?;
+    let (first, rest) = read_byte(BYTE, bytes)?;
     if first < 128 {
         let last = read_last_signed(11, first)?;
         return Ok((last, rest));
@@ -156,7 +178,7 @@ fn read_s18(bytes: &[u8]) -> Result<(u64, &[u8]), ReadError>
     ensures value { Gives (λ x. (x.0, x.1.now)) result (read_signed 18 bytes.now) }
     ensures small { IfOk result (λ x. x.0 < 2 ^ 18) }
 {
-    let (first, rest) = read_byte(bytes)?;
+    let (first, rest) = read_byte(BYTE, bytes)?;
     if first < 128 {
         let last = read_last_signed(18, first)?;
         return Ok((last, rest));
@@ -170,7 +192,7 @@ fn read_s25(bytes: &[u8]) -> Result<(u64, &[u8]), ReadError>
     ensures value { Gives (λ x. (x.0, x.1.now)) result (read_signed 25 bytes.now) }
     ensures small { IfOk result (λ x. x.0 < 2 ^ 25) }
 {
-    let (first, rest) = read_byte(bytes)?;
+    let (first, rest) = read_byte(BYTE, bytes)?;
     if first < 128 {
         let last = read_last_signed(25, first)?;
         return Ok((last, rest));
@@ -184,7 +206,7 @@ fn read_s25(bytes: &[u8]) -> Result<(u64, &[u8]), ReadError>
 pub fn read_s32(bytes: &[u8]) -> Result<(u32, &[u8]), ReadError>
     ensures { Gives (λ x. (x.0, x.1.now)) result (read_signed 32 bytes.now) }
 {
-    let (first, rest) = read_byte(bytes)?;
+    let (first, rest) = read_byte(BYTE, bytes)?;
     if first < 128 {
         let last = read_last_signed(32, first)?;
         return Ok((last as u32, rest));
@@ -221,25 +243,37 @@ pub fn at_most(size: u32, bytes: &[u8]) -> &[u8]
 
 /// The bytes after a part of this size, of which nothing may be left.
 #[tactic(auto, unfolding(crate::specs::Inside::Reading::skip_exact))]
-pub fn skip_exact<'a>(size: u32, left: &[u8], bytes: &'a [u8]) -> Result<&'a [u8], ReadError>
+pub fn skip_exact<'a>(
+    whole: Whole,
+    size: u32,
+    left: &[u8],
+    bytes: &'a [u8],
+) -> Result<&'a [u8], ReadError>
     ensures { Gives (λ x. x.now) result (skip_exact size left.now bytes.now) }
 {
-    let size = size as usize;
-    if !left.is_empty() || bytes.len() < size {
-        return Err(ReadError::Fault(Fault::Bad));
+    if !left.is_empty() {
+        let spot = longer(whole, size, left, bytes);
+        return Err(ReadError::Fault(Fault::Bad, spot));
     }
-    Ok(bytes.split_at(size).1)
+    if bytes.len() < size as usize {
+        return Err(ReadError::Fault(Fault::Bad, cut(whole, size, bytes)));
+    }
+    Ok(bytes.split_at(size as usize).1)
 }
 
-/// The items of a vector of bytes, and the rest.
+/// The items of a vector of bytes, and the rest. The vector is to be this.
 #[tactic(auto, unfolding(crate::specs::Inside::Reading::read_byte_vector, crate::specs::Inside::Reading::read_bytes))]
-pub fn read_byte_vector(bytes: &[u8]) -> Result<(&[u8], &[u8]), ReadError>
+pub fn read_byte_vector(wanted: Wanted, bytes: &[u8]) -> Result<(&[u8], &[u8]), ReadError>
     ensures { Gives (λ x. (x.0.now, x.1.now)) result (read_byte_vector bytes.now) }
 {
-    let (size, rest) = read_u32(bytes)?;
+    let (size, rest) = match read_u32(bytes) {
+        Ok(read) => read,
+        Err(error) => return Err(error.at(bytes, What::Wanted(wanted))),
+    };
     let size = size as usize;
     if rest.len() < size {
-        return Err(ReadError::Fault(Fault::Bad));
+        let spot = Spot::at(bytes, What::Wanted(wanted));
+        return Err(ReadError::Fault(Fault::Bad, spot));
     }
     Ok(rest.split_at(size))
 }

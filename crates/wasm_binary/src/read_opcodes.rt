@@ -2,7 +2,7 @@
 
 ghost use Rattle.wasm_binary.specs.Inside.Reading.{Gives, read_as, arithmetic_of, comparison_of, read_simple};
 
-use crate::fault::{Fault, ReadError};
+use crate::fault::{Fault, ReadError, Spot, What};
 use crate::immediates::{
     read_br_table, read_call_indirect, read_const, read_index, read_load, read_reserved, read_store,
 };
@@ -55,7 +55,7 @@ fn read_arithmetic(opcode: u8, bytes: &[u8]) -> Result<(Simple, &[u8]), ReadErro
         opcodes::I64_SHR_U => Ok((Simple::Binary(ValType::I64, BinaryOp::ShrU), bytes)),
         opcodes::I64_ROTL => Ok((Simple::Binary(ValType::I64, BinaryOp::Rotl), bytes)),
         opcodes::I64_ROTR => Ok((Simple::Binary(ValType::I64, BinaryOp::Rotr), bytes)),
-        _ => Err(ReadError::Fault(Fault::Bad)),
+        _ => Err(ReadError::Fault(Fault::Bad, Spot::before(bytes, What::Opcode))),
     }
 }
 

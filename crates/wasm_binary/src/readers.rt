@@ -1,12 +1,7 @@
-//! The readers of the parts of a module, for who says where bytes that encode none have their fault.
+//! The reader of modules that says where and why bytes encode none, for who tells a person, and the
+//! bytes that its places are told by.
 
-pub use crate::fault::{Fault, ReadError};
-pub use crate::numbers::{at_most, read_byte, read_byte_vector, read_u32, strip_byte};
-pub use crate::opcodes::{
-    BLOCK, CODE_SECTION, CONST, CUSTOM_SECTION, DATA_SECTION, ELEMENT_SECTION, ELSE, END,
-    EXPORT_SECTION, FUNC_KIND, FUNC_TYPE, FUNCTION_SECTION, GLOBAL_KIND, GLOBAL_SECTION, IF,
-    IMPORT_SECTION, LOOP, MEMORY_SECTION, MIN, MIN_MAX, PREAMBLE, START_SECTION, TABLE_SECTION,
-    TABLE_TYPE, TYPE_SECTION, VAR,
-};
-pub use crate::read_opcodes::read_simple;
-pub use crate::types::{read_block_type, read_name, read_val_type};
+pub use crate::fault::{Fault, Limited, Number, ReadError, Spot, Wanted, What, Whole};
+pub use crate::numbers::{at_most, read_u32};
+pub use crate::opcodes::{CODE_SECTION, CUSTOM_SECTION, IMPORT_SECTION, PREAMBLE};
+pub use crate::sections::read_module;

@@ -7,9 +7,9 @@ ghost use Rattle.wasm_binary.specs.Opcodes.{start_section};
 ghost use Rattle.wasm_binary.specs.Inside.Reading.{Gives, Read, head_of, stored_of, between_of, read_vector, read_sized, read_items, read_bounded, read_custom_name, read_func_type, read_import, read_export, read_u32, read_codes, read_size, read_start, skip_custom, skip_some_customs, skip_customs, read_part, read_section, strip_preamble, read_head, read_stores, read_middle, read_funcs, read_last, module_of, read_sections, read_module};
 
 use crate::code::read_codes;
-use crate::fault::{Fault, ReadError};
+use crate::fault::{Fault, Limited, Number, ReadError, Spot, What, Whole};
 use crate::items::{read_memory, read_start, read_table};
-use crate::numbers::{at_most, read_u32, skip_exact, strip_byte};
+use crate::numbers::{at_most, read_number, skip_exact, strip_byte};
 use crate::opcodes::{
     CODE_SECTION, CUSTOM_SECTION, DATA_SECTION, ELEMENT_SECTION, EXPORT_SECTION, FUNCTION_SECTION,
     GLOBAL_SECTION, IMPORT_SECTION, MEMORY_SECTION, PREAMBLE, START_SECTION, TABLE_SECTION,
@@ -29,9 +29,11 @@ use wasm_ast::{
 fn skip_custom(bytes: &[u8]) -> Result<&[u8], ReadError>
     ensures { Gives (λ x. x.now) result (skip_custom bytes.now) }
 {
-    let (size, rest) = read_u32(bytes)?;
-    let (_, _) = read_name(at_most(size, rest))?;
-    skip_exact(size, &[], rest)
+    let (size, rest) = read_number(Number::SectionSize, bytes)?;
+    if let Err(error) = read_name(at_most(size, rest)) {
+        return Err(error.within(Whole::Section, size, rest));
+    }
+    skip_exact(Whole::Section, size, &[], rest)
 }
 
 // The rest after all custom sections that come first.
@@ -78,15 +80,19 @@ fn read_section<'a, S: Section>(
     let Some(rest) = strip_byte(id, bytes) else {
         return Ok((Vec::new(alloc), bytes));
     };
-    let (size, rest) = read_u32(rest)?;
-    let (items, left) = section.read_contents(alloc, at_most(size, rest))?;
-    let rest = skip_customs(skip_exact(size, left, rest)?)?;
+    let (size, rest) = read_number(Number::SectionSize, rest)?;
+    let (items, left) = match section.read_contents(alloc, at_most(size, rest)) {
+        Ok(read) => read,
+        Err(error) => return Err(error.within(Whole::Section, size, rest)),
+    };
+    let rest = skip_customs(skip_exact(Whole::Section, size, left, rest)?)?;
     Ok((items, rest))
 }
 
-/// A section that is a vector, with no limit on its items.
+/// A section that is a vector, with no limit on its items, whose count is this number.
 #[derive(Drop)]
 struct VectorSection<T> {
+    count: Number,
     item: PhantomData<T>,
 }
 
@@ -100,7 +106,7 @@ impl<T: Decode + Drop> Section for VectorSection<T> {
         alloc: Global,
         bytes: &'a [u8],
     ) -> Result<(Vec<T>, &'a [u8]), ReadError> {
-        read_vector(alloc, bytes)
+        read_vector(self.count, alloc, bytes)
     }
 }
 
@@ -121,7 +127,7 @@ impl<T: Decode + Drop> Section for FunctionsSection<T> {
         alloc: Global,
         bytes: &'a [u8],
     ) -> Result<(Vec<T>, &'a [u8]), ReadError> {
-        read_bounded(alloc, MAX_FUNCTIONS, self.before, bytes)
+        read_bounded(Limited::Functions, alloc, MAX_FUNCTIONS, self.before, bytes)
     }
 }
 
@@ -174,7 +180,7 @@ impl Section for SizesSection {
         ensures { Gives (λ x. (x.0.items, x.1.now)) result
             (read_vector (read_size self.now.is_table true) bytes.now) }
     {
-        let (count, rest) = read_u32(bytes)?;
+        let (count, rest) = read_number(Number::Items, bytes)?;
         read_sizes(alloc, self.is_table, count, rest)
     }
 }
@@ -205,13 +211,18 @@ impl<'s> Section for CodeSection<'s> {
 
 fn read_vector_section<T: Decode + Drop>(
     id: u8,
+    count: Number,
     alloc: Global,
     bytes: &[u8],
 ) -> Result<(Vec<T>, &[u8]), ReadError>
     ensures { Gives (λ x. (x.0.items, x.1.now)) result
         (read_section id (read_vector T.reading) bytes.now) }
 {
-    read_section(id, &VectorSection { item: PhantomData }, alloc, bytes)
+    let section = VectorSection {
+        count,
+        item: PhantomData,
+    };
+    read_section(id, &section, alloc, bytes)
 }
 
 fn read_functions_section<T: Decode + Drop>(
@@ -243,7 +254,7 @@ fn read_front(alloc: Global, bytes: &[u8]) -> Result<(Front, &[u8]), ReadError>
     ensures { Gives (λ x. (head_of x.0, x.1.now)) result (read_head true bytes.now) }
 {
     let rest = skip_customs(bytes)?;
-    let (types, rest) = read_vector_section(TYPE_SECTION, alloc, rest)?;
+    let (types, rest) = read_vector_section(TYPE_SECTION, Number::Types, alloc, rest)?;
     let (imports, rest) = read_functions_section(IMPORT_SECTION, 0, alloc, rest)?;
     let (indices, rest) = read_functions_section(FUNCTION_SECTION, imports.len(), alloc, rest)?;
     Ok((
@@ -282,7 +293,7 @@ fn read_stores(alloc: Global, bytes: &[u8]) -> Result<(Stores, &[u8]), ReadError
 {
     let (tables, rest) = read_sizes_section(TABLE_SECTION, true, alloc, bytes)?;
     let (memories, rest) = read_sizes_section(MEMORY_SECTION, false, alloc, rest)?;
-    let (globals, rest) = read_vector_section(GLOBAL_SECTION, alloc, rest)?;
+    let (globals, rest) = read_vector_section(GLOBAL_SECTION, Number::Items, alloc, rest)?;
     Ok((
         Stores {
             tables,
@@ -302,9 +313,12 @@ fn read_start_section(bytes: &[u8]) -> Result<(Option<u32>, &[u8]), ReadError>
     let Some(rest) = strip_byte(START_SECTION, bytes) else {
         return Ok((None, bytes));
     };
-    let (size, rest) = read_u32(rest)?;
-    let (start, left) = read_start(at_most(size, rest))?;
-    let rest = skip_customs(skip_exact(size, left, rest)?)?;
+    let (size, rest) = read_number(Number::SectionSize, rest)?;
+    let (start, left) = match read_start(at_most(size, rest)) {
+        Ok(read) => read,
+        Err(error) => return Err(error.within(Whole::Section, size, rest)),
+    };
+    let rest = skip_customs(skip_exact(Whole::Section, size, left, rest)?)?;
     Ok((start, rest))
 }
 
@@ -320,9 +334,9 @@ struct Middle {
 fn read_middle(alloc: Global, bytes: &[u8]) -> Result<(Middle, &[u8]), ReadError>
     ensures { Gives (λ x. (between_of x.0, x.1.now)) result (read_middle true bytes.now) }
 {
-    let (exports, rest) = read_vector_section(EXPORT_SECTION, alloc, bytes)?;
+    let (exports, rest) = read_vector_section(EXPORT_SECTION, Number::Items, alloc, bytes)?;
     let (start, rest) = read_start_section(rest)?;
-    let (elements, rest) = read_vector_section(ELEMENT_SECTION, alloc, rest)?;
+    let (elements, rest) = read_vector_section(ELEMENT_SECTION, Number::Items, alloc, rest)?;
     Ok((
         Middle {
             exports,
@@ -331,6 +345,15 @@ fn read_middle(alloc: Global, bytes: &[u8]) -> Result<(Middle, &[u8]), ReadError
         },
         rest,
     ))
+}
+
+// That there is no code section, where these bytes follow the sections before it: the module ends or has its
+// data here, or else a section that may not be here.
+fn no_code(funcs: usize, rest: &[u8]) -> Spot {
+    match rest.first() {
+        None | Some(&DATA_SECTION) => Spot::at(rest, What::NoCode { funcs }),
+        Some(_) => Spot::at(rest, What::Section),
+    }
 }
 
 // The code of the functions with these type indices, all of them.
@@ -347,7 +370,7 @@ fn read_funcs<'a>(
     let section = CodeSection { types, indices };
     let (funcs, rest) = read_section(CODE_SECTION, &section, alloc, bytes)?;
     if funcs.len() != indices.len() {
-        return Err(ReadError::Fault(Fault::Bad));
+        return Err(ReadError::Fault(Fault::Bad, no_code(indices.len(), rest)));
     }
     Ok((funcs, rest))
 }
@@ -357,9 +380,9 @@ fn read_funcs<'a>(
 fn read_last(alloc: Global, bytes: &[u8]) -> Result<Vec<Segment>, ReadError>
     ensures { Gives (λ x. x.items) result (read_last true bytes.now) }
 {
-    let (segments, rest) = read_vector_section(DATA_SECTION, alloc, bytes)?;
+    let (segments, rest) = read_vector_section(DATA_SECTION, Number::Items, alloc, bytes)?;
     if !rest.is_empty() {
-        return Err(ReadError::Fault(Fault::Bad));
+        return Err(ReadError::Fault(Fault::Bad, Spot::at(rest, What::Section)));
     }
     Ok(segments)
 }
@@ -428,10 +451,10 @@ pub fn read_module(alloc: Global, bytes: &[u8]) -> Result<Module, ReadError>
         × (strip_preamble bytes.now ≡ Ok (drop 8 bytes.now)) }
 {
     if bytes.len() > MAX_MODULE_BYTES {
-        return Err(ReadError::Fault(Fault::Over));
+        return Err(ReadError::Fault(Fault::Over, Spot::at(bytes, What::Size)));
     }
     match bytes.strip_prefix(&PREAMBLE) {
         Some(sections) => read_sections(alloc, sections),
-        None => Err(ReadError::Fault(Fault::Bad)),
+        None => Err(ReadError::Fault(Fault::Bad, Spot::at(bytes, What::Preamble))),
     }
 }

@@ -3,8 +3,8 @@
 ghost use Rattle.std.specs.Prelude.{◌≡◌, ◌≤◌, ◌<◌, ◌^◌, true, length, take};
 ghost use Rattle.wasm_binary.specs.Inside.Reading.{Gives, read_vector, read_name, val_type_of, read_val_type, read_func_type, read_block_index, read_block_type, read_min, read_limits};
 
-use crate::fault::{Fault, ReadError};
-use crate::numbers::{read_byte, read_byte_vector, read_s33, read_u32, skip_byte, strip_byte};
+use crate::fault::{Fault, Limited, Number, ReadError, Spot, Wanted, What};
+use crate::numbers::{read_byte, read_byte_vector, read_number, read_s33, skip_byte, strip_byte};
 use crate::opcodes::{EMPTY, FUNC_TYPE, I32, I64, MIN, MIN_MAX};
 use crate::vectors::{Decode, read_bounded, read_vector};
 use std::alloc::Global;
@@ -15,10 +15,13 @@ use wasm_ast::{BlockType, FuncType, Limits, MAX_RESULTS, Sequence, ValType};
 pub fn read_name(bytes: &[u8]) -> Result<(&str, &[u8]), ReadError>
     ensures { Gives (λ x. (x.0.now, x.1.now)) result (read_name bytes.now) }
 {
-    let (front, rest) = read_byte_vector(bytes)?;
+    let (front, rest) = read_byte_vector(Wanted::Name, bytes)?;
     match str::from_utf8(front) {
         Ok(name) => Ok((name, rest)),
-        Err(_) => Err(ReadError::Fault(Fault::Bad)),
+        Err(_) => {
+            let spot = Spot::at(bytes, What::Wanted(Wanted::Name));
+            Err(ReadError::Fault(Fault::Bad, spot))
+        }
     }
 }
 
@@ -27,11 +30,11 @@ pub fn read_name(bytes: &[u8]) -> Result<(&str, &[u8]), ReadError>
 pub fn read_val_type(bytes: &[u8]) -> Result<(ValType, &[u8]), ReadError>
     ensures { Gives (λ x. (x.0, x.1.now)) result (read_val_type bytes.now) }
 {
-    let (first, rest) = read_byte(bytes)?;
+    let (first, rest) = read_byte(What::ValType, bytes)?;
     match first {
         I32 => Ok((ValType::I32, rest)),
         I64 => Ok((ValType::I64, rest)),
-        _ => Err(ReadError::Fault(Fault::Bad)),
+        _ => Err(ReadError::Fault(Fault::Bad, Spot::at(bytes, What::ValType))),
     }
 }
 
@@ -49,26 +52,32 @@ impl Decode for FuncType {
     #[tactic(auto, unfolding(crate::specs::Inside::Reading::read_func_type))]
     fn read(alloc: Global, bytes: &[u8]) -> Result<(FuncType, &[u8]), ReadError> {
         let Some(rest) = strip_byte(FUNC_TYPE, bytes) else {
-            return Err(ReadError::Fault(Fault::Bad));
+            let spot = Spot::at(bytes, What::Wanted(Wanted::FuncType));
+            return Err(ReadError::Fault(Fault::Bad, spot));
         };
-        let (params, rest) = read_vector(alloc, rest)?;
-        let (results, rest) = read_bounded(alloc, MAX_RESULTS, 0, rest)?;
+        let (params, rest) = read_vector(Number::Params, alloc, rest)?;
+        let (results, rest) = read_bounded(Limited::Results, alloc, MAX_RESULTS, 0, rest)?;
         let params = Sequence::new(params);
         let results = Sequence::new(results);
         Ok((FuncType { params, results }, rest))
     }
 }
 
+const BLOCK_TYPE: What = What::Wanted(Wanted::BlockType);
+
 // The type of a block that is the index of a type, and the rest.
 #[tactic(auto, unfolding(crate::specs::Inside::Reading::read_block_index))]
 fn read_block_index(bytes: &[u8]) -> Result<(BlockType, &[u8]), ReadError>
     ensures { Gives (λ x. (x.0, x.1.now)) result (read_block_index bytes.now) }
 {
-    let (index, rest) = read_s33(bytes)?;
+    let (index, rest) = match read_s33(bytes) {
+        Ok(read) => read,
+        Err(error) => return Err(error.at(bytes, BLOCK_TYPE)),
+    };
     if index < 1 << 32 {
         Ok((BlockType::Index(index as u32), rest))
     } else {
-        Err(ReadError::Fault(Fault::Bad))
+        Err(ReadError::Fault(Fault::Bad, Spot::at(bytes, BLOCK_TYPE)))
     }
 }
 
@@ -92,28 +101,30 @@ pub fn read_block_type(bytes: &[u8]) -> Result<(BlockType, &[u8]), ReadError>
 
 // A size that may not be over the limit, and the rest.
 #[tactic(auto, unfolding(crate::specs::Inside::Reading::read_min))]
-fn read_min(most: u32, bytes: &[u8]) -> Result<(u32, &[u8]), ReadError>
+fn read_min(what: Limited, most: u32, bytes: &[u8]) -> Result<(u32, &[u8]), ReadError>
     ensures { Gives (λ x. (x.0, x.1.now)) result (read_min true most bytes.now) }
 {
-    let (min, rest) = read_u32(bytes)?;
+    let (min, rest) = read_number(Number::Limited(what), bytes)?;
     if min > most {
-        return Err(ReadError::Fault(Fault::Over));
+        let found = u64::from(min);
+        let spot = Spot::at(bytes, What::Over { what, found });
+        return Err(ReadError::Fault(Fault::Over, spot));
     }
     Ok((min, rest))
 }
 
-/// Limits (5.3.4) whose first size may not be over this one, and the rest.
+/// Limits (5.3.4) whose first size, which is this, may not be over this limit, and the rest.
 #[tactic(auto, unfolding(crate::specs::Inside::Reading::read_limits))]
-pub fn read_limits(most: u32, bytes: &[u8]) -> Result<(Limits, &[u8]), ReadError>
+pub fn read_limits(what: Limited, most: u32, bytes: &[u8]) -> Result<(Limits, &[u8]), ReadError>
     ensures { Gives (λ x. (x.0, x.1.now)) result (read_limits true most bytes.now) }
 {
     if let Some(rest) = strip_byte(MIN, bytes) {
-        let (min, rest) = read_min(most, rest)?;
+        let (min, rest) = read_min(what, most, rest)?;
         return Ok((Limits { min, max: None }, rest));
     }
-    let rest = skip_byte(MIN_MAX, bytes)?;
-    let (min, rest) = read_min(most, rest)?;
-    let (max, rest) = read_u32(rest)?;
+    let rest = skip_byte(MIN_MAX, What::Wanted(Wanted::Limits), bytes)?;
+    let (min, rest) = read_min(what, most, rest)?;
+    let (max, rest) = read_number(Number::GreatestSize, rest)?;
     Ok((
         Limits {
             min,

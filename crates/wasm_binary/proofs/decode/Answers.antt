@@ -21,48 +21,55 @@ returns-in-Ok-clause-read c = λ m s w few.
     (one_module c.args.bytes.now c.in-Ok.module m
     (decoded c.args.bytes.now c.in-Ok.module c.in-Ok.ensures.value).0 s))
 
-pub returns-in-Err-Fault-Bad-clause-read : goal.returns-in-Err-Fault-Bad-clause-read
-returns-in-Err-Fault-Bad-clause-read c = λ m s w few.
+pub returns-in-Err-Fault-Bad-default-clause-read : goal.returns-in-Err-Fault-Bad-default-clause-read
+returns-in-Err-Fault-Bad-default-clause-read c = λ m s w few.
     let e :
     read_module true c.args.bytes.now ≡ Err fault.Bad =
-    by_fault c.in-Err-Fault-Bad.field-0 c.in-Err-Fault-Bad.field-0-0 fault.Bad (read_module true c.args.bytes.now)
-    c.in-Err-Fault-Bad.field-0-is c.in-Err-Fault-Bad.field-0-0-is c.in-Err-Fault-Bad.ensures.value in
+    by_fault c.in-Err-Fault-Bad-default.field-0 c.in-Err-Fault-Bad-default.field-0-0
+        c.in-Err-Fault-Bad-default.field-0-1 fault.Bad (read_module true c.args.bytes.now)
+    c.in-Err-Fault-Bad-default.field-0-is c.in-Err-Fault-Bad-default.field-0-0-is
+        c.in-Err-Fault-Bad-default.ensures.value in
     absurd (not_spelled c.args.bytes.now e m s)
 
-pub returns-in-Err-Fault-Bad-clause-bad : goal.returns-in-Err-Fault-Bad-clause-bad
-returns-in-Err-Fault-Bad-clause-bad c = λ _.
+pub returns-in-Err-Fault-Bad-default-clause-bad : goal.returns-in-Err-Fault-Bad-default-clause-bad
+returns-in-Err-Fault-Bad-default-clause-bad c = λ _.
     let e :
     read_module true c.args.bytes.now ≡ Err fault.Bad =
-    by_fault c.in-Err-Fault-Bad.field-0 c.in-Err-Fault-Bad.field-0-0 fault.Bad (read_module true c.args.bytes.now)
-    c.in-Err-Fault-Bad.field-0-is c.in-Err-Fault-Bad.field-0-0-is c.in-Err-Fault-Bad.ensures.value in
+    by_fault c.in-Err-Fault-Bad-default.field-0 c.in-Err-Fault-Bad-default.field-0-0
+        c.in-Err-Fault-Bad-default.field-0-1 fault.Bad (read_module true c.args.bytes.now)
+    c.in-Err-Fault-Bad-default.field-0-is c.in-Err-Fault-Bad-default.field-0-0-is
+        c.in-Err-Fault-Bad-default.ensures.value in
     not_spelled c.args.bytes.now e
 
-pub returns-in-Err-Fault-Over-clause-read : goal.returns-in-Err-Fault-Over-clause-read
-returns-in-Err-Fault-Over-clause-read c = λ m s w few.
+pub returns-in-Err-Fault-Over-default-clause-read : goal.returns-in-Err-Fault-Over-default-clause-read
+returns-in-Err-Fault-Over-default-clause-read c = λ m s w few.
     let e :
     read_module true c.args.bytes.now ≡ Err fault.Over =
-    by_fault c.in-Err-Fault-Over.field-0 c.in-Err-Fault-Over.field-0-0 fault.Over
-    (read_module true c.args.bytes.now) c.in-Err-Fault-Over.field-0-is c.in-Err-Fault-Over.field-0-0-is
-    c.in-Err-Fault-Over.ensures.value in
+    by_fault c.in-Err-Fault-Over-default.field-0 c.in-Err-Fault-Over-default.field-0-0
+        c.in-Err-Fault-Over-default.field-0-1 fault.Over
+    (read_module true c.args.bytes.now) c.in-Err-Fault-Over-default.field-0-is c.in-Err-Fault-Over-default.field-0-0-is
+    c.in-Err-Fault-Over-default.ensures.value in
     absurd (none_within c.args.bytes.now e m s w few)
 
-pub returns-in-Err-Fault-Over-clause-over : goal.returns-in-Err-Fault-Over-clause-over
-returns-in-Err-Fault-Over-clause-over c = λ _.
+pub returns-in-Err-Fault-Over-default-clause-over : goal.returns-in-Err-Fault-Over-default-clause-over
+returns-in-Err-Fault-Over-default-clause-over c = λ _.
     let e :
     read_module true c.args.bytes.now ≡ Err fault.Over =
-    by_fault c.in-Err-Fault-Over.field-0 c.in-Err-Fault-Over.field-0-0 fault.Over
-    (read_module true c.args.bytes.now) c.in-Err-Fault-Over.field-0-is c.in-Err-Fault-Over.field-0-0-is
-    c.in-Err-Fault-Over.ensures.value in
+    by_fault c.in-Err-Fault-Over-default.field-0 c.in-Err-Fault-Over-default.field-0-0
+        c.in-Err-Fault-Over-default.field-0-1 fault.Over
+    (read_module true c.args.bytes.now) c.in-Err-Fault-Over-default.field-0-is c.in-Err-Fault-Over-default.field-0-0-is
+    c.in-Err-Fault-Over-default.ensures.value in
     passes c.args.bytes.now e
 
-pub returns-in-Err-Fault-Over-clause-none_within :
-    goal.returns-in-Err-Fault-Over-clause-none_within
-returns-in-Err-Fault-Over-clause-none_within c = λ _.
+pub returns-in-Err-Fault-Over-default-clause-none_within :
+    goal.returns-in-Err-Fault-Over-default-clause-none_within
+returns-in-Err-Fault-Over-default-clause-none_within c = λ _.
     let e :
     read_module true c.args.bytes.now ≡ Err fault.Over =
-    by_fault c.in-Err-Fault-Over.field-0 c.in-Err-Fault-Over.field-0-0 fault.Over
-    (read_module true c.args.bytes.now) c.in-Err-Fault-Over.field-0-is c.in-Err-Fault-Over.field-0-0-is
-    c.in-Err-Fault-Over.ensures.value in
+    by_fault c.in-Err-Fault-Over-default.field-0 c.in-Err-Fault-Over-default.field-0-0
+        c.in-Err-Fault-Over-default.field-0-1 fault.Over
+    (read_module true c.args.bytes.now) c.in-Err-Fault-Over-default.field-0-is c.in-Err-Fault-Over-default.field-0-0-is
+    c.in-Err-Fault-Over-default.ensures.value in
     none_within c.args.bytes.now e
 
 pub returns-in-Ok-clause-ranged : goal.returns-in-Ok-clause-ranged
@@ -76,12 +83,14 @@ returns-in-Ok-clause-limit c = λ over.
     sym c.in-Ok.ensures.value ∙ read_over c.args.bytes.now over in
     absurd cc
 
-pub returns-in-Err-Fault-Bad-clause-limit : goal.returns-in-Err-Fault-Bad-clause-limit
-returns-in-Err-Fault-Bad-clause-limit c = λ over.
+pub returns-in-Err-Fault-Bad-default-clause-limit : goal.returns-in-Err-Fault-Bad-default-clause-limit
+returns-in-Err-Fault-Bad-default-clause-limit c = λ over.
     let e :
     read_module true c.args.bytes.now ≡ Err fault.Bad =
-    by_fault c.in-Err-Fault-Bad.field-0 c.in-Err-Fault-Bad.field-0-0 fault.Bad (read_module true c.args.bytes.now)
-    c.in-Err-Fault-Bad.field-0-is c.in-Err-Fault-Bad.field-0-0-is c.in-Err-Fault-Bad.ensures.value in
+    by_fault c.in-Err-Fault-Bad-default.field-0 c.in-Err-Fault-Bad-default.field-0-0
+        c.in-Err-Fault-Bad-default.field-0-1 fault.Bad (read_module true c.args.bytes.now)
+    c.in-Err-Fault-Bad-default.field-0-is c.in-Err-Fault-Bad-default.field-0-0-is
+        c.in-Err-Fault-Bad-default.ensures.value in
     let k : ◌≡◌ {A = Result Module Fault} (Err fault.Bad) (Err fault.Over) = sym e ∙ read_over c.args.bytes.now over in
     absurd cc
 
@@ -100,14 +109,15 @@ returns-in-Err-Memory-clause-no_preamble c = λ few none.
     sym k.1 ∙ no_preamble c.args.bytes.now none in
     absurd cc
 
-pub returns-in-Err-Fault-Over-clause-no_preamble :
-    goal.returns-in-Err-Fault-Over-clause-no_preamble
-returns-in-Err-Fault-Over-clause-no_preamble c = λ few none.
+pub returns-in-Err-Fault-Over-default-clause-no_preamble :
+    goal.returns-in-Err-Fault-Over-default-clause-no_preamble
+returns-in-Err-Fault-Over-default-clause-no_preamble c = λ few none.
     let e :
     read_module true c.args.bytes.now ≡ Err fault.Over =
-    by_fault c.in-Err-Fault-Over.field-0 c.in-Err-Fault-Over.field-0-0 fault.Over
-    (read_module true c.args.bytes.now) c.in-Err-Fault-Over.field-0-is c.in-Err-Fault-Over.field-0-0-is
-    c.in-Err-Fault-Over.ensures.value in
+    by_fault c.in-Err-Fault-Over-default.field-0 c.in-Err-Fault-Over-default.field-0-0
+        c.in-Err-Fault-Over-default.field-0-1 fault.Over
+    (read_module true c.args.bytes.now) c.in-Err-Fault-Over-default.field-0-is c.in-Err-Fault-Over-default.field-0-0-is
+    c.in-Err-Fault-Over-default.ensures.value in
     let k :
     ◌≡◌ {A = Result Module Fault} (Err fault.Over) (Err fault.Bad) =
     sym e ∙ bad_preamble c.args.bytes.now few none in
@@ -120,11 +130,13 @@ returns-in-Ok-clause-too_many c = λ many.
     sym c.in-Ok.ensures.value ∙ too_long c.args.bytes.now many in
     absurd cc
 
-pub returns-in-Err-Fault-Bad-clause-too_many : goal.returns-in-Err-Fault-Bad-clause-too_many
-returns-in-Err-Fault-Bad-clause-too_many c = λ many.
+pub returns-in-Err-Fault-Bad-default-clause-too_many : goal.returns-in-Err-Fault-Bad-default-clause-too_many
+returns-in-Err-Fault-Bad-default-clause-too_many c = λ many.
     let e :
     read_module true c.args.bytes.now ≡ Err fault.Bad =
-    by_fault c.in-Err-Fault-Bad.field-0 c.in-Err-Fault-Bad.field-0-0 fault.Bad (read_module true c.args.bytes.now)
-    c.in-Err-Fault-Bad.field-0-is c.in-Err-Fault-Bad.field-0-0-is c.in-Err-Fault-Bad.ensures.value in
+    by_fault c.in-Err-Fault-Bad-default.field-0 c.in-Err-Fault-Bad-default.field-0-0
+        c.in-Err-Fault-Bad-default.field-0-1 fault.Bad (read_module true c.args.bytes.now)
+    c.in-Err-Fault-Bad-default.field-0-is c.in-Err-Fault-Bad-default.field-0-0-is
+        c.in-Err-Fault-Bad-default.ensures.value in
     let k : ◌≡◌ {A = Result Module Fault} (Err fault.Bad) (Err fault.Over) = sym e ∙ too_long c.args.bytes.now many in
     absurd cc

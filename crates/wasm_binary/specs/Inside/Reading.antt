@@ -50,10 +50,18 @@ abbrev pub ◌>>=◌ : {A B : Type 0} → Result A Fault → (A → Result B Fau
 (Ok x) >>= f = f x
 (Err e) >>= f = Err e
 
+-- the fault of bytes that could not be read, wherever it is; none if memory ran out
+abbrev pub fault_of : ReadError → Option Fault
+fault_of errors.Memory = None
+fault_of (errors.Fault f spot) = Some f
+
 -- what a function returned, seen by view, is what reading gives, unless memory ran out
+abbrev pub FailsBy : {Y : Type 0} → Option Fault → Result Y Fault → Type 0
+FailsBy None read = Unit {0}
+FailsBy (Some f) read = read ≡ Err f
+
 abbrev pub Fails : {Y : Type 0} → ReadError → Result Y Fault → Type 0
-Fails errors.Memory read = Unit {0}
-Fails (errors.Fault f) read = read ≡ Err f
+Fails e read = FailsBy (fault_of e) read
 
 abbrev pub Gives : {X Y : Type 0} → (X → Y) → Result X ReadError → Result Y Fault → Type 0
 Gives view (Ok x) read = read ≡ Ok (view x)

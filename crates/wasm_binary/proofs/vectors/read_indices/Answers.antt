@@ -8,7 +8,7 @@ returns-in_err-count-clause-count c more =
     absurd (has_count c.in_err-count.field-0.0 c.args.bytes.now more c.in_err-count.ensures.value
     (λ memory. c.in_err-count.ensures.no_memory (ap Err memory)))
 
-pub returns-then-rest-count-clause-value : goal.returns-then-rest-count-clause-value
+pub returns-then-left-count-clause-value : goal.returns-then-left-count-clause-value
 unfolding read_vector
-returns-then-rest-count-clause-value c =
-    rw c.in_ok-count.ensures.value (too_many c.in_ok-count.count c.in_ok-count.rest.now c.if-rest-count.true)
+returns-then-left-count-clause-value c =
+    rw c.in_ok-count.ensures.value (too_many c.in_ok-count.count c.in_ok-count.rest.now (c.if-left-count.true))
