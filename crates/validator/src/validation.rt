@@ -1,6 +1,6 @@
 //! The validation of a module (3.4.10).
 
-ghost use Rattle.std.specs.Prelude.{◌≡◌, ◌≤◌, ◌<◌, ◌^◌, ◌+◌, ◌⊎◌, ◌&&◌, ℕ, IsTrue, IfOk, IfSome, OnOk, OnErr, Err, true, false, Option, Some, [], All, map, length};
+ghost use Rattle.std.specs.Prelude.{◌≡◌, ◌≤◌, ◌<◌, ◌^◌, ◌+◌, ◌⊎◌, ◌&&◌, ℕ, IsTrue, IfOk, IfSome, OnOk, OnErr, Err, true, false, Option, Some, None, [], All, map, length};
 ghost use Rattle.wasm_ast.specs.Syntax.{ops_count};
 ghost use Rattle.wasm_ast.specs.declared.place.Place.{Place};
 ghost use Rattle.wasm_ast.specs.declared.refusal.Refusal.TheVariants as refusal;
@@ -9,7 +9,7 @@ ghost use Rattle.validator.specs.Faults.{NamesFault};
 ghost use Rattle.validator.specs.Inside.FunctionContext.{passes_func};
 ghost use Rattle.validator.specs.Inside.ModuleTests.{declares_validly, defines_validly};
 ghost use Rattle.validator.specs.Inside.CheckErrors.{IsAt};
-ghost use Rattle.validator.specs.declared.check_error.BodyError.TheVariants.{Invalid};
+ghost use Rattle.validator.specs.declared.check_error.BodyError.TheVariants.{Invalid, Memory};
 
 use crate::block_types::BlockTypes;
 use crate::bodies::check_body;
@@ -90,6 +90,9 @@ fn refusal_at(of: &Module, own: usize, error: BodyError) -> Refusal
     ensures at { (at : Option Place) → result ≡ refusal.Invalid at → IsAt of.now own error at }
     ensures err { ((at : Option Place) × (result ≡ refusal.Invalid at))
         ⊎ (result ≡ refusal.NoMemory) }
+    // Memory is told of only if it ran out, or for an index of more than 32 bits.
+    ensures memory { result ≡ refusal.NoMemory
+        → (error ≡ Memory) ⊎ (2 ^ 32 ≤ length of.now.imports + own) }
 {
     let BodyError::Invalid(instr) = error else {
         return Refusal::NoMemory;
@@ -102,7 +105,8 @@ fn refusal_at(of: &Module, own: usize, error: BodyError) -> Refusal
 
 // The index of the module's own function with this number. None if it has more than 32 bits.
 fn index_of(of: &Module, own: usize) -> Option<u32>
-    ensures { IfSome result (λ func. func ≡ length of.now.imports + own) }
+    ensures index { IfSome result (λ func. func ≡ length of.now.imports + own) }
+    ensures none { result ≡ None → 2 ^ 32 ≤ length of.now.imports + own }
 {
     let index = of.imports.len().checked_add(own)?;
     u32::try_from(index).ok()

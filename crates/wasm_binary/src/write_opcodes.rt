@@ -1,7 +1,6 @@
 //! Which opcode an instruction without a body has (5.4).
 
 ghost use Rattle.std.specs.Prelude.{◌≡◌};
-ghost use Rattle.wasm_ast.specs.declared.values.ValType.TheVariants as type;
 ghost use Rattle.wasm_binary.specs.Opcodes.{local_byte, global_byte, load_byte, store_byte, test_byte, compare_byte, unary_byte, binary_byte, convert_byte, opcode};
 
 use crate::opcodes;
@@ -71,101 +70,32 @@ fn test_byte(val_type: ValType, op: TestOp) -> u8
     }
 }
 
-fn i32_compare_byte(op: RelationOp) -> u8
-    ensures { result ≡ compare_byte type.I32 op }
+// The variants of an operator are in the order of their opcodes, those of each type one after the other.
+
+fn compare_byte(val_type: ValType, op: RelationOp) -> u8
+    ensures { result ≡ compare_byte val_type op }
 {
-    match op {
-        RelationOp::Eq => opcodes::I32_EQ,
-        RelationOp::Ne => opcodes::I32_NE,
-        RelationOp::LtS => opcodes::I32_LT_S,
-        RelationOp::LtU => opcodes::I32_LT_U,
-        RelationOp::GtS => opcodes::I32_GT_S,
-        RelationOp::GtU => opcodes::I32_GT_U,
-        RelationOp::LeS => opcodes::I32_LE_S,
-        RelationOp::LeU => opcodes::I32_LE_U,
-        RelationOp::GeS => opcodes::I32_GE_S,
-        RelationOp::GeU => opcodes::I32_GE_U,
+    match val_type {
+        ValType::I32 => opcodes::I32_EQ + op as u8,
+        ValType::I64 => opcodes::I64_EQ + op as u8,
     }
 }
 
-fn i64_compare_byte(op: RelationOp) -> u8
-    ensures { result ≡ compare_byte type.I64 op }
+fn unary_byte(val_type: ValType, op: UnaryOp) -> u8
+    ensures { result ≡ unary_byte val_type op }
 {
-    match op {
-        RelationOp::Eq => opcodes::I64_EQ,
-        RelationOp::Ne => opcodes::I64_NE,
-        RelationOp::LtS => opcodes::I64_LT_S,
-        RelationOp::LtU => opcodes::I64_LT_U,
-        RelationOp::GtS => opcodes::I64_GT_S,
-        RelationOp::GtU => opcodes::I64_GT_U,
-        RelationOp::LeS => opcodes::I64_LE_S,
-        RelationOp::LeU => opcodes::I64_LE_U,
-        RelationOp::GeS => opcodes::I64_GE_S,
-        RelationOp::GeU => opcodes::I64_GE_U,
+    match val_type {
+        ValType::I32 => opcodes::I32_CLZ + op as u8,
+        ValType::I64 => opcodes::I64_CLZ + op as u8,
     }
 }
 
-fn i32_unary_byte(op: UnaryOp) -> u8
-    ensures { result ≡ unary_byte type.I32 op }
+fn binary_byte(val_type: ValType, op: BinaryOp) -> u8
+    ensures { result ≡ binary_byte val_type op }
 {
-    match op {
-        UnaryOp::Clz => opcodes::I32_CLZ,
-        UnaryOp::Ctz => opcodes::I32_CTZ,
-        UnaryOp::Popcnt => opcodes::I32_POPCNT,
-    }
-}
-
-fn i64_unary_byte(op: UnaryOp) -> u8
-    ensures { result ≡ unary_byte type.I64 op }
-{
-    match op {
-        UnaryOp::Clz => opcodes::I64_CLZ,
-        UnaryOp::Ctz => opcodes::I64_CTZ,
-        UnaryOp::Popcnt => opcodes::I64_POPCNT,
-    }
-}
-
-fn i32_binary_byte(op: BinaryOp) -> u8
-    ensures { result ≡ binary_byte type.I32 op }
-{
-    match op {
-        BinaryOp::Add => opcodes::I32_ADD,
-        BinaryOp::Sub => opcodes::I32_SUB,
-        BinaryOp::Mul => opcodes::I32_MUL,
-        BinaryOp::DivS => opcodes::I32_DIV_S,
-        BinaryOp::DivU => opcodes::I32_DIV_U,
-        BinaryOp::RemS => opcodes::I32_REM_S,
-        BinaryOp::RemU => opcodes::I32_REM_U,
-        BinaryOp::And => opcodes::I32_AND,
-        BinaryOp::Or => opcodes::I32_OR,
-        BinaryOp::Xor => opcodes::I32_XOR,
-        BinaryOp::Shl => opcodes::I32_SHL,
-        BinaryOp::ShrS => opcodes::I32_SHR_S,
-        BinaryOp::ShrU => opcodes::I32_SHR_U,
-        BinaryOp::Rotl => opcodes::I32_ROTL,
-        BinaryOp::Rotr => opcodes::I32_ROTR,
-    }
-}
-
-fn i64_binary_byte(op: BinaryOp) -> u8
-    ensures { result ≡ binary_byte type.I64 op }
-{
-    match op {
-        BinaryOp::Add => opcodes::I64_ADD,
-        BinaryOp::Sub => opcodes::I64_SUB,
-        BinaryOp::Mul => opcodes::I64_MUL,
-        BinaryOp::DivS => opcodes::I64_DIV_S,
-        BinaryOp::DivU => opcodes::I64_DIV_U,
-        BinaryOp::RemS => opcodes::I64_REM_S,
-        BinaryOp::RemU => opcodes::I64_REM_U,
-        BinaryOp::And => opcodes::I64_AND,
-        BinaryOp::Or => opcodes::I64_OR,
-        BinaryOp::Xor => opcodes::I64_XOR,
-        BinaryOp::Shl => opcodes::I64_SHL,
-        BinaryOp::ShrS => opcodes::I64_SHR_S,
-        BinaryOp::ShrU => opcodes::I64_SHR_U,
-        BinaryOp::Rotl => opcodes::I64_ROTL,
-        BinaryOp::Rotr => opcodes::I64_ROTR,
+    match val_type {
+        ValType::I32 => opcodes::I32_ADD + op as u8,
+        ValType::I64 => opcodes::I64_ADD + op as u8,
     }
 }
 
@@ -208,12 +138,9 @@ pub fn opcode(simple: &Simple) -> u8
         Simple::Const(Value::I32(_)) => opcodes::I32_CONST,
         Simple::Const(Value::I64(_)) => opcodes::I64_CONST,
         Simple::Test(val_type, op) => test_byte(*val_type, *op),
-        Simple::Compare(ValType::I32, op) => i32_compare_byte(*op),
-        Simple::Compare(ValType::I64, op) => i64_compare_byte(*op),
-        Simple::Unary(ValType::I32, op) => i32_unary_byte(*op),
-        Simple::Unary(ValType::I64, op) => i64_unary_byte(*op),
-        Simple::Binary(ValType::I32, op) => i32_binary_byte(*op),
-        Simple::Binary(ValType::I64, op) => i64_binary_byte(*op),
+        Simple::Compare(val_type, op) => compare_byte(*val_type, *op),
+        Simple::Unary(val_type, op) => unary_byte(*val_type, *op),
+        Simple::Binary(val_type, op) => binary_byte(*val_type, *op),
         Simple::Convert(op) => convert_byte(*op),
     }
 }

@@ -26,9 +26,9 @@ returns-in-Err-Fault-Bad-default-clause-read c = λ m s w few.
     let e :
     read_module true c.args.bytes.now ≡ Err fault.Bad =
     by_fault c.in-Err-Fault-Bad-default.field-0 c.in-Err-Fault-Bad-default.field-0-0
-        c.in-Err-Fault-Bad-default.field-0-1 fault.Bad (read_module true c.args.bytes.now)
+    c.in-Err-Fault-Bad-default.field-0-1 fault.Bad (read_module true c.args.bytes.now)
     c.in-Err-Fault-Bad-default.field-0-is c.in-Err-Fault-Bad-default.field-0-0-is
-        c.in-Err-Fault-Bad-default.ensures.value in
+    c.in-Err-Fault-Bad-default.ensures.value in
     absurd (not_spelled c.args.bytes.now e m s)
 
 pub returns-in-Err-Fault-Bad-default-clause-bad : goal.returns-in-Err-Fault-Bad-default-clause-bad
@@ -36,9 +36,9 @@ returns-in-Err-Fault-Bad-default-clause-bad c = λ _.
     let e :
     read_module true c.args.bytes.now ≡ Err fault.Bad =
     by_fault c.in-Err-Fault-Bad-default.field-0 c.in-Err-Fault-Bad-default.field-0-0
-        c.in-Err-Fault-Bad-default.field-0-1 fault.Bad (read_module true c.args.bytes.now)
+    c.in-Err-Fault-Bad-default.field-0-1 fault.Bad (read_module true c.args.bytes.now)
     c.in-Err-Fault-Bad-default.field-0-is c.in-Err-Fault-Bad-default.field-0-0-is
-        c.in-Err-Fault-Bad-default.ensures.value in
+    c.in-Err-Fault-Bad-default.ensures.value in
     not_spelled c.args.bytes.now e
 
 pub returns-in-Err-Fault-Over-default-clause-read : goal.returns-in-Err-Fault-Over-default-clause-read
@@ -46,7 +46,7 @@ returns-in-Err-Fault-Over-default-clause-read c = λ m s w few.
     let e :
     read_module true c.args.bytes.now ≡ Err fault.Over =
     by_fault c.in-Err-Fault-Over-default.field-0 c.in-Err-Fault-Over-default.field-0-0
-        c.in-Err-Fault-Over-default.field-0-1 fault.Over
+    c.in-Err-Fault-Over-default.field-0-1 fault.Over
     (read_module true c.args.bytes.now) c.in-Err-Fault-Over-default.field-0-is c.in-Err-Fault-Over-default.field-0-0-is
     c.in-Err-Fault-Over-default.ensures.value in
     absurd (none_within c.args.bytes.now e m s w few)
@@ -56,7 +56,7 @@ returns-in-Err-Fault-Over-default-clause-over c = λ _.
     let e :
     read_module true c.args.bytes.now ≡ Err fault.Over =
     by_fault c.in-Err-Fault-Over-default.field-0 c.in-Err-Fault-Over-default.field-0-0
-        c.in-Err-Fault-Over-default.field-0-1 fault.Over
+    c.in-Err-Fault-Over-default.field-0-1 fault.Over
     (read_module true c.args.bytes.now) c.in-Err-Fault-Over-default.field-0-is c.in-Err-Fault-Over-default.field-0-0-is
     c.in-Err-Fault-Over-default.ensures.value in
     passes c.args.bytes.now e
@@ -67,7 +67,7 @@ returns-in-Err-Fault-Over-default-clause-none_within c = λ _.
     let e :
     read_module true c.args.bytes.now ≡ Err fault.Over =
     by_fault c.in-Err-Fault-Over-default.field-0 c.in-Err-Fault-Over-default.field-0-0
-        c.in-Err-Fault-Over-default.field-0-1 fault.Over
+    c.in-Err-Fault-Over-default.field-0-1 fault.Over
     (read_module true c.args.bytes.now) c.in-Err-Fault-Over-default.field-0-is c.in-Err-Fault-Over-default.field-0-0-is
     c.in-Err-Fault-Over-default.ensures.value in
     none_within c.args.bytes.now e
@@ -88,9 +88,9 @@ returns-in-Err-Fault-Bad-default-clause-limit c = λ over.
     let e :
     read_module true c.args.bytes.now ≡ Err fault.Bad =
     by_fault c.in-Err-Fault-Bad-default.field-0 c.in-Err-Fault-Bad-default.field-0-0
-        c.in-Err-Fault-Bad-default.field-0-1 fault.Bad (read_module true c.args.bytes.now)
+    c.in-Err-Fault-Bad-default.field-0-1 fault.Bad (read_module true c.args.bytes.now)
     c.in-Err-Fault-Bad-default.field-0-is c.in-Err-Fault-Bad-default.field-0-0-is
-        c.in-Err-Fault-Bad-default.ensures.value in
+    c.in-Err-Fault-Bad-default.ensures.value in
     let k : ◌≡◌ {A = Result Module Fault} (Err fault.Bad) (Err fault.Over) = sym e ∙ read_over c.args.bytes.now over in
     absurd cc
 
@@ -115,7 +115,7 @@ returns-in-Err-Fault-Over-default-clause-no_preamble c = λ few none.
     let e :
     read_module true c.args.bytes.now ≡ Err fault.Over =
     by_fault c.in-Err-Fault-Over-default.field-0 c.in-Err-Fault-Over-default.field-0-0
-        c.in-Err-Fault-Over-default.field-0-1 fault.Over
+    c.in-Err-Fault-Over-default.field-0-1 fault.Over
     (read_module true c.args.bytes.now) c.in-Err-Fault-Over-default.field-0-is c.in-Err-Fault-Over-default.field-0-0-is
     c.in-Err-Fault-Over-default.ensures.value in
     let k :
@@ -135,8 +135,8 @@ returns-in-Err-Fault-Bad-default-clause-too_many c = λ many.
     let e :
     read_module true c.args.bytes.now ≡ Err fault.Bad =
     by_fault c.in-Err-Fault-Bad-default.field-0 c.in-Err-Fault-Bad-default.field-0-0
-        c.in-Err-Fault-Bad-default.field-0-1 fault.Bad (read_module true c.args.bytes.now)
+    c.in-Err-Fault-Bad-default.field-0-1 fault.Bad (read_module true c.args.bytes.now)
     c.in-Err-Fault-Bad-default.field-0-is c.in-Err-Fault-Bad-default.field-0-0-is
-        c.in-Err-Fault-Bad-default.ensures.value in
+    c.in-Err-Fault-Bad-default.ensures.value in
     let k : ◌≡◌ {A = Result Module Fault} (Err fault.Bad) (Err fault.Over) = sym e ∙ too_long c.args.bytes.now many in
     absurd cc
