@@ -64,8 +64,8 @@ fn body_at(contents: &[u8], spot: Spot) -> Option<u64> {
     None
 }
 
-// Which function a place in the code section is in, where this many are imported and this many bytes follow the
-// section. What is wrong with the section as a whole is in none.
+// Which function a place in the code section is in, where this many are imported and this many
+// bytes follow the section. What is wrong with the section as a whole is in none.
 fn func_at(contents: &[u8], follow: usize, imports: u32, spot: Spot) -> Option<u64> {
     match spot.what {
         What::Longer {

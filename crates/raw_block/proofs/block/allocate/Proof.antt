@@ -90,7 +90,8 @@ allocate_spec 𝓤 𝓛 𝓜 𝓡 wired T W LT LW g d dd met md =
     let Out : RattleType = RS.the_row Three AE.the_row in
     let Says :
     Out.Denot → Type 0 =
-    λ r. IfOk r (λ p. (slots_len p.0 ≡ n) × BeginsAt p.0 p.1 × (p.2.at ≡ slots_ptr p.0) × (p.2.len ≡ n) × (p.2.alloc ≡ a)) in
+    λ r. IfOk r
+    (λ p. (slots_len p.0 ≡ n) × BeginsAt p.0 p.1 × (p.2.at ≡ slots_ptr p.0) × (p.2.len ≡ n) × (p.2.alloc ≡ a)) in
     let exits :
     (r : Out.Denot) (v : Val) → Says r
     → ent 𝓤
@@ -138,7 +139,8 @@ allocate_spec 𝓤 𝓛 𝓜 𝓡 wired T W LT LW g d dd met md =
     let words : WT (row_val b o n) = (tt, (record { fits = fits }, tt)) in
     let p : Ptr = block_ptr b o in
     let triple : Val = three_val (row_val b o n) (word p) mark in
-    let all_fit : WT (live 0 (vcons triple vnil)) = (record { fits = lit< tt }, ((words, ((tt, tt), ((tt, tt), tt))), tt)) in
+    let all_fit :
+    WT (live 0 (vcons triple vnil)) = (record { fits = lit< tt }, ((words, ((tt, tt), ((tt, tt), tt))), tt)) in
     let y' = at_from E 𝓛 𝓜.mem 𝓡.returns κT qT b o n xs fs in
     lands_as ! e refl (Answer-typed true b o) $ first ! $ switches_on !
     (get_tag ! (vrt ! refl (fld ! refl (stop !))) (whole !)) $ exec ! C Λ En (arm_body 0 both) Then $

@@ -54,7 +54,8 @@ module _ (E : El) {M : Type 1} {𝓤 : Ura M} (𝓛 : Logic 𝓤) (κ : Lft) (b 
   front_lent (suc n) o (x ∷ xs) [] l m full = absurd (not-suc-le-zero m)
   front_lent (suc n) o (x ∷ xs) (f ∷ fs) l m full =
       qed 𝓛 (‵ (slot_lent (R E) f (block_ptr b o) x κ) ∷ ‵ (slots_lent (R E) (block_ptr b (o + sz E)) xs fs κ) ∷ []) ∵
-      rewrite ! 0 (λ (g : Bool). ‵ (slot_lent (R E) g (block_ptr b o) x κ)) (full 0 (omega arith)) refl $ fsplit ! $ drop ! $
+      rewrite ! 0 (λ (g : Bool). ‵ (slot_lent (R E) g (block_ptr b o) x κ)) (full 0 (omega arith)) refl $
+      fsplit ! $ drop ! $
       move ! (1 ∷ []) $
       use1 𝓛 (‵ (elements_shared (R E) (take n xs) b (o + sz E) κ))
       (front_lent n (o + sz E) xs fs (le_of_suc-le-suc l) (le_of_suc-le-suc m) (λ k lt. full (suc k) (omega arith))) $
@@ -125,7 +126,8 @@ front_spec 𝓤 𝓛 𝓜 𝓡 wired T L =
     let En : Env 𝓤 𝓛.H = env fn.locals l in
     first ! $ blocks ! $
     sets_last !
-    (agg ! (and_then ! (get_in ! (fld ! refl (stop !)) (sub ! 0 refl (whole !))) (and_then ! (get ! refl) (no_more !)))) refl
+    (agg ! (and_then ! (get_in ! (fld ! refl (stop !)) (sub ! 0 refl (whole !))) (and_then ! (get ! refl) (no_more !))))
+    refl
     (tt, (tt, (record { fits = fits }, tt))) $
     exec ! C Λ En (after 1 fn.body) (at_ret En Post) $
     sets ! (of_opd ! (get ! refl)) refl (tt, (tt, (record { fits = fits }, tt))) $

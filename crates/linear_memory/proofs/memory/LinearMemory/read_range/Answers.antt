@@ -16,4 +16,5 @@ returns c =
     let long : length c.front-bytes.result.now ≡ m.front = ap length c.front-bytes.ensures ∙ sym count in
     rw (← c.self.view_is, c.front-bytes.ensures)
     (read_parts front m.front (m.pages * page_bytes) m.cap c.args.address c.args.count
-    c.min-start.result c.min-end.result count (omega arith) (omega (arith, size)) (omega (arith, long)) (omega (arith, long)))
+    c.min-start.result c.min-end.result count (omega arith) (omega (arith, size)) (omega (arith, long))
+    (omega (arith, long)))

@@ -31,7 +31,8 @@ returns-clause-written c =
     let count = low_count k c.args.number in
     let front = front_count (slots_items m.block) m.front (omega (arith, (slots_counts m.block).0)) in
     let ys = slots_items c.extend-self-inside.new.row in
-    let now : slots_items c.store_word.new.row ≡ take c.args.address ys ++ (ws ++ drop (c.args.address + length ws) ys) =
+    let now :
+    slots_items c.store_word.new.row ≡ take c.args.address ys ++ (ws ++ drop (c.args.address + length ws) ys) =
     c.store_word.ensures.bytes
     ∙ ap (λ n. take c.args.address ys ++ (ws ++ drop (c.args.address + n) ys)) (sym count) in
     let size : length c.args.self.now.bytes ≡ m.pages * page_bytes =

@@ -27,7 +27,8 @@ returns-clause-stored c = λ _.
     let count = low_count k c.args.number in
     let front = front_count (slots_items m.block) m.front (omega (arith, (slots_counts m.block).0)) in
     let xs = slots_items m.block in
-    let now : slots_items c.store_word.new.row ≡ take c.args.address xs ++ (ws ++ drop (c.args.address + length ws) xs) =
+    let now :
+    slots_items c.store_word.new.row ≡ take c.args.address xs ++ (ws ++ drop (c.args.address + length ws) xs) =
     c.store_word.ensures.bytes
     ∙ ap (λ n. take c.args.address xs ++ (ws ++ drop (c.args.address + n) xs)) (sym count) in
     let size : length c.args.self.now.bytes ≡ m.pages * page_bytes =
