@@ -1,7 +1,7 @@
 //! What is proved of the definitions themselves: each function does nothing, and its contract is the law.
 
 ghost use Rattle.std.specs.Prelude.{◌≡◌, ◌<◌, ◌≤◌, ◌+◌, ◌-◌, ◌++◌, ◌∷◌, [], ℕ, List, length, drop, Some, None, true, false};
-ghost use Rattle.operand_stack.specs.Stack.{Stack, new_stack, has_room, has_room_for, newest_word, newest_pair, pushed, pushed_zeros, popped, replaced, word_at, with_word, can_copy, copied, moved, copied_down, oldest, lowered};
+ghost use Rattle.operand_stack.specs.Stack.{Stack, new_stack, has_room, has_room_for, newest_word, newest_pair, pushed, pushed_zeros, popped, replaced, word_at, with_word, copied, moved, copied_down, oldest, lowered};
 
 /// Words keep their numbers under whatever is pushed above them.
 pub fn words_keep_their_numbers()
@@ -66,8 +66,6 @@ pub fn calls_at_the_limit()
         ≡ record { words = 2 ∷ 3 ∷ []; limit = 3 } }
     ensures moves_next { moved (record { words = 3 ∷ 2 ∷ 1 ∷ []; limit = 3 }) 1
         ≡ record { words = 3 ∷ 1 ∷ []; limit = 3 } }
-    ensures moves_none { moved (record { words = 3 ∷ 2 ∷ 1 ∷ []; limit = 3 }) 2
-        ≡ record { words = 3 ∷ 2 ∷ 1 ∷ []; limit = 3 } }
     ensures writes { copied_down (record { words = 3 ∷ 2 ∷ 1 ∷ []; limit = 3 }) 0
         ≡ record { words = 3 ∷ 2 ∷ 3 ∷ []; limit = 3 } }
     ensures writes_none { copied_down (record { words = 3 ∷ 2 ∷ 1 ∷ []; limit = 3 }) 2
