@@ -1,6 +1,6 @@
 -- The module that is in a file.
 use Rattle.std.proofs.Common.{◌≡◌, ◌⊎◌, inl, inr, ℕ, List, Bool, true, false, Result, Ok, Err, refl, sym, ap, subst}
-use Rattle.std.specs.Prelude.{IsUtf8, IfOk, IfErr}
+use Rattle.std.specs.Prelude.{IsUtf8, IfErr}
 use Rattle.std.specs.Str.{is_utf8}
 use Rattle.std.proofs.lemmas.Str.{IsUtf8-from_is_utf8, is_utf8-from_IsUtf8}
 use Rattle.wasm_ast.specs.declared.module.Module.{Module}
@@ -80,18 +80,3 @@ text_refused text e (inl h) bad limit over =
 text_refused text e (inr (inl p)) bad limit over =
     inr (λ no_binary utf8. subst (IsNoSource text) (sym p) (large_text no_binary utf8 (limit p) (over p)))
 text_refused text e (inr (inr p)) bad limit over = inl p
-
--- what is assembled is decoded
-pub decoded :
-    (r : Result Module Refusal) (text : List ℕ) (m : Module) → (r ≡ Ok m) ⊎ (r ≡ Err refusal.NoMemory) → Denotes text m
-    → FitsLimits m → IfOk r (λ x. Denotes text x × FitsLimits x)
-decoded r text m (inl p) d f =
-    subst (λ (q : Result Module Refusal). IfOk q (λ x. Denotes text x × FitsLimits x)) (sym p) (d, f)
-decoded r text m (inr p) d f =
-    subst (λ (q : Result Module Refusal). IfOk q (λ x. Denotes text x × FitsLimits x)) (sym p) tt
-
-pub not_decoded :
-    (r : Result Module Refusal) (text : List ℕ) (m : Module) → (r ≡ Ok m) ⊎ (r ≡ Err refusal.NoMemory)
-    → IfErr r (IsTextRefusal text)
-not_decoded r text m (inl p) = subst (λ (q : Result Module Refusal). IfErr q (IsTextRefusal text)) (sym p) tt
-not_decoded r text m (inr p) = subst (λ (q : Result Module Refusal). IfErr q (IsTextRefusal text)) (sym p) (inl refl)

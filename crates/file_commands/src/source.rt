@@ -9,8 +9,7 @@ ghost use Rattle.file_commands.specs.Source.{is_binary, IsSource, IsNoSource};
 
 use std::alloc::Global;
 use std::str::from_utf8;
-use text_assembler::assemble;
-use text_assembler::laws::denotes_one;
+use text_assembler::assemble_module;
 use wasm_ast::{Module, Refusal};
 use wasm_binary::decode;
 
@@ -33,15 +32,16 @@ fn text_of(bytes: &[u8]) -> Option<&str>
     from_utf8(bytes).ok()
 }
 
-// The module that a text denotes, by its canonical encoding.
+// The module that a text denotes.
 fn denoted(alloc: Global, text: &str) -> Result<Module, Refusal>
     ensures ok { IfOk result (λ m. Denotes text.now m × FitsLimits m) }
     ensures err { IfErr result (λ e. (e ≡ refusal.NoMemory)
         ⊎ (is_binary text.now ≡ false → is_utf8 text.now ≡ true → IsNoSource text.now e)) }
 {
-    denotes_one();
-    let encoded = assemble(alloc, text)?;
-    decode(alloc, encoded.as_slice())
+    match assemble_module(alloc, text) {
+        Ok(assembled) => Ok(assembled.module),
+        Err(refusal) => Err(refusal),
+    }
 }
 
 // The module in a file that is in the text format.

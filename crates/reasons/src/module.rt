@@ -2,7 +2,7 @@
 
 use std::alloc::{AllocError, Global};
 use std::str::from_utf8;
-use text_assembler::assemble;
+use text_assembler::assemble_module;
 use wasm_ast::{Module, Refusal};
 use wasm_binary::decode;
 
@@ -20,8 +20,8 @@ fn text_module(alloc: Global, bytes: &[u8]) -> Result<Option<Module>, AllocError
     let Ok(text) = from_utf8(bytes) else {
         return Ok(None);
     };
-    match unless_refused(assemble(alloc, text))? {
-        Some(encoded) => unless_refused(decode(alloc, encoded.as_slice())),
+    match unless_refused(assemble_module(alloc, text))? {
+        Some(assembled) => Ok(Some(assembled.module)),
         None => Ok(None),
     }
 }

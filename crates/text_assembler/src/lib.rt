@@ -13,7 +13,7 @@ ghost use Rattle.text_assembler.specs.Lines.{line_of, IsAligned};
 
 use fault::ReadError;
 use std::alloc::Global;
-use wasm_ast::{Instr, Refusal};
+use wasm_ast::{Instr, Module, Refusal};
 
 // What was read, made into something else. A check of this takes a quarter less time than one of `?`, which
 // would also convert the error.
@@ -53,13 +53,66 @@ mod uses;
 
 pub use numerals::{push_decimal, push_signed32, push_signed64};
 
-/// The canonical encoding of the module that a text denotes (6.1 to 6.6): what
-/// `wasm_binary::encode` gives for it. Nothing is validated.
+/// The module that a text denotes, and its canonical encoding.
+#[derive(Drop)]
+pub struct Assembled {
+    pub module: Module,
+    pub bytes: Vec<u8>,
+}
+
+// A module and its canonical encoding.
+fn encoded(alloc: Global, of: Module) -> Result<Assembled, Refusal>
+    ensures same { IfOk result (λ a. (a.module ≡ of) × FitsLimits of) }
+    ensures canonical { IfOk result (λ a. (a.bytes.items ≡ canon of) × Spells a.bytes.items of) }
+    ensures limit { result ≡ Err Refusals.Limit → FitsLimits of → ⊥ }
+    ensures causes { IfErr result (λ e. (e ≡ Refusals.Limit) ⊎ (e ≡ Refusals.NoMemory)) }
+{
+    match wasm_binary::encode(alloc, &of) {
+        Ok(bytes) => Ok(Assembled { module: of, bytes }),
+        Err(refusal) => Err(refusal),
+    }
+}
+
+/// The module that a text denotes (6.1 to 6.6), and its canonical encoding: what `wasm_binary::encode`
+/// gives for it. Nothing is validated.
 ///
 /// `BadText` if the text denotes no module, with the line and the column, from 1 and in characters,
 /// of the first character of the token at fault, or of the place after the last character.
 /// `Limit` if it denotes a module that is over a limit or whose encoding is too long, or if more
 /// than 256 blocks are open at one word. `NoMemory` if memory runs out.
+pub fn assemble_module(alloc: Global, text: &str) -> Result<Assembled, Refusal>
+    // It is a module that the text denotes and that fits, and the bytes are its own.
+    ensures denoted { IfOk result (λ a. Denotes text.now a.module × FitsLimits a.module) }
+    ensures encoded { IfOk result (λ a.
+        (a.bytes.items ≡ canon a.module) × Spells a.bytes.items a.module) }
+    // A module that is denoted and fits is assembled, unless memory runs out.
+    ensures assembled { IfErr result (λ e.
+        (m : Module) → Denotes text.now m → FitsLimits m → e ≡ Refusals.NoMemory) }
+    ensures bad { IfErr result (λ e.
+        IsBadText e → (m : Module) → Denotes text.now m → ⊥) }
+    // The line and the column are those of a place in the text.
+    ensures place { (line column : ℕ) → result ≡ Err (Refusals.BadText line column)
+        → IsPlaceIn text.now line column }
+    ensures limit { IfErr result (λ e. e ≡ Refusals.Limit
+        → (m : Module) → Denotes text.now m → FitsLimits m → ⊥) }
+    ensures over { IfErr result (λ e. e ≡ Refusals.Limit
+        → ((m : Module) × Denotes text.now m) ⊎ IsTooDeep text.now) }
+    ensures causes { IfErr result (λ e.
+        IsBadText e ⊎ ((e ≡ Refusals.Limit) ⊎ (e ≡ Refusals.NoMemory))) }
+{
+    match parser::read_text(alloc, text.as_bytes()) {
+        Ok(found) => encoded(alloc, found),
+        Err(ReadError::Memory) => Err(Refusal::NoMemory),
+        Err(ReadError::TooDeep) => Err(Refusal::Limit),
+        Err(ReadError::Malformed { left }) => {
+            let (line, column) = place::line_and_column(text.as_bytes(), left);
+            Err(Refusal::BadText { line, column })
+        }
+    }
+}
+
+/// The canonical encoding of the module that a text denotes, as `assemble_module` gives it, refused as by
+/// that.
 pub fn assemble(alloc: Global, text: &str) -> Result<Vec<u8>, Refusal>
     // The bytes are those of a module that the text denotes and that fits.
     ensures denoted { IfOk result (λ v.
@@ -82,14 +135,9 @@ pub fn assemble(alloc: Global, text: &str) -> Result<Vec<u8>, Refusal>
     ensures causes { IfErr result (λ e.
         IsBadText e ⊎ ((e ≡ Refusals.Limit) ⊎ (e ≡ Refusals.NoMemory))) }
 {
-    match parser::read_text(alloc, text.as_bytes()) {
-        Ok(module) => wasm_binary::encode(alloc, &module),
-        Err(ReadError::Memory) => Err(Refusal::NoMemory),
-        Err(ReadError::TooDeep) => Err(Refusal::Limit),
-        Err(ReadError::Malformed { left }) => {
-            let (line, column) = place::line_and_column(text.as_bytes(), left);
-            Err(Refusal::BadText { line, column })
-        }
+    match assemble_module(alloc, text) {
+        Ok(assembled) => Ok(assembled.bytes),
+        Err(refusal) => Err(refusal),
     }
 }
 

@@ -1,15 +1,15 @@
 use Rattle.text_assembler.proofs.Denoted.{encoded_assembled, encoded_limit, deep_none, bad_none}
-use Rattle.text_assembler.proofs.assemble.Goals as goal
+use Rattle.text_assembler.proofs.assemble_module.Goals as goal
 
 pub returns-in-Ok-clause-assembled : goal.returns-in-Ok-clause-assembled
 returns-in-Ok-clause-assembled c =
-    encoded_assembled c.encode.result c.as_bytes.result.now c.args.text.now c.in-Ok.module c.as_bytes.ensures.value
-    c.in-Ok.ensures c.encode.ensures.causes c.encode.ensures.limit
+    encoded_assembled c.encoded.result c.as_bytes.result.now c.args.text.now c.in-Ok.found c.as_bytes.ensures.value
+    c.in-Ok.ensures c.encoded.ensures.causes c.encoded.ensures.limit
 
 pub returns-in-Ok-clause-limit : goal.returns-in-Ok-clause-limit
 returns-in-Ok-clause-limit c =
-    encoded_limit c.encode.result c.as_bytes.result.now c.args.text.now c.in-Ok.module c.as_bytes.ensures.value
-    c.in-Ok.ensures c.encode.ensures.limit
+    encoded_limit c.encoded.result c.as_bytes.result.now c.args.text.now c.in-Ok.found c.as_bytes.ensures.value
+    c.in-Ok.ensures c.encoded.ensures.limit
 
 pub returns-in-Err-TooDeep-clause-assembled : goal.returns-in-Err-TooDeep-clause-assembled
 returns-in-Err-TooDeep-clause-assembled c m d f =
