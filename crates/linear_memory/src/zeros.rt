@@ -5,6 +5,8 @@ ghost use Rattle.std.specs.Mem.Slots.{slots_items, slots_len, SamePlaces};
 ghost use Rattle.linear_memory.specs.Inside.Fronts.{HasFront};
 
 use core::slots::Slots;
+use raw_block::{forget, no_places};
+use std::mem;
 
 /// Zeros are written up to the end of a block of this number of bytes. A page is whole blocks.
 const BLOCK_BYTES: usize = 4_096;
@@ -27,22 +29,27 @@ pub(crate) fn extend(row: &mut Slots<u8>, front: usize, end: usize, size: usize)
     }
     let whole = (end + (BLOCK_BYTES - 1)) / BLOCK_BYTES * BLOCK_BYTES;
     let to = whole.min(size);
-    fill(row, front, to);
+    let unfilled = mem::replace(row, no_places(&0u8));
+    let none = mem::replace(row, fill(unfilled, front, to));
+    forget(none);
     to
 }
 
-/// Writes zeros from a place on. The loop writes nothing else, so that it becomes one fill.
-fn fill(row: &mut Slots<u8>, from: usize, to: usize)
-    requires within { (from ≤ to) × (to ≤ slots_len row.old) }
-    requires written { HasFront row.old from }
-    ensures zeros { take to (slots_items row.new)
-        ≡ take from (slots_items row.old) ++ replicate (to - from) 0 }
-    ensures written { HasFront row.new to }
-    ensures places { SamePlaces row.old row.new }
+/// Writes zeros from a place on. The row comes and goes by value and the loop writes nothing else, so that
+/// it becomes one fill.
+fn fill(row: Slots<u8>, from: usize, to: usize) -> Slots<u8>
+    requires within { (from ≤ to) × (to ≤ slots_len row) }
+    requires written { HasFront row from }
+    ensures zeros { take to (slots_items result)
+        ≡ take from (slots_items row) ++ replicate (to - from) 0 }
+    ensures written { HasFront result to }
+    ensures places { SamePlaces row result }
 {
+    let mut filled = row;
     let mut i = from;
     while i < to {
-        row.put(i, 0);
+        filled.put(i, 0);
         i += 1;
     }
+    filled
 }
