@@ -8,7 +8,7 @@ use Rattle.step_machine.specs.contracts.flat_module.FlatModule as flats
 use Rattle.step_machine.specs.contracts.machine.Machine as machines
 use Rattle.step_machine.proofs.flat_module.Code.TheSendSync as code
 use Rattle.step_machine.proofs.CurrentSent.{current_send, current_field_send}
-use Rattle.step_machine.proofs.kept.Kept.TheSendSync as kept
+use Rattle.step_machine.proofs.KeptSent.{kept_send}
 use Rattle.step_machine.proofs.ends.End.TheSendSync as end
 use Rattle.step_machine.proofs.breaks.Breaks.TheSendSync as breaks
 use Rattle.oci_config.proofs.process.ProcessConfig.TheSendSync as config
@@ -33,7 +33,7 @@ flat_sync = search (sendable, std_sent.crosses, valid_sync, code.the_send, code.
 
 machine_send : IsSend machines.the_row
 machine_send =
-    search (sendable, std_sent.crosses, flat_send, current_send, current_field_send, kept.the_send, end.the_send)
+    search (sendable, std_sent.crosses, flat_send, current_send, current_field_send, kept_send, end.the_send)
     depth 40 fits 100000
 
 shared_send : IsSend shareds.the_row

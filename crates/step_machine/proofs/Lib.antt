@@ -1,4 +1,5 @@
 pub mod CurrentSent
+pub mod KeptSent
 pub mod ListLemmas
 pub mod MarkLemmas
 pub mod ResultLemmas
