@@ -196,7 +196,9 @@ fn count_text(alloc: Global, what: What) -> Result<String, AllocError> {
         What::NoCode { funcs } => bodies_text(alloc, funcs, 0),
         What::Bodies { funcs, bodies } => bodies_text(alloc, funcs, bodies),
         What::Indices { count, left } => {
-            format!(in alloc; "there are to be {count} indices, and {left} bytes are left")
+            format!(in alloc;
+                "there are to be {count} indices, a byte or more each, and the bytes left are {left}"
+            )
         }
         What::Over { what, found } => over_text(alloc, what, found),
         What::TooDeep => {
