@@ -295,25 +295,24 @@ class Refused(unittest.TestCase):
 
     def test_instructions(self) -> None:
         """Each with the function and the place."""
-        refused = {b"\x43\0\0\0\0": "f32.const: floats", b"\x92": "f32.add: floats", b"\x9f": "f64.sqrt: floats",
-                   b"\xb9": "f64.convert_i64_s: floats", b"\xfd\x0c": "SIMD", b"\xfe\x03\0": "threads",
-                   b"\x06\x40": "exceptions", b"\x12\0": "tail calls", b"\xd2\0": "references", b"\xfb\0": "garbage",
-                   b"\xfc\x02": "saturates", b"\xfc\x0e\0\0": "tables", b"\xfc\x99\x01": "no instruction",
-                   b"\x27": "no instruction", b"\x11\0\x01": "several", b"\xfc\x0a\0\x01": "several memories",
-                   b"\x02\x7c": "f64: floats", b"\x1c\x01\x7d": "f32", b"\x28\x42\0\0": "several memories",
-                   b"\xfc\x08\0\0": "section 12", b"\x10\xff\xff\xff\xff\xff\x01": "bits",
+        refused = {b"\xfd\x0c": "SIMD", b"\xfe\x03\0": "threads", b"\x06\x40": "exceptions", b"\x12\0": "tail calls",
+                   b"\xd2\0": "references", b"\xfb\0": "garbage", b"\xfc\x0e\0\0": "tables",
+                   b"\xfc\x99\x01": "no instruction", b"\x27": "no instruction", b"\x11\0\x01": "several",
+                   b"\xfc\x0a\0\x01": "several memories", b"\x02\x7b": "v128: SIMD", b"\x1c\x01\x7b": "v128",
+                   b"\x43\0\0": "end too soon", b"\x1c\x02\x7d\x7d": "one type", b"\x28\x42\0\0": "several memories",
+                   b"\x2a\x42\0\0": "several memories", b"\xfc\x08\0\0": "section 12", b"\x10\xff\xff\xff\xff\xff\x01": "bits",
                    b"\x10\xff\xff\xff\xff\x1f": "32 bits", b"\x10\x80\x80\x80\x80\x80\0": "32 bits"}
         for instruction, words in refused.items():
             said = self.refusal(Written(b"\x01\x02\x40\x0b" + instruction).bytes())
             self.assertRegex(said, f"^offset [0-9]+, function 0, place 2: .*{words}")
 
     def test_offset(self) -> None:
-        data = Written(b"\x01\x92").bytes()
-        self.assertIn(f"offset {data.index(bytes([0x01, 0x92, 0x0B])) + 1},", self.refusal(data))
+        data = Written(b"\x01\xfd\x0c").bytes()
+        self.assertIn(f"offset {data.index(bytes([0x01, 0xFD, 0x0C])) + 1},", self.refusal(data))
 
     def test_sections(self) -> None:
         parts: dict[str, Written] = {
-            "type.*f64: floats": Written(b"", types=[b"\x60\x01\x7c\0"]),
+            "type.*v128: SIMD": Written(b"", types=[b"\x60\x01\x7b\0"]),
             "type.*form 0x5f": Written(b"", types=[b"\x5f\0"]),
             "global.*v128: SIMD": Written(b"", globals_=[b"\x7b\0\x0b"]),
             "import 0, env put: only": Written(b"", [m.imported("put", 0, "env")]),
@@ -330,6 +329,7 @@ class Refused(unittest.TestCase):
             "global 0, which is no constant": Written(b"", globals_=[b"\x7f\0\x23\0\x0b"]),
             "reads global 0, which": Written(b"", globals_=[m.RESULT, b"\x7f\0\x23\0\x0b"]),
             "does not give one i32": Written(b"", globals_=[b"\x7f\0" + w.i64(0) + b"\x0b"]),
+            "does not give one f32": Written(b"", globals_=[b"\x7d\0" + w.i32(0) + b"\x0b"]),
         }
         for words, part in parts.items():
             self.assertRegex(self.refusal(part.bytes()), f"^offset [0-9]+, section .*{words}")

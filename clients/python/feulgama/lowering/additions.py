@@ -118,8 +118,14 @@ class LibraryEdits:
         at = self._additions.state(found[0])
         return w.set_global(at) if found[1] else w.get_global(at)
 
+    def indirect(self, kind: int) -> bytes | None:
+        raise Refusal("the library has no table")
+
     def bulk(self, number: int, segment: int) -> bytes:
         raise Refusal("the library has no such instruction")
+
+    def operation(self, word: str) -> bytes:
+        raise Refusal(f"the library has {word}")
 
     def note(self, what: str) -> None:
         raise Refusal(f"the library has a {what}")

@@ -4,7 +4,7 @@ from __future__ import annotations
 from collections.abc import Sequence
 from dataclasses import dataclass
 
-from feulgama.lowering import forms
+from feulgama.lowering import floats, forms
 from feulgama.lowering.body import u32
 from feulgama.lowering.errors import Refusal
 from feulgama.wasm import opcodes as op
@@ -14,16 +14,17 @@ from feulgama.wasm.reader import Reader
 GLOBAL_GET = 0x23
 # Addition, subtraction and multiplication: the type of each.
 OPERATORS = {0x6A: op.I32, 0x6B: op.I32, 0x6C: op.I32, 0x7C: op.I64, 0x7D: op.I64, 0x7E: op.I64}
-BITS = {op.I32: 32, op.I64: 64}
+BITS = {op.I32: 32, op.I64: 64, floats.F32: 32, floats.F64: 64}
 
 
 @dataclass(frozen=True, slots=True)
 class Constant:
-    """A number of a type. `data` is the expression in the form of version 1.0; `is_extended` says that it had another."""
+    """A number of a type; a float is the integer of its bits. `data` is the expression in the form of version 1.0, by
+    integers. `replaced` says what else it had, None if it is as it was."""
     kind: int
     value: int
     data: bytes
-    is_extended: bool
+    replaced: str | None
 
 
 def signed_of(value: int, kind: int) -> int:
@@ -39,18 +40,22 @@ def constant(reader: Reader, kind: int, known: Sequence[Constant | None]) -> Con
         count += 1
         stack.append(step(reader, opcode, stack, known))
     if len(stack) != 1 or stack[0][0] != kind:
-        raise Refusal(f"an expression does not give one {op.TYPES[kind]}")
-    value = signed_of(stack[0][1], kind)
-    if count == 1 and reader.data[begin] != GLOBAL_GET:
-        return Constant(kind, value, reader.data[begin:reader.at], False)
-    word = op.I32_CONST if kind == op.I32 else op.I64_CONST
-    return Constant(kind, value, bytes([word]) + w.signed(value) + bytes([op.END]), True)
+        raise Refusal(f"an expression does not give one {(op.TYPES | floats.TYPES)[kind]}")
+    value, is_plain = signed_of(stack[0][1], kind), count == 1 and reader.data[begin] != GLOBAL_GET
+    if is_plain and kind in op.TYPES:
+        return Constant(kind, value, reader.data[begin:reader.at], None)
+    replaced = f"{floats.TYPES[kind]}.const" if is_plain else "extended constant"
+    word = op.I32_CONST if BITS[kind] == 32 else op.I64_CONST
+    return Constant(kind, value, bytes([word]) + w.signed(value) + bytes([op.END]), replaced)
 
 
 def step(reader: Reader, opcode: int, stack: list[tuple[int, int]], known: Sequence[Constant | None]) -> tuple[int, int]:
     """The type and the value that an instruction leaves. It takes its operands from the stack."""
     if opcode in (op.I32_CONST, op.I64_CONST):
         return op.I32 if opcode == op.I32_CONST else op.I64, reader.signed()
+    if opcode in floats.CONSTANTS:
+        kind, size, _ = floats.CONSTANTS[opcode]
+        return kind, int.from_bytes(reader.take(size), "little", signed=True)
     if opcode == GLOBAL_GET:
         index = u32(reader)
         found = known[index] if index < len(known) else None

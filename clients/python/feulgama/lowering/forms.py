@@ -4,9 +4,10 @@ from __future__ import annotations
 from collections.abc import Iterable
 from enum import IntEnum
 
+from feulgama.lowering import floats
 from feulgama.wasm import opcodes as op
 
-SELECT_TYPED, BULK = 0x1C, 0xFC
+SELECT_TYPED, PREFIX = 0x1C, 0xFC
 MEMORY_INIT, DATA_DROP, MEMORY_COPY, MEMORY_FILL = 8, 9, 10, 11
 
 
@@ -25,7 +26,11 @@ class Form(IntEnum):
     ELSE = 10
     END = 11
     TYPED_SELECT = 12
-    BULK = 13
+    PREFIXED = 13
+    FLOAT = 14
+    FLOAT_ACCESS = 15
+    FLOAT_CONSTANT = 16
+    REINTERPRET = 17
 
 
 def forms() -> list[Form]:
@@ -34,54 +39,38 @@ def forms() -> list[Form]:
     groups: tuple[tuple[Iterable[int], Form], ...] = (
         (op.BARE, Form.BARE), (op.INDEXED, Form.INDEX), (op.ACCESSES, Form.ACCESS),
         (op.BLOCKS, Form.BLOCK), ((op.I32_CONST, op.I64_CONST), Form.CONSTANT),
-        ((op.MEMORY_SIZE, op.MEMORY_GROW), Form.MEMORY))
+        ((op.MEMORY_SIZE, op.MEMORY_GROW), Form.MEMORY), (floats.OPERATIONS, Form.FLOAT),
+        (floats.ACCESSES, Form.FLOAT_ACCESS), (floats.CONSTANTS, Form.FLOAT_CONSTANT), (floats.REINTERPRETS, Form.REINTERPRET))
     for codes, form in groups:
         for code in codes:
             found[code] = form
     for code, form in ((op.BR_TABLE, Form.BR_TABLE), (op.CALL, Form.CALL), (op.CALL_INDIRECT, Form.CALL_INDIRECT),
-                       (op.ELSE, Form.ELSE), (op.END, Form.END), (SELECT_TYPED, Form.TYPED_SELECT), (BULK, Form.BULK)):
+                       (op.ELSE, Form.ELSE), (op.END, Form.END), (SELECT_TYPED, Form.TYPED_SELECT), (PREFIX, Form.PREFIXED)):
         found[code] = form
     return found
 
 
 FORMS = forms()
 
-RELATIONS = ("eq", "ne", "lt", "gt", "le", "ge")
-OPERATORS = ("abs", "neg", "ceil", "floor", "trunc", "nearest", "sqrt", "add", "sub", "mul", "div", "min", "max", "copysign")
-FLOATS: dict[int, str] = {
-    0x2A: "f32.load", 0x2B: "f64.load", 0x38: "f32.store", 0x39: "f64.store", 0x43: "f32.const", 0x44: "f64.const",
-    **op.words(0x5B, "f32", RELATIONS), **op.words(0x61, "f64", RELATIONS),
-    **op.words(0x8B, "f32", OPERATORS), **op.words(0x99, "f64", OPERATORS),
-    **op.words(0xA8, "i32", ("trunc_f32_s", "trunc_f32_u", "trunc_f64_s", "trunc_f64_u")),
-    **op.words(0xAE, "i64", ("trunc_f32_s", "trunc_f32_u", "trunc_f64_s", "trunc_f64_u")),
-    **op.words(0xB2, "f32", ("convert_i32_s", "convert_i32_u", "convert_i64_s", "convert_i64_u", "demote_f64")),
-    **op.words(0xB7, "f64", ("convert_i32_s", "convert_i32_u", "convert_i64_s", "convert_i64_u", "promote_f32")),
-    0xBC: "i32.reinterpret_f32", 0xBD: "i64.reinterpret_f64", 0xBE: "f32.reinterpret_i32", 0xBF: "f64.reinterpret_i64",
-}
 OTHERS: dict[int, str] = {
     **dict.fromkeys((0x06, 0x07, 0x08, 0x09, 0x0A, 0x18, 0x19, 0x1F), "exceptions"),
     **dict.fromkeys((0x12, 0x13, 0x15), "tail calls"),
     **dict.fromkeys((0x14, 0x25, 0x26, 0xD0, 0xD1, 0xD2, 0xD3, 0xD4, 0xD5, 0xD6), "references"),
     0xFB: "garbage collection", 0xFD: "SIMD", 0xFE: "threads",
 }
-TYPES: dict[int, str] = {0x7D: "f32: floats", 0x7C: "f64: floats", 0x7B: "v128: SIMD",
-                         0x70: "funcref: references", 0x6F: "externref: references"}
+TYPES: dict[int, str] = {0x7B: "v128: SIMD", 0x70: "funcref: references", 0x6F: "externref: references"}
 NOT_LOWERED = "are not lowered"
 
 
 def reason(opcode: int) -> str:
     """Why an instruction is refused."""
-    if opcode in FLOATS:
-        return f"{FLOATS[opcode]}: floats {NOT_LOWERED}"
     if opcode in OTHERS:
         return f"byte {opcode:#04x}: instructions for {OTHERS[opcode]} {NOT_LOWERED}"
     return f"there is no instruction with the byte {opcode:#04x}"
 
 
-def reason_of_bulk(number: int) -> str:
+def reason_of_prefixed(number: int) -> str:
     """Why an instruction is refused that begins with 0xfc."""
-    if number < MEMORY_INIT:
-        return f"bytes 0xfc {number:#04x}: a truncation that saturates; floats {NOT_LOWERED}"
     if number < 18:
         return f"bytes 0xfc {number:#04x}: instructions on tables {NOT_LOWERED}"
     return f"there is no instruction with the bytes 0xfc {number:#04x}"

@@ -1,15 +1,19 @@
 """The lowering of a module: section by section, and each body. What needs none comes out as it went in."""
 from __future__ import annotations
 
+import re
 from array import array
 from collections.abc import Callable, Mapping
 from dataclasses import dataclass, field
 
+from feulgama.lowering import floats
 from feulgama.lowering import source as s
 from feulgama.lowering.additions import SEED, Additions
+from feulgama.lowering.apart import Apart, encoded
 from feulgama.lowering.body import Body, rewritten, u32, value_type
 from feulgama.lowering.constants import Constant, constant
 from feulgama.lowering.errors import LoweringError, Refusal
+from feulgama.lowering.floats import without_floats
 from feulgama.lowering.library import library
 from feulgama.lowering.names import renamed
 from feulgama.wasm import opcodes as op
@@ -20,6 +24,8 @@ from feulgama.wasm.reader import NotAModuleError, Reader
 WASI = b"wasi_snapshot_preview1"
 CALLS = frozenset(("args_get", "args_sizes_get", "environ_get", "environ_sizes_get", "fd_write", "proc_exit", "sched_yield"))
 FUNCREF = 0x70
+# The functions of the library that answer calls.
+CALL = re.compile("(?:clock|fd|path|poll|proc|random|sock)_.*")
 # Custom sections that hold offsets of the code or numbers of sections, and so are of no use if the code has moved.
 BOUND = (b".debug_", b"reloc.", b"linking", b"sourceMappingURL", b"external_debug_info", b"metadata.code.")
 
@@ -49,6 +55,15 @@ def lower(data: bytes, options: Options = Options()) -> Lowered:
     return Lowering(data, options).result()
 
 
+@dataclass(frozen=True, slots=True)
+class Elements:
+    """A segment of the table: where it goes, None if no instruction could use it; its functions by their indices in the
+    original; and whether it was not in the form of version 1.0."""
+    offset: Constant | None
+    functions: tuple[int, ...]
+    is_changed: bool
+
+
 @dataclass(slots=True)
 class Lowering:
     """The state of one translation."""
@@ -62,11 +77,13 @@ class Lowering:
     bodies: list[Body] = field(init=False, default_factory=list)
     has_memory: bool = field(init=False, default=False)
     added: Additions = field(init=False)
+    apart: Apart = field(init=False)
 
     def result(self) -> Lowered:
         """Does all of it."""
         self.sections = s.sections_of(self.data)
         self.added = Additions([], 0, 0, [], self.options.seed)
+        self.apart = Apart([], self.added)
         for number, read in ((s.TYPE, self._types), (s.IMPORT, self._imports), (s.FUNCTION, self._functions),
                              (s.TABLE, self._tables), (s.MEMORY, self._memories), (s.GLOBAL, self._globals),
                              (s.EXPORT, self._exports), (s.START, self._start), (s.ELEMENT, self._elements),
@@ -101,18 +118,27 @@ class Lowering:
         return self.moves[index] if index < len(self.moves) else index
 
     def _function(self, reader: Reader) -> int:
-        """An index of a function, as it is now."""
+        """An index of a function."""
         index = u32(reader)
         if index >= len(self.imports) + len(self.own):
             raise Refusal(f"there is no function {index}")
-        return self._moved(index)
+        return index
 
-    def _types(self, reader: Reader) -> None:
+    def _types(self, reader: Reader) -> bytes | None:
         for _ in range(u32(reader)):
             if (form := reader.byte()) != 0x60:
                 raise Refusal(f"type {len(self.added.types)} has the form {form:#04x}; only function types are lowered")
-            parts = [bytes([value_type(reader) for _ in range(u32(reader))]) for _ in range(2)]
-            self.added.types.append(b"\x60" + b"".join(map(w.sized, parts)))
+            params, results = (bytes([self._value_type(reader) for _ in range(u32(reader))]) for _ in range(2))
+            self.apart.kinds.append((params, results))
+            self.added.types.append(encoded(without_floats(params), without_floats(results)))
+        return w.vector(self.added.types) if self.added.replaced else None
+
+    def _value_type(self, reader: Reader) -> int:
+        """A type; those of floats are counted, since they are replaced."""
+        kind = value_type(reader)
+        if kind in floats.TYPES:
+            self.added.replaced[f"type {floats.TYPES[kind]}"] += 1
+        return kind
 
     def _type(self, reader: Reader) -> int:
         index = u32(reader)
@@ -129,7 +155,7 @@ class Lowering:
                 what = {1: "a table", 2: "a memory", 3: "a global", 4: "a tag"}.get(kind, "of no known kind")
                 raise Refusal(f"{text}: it is {what}; only functions are replaced")
             index = self._type(reader)
-            stays = self._stays(text, module, name.decode("utf-8", "replace"), self.added.types[index])
+            stays = self._stays(text, module, name.decode("utf-8", "replace"), encoded(*self.apart.kinds[index]))
             self.imports.append((self.data[begin:reader.at], name.decode("utf-8", "replace"), index, stays))
         if all(entry[3] for entry in self.imports):
             return None
@@ -143,7 +169,7 @@ class Lowering:
             raise Refusal(f"{text}: only calls of {WASI.decode()} are replaced")
         if name in CALLS:
             return True
-        helper = None if name.startswith("memory_") else library().index(name)
+        helper = library().index(name) if CALL.fullmatch(name) else None
         if helper is None:
             raise Refusal(f"{text}: there is no such call")
         if name in self.options.refused:
@@ -155,6 +181,7 @@ class Lowering:
 
     def _functions(self, reader: Reader) -> None:
         self.own = [self._type(reader) for _ in range(u32(reader))]
+        self.added.functions = len(self.imports) + len(self.own)
 
     def _limits(self, reader: Reader, what: str) -> None:
         flags = reader.byte()
@@ -181,25 +208,25 @@ class Lowering:
         self.has_memory = count == 1
 
     def _globals(self, reader: Reader) -> bytes | None:
-        known, entries, is_extended = list[Constant | None](), list[bytes](), False
+        known, entries, is_changed = list[Constant | None](), list[bytes](), False
         for _ in range(u32(reader)):
-            kind, mutable = value_type(reader), reader.byte()
+            kind, mutable = self._value_type(reader), reader.byte()
             if mutable > 1:
                 raise Refusal(f"a global with the flags {mutable:#04x} is not lowered")
             found = self._constant(reader, kind, known)
             known.append(None if mutable else found)
-            entries.append(bytes([kind, mutable]) + found.data)
-            is_extended |= found.is_extended
+            entries.append(without_floats(bytes([kind])) + bytes([mutable]) + found.data)
+            is_changed |= found.replaced is not None
         self._known = known
         self.added.globals_ = len(entries)
-        return w.vector(entries) if is_extended else None
+        return w.vector(entries) if is_changed else None
 
     _known: list[Constant | None] = field(init=False, default_factory=list)
 
     def _constant(self, reader: Reader, kind: int, known: list[Constant | None]) -> Constant:
         found = constant(reader, kind, known)
-        if found.is_extended:
-            self.added.replaced["extended constant"] += 1
+        if found.replaced is not None:
+            self.added.replaced[found.replaced] += 1
         return found
 
     def _exports(self, reader: Reader) -> bytes | None:
@@ -208,7 +235,7 @@ class Lowering:
             name, kind = reader.take(u32(reader)), reader.byte()
             if kind > 3:
                 raise Refusal("a tag is exported; exceptions are not lowered")
-            index = self._function(reader) if kind == 0 else u32(reader)
+            index = self._moved(self._function(reader)) if kind == 0 else u32(reader)
             entries.append(w.sized(name) + bytes([kind]) + w.unsigned(index))
         return w.vector(entries) if self._has_moved() else None
 
@@ -217,20 +244,28 @@ class Lowering:
         return any(index != at for at, index in enumerate(self.moves))
 
     def _start(self, reader: Reader) -> bytes | None:
-        index = self._function(reader)
+        index = self._moved(self._function(reader))
         return w.unsigned(index) if self._has_moved() else None
 
     def _elements(self, reader: Reader) -> bytes | None:
-        entries, is_later = list[bytes](), False
-        for _ in range(u32(reader)):
-            entry, is_plain = self._element(reader)
-            is_later |= not is_plain
-            if entry is not None:
-                entries.append(entry)
-        return w.vector(entries) if is_later or self._has_moved() else None
+        segments = [self._element(reader) for _ in range(u32(reader))]
+        active = [one for one in segments if one.offset is not None]
+        self.apart.choose(self._type_of(index) for one in active for index in one.functions)
+        entries = [b"\0" + one.offset.data + w.vector([w.unsigned(self._entry(index)) for index in one.functions])
+                   for one in active if one.offset is not None]
+        is_changed = any(one.is_changed for one in segments) or self._has_moved() or bool(self.added.bodies)
+        return w.vector(entries) if is_changed else None
 
-    def _element(self, reader: Reader) -> tuple[bytes | None, bool]:
-        """A segment in the form of version 1.0, None if no instruction could use it; and whether it had that form."""
+    def _type_of(self, index: int) -> int:
+        """The type of a function by its index in the original."""
+        return self.imports[index][2] if index < len(self.imports) else self.own[index - len(self.imports)]
+
+    def _entry(self, index: int) -> int:
+        """What is in the table for a function of the original."""
+        return self.apart.entry(self._moved(index), self._type_of(index))
+
+    def _element(self, reader: Reader) -> Elements:
+        """A segment."""
         flags = u32(reader)
         if flags > 7:
             raise Refusal(f"an element segment with the flags {flags:#x}")
@@ -243,9 +278,7 @@ class Lowering:
         found = [self._reference(reader) if has_expressions else self._function(reader) for _ in range(u32(reader))]
         if flags:
             self.added.replaced["element segment of a later form"] += 1
-        if offset is None:
-            return None, False
-        return b"\0" + offset.data + w.vector([w.unsigned(one) for one in found]), not flags and not offset.is_extended
+        return Elements(offset, tuple(found), bool(flags) or offset is not None and offset.replaced is not None)
 
     def _reference(self, reader: Reader) -> int:
         """The expression of an element."""
@@ -270,7 +303,7 @@ class Lowering:
                 entries.append(b"\0" + offset.data + w.sized(contents))
             if flags:
                 self.added.replaced["data segment of a later form"] += 1
-            is_later |= bool(flags) or offset is not None and offset.is_extended
+            is_later |= bool(flags) or offset is not None and offset.replaced is not None
         return w.vector(entries) if is_later else None
 
     def _data_count(self, reader: Reader) -> None:
@@ -282,7 +315,6 @@ class Lowering:
         """The bodies without their number, to which others are added."""
         if u32(reader) != len(self.own):
             raise Refusal("it has another number of functions than section 3")
-        self.added.functions = len(self.imports) + len(self.own)
         edits, entries = OwnEdits(self), list[bytes]()
         for at in range(len(self.own)):
             begin = reader.at
@@ -401,6 +433,12 @@ class OwnEdits:
         """A call of an import that has another index now."""
         found = self._moves.get(index, index)
         return w.call(found) if found != index else None
+
+    def indirect(self, kind: int) -> bytes | None:
+        return self._lowering.apart.indirect(kind)
+
+    def operation(self, word: str) -> bytes:
+        return w.call(self._lowering.added.helper(floats.helper_name(word)))
 
     def bulk(self, number: int, segment: int) -> bytes:
         if not self._lowering.has_memory and number != 9:
