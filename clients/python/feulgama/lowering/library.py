@@ -1,6 +1,7 @@
 """The functions that are put into modules: helpers.wasm, which sdk/c/build-helpers makes of sdk/c."""
 from __future__ import annotations
 
+import re
 from dataclasses import dataclass
 from functools import cache
 from pathlib import Path
@@ -8,6 +9,8 @@ from pathlib import Path
 from feulgama.wasm.module import Module, decode
 from feulgama.wasm.reader import Reader
 
+# Functions that take the place of calls, and are named as they are.
+CALL = re.compile("(?:clock|fd|path|poll|proc|random|sock)_.*")
 FILE = Path(__file__).with_name("helpers.wasm")
 TYPE_CODES = {"i32": 0x7F, "i64": 0x7E}
 
@@ -20,6 +23,10 @@ class Library:
     def index(self, name: str) -> int | None:
         """The function of a name."""
         return self.module.exports.get(name)
+
+    def answer(self, call: str) -> int | None:
+        """The function that takes the place of a call; None if there is none."""
+        return self.index(call) if CALL.fullmatch(call) else None
 
     def type_of(self, index: int) -> bytes:
         """The type of a function, as bytes in the shortest form."""

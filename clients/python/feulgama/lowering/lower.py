@@ -1,7 +1,6 @@
 """The lowering of a module: section by section, and each body. What needs none comes out as it went in."""
 from __future__ import annotations
 
-import re
 from array import array
 from collections.abc import Callable, Mapping
 from dataclasses import dataclass, field
@@ -24,8 +23,6 @@ from feulgama.wasm.reader import NotAModuleError, Reader
 WASI = b"wasi_snapshot_preview1"
 CALLS = frozenset(("args_get", "args_sizes_get", "environ_get", "environ_sizes_get", "fd_write", "proc_exit", "sched_yield"))
 FUNCREF = 0x70
-# The functions of the library that answer calls.
-CALL = re.compile("(?:clock|fd|path|poll|proc|random|sock)_.*")
 # Custom sections that hold offsets of the code or numbers of sections, and so are of no use if the code has moved.
 BOUND = (b".debug_", b"reloc.", b"linking", b"sourceMappingURL", b"external_debug_info", b"metadata.code.")
 
@@ -169,7 +166,7 @@ class Lowering:
             raise Refusal(f"{text}: only calls of {WASI.decode()} are replaced")
         if name in CALLS:
             return True
-        helper = library().index(name) if CALL.fullmatch(name) else None
+        helper = library().answer(name)
         if helper is None:
             raise Refusal(f"{text}: there is no such call")
         if name in self.options.refused:
