@@ -12,6 +12,7 @@ NEEDS = "needs the built program: name it by --program=FILE, or by the environme
 def pytest_addoption(parser: pytest.Parser) -> None:
     parser.addoption("--program", metavar="FILE", type=Path,
                      help="the program wasm-shim; without it the second reading of the standards is the shim")
+    parser.addoption("--slow", action="store_true", help="run the tests with the mark slow, and no others")
 
 
 def pytest_configure(config: pytest.Config) -> None:
@@ -21,8 +22,11 @@ def pytest_configure(config: pytest.Config) -> None:
         os.environ["FEULGAMA_SHIM"] = str(named.resolve(strict=True))
 
 
-def pytest_collection_modifyitems(items: list[pytest.Item]) -> None:
-    """Passes over what the second reading cannot do."""
+def pytest_collection_modifyitems(config: pytest.Config, items: list[pytest.Item]) -> None:
+    """Leaves out the slow tests, or the others; and passes over what the second reading cannot do."""
+    left_out = [item for item in items if (item.get_closest_marker("slow") is not None) != config.getoption("--slow")]
+    config.hook.pytest_deselected(items=left_out)
+    items[:] = [item for item in items if item not in left_out]
     shim = os.environ.get("FEULGAMA_SHIM", "")
     if not shim or shim.endswith(".py"):
         for item in items:
