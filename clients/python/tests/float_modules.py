@@ -128,13 +128,15 @@ ROUND_TRIP_SAYS = b"".join((
     struct.pack("<dQddd", 0.5, 0xFFFFFFFF, 1.5, 0.1, -0.1)))
 
 
-def through_table(functions: Sequence[tuple[int, int]], kind: int, at: int) -> bytes:
+def through_table(functions: Sequence[tuple[int, int]], kind: int, at: int, types: Sequence[bytes] = (),
+                  at_end: tuple[int, bytes] | None = None) -> bytes:
     """A module whose table has functions of the types 2 and 3, which give 7; the one at `at` is called as one of a type, and
-    its result is written. `functions` has the type of each, and how often it is there."""
+    its result is written. `functions` has the type of each, and how often it is there; `types` are more types, and `at_end`
+    is another function, by its type and its body, at the table's end."""
     bodies = [(own, w.i64(7) if own == 3 else constant("f64", bits_of("f64", 7))) for own, count in functions
-              for _ in range(count)]
+              for _ in range(count)] + ([at_end] if at_end else [])
     elements = b"\0" + w.i32(0) + b"\x0b" + w.vector([w.unsigned(1 + number) for number in range(len(bodies))])
     operand = constant("f32", 0) if kind == 2 else w.i32(0)
     main = w.i32(0) + operand + w.i32(at) + b"\x11" + w.unsigned(kind) + b"\0" + (b"\xbd" if kind == 2 else b"")
-    return Written(main + STORES["i64"] + m.show(0, 8), [m.WRITER], [F32_F64, I32_I64], functions=bodies,
+    return Written(main + STORES["i64"] + m.show(0, 8), [m.WRITER], [F32_F64, I32_I64, *types], functions=bodies,
                    table=b"\x01\x70\0" + w.unsigned(len(bodies)), elements=[elements]).bytes()

@@ -10,6 +10,7 @@ import feulgama
 from bench.floats import turns
 from feulgama.lowering import floats, lower
 from feulgama.lowering.library import library
+from feulgama.wasm import writer as w
 from feulgama.wasm.module import decode
 from tests import float_modules as f
 from tests.support import SHIM
@@ -164,6 +165,13 @@ class Places(unittest.TestCase):
                     expected = (seven[own], None) if kind == own else (b"", "indirect call type mismatch")
                     self.assertEqual(self.run_lowered(f.through_table(functions, kind, at)), expected, (functions, kind, at))
             self.assertEqual(self.run_lowered(f.through_table(functions, 2, 9)), (b"", "undefined element"))
+
+    def test_a_type_that_is_taken(self) -> None:
+        """A function of the module's own may have the type by which another one could be kept apart."""
+        data = f.through_table(((3, 2), (2, 1)), 2, 2, [b"\x60\x01\x7f\x02\x7e\x7f"], at_end=(4, w.i64(7) + w.i32(0)))
+        self.assertEqual(self.run_lowered(data), (f.bits_of("f64", 7).to_bytes(8, "little"), None))
+        data = f.through_table(((3, 2), (2, 1)), 2, 3, [b"\x60\x01\x7f\x02\x7e\x7f"], at_end=(4, w.i64(7) + w.i32(0)))
+        self.assertEqual(self.run_lowered(data), (b"", "indirect call type mismatch"))
 
     def test_twice_is_once(self) -> None:
         for data in (f.round_trip(), f.through_table(((2, 1), (3, 1)), 2, 0)):
