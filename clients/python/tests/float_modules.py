@@ -5,13 +5,25 @@ import math
 import struct
 from collections.abc import Callable, Sequence
 
-from feulgama.lowering import floats
 from feulgama.wasm import writer as w
 from tests import written_modules as m
 from tests.written_modules import Written
 
-OPCODES = {word: opcode for opcode, word in floats.OPERATIONS.items()}
-SATURATIONS = {word: number for number, word in floats.SATURATIONS.items()}
+# From 0x5b on, from 0x8b on and behind 0xfc, as the standard lists them.
+RELATION_WORDS = "f32.eq f32.ne f32.lt f32.gt f32.le f32.ge f64.eq f64.ne f64.lt f64.gt f64.le f64.ge"
+OPERATION_WORDS = """
+f32.abs f32.neg f32.ceil f32.floor f32.trunc f32.nearest f32.sqrt f32.add f32.sub f32.mul f32.div f32.min f32.max f32.copysign
+f64.abs f64.neg f64.ceil f64.floor f64.trunc f64.nearest f64.sqrt f64.add f64.sub f64.mul f64.div f64.min f64.max f64.copysign
+i32.wrap_i64 i32.trunc_f32_s i32.trunc_f32_u i32.trunc_f64_s i32.trunc_f64_u i64.extend_i32_s i64.extend_i32_u
+i64.trunc_f32_s i64.trunc_f32_u i64.trunc_f64_s i64.trunc_f64_u
+f32.convert_i32_s f32.convert_i32_u f32.convert_i64_s f32.convert_i64_u f32.demote_f64
+f64.convert_i32_s f64.convert_i32_u f64.convert_i64_s f64.convert_i64_u f64.promote_f32"""
+SATURATION_WORDS = """
+i32.trunc_sat_f32_s i32.trunc_sat_f32_u i32.trunc_sat_f64_s i32.trunc_sat_f64_u
+i64.trunc_sat_f32_s i64.trunc_sat_f32_u i64.trunc_sat_f64_s i64.trunc_sat_f64_u"""
+OPCODES = {word: first + at for first, words in ((0x5B, RELATION_WORDS), (0x8B, OPERATION_WORDS))
+           for at, word in enumerate(words.split())}
+SATURATIONS = {word: number for number, word in enumerate(SATURATION_WORDS.split())}
 SIZES = {"f32": 4, "f64": 8, "i32": 4, "i64": 8}
 FORMS = {"f32": "<f", "f64": "<d"}
 STORES = {"f32": b"\x38\0\0", "f64": b"\x39\0\0", "i32": b"\x36\0\0", "i64": b"\x37\0\0"}
@@ -48,7 +60,7 @@ def operator(word: str) -> bytes:
 def result_of(word: str) -> str:
     """The type of the result."""
     kind, _, name = word.partition(".")
-    return "i32" if name in floats.RELATIONS else kind
+    return "i32" if name in RELATIONS else kind
 
 
 def operand_of(word: str) -> str:

@@ -8,7 +8,7 @@ from collections.abc import Sequence
 
 import feulgama
 from bench.floats import turns
-from feulgama.lowering import floats, lower
+from feulgama.lowering import lower
 from feulgama.lowering.library import library
 from feulgama.wasm import writer as w
 from feulgama.wasm.module import decode
@@ -76,7 +76,7 @@ class Operations(unittest.TestCase):
 
     def test_truncations(self) -> None:
         """Those that saturate, of all; those that trap, of those that are in range, and each of three outside."""
-        for number, word in enumerate(floats.SATURATIONS.values()):
+        for number, word in enumerate(f.SATURATIONS):
             kind, size, is_signed = f.operand_of(word), 8 * f.SIZES[word[:3]], word.endswith("_s")
             low, high = (-2**(size - 1), 2**(size - 1) - 1) if is_signed else (0, 2**size - 1)
             edges = [f.bits_of(kind, edge + step) for edge in (low, high) for step in (-1, -0.5, 0, 0.5, 1)]
