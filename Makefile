@@ -5,7 +5,7 @@ export PYTHON
 # The crates whose programs `check-all` runs beside the product's.
 TEST_PROGRAMS = both_machines reason_rows refusals
 # Suites that can be run one by one.
-SUITES = examples rows clients/python real-programs dap-emacs compare compare-text compare-reasons compare-serve-reasons \
+SUITES = examples rows clients/python floats real-programs dap-emacs compare compare-text compare-reasons compare-serve-reasons \
 	serve-threads check-history refuse-allocations hostile
 
 .PHONY: help try build build-tests gate check check-all check-ci check-containers bench fmt verdict plant attacks $(SUITES)

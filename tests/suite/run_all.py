@@ -51,6 +51,7 @@ SUITES = [
     of_tests("examples", "tests/test_examples.py"),
     of_tests("rows", "tests/test_rows.py"),
     Suite("clients/python", (*PYTEST, "tests"), True, CLIENT, {"SUITE": "clients/python"}, needs_program=True),
+    Suite("floats", (*PYTEST, "--slow", "tests"), False, CLIENT, {"SUITE": "floats"}),
     of_tests("real-programs", "tests/test_real_programs.py"),
     of_tests("dap-emacs", "tests/test_dap_emacs.py"),
     of_command("check-history", "--self-test", is_quick=True),

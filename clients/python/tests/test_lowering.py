@@ -23,6 +23,7 @@ from feulgama.lowering.words import code
 from feulgama.wasm import writer as w
 from feulgama.wasm.module import HEAD, decode
 from feulgama.wasm.names import names_of
+from tests import float_modules as f
 from tests import written_modules as m
 from tests.support import EXIT_7, FOREVER_BYTES, SHIM, TOP, TRAPPING_BYTES
 from tests.written_modules import Written
@@ -329,6 +330,10 @@ class Refused(unittest.TestCase):
             "global 0, which is no constant": Written(b"", globals_=[b"\x7f\0\x23\0\x0b"]),
             "reads global 0, which": Written(b"", globals_=[m.RESULT, b"\x7f\0\x23\0\x0b"]),
             "does not give one i32": Written(b"", globals_=[b"\x7f\0" + w.i64(0) + b"\x0b"]),
+            "more than 100 function types": Written(
+                b"", types=[b"\x60\x07" + bytes(0x7F - 2 * (at >> bit & 1) for bit in range(7)) + b"\0" for at in range(103)],
+                table=b"\x01\x70\0\x67", functions=[(2 + at, b"") for at in range(103)],
+                elements=[b"\0" + w.i32(0) + b"\x0b\x67" + bytes(range(103))]),
             "does not give one f32": Written(b"", globals_=[b"\x7d\0" + w.i32(0) + b"\x0b"]),
         }
         for words, part in parts.items():
@@ -352,7 +357,8 @@ class Refused(unittest.TestCase):
     def test_hostile_bytes(self) -> None:
         """Mutated modules end with a reason or with a module, which needs no lowering again, and soon."""
         random.seed(5)
-        sources = [*ranges(9, 10), *[m.rich()] * 10]
+        together = f.through_table(((2, 1), (3, 1)), 2, 0)
+        sources = [*ranges(9, 10), *[m.rich()] * 10, *[f.round_trip()] * 10, *[together] * 5, f.asking("f64.add", [(1, 2)])]
         begin, refused = time.monotonic(), 0
         for number in range(10_000):
             data = bytearray(random.choice(sources))

@@ -35,14 +35,19 @@ class Additions:
     _known: dict[object, int] = field(default_factory=dict)
     _indices: dict[bytes, int] = field(default_factory=dict)
 
-    def type_index(self, kind: bytes) -> int:
-        """The index of a type, which is added if it is not there."""
+    def known_types(self) -> dict[bytes, int]:
+        """The indices of all types."""
         if not self._indices:
             self._indices = {one: at for at, one in reversed([*enumerate(self.types)])}
-        if kind not in self._indices:
-            self._indices[kind] = len(self.types) + len(self.new_types)
+        return self._indices
+
+    def type_index(self, kind: bytes) -> int:
+        """The index of a type, which is added if it is not there."""
+        known = self.known_types()
+        if kind not in known:
+            known[kind] = len(self.types) + len(self.new_types)
             self.new_types.append(kind)
-        return self._indices[kind]
+        return known[kind]
 
     def function(self, name: str, kind: bytes, data: bytes) -> int:
         """A new function; its index."""

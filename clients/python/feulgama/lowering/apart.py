@@ -7,11 +7,13 @@ from collections.abc import Iterable
 from dataclasses import dataclass, field
 
 from feulgama.lowering.additions import Additions
+from feulgama.lowering.errors import Refusal
 from feulgama.lowering.floats import without_floats
 from feulgama.wasm import opcodes as op
 from feulgama.wasm import writer as w
 
 Kind = tuple[bytes, bytes]
+MOST_EXTRA = 100
 
 
 def encoded(params: bytes, results: bytes) -> bytes:
@@ -81,9 +83,11 @@ class Apart:
         """How many results make a type that is in no other use."""
         if kind not in self._extra:
             params, results = self._lowered(kind)
-            extra, known = 1, {*self.added.types, *self.added.new_types}
-            while encoded(params, results + bytes([op.I32]) * extra) in known:
+            extra = 1
+            while encoded(params, results + bytes([op.I32]) * extra) in self.added.known_types():
                 extra += 1
+            if extra > MOST_EXTRA:
+                raise Refusal(f"more than {MOST_EXTRA} function types differ by floats alone")
             self.added.type_index(encoded(params, results + bytes([op.I32]) * extra))
             self._extra[kind] = extra
         return self._extra[kind]
