@@ -87,6 +87,10 @@ class Value(NamedTuple):
     def __str__(self) -> str:
         return f"{self.type.value}:{self.number}"
 
+    def data(self) -> bytes:
+        """The bytes that it has in memory."""
+        return self.number.to_bytes(4 if self.type is ValueType.I32 else 8, "little", signed=True)
+
 
 @dataclass(frozen=True, slots=True)
 class Frame:

@@ -204,8 +204,10 @@ class Views:
 
     def _variable(self, frame: Frame, word: str, index: int, value: Value) -> Body:
         name = self._symbols.names.local(frame.func, index) if word == "local" else None
-        shown: Body = {"name": name or f"{word} {index}", "value": str(value.number), "type": value.type.value,
-                       "evaluateName": f"{word} {index}", "variablesReference": 0}
+        kind = self._symbols.float_local(frame.func, index) if word == "local" else None
+        text = str(value.number) if kind is None else kind.text(value.data(), self._timeline.memory)
+        shown: Body = {"name": name or f"{word} {index}", "value": text, "evaluateName": f"{word} {index}",
+                       "type": value.type.value if kind is None else kind.name, "variablesReference": 0}
         if value.type == "i32":
             shown["memoryReference"] = hex(value.number % 2**32)
         return shown

@@ -1,6 +1,7 @@
 """Types of C, C++ and Rust as DWARF describes them, and the texts of their values."""
 from __future__ import annotations
 
+import math
 import struct
 from collections.abc import Callable
 from dataclasses import dataclass, field
@@ -9,6 +10,7 @@ Memory = Callable[[int, int], bytes]
 MOST_SHOWN = 16
 DEEPEST = 3
 LONGEST_TEXT = 64
+FLOATS = {4: "<f", 8: "<d"}
 
 
 @dataclass(frozen=True, slots=True)
@@ -51,9 +53,28 @@ class Number(CType):
 class Float(CType):
     """A number with a fraction, of 4 or 8 bytes."""
 
+    def real(self, data: bytes) -> float | None:
+        """The number that bytes mean; None if they have another size."""
+        form = FLOATS.get(len(data))
+        return None if form is None else float(struct.unpack(form, data)[0])
+
+    def encoded(self, number: float) -> bytes:
+        """The bytes of a number; one that is too large becomes infinite."""
+        form = FLOATS.get(self.size, "<d")
+        try:
+            return struct.pack(form, number)
+        except OverflowError:
+            return struct.pack(form, math.copysign(math.inf, number))
+
     def text(self, data: bytes, _memory: Memory, _depth: int = 0) -> str:
-        form = {4: "<f", 8: "<d"}.get(len(data))
-        return data.hex(" ") if form is None else repr(struct.unpack(form, data)[0])
+        """The fewest digits that mean the same bytes."""
+        found = self.real(data)
+        if found is None:
+            return data.hex(" ")
+        if len(data) == 8 or not math.isfinite(found):
+            return repr(found)
+        digits = (float(f"{found:.{count}g}") for count in range(6, 10))
+        return repr(next(one for one in digits if self.encoded(one) == data))
 
 
 @dataclass(frozen=True, slots=True)
@@ -181,8 +202,13 @@ NUMBERS = {"char": (1, True), "signed char": (1, True), "unsigned char": (1, Fal
            **{f"{letter}{bits}": (bits // 8, letter == "i") for letter in "iu" for bits in (8, 16, 32, 64)}}
 
 
+REALS = {name: Float(name, size) for name, size in (("float", 4), ("f32", 4), ("double", 8), ("f64", 8))}
+
+
 def built_in(name: str) -> CType | None:
     """The number type of a name that needs no description; None if it is none."""
+    if name in REALS:
+        return REALS[name]
     if name not in NUMBERS:
         return CType(name, 0) if name == "void" else None
     size, is_signed = NUMBERS[name]

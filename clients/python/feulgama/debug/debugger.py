@@ -178,7 +178,8 @@ class Debugger:
         """What an expression may name in the frame with a number; without a frame only the turn and memory."""
         frames = self.frames()
         return Scope(frames[number] if number < len(frames) else None, self.symbols.names, self.timeline.turn,
-                     self.timeline.memory, lambda name: self.variables(number, name), self.globals, self.symbols.type_named)
+                     self.timeline.memory, lambda name: self.variables(number, name), self.globals, self.symbols.type_named,
+                     self.symbols.float_local)
 
     # Moving by instructions.
 

@@ -2,6 +2,7 @@
 of them."""
 from __future__ import annotations
 
+import math
 import re
 from collections.abc import Callable
 from dataclasses import dataclass
@@ -13,7 +14,7 @@ from feulgama.errors import FeulgamaError
 from feulgama.model import Frame, Value, ValueType
 from feulgama.wasm.names import Names
 
-TOKEN = re.compile(r"""\s*(0x[0-9a-fA-F]+|\d+|'(?:\\.|[^'\\])'|\$[\w$.]+|[A-Za-z_](?:\w|::(?=\w|\{))*
+TOKEN = re.compile(r"""\s*(0x[0-9a-fA-F]+|\d+\.\d+(?:[eE][-+]?\d+)?|\d+|'(?:\\.|[^'\\])'|\$[\w$.]+|[A-Za-z_](?:\w|::(?=\w|\{))*
                        |->|<<|>>|<=|>=|==|!=|&&|\|\||[-+*/%&|^~!<>().\[\]])""", re.VERBOSE)
 ESCAPES = {"n": 10, "t": 9, "r": 13, "0": 0}
 TYPE_WORDS = ("struct", "union", "enum", "unsigned", "signed", "const", "volatile")
@@ -36,6 +37,10 @@ class Operand:
     address: int | None = None
     value: Value | None = None
 
+    def real(self) -> float | None:
+        """Its number if it is a float; None of anything else."""
+        return self.kind.real(self.data) if isinstance(self.kind, c_types.Float) else None
+
     def whole(self) -> int:
         """Its number. Raises NoValueError if it has none."""
         if self.number is None:
@@ -46,7 +51,8 @@ class Operand:
 @dataclass(frozen=True, slots=True)
 class Scope:
     """What words may name: the frame, None of a task that has ended; the names; the turn; memory, by an address and a
-    number of bytes; by a name the variables of C of the frame, and those of all functions of the module; and types."""
+    number of bytes; by a name the variables of C of the frame, and those of all functions of the module; types; and by the
+    numbers of a function and a local its type if it is a float."""
     frame: Frame | None
     names: Names
     turn: int
@@ -54,6 +60,7 @@ class Scope:
     variables: Callable[[str], list[Found]]
     globals: Callable[[str], list[Found]]
     type_named: Callable[[str], CType | None] = lambda _name: None
+    float_local: Callable[[int, int], CType | None] = lambda _func, _index: None
 
     def variable(self, name: str) -> Found | None:
         """The variable of C with a name, or with one of which it is the last part."""
@@ -136,7 +143,11 @@ class Expression:
     def _prefixed(self) -> Operand:
         if self._is_next("-", "!", "~"):
             op = self._next()
-            number = self._prefixed().whole()
+            found = self._prefixed()
+            real = found.real()
+            if real is not None and op != "~":
+                return of_real(-real) if op == "-" else Operand(int(not real))
+            number = found.whole()
             return Operand({"-": -number, "~": ~number, "!": int(not number)}[op])
         if self._is_next("*"):
             self._next()
@@ -192,7 +203,14 @@ class Expression:
 
     def _as(self, kind: CType, found: Operand) -> Operand:
         """A value as another type has it."""
-        number = found.address if found.number is None and found.address is not None else found.whole()
+        real = found.real()
+        if isinstance(kind, c_types.Float):
+            return Operand(None, kind, kind.encoded(real if real is not None else found.whole()))
+        if real is not None and not math.isfinite(real):
+            raise NoValueError(f"{real} is no whole number")
+        is_there = found.number is None and real is None and found.address is not None
+        number = int(real) if real is not None else found.address if is_there else found.whole()
+        assert number is not None
         data = (number % (1 << 8 * kind.size)).to_bytes(kind.size, "little")
         if kind.number(data) is None:
             raise NoValueError(f"a number cannot be a {kind.name}; *({kind.name} *) reads one from memory")
@@ -244,6 +262,8 @@ class Expression:
             found = self.level(0)
             self._take(")")
             return found
+        if word[0].isdigit() and "." in word:
+            return of_real(float(word))
         if word[0].isdigit():
             return Operand(int(word, 0) if word.startswith("0x") else int(word))
         if word[0] == "'":
@@ -259,15 +279,21 @@ class Expression:
         if word in ("local", "operand") and self._tokens and self._tokens[-1].isdigit():
             if frame is None:
                 raise NoValueError("the task has ended, and has no frame")
-            return of_value(picked(frame.locals if word == "local" else frame.operands, word, int(self._next())))
+            index = int(self._next())
+            return self._local(frame, index) if word == "local" else of_value(picked(frame.operands, word, index))
         variable = self._scope.variable(word)
         if variable is not None:
             return of_variable(variable)
-        for index, value in enumerate(frame.locals if frame is not None else ()):
+        for index in range(len(frame.locals) if frame is not None else 0):
             if frame is not None and self._scope.names.local(frame.func, index) == word.removeprefix("$"):
-                return of_value(value)
+                return self._local(frame, index)
         ended = "; the task has ended, and has no frame" if frame is None else " in this frame"
         raise NoValueError(f"there is nothing named {word}{ended}")
+
+    def _local(self, frame: Frame, index: int) -> Operand:
+        """A local, which may be a float in the module as it was compiled."""
+        value, kind = picked(frame.locals, "local", index), self._scope.float_local(frame.func, index)
+        return of_value(value) if kind is None else Operand(None, kind, value.data())
 
 
 def of_value(value: Value) -> Operand:
@@ -302,10 +328,32 @@ def computed(op: str, left: Operand, right: Operand) -> Operand:
         step = max(1, left.kind.to().size)
         moved = (left.whole() + (1 if op == "+" else -1) * step * right.whole()) % 2**32
         return Operand(moved, left.kind, moved.to_bytes(4, "little"))
+    if left.real() is not None or right.real() is not None:
+        return of_floats(op, left, right)
     one, other = left.whole(), right.whole()
     if op in ("/", "%") and other == 0:
         raise NoValueError("a division by 0")
     return Operand(int(OPERATORS[op](one, other)))
+
+
+def of_floats(op: str, left: Operand, right: Operand) -> Operand:
+    """The same of two values of which one is a float. The other one becomes one, and the result is a double."""
+    if op not in FLOAT_OPERATORS:
+        raise NoValueError(f"{op} is no operator of floats")
+    one, other = (float(side.whole()) if real is None else real for side, real in ((left, left.real()), (right, right.real())))
+    if op == "/" and other == 0:
+        raise NoValueError("a division by 0")
+    try:
+        found = FLOAT_OPERATORS[op](one, other)
+    except OverflowError as error:
+        raise NoValueError("the result is too large") from error
+    return Operand(int(found)) if isinstance(found, bool) else of_real(found)
+
+
+def of_real(number: float) -> Operand:
+    """A double."""
+    kind = c_types.REALS["double"]
+    return Operand(None, kind, kind.encoded(number))
 
 
 def quotient(left: int, right: int) -> int:
@@ -321,4 +369,10 @@ OPERATORS: dict[str, Callable[[int, int], int]] = {
     "&&": lambda left, right: bool(left) and bool(right), "||": lambda left, right: bool(left) or bool(right),
     "==": lambda left, right: left == right, "!=": lambda left, right: left != right,
     "<": lambda left, right: left < right, ">": lambda left, right: left > right,
+    "<=": lambda left, right: left <= right, ">=": lambda left, right: left >= right}
+FLOAT_OPERATORS: dict[str, Callable[[float, float], float | bool]] = {
+    "+": lambda left, right: left + right, "-": lambda left, right: left - right, "*": lambda left, right: left * right,
+    "/": lambda left, right: left / right, "&&": lambda left, right: bool(left) and bool(right),
+    "||": lambda left, right: bool(left) or bool(right), "==": lambda left, right: left == right,
+    "!=": lambda left, right: left != right, "<": lambda left, right: left < right, ">": lambda left, right: left > right,
     "<=": lambda left, right: left <= right, ">=": lambda left, right: left >= right}

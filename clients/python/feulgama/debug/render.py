@@ -3,7 +3,7 @@ from __future__ import annotations
 
 from feulgama.debug.lines import SourceLine
 from feulgama.debug.look import Place
-from feulgama.debug.symbols import Symbols
+from feulgama.debug.symbols import Symbols, typed_text
 from feulgama.model import Frame
 
 AROUND = 5
@@ -39,9 +39,14 @@ def call_line(symbols: Symbols, number: int, frame: Frame, place: Place, argumen
 def local_lines(symbols: Symbols, frame: Frame) -> list[str]:
     """The locals of a frame, with their names."""
     names = (symbols.names.local(frame.func, index) for index in range(len(frame.locals)))
-    found = [f"local {index}{f' {name}' if name else ''} = {value}"
-             for index, (name, value) in enumerate(zip(names, frame.locals))]
+    found = [f"local {index}{f' {name}' if name else ''} = {local_text(symbols, frame, index)}"
+             for index, name in enumerate(names)]
     return found or ["no locals"]
+
+
+def local_text(symbols: Symbols, frame: Frame, index: int) -> str:
+    """A local with its type; one that is a float in the module as it was compiled as that."""
+    return typed_text(frame.locals[index], symbols.float_local(frame.func, index))
 
 
 def operand_lines(frame: Frame) -> list[str]:

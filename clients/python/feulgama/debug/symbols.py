@@ -13,7 +13,7 @@ from feulgama.debug.dwarf import FAULTS, lines_of, variables_of, why_no_lines
 from feulgama.debug.lines import Lines, Sources, SourceLine
 from feulgama.debug.look import Place
 from feulgama.errors import FeulgamaError
-from feulgama.model import Frame
+from feulgama.model import Frame, Value
 from feulgama.wasm.body import Instruction
 from feulgama.wasm.calls import Shown, calls_of
 from feulgama.wasm.module import Module
@@ -22,6 +22,11 @@ from feulgama.wasm.names import names_of
 
 class NoPlaceError(FeulgamaError):
     """Words that name no place."""
+
+
+def typed_text(value: Value, kind: CType | None) -> str:
+    """A value with its type, or with a type of floats that it had in the module as it was compiled."""
+    return str(value) if kind is None else f"{kind.name}:{kind.text(value.data(), lambda _address, _size: b'')}"
 
 
 class Symbols:
@@ -42,6 +47,12 @@ class Symbols:
         if found is None:
             raise NoPlaceError(f"there is no instruction {place}")
         return found
+
+    def float_local(self, func: int, index: int) -> CType | None:
+        """The type of a local that is a float in the module as it was compiled; None of an integer."""
+        function = self.module.function(func)
+        kind = function.locals[index] if function is not None and index < len(function.locals) else ""
+        return c_types.REALS.get(kind)
 
     def line_at(self, place: Place) -> SourceLine | None:
         """The line of a place; None if it has none."""
@@ -78,16 +89,19 @@ class Symbols:
         has one that is a number."""
         function = self.module.function(func)
         count = len(function.type.results) if function is not None else 0
+        if function is None or count == 0:
+            return []
         values = frame.operands[len(frame.operands) - count:]
-        if function is None or self._variables is None or count != 1:
-            return list(map(str, values))
+        shown = [typed_text(value, c_types.REALS.get(word)) for value, word in zip(values, function.type.results)]
+        if self._variables is None or count != 1:
+            return shown
         try:
             kind = self._variables.type_of_function(function.begin)
         except FAULTS:
             kind = None
         data = values[0].number.to_bytes(8, "little", signed=True)[:kind.size] if kind is not None else b""
-        return list(map(str, values)) if kind is None or kind.number(data) is None else \
-            [f"{kind.name} {kind.text(data, memory)}"]
+        has_text = kind is not None and (isinstance(kind, c_types.Float) or kind.number(data) is not None)
+        return [f"{kind.name} {kind.text(data, memory)}"] if kind is not None and has_text else shown
 
     def type_named(self, name: str) -> CType | None:
         """The type with a name, as `unsigned int`, `u8` or `struct counts`; None if there is none."""

@@ -8,7 +8,7 @@ from dataclasses import dataclass, field
 from feulgama.lowering import floats
 from feulgama.lowering import source as s
 from feulgama.lowering.additions import SEED, Additions
-from feulgama.lowering.apart import Apart, encoded
+from feulgama.lowering.apart import Apart, Kind, encoded
 from feulgama.lowering.body import Body, rewritten, u32, value_type
 from feulgama.lowering.constants import Constant, constant
 from feulgama.lowering.errors import LoweringError, Refusal
@@ -39,11 +39,13 @@ class Options:
 class Lowered:
     """A lowered module. `replaced` says how often each thing was, `left_out` which custom sections are gone. `originals`
     has for each function of the module's own where it and its instructions were, from the first byte of the contents of
-    the original's code section; `first` is the index of the first of them, in both modules."""
+    the original's code section, and `kinds` its parameters and its results, as they were; `first` is the index of the
+    first of them, in both modules."""
     data: bytes
     replaced: Mapping[str, int]
     left_out: tuple[str, ...]
     originals: tuple[Body, ...]
+    kinds: tuple[Kind, ...]
     first: int
 
 
@@ -91,7 +93,11 @@ class Lowering:
             return self._unchanged(originals)
         self._put_additions()
         data, left_out = self._written()
-        return Lowered(data, dict(self.added.replaced), left_out, originals, first)
+        return Lowered(data, dict(self.added.replaced), left_out, originals, self._kinds(), first)
+
+    def _kinds(self) -> tuple[Kind, ...]:
+        """The types of the functions, as they were."""
+        return tuple(self.apart.kinds[kind] for kind in self.own)
 
     def _in_section(self, number: int, read: Callable[[Reader], bytes | None]) -> None:
         """Reads a section, if it is there; its new contents if it has to change."""
@@ -325,7 +331,7 @@ class Lowering:
         """The bodies as offsets in the contents of the code section."""
         start = next((one.begin for one in self.sections if one.number == s.CODE), 0)
         return tuple(Body(body.begin - start, body.end - start, b"", body.is_changed,
-                          array("L", (at - start for at in body.offsets))) for body in self.bodies)
+                          array("L", (at - start for at in body.offsets)), body.locals) for body in self.bodies)
 
     def _unchanged(self, originals: tuple[Body, ...]) -> Lowered:
         """What there is nothing to lower in, without custom sections if they go."""
@@ -335,7 +341,7 @@ class Lowering:
                 left_out.append(self._name(one))
             else:
                 data += self.data[one.first:one.end]
-        return Lowered(data, {}, tuple(left_out), originals, len(self.imports))
+        return Lowered(data, {}, tuple(left_out), originals, self._kinds(), len(self.imports))
 
     def _put_additions(self) -> None:
         """Puts functions, types and globals that were added into their sections."""
