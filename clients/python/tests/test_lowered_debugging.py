@@ -4,6 +4,7 @@ from __future__ import annotations
 import tempfile
 import unittest
 from pathlib import Path
+from typing import Any
 
 import feulgama
 from feulgama.debug import dwarf
@@ -39,11 +40,32 @@ __attribute__((export_name("_start"))) void start(void) {
 
 """
 FLAGS = ("-g", "-O0", "-mbulk-memory")
+FLOATS = """struct point { double x; float y; int n; };
+static double scale = 2.5;
+static double mean(const double *values, int count) {
+  double sum = 0;
+  float last = 0;
+  for (int at = 0; at < count; at++) {
+    sum += values[at];
+    last = values[at];
+  }
+  struct point all = {sum, last, count};
+  return all.x / all.n * scale;
+}
+static double values[] = {0.5, 7.0625, 0.06};
+double found;
+__attribute__((export_name("_start"))) void start(void) {
+  found = mean(values, 3);
+}
+"""
+# What C says of it.
+SUMS = (0.5, 0.5 + 7.0625, 0.5 + 7.0625 + 0.06)
+FOUND = SUMS[2] / 3 * 2.5
 
 
-def line_of(words: str) -> int:
+def line_of(words: str, text: str = TEXT) -> int:
     """The number of a line of the program."""
-    return next(number for number, line in enumerate(TEXT.splitlines(), 1) if words in line)
+    return next(number for number, line in enumerate(text.splitlines(), 1) if words in line)
 
 
 @unittest.skipUnless(dwarf.IS_THERE, "needs python3-pyelftools")
@@ -90,7 +112,93 @@ class Built(unittest.TestCase):
         self.assertIn("long long 1000", answer("print tick"))
 
 
+@unittest.skipUnless(dwarf.IS_THERE, "needs python3-pyelftools")
+@unittest.skipIf(MISSING, f"needs {' '.join(MISSING)} of Debian's clang-14, lld-14 and llvm-14")
+class Doubles(unittest.TestCase):
+    """A program with doubles, as it comes from the compiler."""
+
+    def setUp(self) -> None:
+        self.module = built_c(Path(self.enterContext(tempfile.TemporaryDirectory())), "mean", FLOATS, "-g", "-O0")
+        shim = self.enterContext(feulgama.Shim(SHIM))
+        self.commands = Commands(open_debugger(shim, self.module, self.module.read_bytes(), [], {}, None))
+
+    def answer(self, words: str) -> str:
+        return "\n".join(self.commands.answer(words))
+
+    def line(self, words: str) -> int:
+        """The line after a command."""
+        self.answer(words)
+        return int(self.answer("bt").splitlines()[0].rpartition(":")[2])
+
+    def test_lines_and_values(self) -> None:
+        """A step is a line, over the functions that do the sums, forward and back."""
+        body, after = line_of("sum +=", FLOATS), line_of("last = values", FLOATS)
+        self.answer(f"tbreak mean.c:{body}")
+        self.assertEqual(self.line("continue"), body)
+        self.assertEqual((self.answer("print sum"), self.line("step")), ("double 0.0", after))
+        self.assertEqual((self.answer("print sum"), self.line("step")), ("double 0.5", line_of("for", FLOATS)))
+        self.assertEqual((self.answer("print last"), self.line("reverse-step")), ("float 0.5", after))
+        self.assertEqual((self.answer("print last"), self.line("reverse-step")), ("float 0.0", body))
+        self.assertEqual((self.answer("print sum"), self.answer("print values[1]")), ("double 0.0", "double 7.0625"))
+        self.assertEqual(self.answer("print scale * 2 + 0.25"), "double 5.25")
+
+    def test_the_functions_that_do_the_sums(self) -> None:
+        """Single turns go into them, and `finish` out of them; they have no lines."""
+        self.answer(f"tbreak mean.c:{line_of('sum +=', FLOATS)}")
+        self.answer("continue")
+        for _ in range(40):
+            self.answer("stepi")
+            if "<lowered.f64_add>" in self.answer("bt").splitlines()[0]:
+                break
+        self.assertIn("<lowered.f64_add>", self.answer("bt").splitlines()[0])
+        self.assertRegex(self.answer("bt").splitlines()[1], f"<mean> .*mean.c:{line_of('sum +=', FLOATS)}")
+        self.assertEqual(self.line("finish"), line_of("sum +=", FLOATS))
+
+    def test_conditions_and_watches(self) -> None:
+        self.answer(f"break mean.c:{line_of('last = values', FLOATS)} if sum > 7.6")
+        self.answer("continue")
+        self.assertEqual(self.answer("print sum"), f"double {SUMS[2]!r}")
+        self.answer("delete")
+        self.answer("watch sum")
+        self.answer("reverse-continue")
+        self.answer("reverse-continue")
+        self.assertEqual(self.answer("print sum"), f"double {SUMS[0]!r}")
+        self.assertIn(f"sum was {SUMS[0]!r}, is {SUMS[1]!r}", self.answer("continue"))
+        self.assertIn(f"it makes it {SUMS[1]!r}", self.answer("last-write sum"))
+
+    def test_structures_and_results(self) -> None:
+        self.answer(f"tbreak mean.c:{line_of('return all', FLOATS)}")
+        self.answer("continue")
+        self.assertEqual(self.answer("print all"), f"struct point {{x = {SUMS[2]!r}, y = 0.06, n = 3}}")
+        self.assertIn(f"f64:{SUMS[2]!r}", self.answer("info locals"))
+        self.assertIn("f32:0.06", self.answer("info locals"))
+        self.assertIn(f"returned double {FOUND!r}", self.answer("finish"))
+        self.answer("continue")
+        self.assertEqual(self.answer("print found"), f"double {FOUND!r}")
+
+
 class OfEditors(WithEditor):
+    @unittest.skipUnless(dwarf.IS_THERE, "needs python3-pyelftools")
+    @unittest.skipIf(MISSING, f"needs {' '.join(MISSING)} of Debian's clang-14, lld-14 and llvm-14")
+    def test_doubles(self) -> None:
+        """Variables of the source, and locals of the module, by value."""
+        module = built_c(Path(self.enterContext(tempfile.TemporaryDirectory())), "mean", FLOATS, "-g", "-O0")
+        self.launch(program=str(module))
+        lines = [{"line": line_of("return all", FLOATS)}]
+        self.editor.ask("setBreakpoints", source={"path": str(module.with_name("mean.c"))}, breakpoints=lines)
+        self.editor.ask("configurationDone")
+        self.editor.event("stopped")
+        self.assertEqual(self.editor.evaluate("sum"), repr(SUMS[2]))
+        self.assertEqual(self.editor.evaluate("last / 2 < 0.04"), "1")
+        self.assertIn(("f64", repr(SUMS[2])), [(one.get("type"), one["value"]) for one in self.locals()])
+
+    def locals(self) -> list[Any]:
+        """The locals of the frame."""
+        scopes = self.editor.ask("scopes", frameId=self.editor.frames()[0]["id"])["body"]["scopes"]
+        reference = next(one["variablesReference"] for one in scopes if one["name"] == "Locals")
+        found: list[Any] = self.editor.ask("variables", variablesReference=reference)["body"]["variables"]
+        return found
+
     @unittest.skipUnless(dwarf.IS_THERE, "needs python3-pyelftools")
     @unittest.skipIf(MISSING, f"needs {' '.join(MISSING)} of Debian's clang-14, lld-14 and llvm-14")
     def test_a_breakpoint(self) -> None:

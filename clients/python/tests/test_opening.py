@@ -18,7 +18,7 @@ from feulgama.opening import NeedsMemoryError, RefusedError, open_debugger
 from tests.support import CLIENT, IS_REFERENCE, SHIM
 
 HEAD, TYPE, FUNC, BODY = "0061736d01000000", "010401600000", "03020100", "0a040102000b"
-FLOATS = bytes.fromhex(HEAD + "0105016001" + "7c00")
+VECTORS = bytes.fromhex(HEAD + "0105016001" + "7b00")
 IMPORTS = bytes.fromhex(HEAD + TYPE + "020b0103656e7603666f6f0000" + FUNC + "070a01065f73746172740001" + BODY)
 MEMORY = bytes.fromhex(HEAD + TYPE + FUNC + "0503010011" + "070a01065f73746172740000" + BODY)
 
@@ -34,24 +34,24 @@ class Refused(unittest.TestCase):
         return found.exception
 
     def test_the_file_is_named(self) -> None:
-        for data in (FLOATS, IMPORTS, MEMORY):
+        for data in (VECTORS, IMPORTS, MEMORY):
             self.assertTrue(str(self.refusal(data)).startswith("some.wasm: "))
 
     def test_kinds(self) -> None:
-        self.assertIsInstance(self.refusal(FLOATS), RefusedError)
+        self.assertIsInstance(self.refusal(VECTORS), RefusedError)
         self.assertIsInstance(self.refusal(IMPORTS), RefusedError)
         self.assertIsInstance(self.refusal(MEMORY), NeedsMemoryError)
 
     @pytest.mark.program
     def test_reasons(self) -> None:
         """The words of the program may change: a part of each that says what is wrong."""
-        self.assertIn("floats are outside the profile", str(self.refusal(FLOATS)))
+        self.assertIn("vectors of 128 bits are outside the profile", str(self.refusal(VECTORS)))
         self.assertRegex(str(self.refusal(IMPORTS)), "22 BadImport.*foo")
         self.assertRegex(str(self.refusal(MEMORY)), "9 Limit.*17 pages")
 
     @pytest.mark.program
     def test_as_the_command_check_says_it(self) -> None:
-        for data in (FLOATS, IMPORTS):
+        for data in (VECTORS, IMPORTS):
             with tempfile.NamedTemporaryFile() as file:
                 file.write(data)
                 file.flush()
@@ -61,8 +61,8 @@ class Refused(unittest.TestCase):
 
     def test_the_command(self) -> None:
         """One line on standard error, and status 1."""
-        file = Path(self.enterContext(tempfile.TemporaryDirectory())) / "floats.wasm"
-        file.write_bytes(FLOATS)
+        file = Path(self.enterContext(tempfile.TemporaryDirectory())) / "vectors.wasm"
+        file.write_bytes(VECTORS)
         with contextlib.redirect_stderr(io.StringIO()) as told:
             self.assertEqual(main(["--shim", SHIM, "debug", str(file)]), 1)
             self.assertEqual(main(["--shim", SHIM, "debug", str(CLIENT / "none.wasm")]), 1)
