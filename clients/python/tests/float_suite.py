@@ -1,4 +1,4 @@
-"""The assertions on floats of WebAssembly's official test suite, and modules that make them in one run.
+"""Assertions of WebAssembly's official test suite on modules with floats, and modules that make them in one run.
 
 `data/float_suite.txt` has them in lines: a module's file and its bytes, `func NAME PARAMS RESULTS` for each function that is
 called, and calls with the bits of their operands and of their result, or the text of their trap. As a program this file writes
@@ -23,6 +23,12 @@ from feulgama.wasm.reader import Reader
 FILE = Path(__file__).with_name("data") / "float_suite.txt"
 SCRIPTS = ("f32", "f64", "f32_bitwise", "f64_bitwise", "f32_cmp", "f64_cmp", "conversions", "float_exprs", "float_literals",
            "float_memory", "float_misc")
+# Of control, variables and the table, whose modules have floats as well.
+OTHERS = ("block", "br", "br_if", "br_table", "call", "call_indirect", "const", "endianness", "func", "globals", "if",
+          "left-to-right", "local_get", "local_set", "local_tee", "loop", "return", "select", "traps", "unreachable", "unwind")
+# What needs more than the 256 pages of memory that a task may have: of these scripts the call of this name.
+LARGE = {"call": "as-memory.grow-value", "call_indirect": "as-memory.grow-value"}
+MADE = ("assert_return", "assert_trap", "action")
 AT_ONCE = 400
 # Of a type: the word for a constant, whether its bytes are those of a float, what makes an integer of it, what compares two.
 CONSTANTS = {"i32": b"\x41", "i64": b"\x42", "f32": b"\x43", "f64": b"\x44"}
@@ -150,7 +156,7 @@ def lines_of(name: str, folder: Path, commands: list[dict[str, Any]]) -> Iterato
         kind, action = command["type"], command.get("action", {})
         if kind == "module":
             head, known = [f"module {name} {(folder / command['filename']).read_bytes().hex()}"], set()
-        elif kind in ("assert_return", "assert_trap", "action") and action["type"] == "invoke":
+        elif kind in MADE and action["type"] == "invoke" and action["field"] != LARGE.get(name):
             yield from head
             head = []
             words, expected = [action["field"], *map(hexadecimal, action["args"])], command.get("expected", [])
@@ -174,7 +180,7 @@ def modern(name: str, text: str) -> str:
 def write(folder: Path) -> None:
     """Writes the file."""
     with tempfile.TemporaryDirectory() as made_in, FILE.open("w") as out:
-        for name in SCRIPTS:
+        for name in SCRIPTS + OTHERS:
             script, found = Path(made_in, f"{name}.wast"), Path(made_in, f"{name}.json")
             script.write_text(modern(name, (folder / script.name).read_text()))
             subprocess.run(["wast2json", script, "-o", found], check=True)
