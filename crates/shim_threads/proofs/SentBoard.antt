@@ -9,6 +9,10 @@ use Rattle.step_machine.specs.contracts.machine.Machine as machines
 use Rattle.step_machine.proofs.flat_module.Code.TheSendSync as code
 use Rattle.step_machine.proofs.CurrentSent.{current_send, current_field_send}
 use Rattle.step_machine.proofs.KeptSent.{kept_send}
+use Rattle.step_machine.proofs.callers.Callers.TheSendSync as callers
+use Rattle.linear_memory.proofs.Crosses.{memory_send}
+use Rattle.oci_config.proofs.process.Process.TheSendSync as process
+use Rattle.step_machine.specs.contracts.kept.Kept as kepts
 use Rattle.step_machine.proofs.ends.End.TheSendSync as end
 use Rattle.step_machine.proofs.breaks.Breaks.TheSendSync as breaks
 use Rattle.oci_config.proofs.process.ProcessConfig.TheSendSync as config
@@ -31,9 +35,13 @@ flat_send = search (sendable, std_sent.crosses, valid_send, code.the_send, code.
 flat_sync : IsSync flats.the_row
 flat_sync = search (sendable, std_sent.crosses, valid_sync, code.the_send, code.the_sync) depth 40
 
+kept_field_send : IsSend (kepts.the_field).row
+kept_field_send = search (sendable, std_sent.crosses, memory_send, callers.the_send, process.the_send) depth 40
+
 machine_send : IsSend machines.the_row
 machine_send =
-    search (sendable, std_sent.crosses, flat_send, current_send, current_field_send, kept_send, end.the_send)
+    search
+    (sendable, std_sent.crosses, flat_send, current_send, current_field_send, kept_send, kept_field_send, end.the_send)
     depth 40 fits 100000
 
 shared_send : IsSend shareds.the_row
