@@ -173,7 +173,7 @@ fn write_answer<W: Sink>(
     }
 }
 
-// Answers a line, writes the line of the answer, and tells the notes of both.
+// Answers a line, tells the notes of both, and writes the line of the answer.
 fn serve_line<J: Row, W: Sink, H: Wait, N: Notes>(
     rt: &H,
     alloc: Global,
@@ -190,8 +190,8 @@ fn serve_line<J: Row, W: Sink, H: Wait, N: Notes>(
     ensures failed { result.1 ≡ Err WriteError.Stream → W.has_failed writer.new }
 {
     let (seat, answer) = answer(rt, alloc, shim, seat, line);
-    let written = write_answer(alloc, &answer, spare, writer);
     notes.note(shim, &seat, line, &answer);
+    let written = write_answer(alloc, &answer, spare, writer);
     (seat, written)
 }
 
@@ -200,7 +200,7 @@ fn serve_line<J: Row, W: Sink, H: Wait, N: Notes>(
 /// A fault of a stream is told only if that stream has failed. A worker is woken for a task that was
 /// started at the latest when the line after the start was read and is no wait for that task. The
 /// seat is that of the caller, and is given back. The notes are told each line and its answer,
-/// after its reply; what is answered and written is the same, whatever they do.
+/// before its reply is written; what is answered and written is the same, whatever they do.
 pub fn drive<J: Row, R: Source, W: Sink, H: Wait, N: Notes>(
     rt: &H,
     alloc: Global,

@@ -7,8 +7,8 @@ use wasm_ast::Refusal;
 /// What is told each line of a caller and its answer, in their order. Nothing that it does changes
 /// what is answered or written.
 pub trait Notes {
-    /// A line, of which nothing is there if it is too long, is answered so, and its reply was
-    /// written if that could be. The seat is that of the caller after its call.
+    /// A line, of which nothing is there if it is too long, is answered so, and its reply is
+    /// written next. The seat is that of the caller after its call.
     fn note<J: Row>(
         &mut self,
         shim: &Shim<J>,
