@@ -1,4 +1,4 @@
--- A shim may be shared by threads.
+-- A shim may be shared by threads, and go from thread to thread.
 use denote.RattleType.{RattleType}
 use denote.Param.Send.{IsSend, IsSync, sendable}
 use Rattle.std.proofs.Crossing as std_sent
@@ -35,3 +35,6 @@ shared_send R a b s = search (sendable, std_sent.crosses, book_send) depth 40
 
 pub shim_sync : (R : RattleType) (a : _) (b : _) → IsSend R → IsSync (shims.the_row R a b)
 shim_sync R a b s = search (sendable, std_sent.crosses, shared_send, cells.the_sync) depth 40
+
+pub shim_send : (R : RattleType) (a : _) (b : _) → IsSend R → IsSend (shims.the_row R a b)
+shim_send R a b s = search (sendable, std_sent.crosses, shared_send, cells.the_send) depth 40
