@@ -7,8 +7,8 @@ use Rattle.clap.specs.Walk.{Row, Text}
 use Rattle.clap.specs.declared.error.kind.ErrorKind.{ErrorKind}
 use Rattle.clap.specs.declared.error.kind.ErrorKind.TheVariants.{OutOfMemory}
 use Rattle.clap.proofs.OnLiterals.{clap_on_literals}
-use Rattle.file_commands.specs.Command.{program, command_in, faults_in, lacks_task, LacksTask, IsCommand, Name, AreFaulty}
-use Rattle.file_commands.specs.Inside.Chosen.{IsShown, IsLacking, IsOfArguments}
+use Rattle.file_commands.specs.Command.{program, command_in, faults_in, is_unfit, IsUnfit, IsCommand, Name, AreFaulty}
+use Rattle.file_commands.specs.Inside.Chosen.{IsShown, IsRefusedFor, IsOfArguments}
 use Rattle.file_commands.specs.declared.command.Command.{Command}
 use Rattle.file_commands.specs.declared.command.Command.TheVariants.{Serve, Replay, Asm, Check, Run, Show}
 use Rattle.file_commands.specs.declared.command.CommandError.{CommandError}
@@ -24,9 +24,9 @@ program_is_free = refl
 
 pub named_from_chosen :
     (arguments : List Text) (found : Option (Text × List Row)) → found ≡ command_in arguments → faults_in arguments ≡ []
-    → (c : Command) → IsCommand found c × (lacks_task c ≡ false) → Name arguments c
-named_from_chosen arguments found e none (Serve workers scripts explain log) (h, complete) =
-    (none, subst (λ f. IsCommand f (Serve workers scripts explain log)) e h, complete)
+    → (c : Command) → IsCommand found c × (is_unfit c ≡ false) → Name arguments c
+named_from_chosen arguments found e none (Serve workers scripts callers explain log) (h, complete) =
+    (none, subst (λ f. IsCommand f (Serve workers scripts callers explain log)) e h, complete)
 named_from_chosen arguments found e none (Replay file) (h, complete) =
     (none, subst (λ f. IsCommand f (Replay file)) e h, complete)
 named_from_chosen arguments found e none (Asm file explain) (h, complete) =
@@ -40,7 +40,7 @@ named_from_chosen arguments found e none (Show text) (h, complete) = absurd h
 pub named_from_shown :
     (arguments : List Text) (kind : ErrorKind) → (kind ≡ OutOfMemory) ⊎ IsAmong kind (faults_in arguments)
     → (c : Command) → IsShown kind c → Name arguments c
-named_from_shown arguments kind h (Serve workers scripts explain log) shown = absurd shown
+named_from_shown arguments kind h (Serve workers scripts callers explain log) shown = absurd shown
 named_from_shown arguments kind h (Replay file) shown = absurd shown
 named_from_shown arguments kind h (Asm file explain) shown = absurd shown
 named_from_shown arguments kind h (Check file list task memory explain) shown = absurd shown
@@ -60,12 +60,12 @@ faulty_from_kind arguments kind (inl memory) (failed.Arguments text) g = absurd 
 faulty_from_kind arguments kind (inr among) (failed.Arguments text) g =
     inl (record { kind = kind; fault = among; no_help = g.1; no_version = g.2 })
 
-pub is_lacking : (found : Option (Text × List Row)) → LacksTask found → (f : CommandError) → IsLacking found f
-is_lacking found h failed.OutOfMemory = tt
-is_lacking found h (failed.Arguments text) = h
+pub is_refused_for : (found : Option (Text × List Row)) → IsUnfit found → (f : CommandError) → IsRefusedFor found f
+is_refused_for found h failed.OutOfMemory = tt
+is_refused_for found h (failed.Arguments text) = h
 
-pub faulty_from_lacking :
+pub faulty_from_unfit :
     (arguments : List Text) (found : Option (Text × List Row)) → found ≡ command_in arguments → faults_in arguments ≡ []
-    → (f : CommandError) → IsLacking found f → AreFaulty arguments f
-faulty_from_lacking arguments found e none failed.OutOfMemory h = tt
-faulty_from_lacking arguments found e none (failed.Arguments text) h = inr (none, subst LacksTask e h)
+    → (f : CommandError) → IsRefusedFor found f → AreFaulty arguments f
+faulty_from_unfit arguments found e none failed.OutOfMemory h = tt
+faulty_from_unfit arguments found e none (failed.Arguments text) h = inr (none, subst IsUnfit e h)

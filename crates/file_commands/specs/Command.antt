@@ -10,6 +10,7 @@ use Rattle.clap.specs.declared.builder.action.ArgAction.TheVariants.{Append, Set
 use Rattle.clap.specs.declared.builder.value_parser.ValueParser.TheVariants.{Unsigned}
 use Rattle.clap.specs.declared.error.kind.ErrorKind.{ErrorKind}
 use Rattle.clap.specs.declared.error.kind.ErrorKind.TheVariants.{DisplayHelp, DisplayVersion}
+use Rattle.file_commands.specs.Callers.{are_unfit}
 use Rattle.file_commands.specs.declared.command.Command.{Command}
 use Rattle.file_commands.specs.declared.command.Command.TheVariants.{Serve, Replay, Asm, Check, Run, Show}
 use Rattle.file_commands.specs.declared.command.CommandError.{CommandError}
@@ -58,6 +59,14 @@ memory_rule = record (new_rule (codes "memory")) {
   parser = Some (Unsigned 0 18446744073709551615);
 }
 
+-- the option `--caller`, a file of lines and a file for replies each time that it is given
+abbrev pub caller_rule : Rule
+caller_rule = record (new_rule (codes "caller")) {
+  long = Some (codes "caller");
+  value_names = 1;
+  action = Some Append;
+}
+
 -- the files of callers, of which there may be several
 abbrev pub script_rule : Rule
 script_rule = record (new_rule (codes "SCRIPT")) {
@@ -86,12 +95,13 @@ bare_program =
       subs = [];
     }
 
--- `serve [--workers N] [--explain] [--log] [SCRIPT..]`, `replay FILE`, `asm [--explain] FILE`,
--- `check [--task [--memory BYTES]] [--list] [--explain] FILE` and
+-- `serve [--workers N] [--explain] [--log] [--caller IN:OUT]* [SCRIPT..]`, `replay FILE`,
+-- `asm [--explain] FILE`, `check [--task [--memory BYTES]] [--list] [--explain] FILE` and
 -- `run [--env NAME=VALUE]* [--memory BYTES] [--explain] MODULE [ARG..]`
 abbrev pub serve_shape : Shape
 serve_shape =
-    command_shape (codes "serve") (workers_rule ∷ explain_rule ∷ log_rule ∷ script_rule ∷ [])
+    command_shape (codes "serve")
+    (workers_rule ∷ explain_rule ∷ log_rule ∷ caller_rule ∷ script_rule ∷ [])
 
 abbrev pub replay_shape : Shape
 replay_shape = command_shape (codes "replay") (file_rule ∷ [])
@@ -157,6 +167,10 @@ texts_from (Some texts) = texts
 abbrev pub scripts_in : List Row → List Text
 scripts_in rows = texts_from (all_of (codes "SCRIPT") rows)
 
+-- the words of `--caller`, in their order
+abbrev pub callers_in : List Row → List Text
+callers_in rows = texts_from (all_of (codes "caller") rows)
+
 -- the entries of the environment, in their order
 abbrev pub env_in : List Row → List Text
 env_in rows = texts_from (all_of (codes "env") rows)
@@ -177,11 +191,12 @@ module_in = all_of (codes "MODULE")
 abbrev pub command_in : List Text → Option (Text × List Row)
 command_in = subcommand_of program
 
--- its name with its workers, its SCRIPTs and which flags are there; with its FILE; with its FILE,
--- the limit on memory and which flags are there; and with its MODULE and ARGs, the settings of the
--- task and whether `--explain` is there
-abbrev pub with_scripts : Text × List Row → Text × ℕ × List Text × Bool × Bool
-with_scripts p = (p.0, workers_in p.1, scripts_in p.1, has_explain p.1, has_log p.1)
+-- its name with its workers, its SCRIPTs, its callers and which flags are there; with its FILE;
+-- with its FILE, the limit on memory and which flags are there; and with its MODULE and ARGs, the
+-- settings of the task and whether `--explain` is there
+abbrev pub with_scripts : Text × List Row → Text × ℕ × List Text × List Text × Bool × Bool
+with_scripts p =
+    (p.0, workers_in p.1, scripts_in p.1, callers_in p.1, has_explain p.1, has_log p.1)
 
 abbrev pub with_file : Text × List Row → Text × Option Text
 with_file p = (p.0, file_in p.1)
@@ -198,9 +213,16 @@ with_module p = (p.0, module_in p.1, env_in p.1, memory_in p.1, has_explain p.1)
 
 -- this is the command
 abbrev pub IsCommand : Option (Text × List Row) → Command → Type 0
-IsCommand found (Serve workers scripts explain log) =
+IsCommand found (Serve workers scripts callers explain log) =
     option_map with_scripts found
-    ≡ Some (codes "serve", workers, map string_bytes scripts.items, explain, log)
+    ≡ Some (
+      codes "serve",
+      workers,
+      map string_bytes scripts.items,
+      map string_bytes callers.items,
+      explain,
+      log,
+    )
 IsCommand found (Replay file) =
     option_map with_file found ≡ Some (codes "replay", Some (string_bytes file))
 IsCommand found (Asm file explain) =
@@ -228,17 +250,19 @@ abbrev pub AskToShow : List Text → Type 0
 AskToShow arguments =
     IsAmong DisplayHelp (faults_in arguments) ⊎ IsAmong DisplayVersion (faults_in arguments)
 
--- a check with a limit on the memory of a task that is not asked for
-abbrev pub lacks_task : Command → Bool
-lacks_task (Check file list task memory explain) = is_some memory && not task
-lacks_task other = false
+-- a serve whose callers do not fit, or a check with a limit on the memory of a task that is not asked for
+abbrev pub is_unfit : Command → Bool
+is_unfit (Serve workers scripts callers explain log) =
+    are_unfit (map string_bytes scripts.items) (map string_bytes callers.items)
+is_unfit (Check file list task memory explain) = is_some memory && not task
+is_unfit other = false
 
 -- the arguments name this command
 abbrev pub Name : List Text → Command → Type 0
 Name arguments (Show text) = AskToShow arguments
 Name arguments command =
     (faults_in arguments ≡ []) × IsCommand (command_in arguments) command
-    × (lacks_task command ≡ false)
+    × (is_unfit command ≡ false)
 
 -- one of the faults of the arguments is no wish for help or the version
 pub record HasFault (arguments : List Text) : Type 0 where
@@ -247,13 +271,12 @@ pub record HasFault (arguments : List Text) : Type 0 where
   pub no_help : kind ≢ DisplayHelp
   pub no_version : kind ≢ DisplayVersion
 
--- this is a check with `--memory` and without `--task`
-abbrev pub LacksTask : Option (Text × List Row) → Type 0
-LacksTask found =
-    (command : Command) × IsCommand found command × (lacks_task command ≡ true)
+-- this is a command that is unfit
+abbrev pub IsUnfit : Option (Text × List Row) → Type 0
+IsUnfit found = (command : Command) × IsCommand found command × (is_unfit command ≡ true)
 
 -- the arguments are at fault, unless memory is
 abbrev pub AreFaulty : List Text → CommandError → Type 0
 AreFaulty arguments OutOfMemory = Unit {0}
 AreFaulty arguments (Arguments text) =
-    HasFault arguments ⊎ ((faults_in arguments ≡ []) × LacksTask (command_in arguments))
+    HasFault arguments ⊎ ((faults_in arguments ≡ []) × IsUnfit (command_in arguments))

@@ -1,3 +1,4 @@
+pub mod Callers
 pub mod Command
 pub mod Source
 pub mod Ran

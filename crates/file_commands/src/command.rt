@@ -1,14 +1,16 @@
 //! Command lines.
 
-ghost use Rattle.std.specs.Prelude.{◌≡◌, ◌∷◌, List, [], IfOk, IfErr, Option, Some, map, string_bytes, false, codes};
+ghost use Rattle.std.specs.Prelude.{◌≡◌, ◌∷◌, List, [], IfOk, IfErr, Option, Some, is_some, map, string_bytes, false, not, ◌&&◌, codes};
 ghost use Rattle.clap.specs.Matches.{found_of};
 ghost use Rattle.clap.specs.Simple.{app_of, shape_of, subcommand_rows_of};
 ghost use Rattle.clap.specs.Values.{kind_of};
 ghost use Rattle.clap.specs.Walk.{Row, Text, first_of, all_of, rows_of, rule_of};
 ghost use Rattle.clap.specs.declared.builder.command.Command.TheViews.{out-Command as fields_of};
-ghost use Rattle.file_commands.specs.Command.{file_rule, task_rule, list_rule, explain_rule, log_rule, workers_rule, env_rule, memory_rule, script_rule, module_rule, command_shape, serve_shape, asm_shape, check_shape, run_shape, workers_in, scripts_in, texts_from, env_in, memory_in, bare_program, line_program, program, file_in, is_set, has_explain, module_in, lacks_task, IsCommand, Name, AreFaulty};
-ghost use Rattle.file_commands.specs.Inside.Chosen.{IsShown, IsLacking, IsOfArguments};
+ghost use Rattle.file_commands.specs.Command.{file_rule, task_rule, list_rule, explain_rule, log_rule, workers_rule, env_rule, memory_rule, caller_rule, script_rule, module_rule, command_shape, serve_shape, asm_shape, check_shape, run_shape, workers_in, scripts_in, texts_from, env_in, memory_in, bare_program, line_program, program, file_in, is_set, has_explain, module_in, is_unfit, IsCommand, Name, AreFaulty};
+ghost use Rattle.file_commands.specs.Callers.{are_unfit};
+ghost use Rattle.file_commands.specs.Inside.Chosen.{IsShown, IsRefusedFor, IsOfArguments};
 
+use crate::caller_words::{caller_fault, fault_text};
 use crate::settings::Settings;
 use clap::builder::ValueParser;
 use clap::error::ErrorKind;
@@ -19,11 +21,13 @@ use thiserror::Error;
 /// What the program is to do.
 #[derive(Drop)]
 pub enum Command {
-    /// Answers the lines of the files of these names, each a caller of its own, or else those of standard
-    /// input; this many workers run the tasks. Refusals are explained and a log is written if that is wanted.
+    /// Answers the lines of the files of these names, each a caller of its own, or those of the callers of
+    /// these words, which name a file of lines and a file for replies each, or else those of standard input;
+    /// this many workers run the tasks. Refusals are explained and a log is written if that is wanted.
     Serve {
         workers: u64,
         scripts: Vec<String>,
+        callers: Vec<String>,
         explain: bool,
         log: bool,
     },
@@ -177,6 +181,20 @@ fn memory_arg<'a>(alloc: Global) -> Arg<'a>
         )
 }
 
+// The option `--caller`.
+fn caller_arg<'a>(alloc: Global) -> Arg<'a>
+    ensures rule { rule_of result ≡ caller_rule }
+    ensures local { result.global ≡ false }
+{
+    Arg::new(alloc, "caller")
+        .long("caller")
+        .value_name("IN:OUT")
+        .action(ArgAction::Append)
+        .help(
+            "A caller: the lines of IN are answered on OUT, each at once; up to 130 times, and the first owns the shim",
+        )
+}
+
 // The argument SCRIPT, of which there may be several.
 fn script_arg<'a>(alloc: Global) -> Arg<'a>
     ensures rule { rule_of result ≡ script_rule }
@@ -187,9 +205,10 @@ fn script_arg<'a>(alloc: Global) -> Arg<'a>
     )
 }
 
-// `serve [--workers N] [--explain] [--log] [SCRIPT..]`
-fn serve_command<'a>(alloc: Global) -> Result<Parser<'a>, AllocError>
-    ensures shape { IfOk result (λ p. shape_of p ≡ serve_shape) }
+// The command `serve` with its options for the workers and for standard error.
+fn serve_options<'a>(alloc: Global) -> Result<Parser<'a>, AllocError>
+    ensures shape { IfOk result (λ p. shape_of p
+        ≡ command_shape (codes "serve") (workers_rule ∷ explain_rule ∷ log_rule ∷ [])) }
     ensures local { IfOk result (λ p. (fields_of p).has_globals ≡ false) }
 {
     let command = bare_command(
@@ -200,8 +219,16 @@ fn serve_command<'a>(alloc: Global) -> Result<Parser<'a>, AllocError>
     );
     let counted = command.arg(workers_arg(alloc))?;
     let explained = counted.arg(explain_arg(alloc))?;
-    let logged = explained.arg(log_arg(alloc))?;
-    logged.arg(script_arg(alloc))
+    explained.arg(log_arg(alloc))
+}
+
+// `serve [--workers N] [--explain] [--log] [--caller IN:OUT]* [SCRIPT..]`
+fn serve_command<'a>(alloc: Global) -> Result<Parser<'a>, AllocError>
+    ensures shape { IfOk result (λ p. shape_of p ≡ serve_shape) }
+    ensures local { IfOk result (λ p. (fields_of p).has_globals ≡ false) }
+{
+    let called = serve_options(alloc)?.arg(caller_arg(alloc))?;
+    called.arg(script_arg(alloc))
 }
 
 // The arguments MODULE and ARG. They are one argument with several values, so that after the name of the
@@ -441,9 +468,11 @@ fn serve_of(alloc: Global, found: &ArgMatches<'_>) -> Result<Command, CommandErr
 {
     let workers = workers_of(found)?;
     let scripts = words_of(alloc, found, "SCRIPT")?;
+    let callers = words_of(alloc, found, "caller")?;
     Ok(Command::Serve {
         workers,
         scripts,
+        callers,
         explain: has_flag(found, "explain"),
         log: has_flag(found, "log"),
     })
@@ -520,35 +549,62 @@ fn check_of(alloc: Global, found: &ArgMatches<'_>) -> Result<Command, CommandErr
     })
 }
 
-// Whether a command is a check with a limit on the memory of a task that is not asked for.
-fn lacks_task(command: &Command) -> bool
-    ensures { result ≡ lacks_task command.now }
+// What is said of callers that do not fit. None if they do.
+fn caller_text(
+    alloc: Global,
+    scripts: &[String],
+    callers: &[String],
+) -> Result<Option<String>, AllocError>
+    ensures { IfOk result (λ t. is_some t
+        ≡ are_unfit (map string_bytes scripts.now) (map string_bytes callers.now)) }
+{
+    match caller_fault(scripts, callers) {
+        Some(fault) => {
+            let text = fault_text(alloc, fault)?;
+            Ok(Some(text))
+        }
+        None => Ok(None),
+    }
+}
+
+// What is said of a limit on the memory of a task that is not asked for. None if there is none.
+fn memory_text(alloc: Global, memory: Option<u64>, task: bool) -> Result<Option<String>, AllocError>
+    ensures { IfOk result (λ t. is_some t ≡ (is_some memory && not task)) }
+{
+    if memory.is_some() && !task {
+        let text = String::from_str(alloc, LONE_MEMORY)?;
+        Ok(Some(text))
+    } else {
+        Ok(None)
+    }
+}
+
+// What is said of a command that is unfit. None if it is fit.
+fn unfit_text(alloc: Global, command: &Command) -> Result<Option<String>, AllocError>
+    ensures { IfOk result (λ t. is_some t ≡ is_unfit command.now) }
 {
     match command {
-        Command::Check { task, memory, .. } => memory.is_some() && !*task,
-        _ => false,
+        Command::Serve {
+            scripts,
+            callers,
+            ..
+        } => caller_text(alloc, scripts.as_slice(), callers.as_slice()),
+        Command::Check { task, memory, .. } => memory_text(alloc, *memory, *task),
+        _ => Ok(None),
     }
 }
 
-// What is wrong with such a check.
-fn lone_memory(alloc: Global) -> CommandError {
-    match String::from_str(alloc, LONE_MEMORY) {
-        Ok(text) => CommandError::Arguments { text },
-        Err(_) => CommandError::OutOfMemory,
-    }
-}
-
-// A command, if it does not lack `--task`.
+// A command, if it is not unfit.
 fn complete(alloc: Global, command: Command) -> Result<Command, CommandError>
     ensures ok { (found : Option (Text × List Row)) → IsCommand found command
-        → IfOk result (λ c. IsCommand found c × (lacks_task c ≡ false)) }
+        → IfOk result (λ c. IsCommand found c × (is_unfit c ≡ false)) }
     ensures err { (found : Option (Text × List Row)) → IsCommand found command
-        → IfErr result (IsLacking found) }
+        → IfErr result (IsRefusedFor found) }
 {
-    if lacks_task(&command) {
-        Err(lone_memory(alloc))
-    } else {
-        Ok(command)
+    match unfit_text(alloc, &command) {
+        Ok(None) => Ok(command),
+        Ok(Some(text)) => Err(CommandError::Arguments { text }),
+        Err(_) => Err(CommandError::OutOfMemory),
     }
 }
 
@@ -576,11 +632,11 @@ fn chosen(alloc: Global, matches: &ArgMatches<'_>) -> Result<Command, CommandErr
     }
 }
 
-// The command whose arguments were found, if it does not lack `--task`.
+// The command whose arguments were found, if it is not unfit.
 fn whole(alloc: Global, matches: &ArgMatches<'_>) -> Result<Command, CommandError>
     ensures ok { IfOk result
-        (λ c. IsCommand (subcommand_rows_of matches.now) c × (lacks_task c ≡ false)) }
-    ensures err { IfErr result (IsLacking (subcommand_rows_of matches.now)) }
+        (λ c. IsCommand (subcommand_rows_of matches.now) c × (is_unfit c ≡ false)) }
+    ensures err { IfErr result (IsRefusedFor (subcommand_rows_of matches.now)) }
 {
     match chosen(alloc, matches) {
         Ok(command) => complete(alloc, command),
@@ -590,12 +646,13 @@ fn whole(alloc: Global, matches: &ArgMatches<'_>) -> Result<Command, CommandErro
 
 /// The command that the arguments name. The first word is the program's own name.
 ///
-/// `serve [--workers N] [--explain] [--log] [SCRIPT..]`, with N from 1 to 16, `replay FILE`,
-/// `asm [--explain] FILE`, `check [--task [--memory BYTES]] [--list] [--explain] FILE` and
-/// `run [--env NAME=VALUE]* [--memory BYTES] [--explain] MODULE [ARG..]` are the commands, BYTES a number
-/// below 2^64. Every word after MODULE is an ARG, one that begins with a dash
-/// too. `--help` and `--version`, alone or after a command, and `help` are shown. All else is
-/// `CommandError::Arguments`, and `CommandError::OutOfMemory` comes if memory ran out.
+/// `serve [--workers N] [--explain] [--log] [--caller IN:OUT]* [SCRIPT..]`, with N from 1 to 16, with up to
+/// 130 callers, no two with one OUT, and with none beside SCRIPTs, `replay FILE`, `asm [--explain]
+/// FILE`, `check [--task [--memory BYTES]] [--list] [--explain] FILE` and `run [--env NAME=VALUE]*
+/// [--memory BYTES] [--explain] MODULE [ARG..]` are the commands, BYTES a number below 2^64. Every
+/// word after MODULE is an ARG, one that begins with a dash too. `--help` and `--version`, alone or
+/// after a command, and `help` are shown. All else is `CommandError::Arguments`, and
+/// `CommandError::OutOfMemory` comes if memory ran out.
 pub fn command_of(alloc: Global, arguments: &[String]) -> Result<Command, CommandError>
     ensures ok { IfOk result (Name (map string_bytes arguments.now)) }
     ensures err { IfErr result (AreFaulty (map string_bytes arguments.now)) }

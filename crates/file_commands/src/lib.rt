@@ -2,6 +2,7 @@
 #![tactic(auto)]
 
 mod asm;
+mod caller_words;
 mod check;
 mod command;
 mod explain;
@@ -15,6 +16,7 @@ mod task_check;
 pub mod worked;
 
 pub use asm::{asm_file, explain_asm};
+pub use caller_words::files_of;
 pub use check::{check_file, explain_check};
 pub use command::{Command, CommandError, command_of};
 pub use ran::Ran;

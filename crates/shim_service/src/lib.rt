@@ -10,7 +10,7 @@ mod replay;
 pub use commands::{file_of, perform};
 pub use file_commands::{
     Command, CommandError, Ran, RunError, Settings, asm_file, check_file, check_task, command_of,
-    explain_asm, explain_check, explain_check_task, explain_run, run_file, run_streams,
+    explain_asm, explain_check, explain_check_task, explain_run, files_of, run_file, run_streams,
 };
 pub use replay::replay_lines;
 pub use request_lines::{

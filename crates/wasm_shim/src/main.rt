@@ -1,10 +1,12 @@
 //! The program `wasm-shim`: WebAssembly modules, run as container tasks.
 #![tactic(auto)]
 
+mod live;
 mod report;
 mod serve;
 mod watched;
 
+use crate::live::serve_live;
 use crate::report::{failed, stream_failed};
 use crate::serve::serve;
 use crate::watched::Wanted;
@@ -99,16 +101,18 @@ fn main(rt: HostRuntime) -> ExitCode {
             Command::Serve {
                 workers,
                 scripts,
+                callers,
                 explain,
                 log,
             },
-        ) => serve(
-            &rt,
-            &rt,
-            workers,
-            scripts.as_slice(),
-            Wanted { explain, log },
-        ),
+        ) => {
+            let wanted = Wanted { explain, log };
+            if callers.is_empty() {
+                serve(&rt, &rt, workers, scripts.as_slice(), wanted)
+            } else {
+                serve_live(&rt, rt, workers, callers, wanted)
+            }
+        }
         Ok(command) => carry_out(&rt, &command),
         Err(error) => refuse(&rt, &error),
     }

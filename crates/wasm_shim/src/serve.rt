@@ -4,14 +4,15 @@ ghost use Rattle.std.specs.Prelude.{◌≡◌, ◌+◌};
 ghost use Rattle.call_journal.specs.Desks.{AreIdle, spot_names};
 ghost use Rattle.call_journal.specs.Seats.{most_seats};
 
-use crate::report::{failed, file_failed, stream_failed};
+use crate::report::{
+    OUT_OF_MEMORY, Streams, ended_well, failed, file_failed, not_started, status_of, stream_failed,
+};
 use crate::watched::{Wanted, Watch};
 use call_journal::{Cells, Desk, MOST_SEATS, Row, Shim};
 use callers::{Driven, drive};
 use request_lines::Watched;
-use shim_threads::{Answered, Caller, StartError, answer_all, with_workers};
+use shim_threads::{Answered, Caller, answer_all, with_workers};
 use std::fs::File;
-use std::io;
 use std::io::{Read, Write};
 use std::marker::Brand;
 use std::process::ExitCode;
@@ -19,8 +20,6 @@ use std::sync::Wait;
 use std::sync::ledger::Blank;
 use std::thread::Threads;
 use std::time::Instant;
-
-const OUT_OF_MEMORY: &str = "out of memory";
 
 /// What `serve` is to do.
 #[derive(Clone, Copy)]
@@ -47,41 +46,6 @@ fn open_all(rt: &HostRuntime, scripts: &[String]) -> Result<Vec<File>, ExitCode>
     Ok(files)
 }
 
-// Says why a stream ended that failed.
-fn broken(rt: &HostRuntime, name: &str, error: Option<&io::Error>) -> ExitCode {
-    match error {
-        Some(error) => stream_failed(rt, name, error),
-        None => {
-            let closed = io::Error::from(io::ErrorKind::WriteZero);
-            stream_failed(rt, name, &closed)
-        }
-    }
-}
-
-// The status of a caller whose lines ended so.
-fn ended(
-    rt: &HostRuntime,
-    driven: Driven,
-    name: &str,
-    read: Option<&io::Error>,
-    written: Option<&io::Error>,
-) -> ExitCode {
-    match driven {
-        Driven::End => ExitCode::SUCCESS,
-        Driven::ReadFault => broken(rt, name, read),
-        Driven::WriteFault => broken(rt, "standard output", written),
-        Driven::NoMemory => failed(rt, OUT_OF_MEMORY),
-    }
-}
-
-// Says why workers were not started.
-fn not_started(rt: &HostRuntime, error: StartError) -> ExitCode {
-    match error {
-        StartError::OutOfMemory => failed(rt, OUT_OF_MEMORY),
-        StartError::NoThread => failed(rt, "the thread of a worker cannot be started"),
-    }
-}
-
 // Answers the lines of one caller as they come.
 fn serve_stream<J: Row + Send + Sync, H: Threads + Wait + Sync, R: Read + Drop>(
     rt: &HostRuntime,
@@ -98,14 +62,20 @@ fn serve_stream<J: Row + Send + Sync, H: Threads + Wait + Sync, R: Read + Drop>(
     let mut input = Watched::new(reader);
     let mut output = Watched::new(rt.stdout());
     let (from, to) = (&mut input, &mut output);
-    let watch = Watch::new(rt, service.wanted, service.start, "");
+    let watch = Watch::new(*rt, service.wanted, service.start, "");
     let driven = with_workers(threads, alloc, shim, service.workers, move || {
         let mut watch = watch;
         let (_seat, driven) = drive(threads, alloc, shim, seat, from, to, &mut watch);
         driven
     });
     match driven {
-        Ok(driven) => ended(rt, driven, name, input.error(), output.error()),
+        Ok(driven) => {
+            let streams = Streams {
+                lines: name,
+                replies: "standard output",
+            };
+            status_of(ended_well(rt, driven, streams, input.error(), output.error()))
+        }
         Err(error) => not_started(rt, error),
     }
 }
@@ -126,7 +96,7 @@ fn callers_of<'a, J: Row, H: Wait>(
         let caller = Caller {
             seat,
             reader: Watched::new(file),
-            notes: Watch::new(rt, service.wanted, service.start, script.as_str()),
+            notes: Watch::new(*rt, service.wanted, service.start, script.as_str()),
         };
         if callers.push(caller).is_err() {
             return Err(failed(rt, OUT_OF_MEMORY));
@@ -150,18 +120,22 @@ fn tell<J: Row>(
         stream_failed(rt, "standard output", &error);
         return false;
     }
-    match answered.driven {
-        Driven::End => true,
-        Driven::ReadFault => {
-            broken(rt, name, answered.caller.reader.error());
-            false
-        }
-        // Replies are kept in memory, so nothing else can fail.
-        Driven::WriteFault | Driven::NoMemory => {
-            failed(rt, OUT_OF_MEMORY);
-            false
-        }
+    // Replies are kept in memory, so a fault of their writer is that there is no more.
+    if let Driven::WriteFault = answered.driven {
+        failed(rt, OUT_OF_MEMORY);
+        return false;
     }
+    let streams = Streams {
+        lines: name,
+        replies: "standard output",
+    };
+    ended_well(
+        rt,
+        answered.driven,
+        streams,
+        answered.caller.reader.error(),
+        None,
+    )
 }
 
 // Writes what all callers were answered, in the order of the scripts.
@@ -174,11 +148,7 @@ fn tell_all<J: Row>(
     for (script, answered) in scripts.iter().zip(all) {
         well = tell(rt, script.as_str(), answered) && well;
     }
-    if well {
-        ExitCode::SUCCESS
-    } else {
-        ExitCode::FAILURE
-    }
+    status_of(well)
 }
 
 // Answers the lines of several callers, and writes their replies when all have ended.

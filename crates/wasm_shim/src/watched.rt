@@ -38,11 +38,11 @@ impl<J: Row> Contents for Seen<'_, J> {
 /// which there is no memory, is left out.
 #[derive(Drop)]
 pub struct Watch<'a> {
-    rt: &'a HostRuntime,
+    rt: HostRuntime,
     wanted: Wanted,
     /// When the program began; None if the clock failed.
     start: Option<Instant>,
-    /// The name of the caller's script; empty if there is one caller.
+    /// The name of the file of the caller's lines; empty if that is standard input.
     name: &'a str,
     /// How many lines of the caller have been answered.
     lines: u64,
@@ -70,9 +70,9 @@ fn end_text(alloc: Global, end: ExitRecord) -> Result<String, AllocError> {
 }
 
 impl<'a> Watch<'a> {
-    /// What watches the lines of a script, or those of the one caller if the name is empty.
+    /// What watches the lines of the file of this name, or those of standard input if it is empty.
     pub fn new(
-        rt: &'a HostRuntime,
+        rt: HostRuntime,
         wanted: Wanted,
         start: Option<Instant>,
         name: &'a str,
@@ -109,7 +109,7 @@ impl<'a> Watch<'a> {
     fn time(&self) -> Result<String, AllocError> {
         let alloc = self.rt.alloc();
         let passed = match self.start {
-            Some(start) => start.elapsed(self.rt).ok(),
+            Some(start) => start.elapsed(&self.rt).ok(),
             None => None,
         };
         match passed {

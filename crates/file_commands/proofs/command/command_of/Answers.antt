@@ -5,7 +5,7 @@ use Rattle.clap.specs.Kinds.{HasKind}
 use Rattle.clap.specs.Simple.{app_of, is_simple, subcommand_of}
 use Rattle.clap.specs.Values.{kind_of}
 use Rattle.file_commands.specs.Command.{program}
-use Rattle.file_commands.proofs.CommandLemmas.{program_is_simple, program_is_free, named_from_chosen, named_from_shown, faulty_from_kind, faulty_from_lacking}
+use Rattle.file_commands.proofs.CommandLemmas.{program_is_simple, program_is_free, named_from_chosen, named_from_shown, faulty_from_kind, faulty_from_unfit}
 use Rattle.file_commands.proofs.command.command_of.Goals as goal
 
 pub returns-in-Ok-try_get_matches_from-clause-ok : goal.returns-in-Ok-try_get_matches_from-clause-ok
@@ -25,7 +25,7 @@ returns-in-Ok-try_get_matches_from-clause-err c =
     let found = c.in-Ok-try_get_matches_from.ensures.matches (ap is_simple read ∙ program_is_simple) in
     let faults = c.in-Ok-try_get_matches_from.ensures.kinds (ap is_simple_and_free read ∙ program_is_free) in
     IfErr-weaker c.whole.result _ _
-    (λ f h. faulty_from_lacking arguments _ (found.1 ∙ ap (λ a. subcommand_of a arguments) read)
+    (λ f h. faulty_from_unfit arguments _ (found.1 ∙ ap (λ a. subcommand_of a arguments) read)
     (ap (λ a. fault_of a arguments) (sym read) ∙ faults) f h) c.whole.ensures.err
 
 pub returns-in-Err-clause-ok : goal.returns-in-Err-clause-ok
