@@ -15,7 +15,8 @@ struct Feature {
     name: &'static str,
 }
 
-const FLOATS: &str = "floats are outside the profile";
+const FLOATS: &str = "floats are outside the profile (feulgama lower translates them)";
+const BULK_MEMORY: &str = "bulk memory is outside the profile (feulgama lower translates it)";
 
 const FEATURES: &[Feature] = &[
     Feature {
@@ -302,7 +303,7 @@ fn numbered(bytes: &[u8]) -> Outside {
         feature: if number < NUMBERED_FLOATS {
             FLOATS
         } else {
-            "bulk memory is outside the profile"
+            BULK_MEMORY
         },
     }
 }
@@ -321,8 +322,8 @@ pub fn find_outside(opcode: u8, bytes: &[u8]) -> Outside {
 /// What a byte means that is none of a value type of the profile.
 pub fn val_type_words(byte: u8) -> &'static str {
     match byte {
-        0x7D => "f32; floats are outside the profile",
-        0x7C => "f64; floats are outside the profile",
+        0x7D => "f32; floats are outside the profile (feulgama lower translates them)",
+        0x7C => "f64; floats are outside the profile (feulgama lower translates them)",
         0x7B => "v128; vectors of 128 bits are outside the profile",
         0x70 | 0x6F => "a reference; reference types are outside the profile",
         _ => "a value type is to be here: 7f (i32) or 7e (i64)",
@@ -344,7 +345,7 @@ pub fn section_name(id: u8) -> &'static str {
         9 => "element",
         10 => "code",
         11 => "data",
-        12 => "data count, of bulk memory, which is outside the profile",
+        12 => "data count, of bulk memory, which is outside the profile; feulgama lower translates it",
         13 => "tag, of exceptions, which are outside the profile",
         _ => "none",
     }

@@ -120,6 +120,15 @@ fn is_known(of: &Module, import: &Import) -> bool {
     }
 }
 
+// What can be done with a module that imports this other function.
+fn others_text(import: &Import) -> &'static str {
+    if import.module.as_str() == HostCall::module() {
+        " (feulgama lower answers the others)"
+    } else {
+        ""
+    }
+}
+
 // What there is in place of an import.
 fn known_text(alloc: Global, import: &Import) -> Result<String, AllocError> {
     match named(import) {
@@ -131,7 +140,8 @@ fn known_text(alloc: Global, import: &Import) -> Result<String, AllocError> {
         None => {
             let module = HostCall::module();
             let names = all_names(alloc)?;
-            format!(in alloc; "of {module} there are {names}")
+            let others = others_text(import);
+            format!(in alloc; "of {module} there are {names}{others}")
         }
     }
 }
