@@ -71,10 +71,15 @@ goes_on r r' r'' h k = record {
 
 -- ---- plain instructions write nothing
 
-abbrev Kept : Env → Effect → Type 0
+abbrev pub is_end : State → Bool
+is_end (running tree) = false
+is_end _ = true
+
+-- what is done leaves the streams, and what ends the execution leaves nothing to run
+abbrev pub Kept : Env → Effect → Type 0
 Kept env (gives env' operands) = (env'.store.out ≡ env.store.out) × (env'.store.err ≡ env.store.err)
 Kept env (becomes operands item) = Unit {0}
-Kept env (halts state) = Unit {0}
+Kept env (halts state) = is_end state ≡ true
 
 module _ (env : Env) where
   chosen : (b : Bool) (x y : Effect) → Kept env x → Kept env y → Kept env (cond b x y)
@@ -83,18 +88,18 @@ module _ (env : Env) where
 
   with_one : (o : Option ℕ) (go_on : ℕ → Effect) → ((n : ℕ) → Kept env (go_on n))
       → Kept env (with_number o go_on)
-  with_one None go_on h = tt
+  with_one None go_on h = refl
   with_one (Some n) go_on h = h n
 
   taken : (t : ValType) (vs : List Value) (go_on : (n : ℕ) → (rest : List Value) → Effect)
       → ((n : ℕ) (rest : List Value) → Kept env (go_on n rest)) → Kept env (take_one t vs go_on)
   taken type.I32 (v ∷ vs) go_on h = with_one _ (λ n. go_on n vs) (λ n. h n vs)
   taken type.I64 (v ∷ vs) go_on h = with_one _ (λ n. go_on n vs) (λ n. h n vs)
-  taken t [] go_on h = tt
+  taken t [] go_on h = refl
 
   given : (t : ValType) (r : Result ℕ Trap) (rest : List Value) → Kept env (give_number env t r rest)
   given t (Ok n) rest = (refl, refl)
-  given t (Err e) rest = tt
+  given t (Err e) rest = refl
 
   pushed : (t : ValType) (vs : List Value) (f : ℕ → Value)
       → Kept env (take_one t vs (λ a rest. gives env (f a ∷ rest)))
@@ -115,45 +120,45 @@ module _ (env : Env) where
   selected : (vs : List Value) → Kept env (select env vs)
   selected (I32 zero ∷ w ∷ v ∷ rest) = (refl, refl)
   selected (I32 (suc c) ∷ w ∷ v ∷ rest) = (refl, refl)
-  selected _ = tt
+  selected _ = refl
 
   value_given : (o : Option Value) (vs : List Value) → Kept env (give_value env o vs)
-  value_given None vs = tt
+  value_given None vs = refl
   value_given (Some v) vs = (refl, refl)
 
   locals_given : (o : Option (List Value)) (vs : List Value) → Kept env (give_locals env o vs)
-  locals_given None vs = tt
+  locals_given None vs = refl
   locals_given (Some ls) vs = (refl, refl)
 
   local_used : (vs : List Value) (op : LocalOp) (index : ℕ) → Kept env (use_local env vs op index)
   local_used vs local.Get index = value_given _ vs
   local_used (v ∷ vs) local.Set index = locals_given _ vs
   local_used (v ∷ vs) local.Tee index = locals_given _ (v ∷ vs)
-  local_used [] local.Set index = tt
-  local_used [] local.Tee index = tt
+  local_used [] local.Set index = refl
+  local_used [] local.Tee index = refl
 
   globals_given : (o : Option (List Value)) (vs : List Value) → Kept env (give_globals env o vs)
-  globals_given None vs = tt
+  globals_given None vs = refl
   globals_given (Some gs) vs = (refl, refl)
 
   global_used : (vs : List Value) (op : GlobalOp) (index : ℕ) → Kept env (use_global env vs op index)
   global_used vs global.Get index = value_given _ vs
   global_used (v ∷ vs) global.Set index = globals_given _ vs
-  global_used [] global.Set index = tt
+  global_used [] global.Set index = refl
 
   branched : (vs : List Value) (l : ℕ) → Kept env (branch_if env vs l)
   branched (I32 zero ∷ rest) l = (refl, refl)
   branched (I32 (suc c) ∷ rest) l = tt
-  branched _ l = tt
+  branched _ l = refl
 
   entry_called : (p : Program) (t : Option FuncType) (o : Option (Option ℕ)) (vs : List Value)
       → Kept env (call_entry p t o vs)
-  entry_called p t None vs = tt
-  entry_called p t (Some None) vs = tt
-  entry_called p None (Some (Some f)) vs = tt
+  entry_called p t None vs = refl
+  entry_called p t (Some None) vs = refl
+  entry_called p None (Some (Some f)) vs = refl
   entry_called p (Some t) (Some (Some f)) vs =
       chosen (is_of_type t (type_of_function (slice_get p.functions f))) (becomes vs (invoke f))
-      (traps trap.IndirectCallTypeMismatch) tt tt
+      (traps trap.IndirectCallTypeMismatch) tt refl
 
   converted : (vs : List Value) (op : ConvertOp) → Kept env (convert env vs op)
   converted vs Wrap = pushed type.I64 vs (λ a. I32 (integers.wrap a))
@@ -171,7 +176,7 @@ module _ (env : Env) where
   loaded : (vs : List Value) (op : LoadOp) (offset : ℕ) → Kept env (load env vs op offset)
   loaded vs op offset =
       taken type.I32 vs (λ a rest. cond (is_inside m (a + offset) n) (gives env (value a ∷ rest)) outside)
-      (λ a rest. chosen (is_inside m (a + offset) n) (gives env (value a ∷ rest)) outside (refl, refl) tt)
+      (λ a rest. chosen (is_inside m (a + offset) n) (gives env (value a ∷ rest)) outside (refl, refl) refl)
     where
       m : Memory
       m = env.store.memory
@@ -186,7 +191,7 @@ module _ (env : Env) where
   stored vs op offset =
       taken (store_type op) vs (λ b below. take_one type.I32 below (at_address b))
       (λ b below. taken type.I32 below (at_address b)
-      (λ a rest. chosen (is_inside m (a + offset) n) (gives (written b a) rest) outside (refl, refl) tt))
+      (λ a rest. chosen (is_inside m (a + offset) n) (gives (written b a) rest) outside (refl, refl) refl))
     where
       m : Memory
       m = env.store.memory
@@ -209,7 +214,7 @@ module _ (env : Env) where
       m = env.store.memory
 
   simple_kept : (p : Program) (vs : List Value) (s : Simple) → Kept env (simple_effect p env vs s)
-  simple_kept p vs instr.Unreachable = tt
+  simple_kept p vs instr.Unreachable = refl
   simple_kept p vs instr.Nop = (refl, refl)
   simple_kept p vs (instr.Br l) = tt
   simple_kept p vs (instr.BrIf l) = branched vs l
@@ -221,7 +226,7 @@ module _ (env : Env) where
       taken type.I32 vs (λ i rest. call_entry p (slice_get p.types k) (slice_get env.store.table i) rest)
       (λ i rest. entry_called p (slice_get p.types k) (slice_get env.store.table i) rest)
   simple_kept p (v ∷ vs) instr.Drop = (refl, refl)
-  simple_kept p [] instr.Drop = tt
+  simple_kept p [] instr.Drop = refl
   simple_kept p vs instr.Select = selected vs
   simple_kept p vs (instr.Local op k) = local_used vs op k
   simple_kept p vs (instr.Global op k) = global_used vs op k
@@ -238,21 +243,21 @@ module _ (env : Env) where
 
   block_entered : (vs : List Value) (place first : ℕ) (t : Option FuncType) (body : Ops)
       → Kept env (enter_block vs place first t body)
-  block_entered vs place first None body = tt
+  block_entered vs place first None body = refl
   block_entered vs place first (Some t) body = tt
 
   loop_entered : (vs : List Value) (place : ℕ) (t : Option FuncType) (itself : Op) (body : Ops)
       → Kept env (enter_loop vs place t itself body)
-  loop_entered vs place None itself body = tt
+  loop_entered vs place None itself body = refl
   loop_entered vs place (Some t) itself body = tt
 
   arm_chosen : (vs : List Value) (place : ℕ) (t : Option FuncType) (then_arm else_arm : Ops)
       → Kept env (choose vs place t then_arm else_arm)
   arm_chosen (I32 zero ∷ rest) place t then_arm else_arm = block_entered rest place _ t else_arm
   arm_chosen (I32 (suc c) ∷ rest) place t then_arm else_arm = block_entered rest place _ t then_arm
-  arm_chosen _ place t then_arm else_arm = tt
+  arm_chosen _ place t then_arm else_arm = refl
 
-  effect_kept : (p : Program) (vs : List Value) (place : ℕ) (o : Op) → Kept env (effect p env vs place o)
+  pub effect_kept : (p : Program) (vs : List Value) (place : ℕ) (o : Op) → Kept env (effect p env vs place o)
   effect_kept p vs place (simple s) = simple_kept p vs s
   effect_kept p vs place (block t body) = block_entered vs place _ (block_type p.types t) body
   effect_kept p vs place (loop t body) = loop_entered vs place (block_type p.types t) (loop t body) body

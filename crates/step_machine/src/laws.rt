@@ -11,10 +11,10 @@ ghost use Rattle.validator.specs.Typing.{ValidModule};
 ghost use Rattle.oci_config.specs.declared.process.ProcessConfig.{ProcessConfig};
 ghost use Rattle.oci_config.specs.declared.stream.Stream.{Stream};
 ghost use Rattle.step_machine.specs.declared.ends.SliceEnd.TheVariants as slice;
-ghost use Rattle.step_machine.specs.Limits.{last_turn, max_values};
+ghost use Rattle.step_machine.specs.Limits.{last_turn, max_frames, max_values};
 ghost use Rattle.step_machine.specs.Program.{Program, functions, own};
 ghost use Rattle.step_machine.specs.Places.{Next, tree_next, body_of, written_at};
-ghost use Rattle.step_machine.specs.Configuration.{Store, State, Target, Tree, seq, Items, more, label, frame, running, stuck, Configuration, acts, is_halted, is_settled};
+ghost use Rattle.step_machine.specs.Configuration.{Store, State, Target, Tree, seq, Items, more, label, frame, running, stuck, Configuration, acts, frames, values, is_halted, is_settled};
 ghost use Rattle.step_machine.specs.Effects.{Env};
 ghost use Rattle.step_machine.specs.Reduction.{inside, reduce};
 ghost use Rattle.step_machine.specs.Turns.{from, numbered, turn};
@@ -54,6 +54,13 @@ pub fn turns_settle()
 pub fn turns_are_limited()
     ensures { (m : Module) (p : ProcessConfig) (n : ℕ) → ended (after m p n).state ≡ None
         → n < last_turn }
+{}
+
+/// The limits of frames and values hold after any number of turns: a tree that is left to run has at most
+/// 1,024 frames, and at most 65,536 locals and operands in all of them.
+pub fn limits_hold()
+    ensures { (m : Module) (p : ProcessConfig) (n : ℕ) (t : Tree) → (after m p n).state ≡ running t
+        → (frames t ≤ max_frames) × (values t ≤ max_values) }
 {}
 
 /// A reduction is defined at every configuration of a valid module that a task can run, until it
