@@ -216,7 +216,7 @@ const ROWS: &[Row] = &[
     Row {
         arguments: "--version",
         does: "shows",
-        text: "wasm-shim 0.1.0\n",
+        text: "wasm-shim 0.1.0 (protocol 1)\n",
     },
     Row {
         arguments: "--help",

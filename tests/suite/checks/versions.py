@@ -22,7 +22,7 @@ class Source:
 
 
 SOURCES = [
-    Source("crates/file_commands/src/command.rt", re.compile(rf"^const VERSION: &str = \"{NUMBER}\";", re.MULTILINE),
+    Source("crates/file_commands/src/command.rt", re.compile(rf"^const VERSION: &str = \"{NUMBER}[ \"]", re.MULTILINE),
            has_to=True),
     # The newest section with a number: all below it are older.
     Source("CHANGELOG.md", re.compile(rf"^## \[?{NUMBER}\]?", re.MULTILINE), has_to=True, is_first=True),
