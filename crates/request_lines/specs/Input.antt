@@ -21,7 +21,7 @@ KnowsEnd at_end known = at_end ≡ true → IsAtEnd known
 
 -- how many bytes are asked of a source at a time
 abbrev pub chunk_bytes : ℕ
-chunk_bytes = 65536
+chunk_bytes = 16384
 
 -- how much there is to read yet at most: each read gives at most a chunk, and some bytes have been
 -- read and not used

@@ -12,7 +12,7 @@ use std::alloc::{AllocError, Global};
 use std::marker::Model;
 
 /// Bytes that are asked of a reader at a time.
-const CHUNK_BYTES: usize = 65_536;
+const CHUNK_BYTES: usize = 16_384;
 
 /// Why no line could be read.
 #[derive(Clone, Copy, PartialEq, Eq, Debug)]
