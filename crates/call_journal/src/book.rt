@@ -5,7 +5,8 @@ ghost use Rattle.call_journal.specs.Replay.{IsReplay};
 ghost use Rattle.task_requests.specs.declared.request.Request.TheVariants as request;
 ghost use Rattle.task_requests.specs.declared.event.Event.TheVariants as event;
 ghost use Rattle.task_requests.specs.declared.event.EventReply.TheVariants as answer;
-ghost use Rattle.task_board.specs.BoardState.{Task as TaskValue, empty};
+ghost use Rattle.task_board.specs.BoardState.{Task as TaskValue, empty, task_of};
+ghost use Rattle.task_board.specs.Ended.{end_of};
 ghost use Rattle.task_requests.specs.Limits.{max_budget};
 ghost use Rattle.task_board.specs.Loans.{Fits};
 ghost use Rattle.task_board.specs.Step.{Step};
@@ -29,7 +30,7 @@ use std::alloc::Global;
 use std::marker::Model;
 use std::sync::ledger;
 use std::sync::ledger::{Blank, Share};
-use task_board::{Loan, Reply, Request, Ticket};
+use task_board::{ExitRecord, Loan, Reply, Request, Ticket};
 use wasm_ast::{Refusal, Text};
 
 /// How many seats there are at most.
@@ -215,6 +216,14 @@ impl<R: Row> Book<R> {
         ensures { result ≡ is_due self.now.journalled id.now }
     {
         self.board.is_due(id)
+    }
+
+    /// How many turns the task with an id has made, and how it has ended. None if no task has the id, or
+    /// that has not ended.
+    pub fn ended(&self, id: &str) -> Option<(u64, ExitRecord)>
+        ensures { result ≡ end_of (task_of id.now self.now.journalled.board.tasks) }
+    {
+        self.board.ended(id)
     }
 
     /// Lends the machine of the ticket's task for a slice of at most `budget` turns. None, and nothing has

@@ -4,7 +4,8 @@ ghost use Rattle.std.specs.Prelude.{◌≡◌, ◌≢◌, ◌↔◌, ◌⊎◌, 
 ghost use Rattle.task_requests.specs.declared.request.Request.{Request as RequestValue};
 ghost use Rattle.task_requests.specs.declared.event.Event.TheVariants as event;
 ghost use Rattle.task_requests.specs.declared.event.EventReply.TheVariants as answer;
-ghost use Rattle.task_board.specs.BoardState.{Task as TaskValue, empty};
+ghost use Rattle.task_board.specs.BoardState.{Task as TaskValue, empty, task_of};
+ghost use Rattle.task_board.specs.Ended.{end_of};
 ghost use Rattle.task_requests.specs.Limits.{max_budget};
 ghost use Rattle.task_board.specs.Loans.{Fits};
 ghost use Rattle.task_board.specs.Sound.{IsBoard};
@@ -25,7 +26,7 @@ use crate::laws::{answers_are_journalled, replays_go_on};
 use std::alloc::Global;
 use std::marker::Model;
 use std::snapshot::Snapshot;
-use task_board::{Board, Loan, Prepared, Reply, Request, Ticket};
+use task_board::{Board, ExitRecord, Loan, Prepared, Reply, Request, Ticket};
 use wasm_ast::{Refusal, Text};
 
 /// A call for which all memory has been taken.
@@ -147,6 +148,13 @@ impl JournalledBoard {
         ensures { result ≡ is_due self.now id.now }
     {
         self.closed || self.is_full() || self.board.is_settled(id.as_str())
+    }
+
+    /// How many turns the task with an id has made, and how it has ended, if it has.
+    pub fn ended(&self, id: &str) -> Option<(u64, ExitRecord)>
+        ensures { result ≡ end_of (task_of id.now self.now.board.tasks) }
+    {
+        self.board.ended(id)
     }
 
     /// Takes all memory that a seat's call needs, and makes its entry. `NoMemory` if that fails.

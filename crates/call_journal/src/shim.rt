@@ -13,6 +13,7 @@ use crate::cells::Cells;
 use crate::desk::Desk;
 use crate::entry::Entry;
 use crate::receipt::Receipt;
+use crate::returned::Returned;
 use crate::row::Row;
 use crate::seat::Seat;
 use crate::shared::Shared;
@@ -20,7 +21,7 @@ use std::alloc::Global;
 use std::cmp::Ordering;
 use std::sync::ledger::Blank;
 use std::sync::{Condvar, Mutex, Wait};
-use task_board::{Loan, Reply, Request, Status, Ticket};
+use task_board::{ExitRecord, Loan, Reply, Request, Status, Ticket};
 use wasm_ast::{Refusal, Text};
 
 /// A shim: a book that callers and workers share, and the cells that hold its journal.
@@ -31,7 +32,7 @@ use wasm_ast::{Refusal, Text};
 // | Sleeps | Until | Made true by | Told in |
 // |---|---|---|---|
 // | a caller, in `wait` | its task has settled | pause or kill of an idle task | `call_quietly` |
-// | | | the return of a slice, if the task stops or pauses | `give_back` |
+// | | | the return of a slice, if the task stops or pauses | `give_back`, `receive` |
 // | | the journal is full | the call that fills it | `call_quietly` |
 // | a worker, in `next` | a task waits for it | start, resume | `call`; next call, `wake`, `wait` |
 // | | | a ticket that is put back | `offer`, `wait_again` |
@@ -165,16 +166,20 @@ impl<R: Row> Shim<R> {
 
     /// Runs a slice of at most `budget` turns of the task with an id, if that waits for a worker,
     /// with no lock held meanwhile. A caller that is about to wait for a short task need not sleep
-    /// then until a worker has woken.
-    pub fn run_waiting<W: Wait>(&self, rt: &W, id: &Text, budget: u64)
+    /// then until a worker has woken. How many turns the task has made, and how it has ended, if it
+    /// ended in this slice.
+    pub fn run_waiting<W: Wait>(&self, rt: &W, id: &Text, budget: u64) -> Option<(u64, ExitRecord)>
         requires { (1 ≤ budget) × (budget ≤ max_budget) }
     {
-        let Some((mut loan, receipt)) = self.take_waiting(rt, id, budget) else {
-            return;
-        };
+        let (mut loan, receipt) = self.take_waiting(rt, id, budget)?;
         loan.run();
-        if let Some(ticket) = self.give_back(rt, loan, receipt) {
-            self.wait_again(rt, ticket);
+        match self.receive(rt, id.as_str(), loan, receipt) {
+            Returned::Running(ticket) => {
+                self.wait_again(rt, ticket);
+                None
+            }
+            Returned::Ended(turns, end) => Some((turns, end)),
+            Returned::Paused => None,
         }
     }
 
@@ -226,6 +231,29 @@ impl<R: Row> Shim<R> {
             self.tell_callers(&shared);
         }
         ticket
+    }
+
+    /// As `give_back`, and says what the loan's task is then, which has this id. The lock is not let go of in
+    /// between, so the end of a task is told once: by the return of the slice in which it ended.
+    pub fn receive<W: Wait>(&self, rt: &W, id: &str, loan: Loan, receipt: Receipt<R>) -> Returned
+        requires ran { loan.ran ≡ true }
+        requires receipt { loan ≡ record receipt { ran = true } }
+    {
+        let mut shared = self.shared.lock(rt);
+        if let Some(ticket) = shared.book.give_back(loan, receipt) {
+            return Returned::Running(ticket);
+        }
+        self.tell_callers(&shared);
+        match shared.book.ended(id) {
+            Some((turns, end)) => Returned::Ended(turns, end),
+            None => Returned::Paused,
+        }
+    }
+
+    /// How many turns the task with an id has made, and how it has ended. None if no task has the id, or
+    /// that has not ended. It is no call: the journal has no entry of it.
+    pub fn ended<W: Wait>(&self, rt: &W, id: &str) -> Option<(u64, ExitRecord)> {
+        self.shared.lock(rt).book.ended(id)
     }
 
     /// Lets the ticket's task wait for a worker if a worker sleeps, and wakes it; else gives the ticket back.

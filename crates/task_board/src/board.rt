@@ -15,6 +15,7 @@ ghost use Rattle.task_board.specs.Prepared.{Prepares, refusal_of, refusal_answer
 ghost use Rattle.task_board.specs.Refusals.{Openable};
 ghost use Rattle.task_requests.specs.Memory.{takes_memory};
 ghost use Rattle.task_board.specs.Sound.{IsBoard};
+ghost use Rattle.task_board.specs.Ended.{end_of};
 ghost use Rattle.task_board.specs.Settled.{is_settled};
 ghost use Rattle.task_board.specs.Step.{Answers, Step};
 ghost use Rattle.task_board.specs.Tickets.{ticket_of, CanLend, Lends, ticket_in};
@@ -39,6 +40,7 @@ use std::alloc::{AllocError, Global};
 use std::marker::Model;
 use std::sync::Arc;
 use step_machine::{FlatModule, Machine};
+use task_lifecycle::ExitRecord;
 use task_requests::{Reply, Request, SharedBytes};
 use text_assembler::assemble;
 use wasm_ast::{Bytes, Refusal, Sequence, Text};
@@ -369,6 +371,14 @@ impl Board {
         ensures { result ≡ is_settled (task_of id.now self.now.state.tasks) }
     {
         self.tables.is_settled(id)
+    }
+
+    /// How many turns the task with an id has made, and how it has ended. None if no task has the id, or
+    /// that has not ended.
+    pub fn ended(&self, id: &str) -> Option<(u64, ExitRecord)>
+        ensures { result ≡ end_of (task_of id.now self.now.state.tasks) }
+    {
+        self.tables.ended(id)
     }
 
     /// Lends the machine of the ticket's task for a slice of at most `budget` turns. None, and nothing

@@ -19,6 +19,7 @@ ghost use Rattle.oci_config.specs.declared.process.ProcessConfig.{ProcessConfig 
 ghost use Rattle.task_board.specs.Refusals.{is_full, unless_allowed, step_refusals, CannotOpen};
 ghost use Rattle.task_board.specs.Inside.OpenedModules.{IsOpen};
 ghost use Rattle.task_board.specs.Sound.{IsBoard};
+ghost use Rattle.task_board.specs.Ended.{end_of};
 ghost use Rattle.task_board.specs.Settled.{is_settled};
 ghost use Rattle.task_board.specs.Step.{Answers, Step};
 ghost use Rattle.task_board.specs.Tickets.{ticket_of, CanLend, Lends, ticket_in};
@@ -46,7 +47,7 @@ use std::marker::Model;
 use std::sync::Arc;
 use step_machine::FlatModule;
 use step_machine::laws::{slices_go_forward, slices_stop_first};
-use task_lifecycle::{Signal, Status, TaskCall};
+use task_lifecycle::{ExitRecord, Signal, Status, TaskCall};
 use task_requests::Reply;
 use wasm_ast::{Bytes, Refusal, Sequence, Text, is_id};
 
@@ -606,6 +607,14 @@ impl Tables {
             Some((_, task)) => task.status().allows(TaskCall::Wait),
             None => true,
         }
+    }
+
+    /// How many turns the task with an id has made, and how it has ended.
+    pub fn ended(&self, id: &str) -> Option<(u64, ExitRecord)>
+        ensures { result ≡ end_of (task_of id.now self.now.state.tasks) }
+    {
+        let (_, task) = find_task(&self.tasks, id)?;
+        task.ended()
     }
 
     /// Lends the machine of the ticket's task.

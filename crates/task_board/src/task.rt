@@ -9,6 +9,7 @@ ghost use Rattle.step_machine.specs.Slices.{at_break};
 ghost use Rattle.task_lifecycle.specs.Lifecycle.{allowed};
 ghost use Rattle.content_leases.specs.StoreState.{is_among};
 ghost use Rattle.task_board.specs.BoardState.{created_task, entry_of, used_by};
+ghost use Rattle.task_board.specs.Ended.{end_of};
 ghost use Rattle.task_board.specs.Loans.{Lent, loan_of, FitsTask};
 ghost use Rattle.task_board.specs.Refusals.{Openable};
 ghost use Rattle.task_board.specs.Tasks.{started, paused, resumed, first_signal, killed, place_of, advanced, slice_turns, can_lend, lent, stepped, state_of, output_of};
@@ -119,6 +120,16 @@ impl Task {
         ensures { result ≡ (self.now.turns, self.now.out) }
     {
         (self.turns, self.out)
+    }
+
+    /// How many turns it has made, and how it has ended. None if it has not ended.
+    pub fn ended(&self) -> Option<(u64, ExitRecord)>
+        ensures { result ≡ end_of (Some self.now) }
+    {
+        match self.end {
+            Some(end) => Some((self.turns, end)),
+            None => None,
+        }
     }
 
     /// How many creates its board had accepted before it.
