@@ -14,7 +14,7 @@ use std::sync::atomic::{AtomicU64, Ordering};
 use std::test::Fail;
 use std::thread;
 use std::thread::Threads;
-use task_board::Loan;
+use task_board::{ExitRecord, Loan};
 
 /// A caller starts two tasks and waits for both, while two workers run them by a gate. None if its
 /// lines come to no end.
@@ -125,6 +125,8 @@ impl Gate for Meeting {
         }
         loan.run();
     }
+
+    fn ended(&self, _id: &str, _turns: u64, _end: ExitRecord) {}
 }
 
 #[test]

@@ -15,6 +15,7 @@ use request_lines::{
 };
 use std::alloc::{AllocError, Global};
 use std::sync::Wait;
+use task_board::Status;
 use task_requests::{Reply, Request};
 use wasm_ast::Refusal;
 
@@ -75,18 +76,21 @@ impl From<Stop> for Driven {
 
 // Makes a call. A worker is told of the tasks that earlier calls started, but not of one that this call
 // starts: the caller's next line may be a wait for that, which is made once it is due, and the first slice
-// of a task that no worker has yet is run here.
-fn call<J: Row, H: Wait>(
+// of a task that no worker has yet is run here. The notes are told if the task ended in that.
+fn call<J: Row, H: Wait, N: Notes>(
     rt: &H,
     shim: &Shim<J>,
     seat: Seat<J>,
     request: Request,
+    notes: &mut N,
 ) -> (Seat<J>, Result<Reply, Refusal>)
     ensures { IsCall seat result.0 request result.1 }
 {
     match request {
         Request::Wait { id } => {
-            shim.run_waiting(rt, &id, SLICE_TURNS);
+            if let Some((turns, end)) = shim.run_waiting(rt, &id, SLICE_TURNS) {
+                notes.ended(&id, turns, end);
+            }
             shim.wait(rt, seat, id)
         }
         other => shim.call_quietly(rt, seat, other),
@@ -95,12 +99,13 @@ fn call<J: Row, H: Wait>(
 
 // Answers a line, of which nothing is there if it is too long. One that is no request makes no call, so a
 // worker is told here of the tasks that earlier calls started.
-fn answer<J: Row, H: Wait>(
+fn answer<J: Row, H: Wait, N: Notes>(
     rt: &H,
     alloc: Global,
     shim: &Shim<J>,
     seat: Seat<J>,
     line: Option<&[u8]>,
+    notes: &mut N,
 ) -> (Seat<J>, Result<Reply, Refusal>)
     ensures { (text : List ℕ) → IsKept (option_map (λ b. b.now) line.entry) text
         → IsAnswered seat text result.1 result.0 }
@@ -110,7 +115,7 @@ fn answer<J: Row, H: Wait>(
         return (seat, Err(Refusal::BadRequest));
     };
     match read_request_line(alloc, bytes) {
-        Ok(request) => call(rt, shim, seat, request),
+        Ok(request) => call(rt, shim, seat, request, notes),
         Err(error) => {
             shim.wake(rt);
             (seat, Err(Refusal::from(error)))
@@ -173,6 +178,24 @@ fn write_answer<W: Sink>(
     }
 }
 
+// Tells the notes that the task of a kill has ended, if it was idle, so that it has ended by that.
+fn tell_killed<J: Row, H: Wait, N: Notes>(
+    rt: &H,
+    shim: &Shim<J>,
+    answer: &Result<Reply, Refusal>,
+    notes: &mut N,
+) {
+    let Ok(Reply::Kill { id, status }) = answer else {
+        return;
+    };
+    if *status != Status::Stopped {
+        return;
+    }
+    if let Some((turns, end)) = shim.ended(rt, id.as_str()) {
+        notes.ended(id, turns, end);
+    }
+}
+
 // Answers a line, tells the notes of both, and writes the line of the answer.
 fn serve_line<J: Row, W: Sink, H: Wait, N: Notes>(
     rt: &H,
@@ -189,7 +212,8 @@ fn serve_line<J: Row, W: Sink, H: Wait, N: Notes>(
         × Writes result.1 reply (W.contents writer.old) (W.contents writer.new) }
     ensures failed { result.1 ≡ Err WriteError.Stream → W.has_failed writer.new }
 {
-    let (seat, answer) = answer(rt, alloc, shim, seat, line);
+    let (seat, answer) = answer(rt, alloc, shim, seat, line, notes);
+    tell_killed(rt, shim, &answer, notes);
     notes.note(shim, &seat, line, &answer);
     let written = write_answer(alloc, &answer, spare, writer);
     (seat, written)

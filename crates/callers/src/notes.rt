@@ -1,8 +1,8 @@
 //! What is told the lines of a caller beside its replies.
 
 use call_journal::{Row, Seat, Shim};
-use task_board::Reply;
-use wasm_ast::Refusal;
+use task_board::{ExitRecord, Reply};
+use wasm_ast::{Refusal, Text};
 
 /// What is told each line of a caller and its answer, in their order. Nothing that it does changes
 /// what is answered or written.
@@ -16,6 +16,10 @@ pub trait Notes {
         line: Option<&[u8]>,
         answer: &Result<Reply, Refusal>,
     );
+
+    /// The task with this id has ended so, after this number of turns: in a slice that the caller ran before
+    /// it waited, or by its kill. The line of the wait or of the kill is told next. No lock is held.
+    fn ended(&mut self, id: &Text, turns: u64, end: ExitRecord);
 }
 
 /// Takes no notes.
@@ -30,4 +34,6 @@ impl Notes for NoNotes {
         _line: Option<&[u8]>,
         _answer: &Result<Reply, Refusal>,
     ) {}
+
+    fn ended(&mut self, _id: &Text, _turns: u64, _end: ExitRecord) {}
 }

@@ -7,7 +7,7 @@ ghost use Rattle.task_requests.specs.Limits.{max_budget};
 use crate::gate::Gate;
 use crate::tickets::{Hand, Queue, next_ticket, put_ticket};
 use arrayvec::ArrayString;
-use call_journal::{Row, Shim};
+use call_journal::{Returned, Row, Shim};
 use crossbeam_queue::Pass;
 use std::sync::Wait;
 use task_board::{Loan, Ticket};
@@ -25,7 +25,8 @@ fn id_of(loan: &Loan) -> ArrayString<MOST_ID_BYTES>
     id
 }
 
-/// Runs a slice of the ticket's task, with no lock held. The ticket of the task, if it is running afterwards.
+/// Runs a slice of the ticket's task, with no lock held. The ticket of the task, if it is running afterwards;
+/// the gate is told if it has ended.
 fn run_slice<R: Row, G: Gate, W: Wait>(
     rt: &W,
     shim: &Shim<R>,
@@ -38,7 +39,14 @@ fn run_slice<R: Row, G: Gate, W: Wait>(
     let (mut loan, receipt) = shim.take(rt, ticket, budget)?;
     let id = id_of(&loan);
     gate.slice(id.as_str(), &mut loan);
-    shim.give_back(rt, loan, receipt)
+    match shim.receive(rt, id.as_str(), loan, receipt) {
+        Returned::Running(again) => Some(again),
+        Returned::Ended(turns, end) => {
+            gate.ended(id.as_str(), turns, end);
+            None
+        }
+        Returned::Paused => None,
+    }
 }
 
 /// A ticket that is there: that at the front of the queue or that of the task that has waited longest, the
