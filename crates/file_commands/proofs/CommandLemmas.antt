@@ -25,8 +25,8 @@ program_is_free = refl
 pub named_from_chosen :
     (arguments : List Text) (found : Option (Text × List Row)) → found ≡ command_in arguments → faults_in arguments ≡ []
     → (c : Command) → IsCommand found c × (is_unfit c ≡ false) → Name arguments c
-named_from_chosen arguments found e none (Serve workers scripts callers explain log) (h, complete) =
-    (none, subst (λ f. IsCommand f (Serve workers scripts callers explain log)) e h, complete)
+named_from_chosen arguments found e none (Serve workers scripts callers explain log format) (h, complete) =
+    (none, subst (λ f. IsCommand f (Serve workers scripts callers explain log format)) e h, complete)
 named_from_chosen arguments found e none (Replay file) (h, complete) =
     (none, subst (λ f. IsCommand f (Replay file)) e h, complete)
 named_from_chosen arguments found e none (Asm file explain) (h, complete) =
@@ -40,7 +40,7 @@ named_from_chosen arguments found e none (Show text) (h, complete) = absurd h
 pub named_from_shown :
     (arguments : List Text) (kind : ErrorKind) → (kind ≡ OutOfMemory) ⊎ IsAmong kind (faults_in arguments)
     → (c : Command) → IsShown kind c → Name arguments c
-named_from_shown arguments kind h (Serve workers scripts callers explain log) shown = absurd shown
+named_from_shown arguments kind h (Serve workers scripts callers explain log format) shown = absurd shown
 named_from_shown arguments kind h (Replay file) shown = absurd shown
 named_from_shown arguments kind h (Asm file explain) shown = absurd shown
 named_from_shown arguments kind h (Check file list task memory explain) shown = absurd shown

@@ -1,5 +1,5 @@
 -- How the program's command line is read, by `clap`'s own reading of its arguments.
-use Rattle.std.specs.Prelude.{ℕ, ◌≡◌, ◌≢◌, ◌⊎◌, List, [], ◌∷◌, map, Bool, true, false, not, ◌&&◌, bytes_eq, Option, Some, None, is_some, option_map, codes, string_bytes}
+use Rattle.std.specs.Prelude.{ℕ, ◌≡◌, ◌≢◌, ◌⊎◌, List, [], ◌∷◌, map, Bool, true, false, not, ◌&&◌, ◌||◌, bytes_eq, Option, Some, None, is_some, option_map, codes, string_bytes}
 use Rattle.std.specs.Str.Parse.{digits_value, without_leading_plus}
 use Rattle.clap.specs.Faults.{fault_of}
 use Rattle.clap.specs.Kinds.{Kinds, IsAmong}
@@ -31,6 +31,11 @@ explain_rule = flag_rule (codes "explain")
 
 abbrev pub log_rule : Rule
 log_rule = flag_rule (codes "log")
+
+-- the option `--log-format`, whose value is a text
+abbrev pub format_rule : Rule
+format_rule =
+    record (new_rule (codes "log-format")) { long = Some (codes "log-format"); value_names = 1 }
 
 abbrev pub task_rule : Rule
 task_rule = flag_rule (codes "task")
@@ -95,13 +100,13 @@ bare_program =
       subs = [];
     }
 
--- `serve [--workers N] [--explain] [--log] [--caller IN:OUT]* [SCRIPT..]`, `replay FILE`,
--- `asm [--explain] FILE`, `check [--task [--memory BYTES]] [--list] [--explain] FILE` and
--- `run [--env NAME=VALUE]* [--memory BYTES] [--explain] MODULE [ARG..]`
+-- `serve [--workers N] [--explain] [--log] [--log-format FORMAT] [--caller IN:OUT]* [SCRIPT..]`,
+-- `replay FILE`, `asm [--explain] FILE`, `check [--task [--memory BYTES]] [--list] [--explain] FILE`
+-- and `run [--env NAME=VALUE]* [--memory BYTES] [--explain] MODULE [ARG..]`
 abbrev pub serve_shape : Shape
 serve_shape =
     command_shape (codes "serve")
-    (workers_rule ∷ explain_rule ∷ log_rule ∷ caller_rule ∷ script_rule ∷ [])
+    (workers_rule ∷ explain_rule ∷ log_rule ∷ format_rule ∷ caller_rule ∷ script_rule ∷ [])
 
 abbrev pub replay_shape : Shape
 replay_shape = command_shape (codes "replay") (file_rule ∷ [])
@@ -151,6 +156,15 @@ has_explain rows = is_set (first_of (codes "explain") rows)
 abbrev pub has_log : List Row → Bool
 has_log rows = is_set (first_of (codes "log") rows)
 
+-- the value of `--log-format`, if it is among them
+abbrev pub format_in : List Row → Option Text
+format_in = first_of (codes "log-format")
+
+-- a format that the log does not have
+abbrev pub is_no_format : Option Text → Bool
+is_no_format None = false
+is_no_format (Some name) = not (bytes_eq name (codes "text") || bytes_eq name (codes "json"))
+
 -- how many workers there are: the number given, or else 2
 abbrev pub workers_from : Option Text → ℕ
 workers_from None = 2
@@ -191,12 +205,21 @@ module_in = all_of (codes "MODULE")
 abbrev pub command_in : List Text → Option (Text × List Row)
 command_in = subcommand_of program
 
--- its name with its workers, its SCRIPTs, its callers and which flags are there; with its FILE;
--- with its FILE, the limit on memory and which flags are there; and with its MODULE and ARGs, the
--- settings of the task and whether `--explain` is there
-abbrev pub with_scripts : Text × List Row → Text × ℕ × List Text × List Text × Bool × Bool
+-- its name with its workers, its SCRIPTs, its callers, which flags are there and the log's format; with
+-- its FILE; with its FILE, the limit on memory and which flags are there; and with its MODULE and ARGs,
+-- the settings of the task and whether `--explain` is there
+abbrev pub with_scripts :
+    Text × List Row → Text × ℕ × List Text × List Text × Bool × Bool × Option Text
 with_scripts p =
-    (p.0, workers_in p.1, scripts_in p.1, callers_in p.1, has_explain p.1, has_log p.1)
+    (
+      p.0,
+      workers_in p.1,
+      scripts_in p.1,
+      callers_in p.1,
+      has_explain p.1,
+      has_log p.1,
+      format_in p.1,
+    )
 
 abbrev pub with_file : Text × List Row → Text × Option Text
 with_file p = (p.0, file_in p.1)
@@ -213,7 +236,7 @@ with_module p = (p.0, module_in p.1, env_in p.1, memory_in p.1, has_explain p.1)
 
 -- this is the command
 abbrev pub IsCommand : Option (Text × List Row) → Command → Type 0
-IsCommand found (Serve workers scripts callers explain log) =
+IsCommand found (Serve workers scripts callers explain log format) =
     option_map with_scripts found
     ≡ Some (
       codes "serve",
@@ -222,6 +245,7 @@ IsCommand found (Serve workers scripts callers explain log) =
       map string_bytes callers.items,
       explain,
       log,
+      option_map string_bytes format,
     )
 IsCommand found (Replay file) =
     option_map with_file found ≡ Some (codes "replay", Some (string_bytes file))
@@ -250,10 +274,12 @@ abbrev pub AskToShow : List Text → Type 0
 AskToShow arguments =
     IsAmong DisplayHelp (faults_in arguments) ⊎ IsAmong DisplayVersion (faults_in arguments)
 
--- a serve whose callers do not fit, or a check with a limit on the memory of a task that is not asked for
+-- a serve whose callers or whose log's format do not fit, or a check with a limit on the memory of a task
+-- that is not asked for
 abbrev pub is_unfit : Command → Bool
-is_unfit (Serve workers scripts callers explain log) =
+is_unfit (Serve workers scripts callers explain log format) =
     are_unfit (map string_bytes scripts.items) (map string_bytes callers.items)
+    || is_no_format (option_map string_bytes format)
 is_unfit (Check file list task memory explain) = is_some memory && not task
 is_unfit other = false
 

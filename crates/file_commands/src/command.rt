@@ -1,12 +1,12 @@
 //! Command lines.
 
-ghost use Rattle.std.specs.Prelude.{◌≡◌, ◌∷◌, List, [], IfOk, IfErr, Option, Some, is_some, map, string_bytes, false, not, ◌&&◌, codes};
+ghost use Rattle.std.specs.Prelude.{◌≡◌, ◌∷◌, List, [], IfOk, IfErr, Option, Some, is_some, option_map, map, string_bytes, false, not, ◌&&◌, ◌||◌, codes};
 ghost use Rattle.clap.specs.Matches.{found_of};
 ghost use Rattle.clap.specs.Simple.{app_of, shape_of, subcommand_rows_of};
 ghost use Rattle.clap.specs.Values.{kind_of};
 ghost use Rattle.clap.specs.Walk.{Row, Text, first_of, all_of, rows_of, rule_of};
 ghost use Rattle.clap.specs.declared.builder.command.Command.TheViews.{out-Command as fields_of};
-ghost use Rattle.file_commands.specs.Command.{file_rule, task_rule, list_rule, explain_rule, log_rule, workers_rule, env_rule, memory_rule, caller_rule, script_rule, module_rule, command_shape, serve_shape, asm_shape, check_shape, run_shape, workers_in, scripts_in, texts_from, env_in, memory_in, bare_program, line_program, program, file_in, is_set, has_explain, module_in, is_unfit, IsCommand, Name, AreFaulty};
+ghost use Rattle.file_commands.specs.Command.{file_rule, task_rule, list_rule, explain_rule, log_rule, format_rule, workers_rule, env_rule, memory_rule, caller_rule, script_rule, module_rule, command_shape, serve_shape, asm_shape, check_shape, run_shape, workers_in, scripts_in, texts_from, env_in, memory_in, format_in, is_no_format, bare_program, line_program, program, file_in, is_set, has_explain, module_in, is_unfit, IsCommand, Name, AreFaulty};
 ghost use Rattle.file_commands.specs.Callers.{are_unfit};
 ghost use Rattle.file_commands.specs.Inside.Chosen.{IsShown, IsRefusedFor, IsOfArguments};
 
@@ -23,13 +23,15 @@ use thiserror::Error;
 pub enum Command {
     /// Answers the lines of the files of these names, each a caller of its own, or those of the callers of
     /// these words, which name a file of lines and a file for replies each, or else those of standard input;
-    /// this many workers run the tasks. Refusals are explained and a log is written if that is wanted.
+    /// this many workers run the tasks. Refusals are explained and a log is written if that is wanted, the
+    /// log in the format of this name, `text` or `json`.
     Serve {
         workers: u64,
         scripts: Vec<String>,
         callers: Vec<String>,
         explain: bool,
         log: bool,
+        format: Option<String>,
     },
     /// Runs the lines of the file of this name, and writes their answers to standard output.
     Replay {
@@ -86,6 +88,10 @@ const USUAL_WORKERS: u64 = 2;
 const LONE_MEMORY: &str =
     "error: the argument '--memory <BYTES>' is for '--task' alone\n\nUsage: wasm-shim check [OPTIONS] <FILE>\n\nFor more information, try '--help'.\n";
 
+// What is said of a format that the log does not have.
+const OTHER_FORMAT: &str =
+    "error: the value of '--log-format <FORMAT>' is text or json\n\nUsage: wasm-shim serve [OPTIONS] [SCRIPT]...\n\nFor more information, try '--help'.\n";
+
 // What FILE is in the commands that read a module.
 const MODULE_FILE: &str = "The file of the module, in the binary or the text format";
 
@@ -138,9 +144,18 @@ fn log_arg<'a>(alloc: Global) -> Arg<'a>
     Arg::new(alloc, "log")
         .long("log")
         .action(ArgAction::SetTrue)
-        .help(
-            "Also say each create, each end of a task and each refusal, in a line on standard error",
-        )
+        .help("Also log what becomes of tasks and callers, in lines on standard error")
+}
+
+// The option `--log-format`.
+fn format_arg<'a>(alloc: Global) -> Arg<'a>
+    ensures rule { rule_of result ≡ format_rule }
+    ensures local { result.global ≡ false }
+{
+    Arg::new(alloc, "log-format")
+        .long("log-format")
+        .value_name("FORMAT")
+        .help("The format of the log: text, or json; text without this option")
 }
 
 // The option `--workers`.
@@ -208,7 +223,8 @@ fn script_arg<'a>(alloc: Global) -> Arg<'a>
 // The command `serve` with its options for the workers and for standard error.
 fn serve_options<'a>(alloc: Global) -> Result<Parser<'a>, AllocError>
     ensures shape { IfOk result (λ p. shape_of p
-        ≡ command_shape (codes "serve") (workers_rule ∷ explain_rule ∷ log_rule ∷ [])) }
+        ≡ command_shape (codes "serve")
+        (workers_rule ∷ explain_rule ∷ log_rule ∷ format_rule ∷ [])) }
     ensures local { IfOk result (λ p. (fields_of p).has_globals ≡ false) }
 {
     let command = bare_command(
@@ -219,10 +235,11 @@ fn serve_options<'a>(alloc: Global) -> Result<Parser<'a>, AllocError>
     );
     let counted = command.arg(workers_arg(alloc))?;
     let explained = counted.arg(explain_arg(alloc))?;
-    explained.arg(log_arg(alloc))
+    let logged = explained.arg(log_arg(alloc))?;
+    logged.arg(format_arg(alloc))
 }
 
-// `serve [--workers N] [--explain] [--log] [--caller IN:OUT]* [SCRIPT..]`
+// `serve [--workers N] [--explain] [--log] [--log-format FORMAT] [--caller IN:OUT]* [SCRIPT..]`
 fn serve_command<'a>(alloc: Global) -> Result<Parser<'a>, AllocError>
     ensures shape { IfOk result (λ p. shape_of p ≡ serve_shape) }
     ensures local { IfOk result (λ p. (fields_of p).has_globals ≡ false) }
@@ -460,6 +477,21 @@ fn words_of(alloc: Global, found: &ArgMatches<'_>, name: &str) -> Result<Vec<Str
     }
 }
 
+// The format of the log that was found, if there is one.
+fn format_of(alloc: Global, found: &ArgMatches<'_>) -> Result<Option<String>, CommandError>
+    ensures ok { IfOk result (λ f. option_map string_bytes f
+        ≡ format_in (rows_of (found_of found.now))) }
+    ensures err { IfErr result (λ f. f ≡ CommandError.OutOfMemory) }
+{
+    let Some(name) = found.get_str("log-format") else {
+        return Ok(None);
+    };
+    match String::from_str(alloc, name) {
+        Ok(format) => Ok(Some(format)),
+        Err(_) => Err(CommandError::OutOfMemory),
+    }
+}
+
 // The command `serve` with the arguments that were found.
 fn serve_of(alloc: Global, found: &ArgMatches<'_>) -> Result<Command, CommandError>
     ensures ok { IfOk result
@@ -469,12 +501,14 @@ fn serve_of(alloc: Global, found: &ArgMatches<'_>) -> Result<Command, CommandErr
     let workers = workers_of(found)?;
     let scripts = words_of(alloc, found, "SCRIPT")?;
     let callers = words_of(alloc, found, "caller")?;
+    let format = format_of(alloc, found)?;
     Ok(Command::Serve {
         workers,
         scripts,
         callers,
         explain: has_flag(found, "explain"),
         log: has_flag(found, "log"),
+        format,
     })
 }
 
@@ -579,6 +613,37 @@ fn memory_text(alloc: Global, memory: Option<u64>, task: bool) -> Result<Option<
     }
 }
 
+// What is said of a format that the log does not have. None if it has it.
+fn format_text(alloc: Global, format: &Option<String>) -> Result<Option<String>, AllocError>
+    ensures { IfOk result (λ t. is_some t ≡ is_no_format (option_map string_bytes format.now)) }
+{
+    let Some(name) = format else {
+        return Ok(None);
+    };
+    if name.as_str() == "text" || name.as_str() == "json" {
+        return Ok(None);
+    }
+    let text = String::from_str(alloc, OTHER_FORMAT)?;
+    Ok(Some(text))
+}
+
+// What is said of callers, or else of a format of the log, that do not fit. None if they do.
+fn serve_text(
+    alloc: Global,
+    scripts: &[String],
+    callers: &[String],
+    format: &Option<String>,
+) -> Result<Option<String>, AllocError>
+    ensures { IfOk result (λ t. is_some t
+        ≡ (are_unfit (map string_bytes scripts.now) (map string_bytes callers.now)
+        || is_no_format (option_map string_bytes format.now))) }
+{
+    match caller_text(alloc, scripts, callers)? {
+        Some(text) => Ok(Some(text)),
+        None => format_text(alloc, format),
+    }
+}
+
 // What is said of a command that is unfit. None if it is fit.
 fn unfit_text(alloc: Global, command: &Command) -> Result<Option<String>, AllocError>
     ensures { IfOk result (λ t. is_some t ≡ is_unfit command.now) }
@@ -587,8 +652,9 @@ fn unfit_text(alloc: Global, command: &Command) -> Result<Option<String>, AllocE
         Command::Serve {
             scripts,
             callers,
+            format,
             ..
-        } => caller_text(alloc, scripts.as_slice(), callers.as_slice()),
+        } => serve_text(alloc, scripts.as_slice(), callers.as_slice(), format),
         Command::Check { task, memory, .. } => memory_text(alloc, *memory, *task),
         _ => Ok(None),
     }
@@ -646,9 +712,9 @@ fn whole(alloc: Global, matches: &ArgMatches<'_>) -> Result<Command, CommandErro
 
 /// The command that the arguments name. The first word is the program's own name.
 ///
-/// `serve [--workers N] [--explain] [--log] [--caller IN:OUT]* [SCRIPT..]`, with N from 1 to 16, with up to
-/// 130 callers, no two with one OUT, and with none beside SCRIPTs, `replay FILE`, `asm [--explain]
-/// FILE`, `check [--task [--memory BYTES]] [--list] [--explain] FILE` and `run [--env NAME=VALUE]*
+/// `serve [--workers N] [--explain] [--log] [--log-format FORMAT] [--caller IN:OUT]* [SCRIPT..]`, with N
+/// from 1 to 16, FORMAT `text` or `json`, up to 130 callers, no two with one OUT, and none beside
+/// SCRIPTs, `replay FILE`, `asm [--explain] FILE`, `check [--task [--memory BYTES]] [--list] [--explain] FILE` and `run [--env NAME=VALUE]*
 /// [--memory BYTES] [--explain] MODULE [ARG..]` are the commands, BYTES a number below 2^64. Every
 /// word after MODULE is an ARG, one that begins with a dash too. `--help` and `--version`, alone or
 /// after a command, and `help` are shown. All else is `CommandError::Arguments`, and

@@ -32,7 +32,7 @@ IsCheck true name bytes list limit =
 
 -- what a command writes whose file has these bytes; of `serve` nothing is written so
 abbrev pub IsPerformed : Command → (bytes : List ℕ) → Ran → Type 0
-IsPerformed (Serve workers scripts callers explain log) bytes = λ ran. ran ≡ succeeded []
+IsPerformed (Serve workers scripts callers explain log format) bytes = λ ran. ran ≡ succeeded []
 IsPerformed (Replay file) bytes = λ ran. IsReplay bytes ran.out × (ran ≡ succeeded ran.out)
 IsPerformed (Asm file explain) bytes = IsToldBy explain refused (IsAssembled bytes)
 IsPerformed (Check file list task memory explain) bytes =

@@ -4,6 +4,7 @@ ghost use Rattle.std.specs.Prelude.{◌≡◌, ◌+◌};
 ghost use Rattle.call_journal.specs.Desks.{AreIdle, spot_names};
 ghost use Rattle.call_journal.specs.Seats.{most_seats};
 
+use crate::log::LogGate;
 use crate::report::{
     OUT_OF_MEMORY, Streams, ended_well, failed, file_failed, not_started, status_of, stream_failed,
 };
@@ -12,7 +13,7 @@ use call_journal::{Cells, Desk, MOST_SEATS, Row, Seat, Shim};
 use callers::{Driven, Notes};
 use request_lines::Watched;
 use shim_service::files_of;
-use shim_threads::{Attended, InFlight, LiveCaller, Report, answer_live, with_workers};
+use shim_threads::{Attended, InFlight, LiveCaller, Report, answer_live, with_gated_workers};
 use std::alloc::Global;
 use std::fs::File;
 use std::io;
@@ -21,9 +22,9 @@ use std::process::ExitCode;
 use std::sync::ledger::Blank;
 use std::sync::{Arc, Wait};
 use std::thread::Threads;
-use std::time::{Clock, Duration, Instant};
-use task_board::Reply;
-use wasm_ast::Refusal;
+use std::time::{Clock, Duration};
+use task_board::{ExitRecord, Reply};
+use wasm_ast::{Refusal, Text};
 
 /// For how many seconds at most the end of the program waits for replies that are being written.
 const LAST_SECONDS: u64 = 5;
@@ -57,6 +58,10 @@ impl Notes for Account {
     ) {
         self.watch.note(shim, seat, line, answer);
     }
+
+    fn ended(&mut self, id: &Text, turns: u64, end: ExitRecord) {
+        self.watch.ended(id, turns, end);
+    }
 }
 
 impl<H: Wait> Report<Attended<Watched<File>, H>, Watched<File>> for Account {
@@ -66,6 +71,7 @@ impl<H: Wait> Report<Attended<Watched<File>, H>, Watched<File>> for Account {
         reader: &Attended<Watched<File>, H>,
         writer: &Watched<File>,
     ) -> bool {
+        self.watch.log_end();
         ended_well(
             &self.rt,
             driven,
@@ -122,7 +128,6 @@ fn callers_of<J: Row, H: Wait + Copy>(
     wanted: Wanted,
     pairs: Vec<Pair>,
 ) -> Result<Vec<FileCaller<J, H>>, ExitCode> {
-    let start = Instant::now(rt).ok();
     let mut callers = Vec::new(rt.alloc());
     for pair in pairs {
         let Some(seat) = shim.seat(&threads) else {
@@ -134,7 +139,7 @@ fn callers_of<J: Row, H: Wait + Copy>(
             writer: Watched::new(pair.replies),
             notes: Account {
                 rt: *rt,
-                watch: Watch::new(*rt, wanted, start, pair.streams.lines),
+                watch: Watch::new(*rt, wanted, pair.streams.lines),
                 streams: pair.streams,
             },
         };
@@ -156,6 +161,7 @@ fn serve_owner<
     workers: u64,
     shim: &Arc<Shim<J>, Global>,
     flight: &'static InFlight,
+    wanted: Wanted,
     callers: Vec<FileCaller<J, H>>,
 ) -> ExitCode {
     let alloc = rt.alloc();
@@ -164,7 +170,8 @@ fn serve_owner<
         return ExitCode::SUCCESS;
     }
     let owner = others.remove(0);
-    let answered = with_workers(&threads, alloc, shim, workers, move || {
+    let gate = LogGate { log: wanted.log };
+    let answered = with_gated_workers(&threads, alloc, shim, workers, &gate, move || {
         answer_live(threads, alloc, shim, flight, owner, others)
     });
     match answered {
@@ -202,7 +209,7 @@ fn serve_pairs<
     };
     let flight: &'static InFlight = Box::leak(flight);
     match callers_of(rt, threads, &shim, flight, wanted, pairs) {
-        Ok(callers) => serve_owner(rt, threads, workers, &shim, flight, callers),
+        Ok(callers) => serve_owner(rt, threads, workers, &shim, flight, wanted, callers),
         Err(status) => status,
     }
 }

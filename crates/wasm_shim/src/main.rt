@@ -2,14 +2,17 @@
 #![tactic(auto)]
 
 mod live;
+mod log;
 mod report;
 mod serve;
 mod watched;
 
 use crate::live::serve_live;
+use crate::log::Log;
 use crate::report::{failed, stream_failed};
 use crate::serve::serve;
 use crate::watched::Wanted;
+use shim_log::Format;
 use shim_service::{Command, CommandError, RunError, command_of, file_of, perform};
 use std::fs::File;
 use std::io::Read;
@@ -76,6 +79,17 @@ fn carry_out(rt: &HostRuntime, command: &Command) -> ExitCode {
     finish(rt, ran)
 }
 
+// The format of the log, if one is wanted.
+fn log_format(is_wanted: bool, name: &Option<String>) -> Option<Format> {
+    if !is_wanted {
+        return None;
+    }
+    match name {
+        Some(name) if name.as_str() == "json" => Some(Format::Json),
+        _ => Some(Format::Text),
+    }
+}
+
 // Says on standard error what is wrong with the arguments.
 fn refuse(rt: &HostRuntime, error: &CommandError) -> ExitCode {
     if let CommandError::OutOfMemory = error {
@@ -104,9 +118,14 @@ fn main(rt: HostRuntime) -> ExitCode {
                 callers,
                 explain,
                 log,
+                format,
             },
         ) => {
-            let wanted = Wanted { explain, log };
+            let format = log_format(log, &format);
+            let wanted = Wanted {
+                explain,
+                log: Log::new(rt, format),
+            };
             if callers.is_empty() {
                 serve(&rt, &rt, workers, scripts.as_slice(), wanted)
             } else {

@@ -4,6 +4,7 @@ ghost use Rattle.std.specs.Prelude.{◌≡◌, ◌+◌};
 ghost use Rattle.call_journal.specs.Desks.{AreIdle, spot_names};
 ghost use Rattle.call_journal.specs.Seats.{most_seats};
 
+use crate::log::LogGate;
 use crate::report::{
     OUT_OF_MEMORY, Streams, ended_well, failed, file_failed, not_started, status_of, stream_failed,
 };
@@ -11,7 +12,7 @@ use crate::watched::{Wanted, Watch};
 use call_journal::{Cells, Desk, MOST_SEATS, Row, Shim};
 use callers::{Driven, drive};
 use request_lines::Watched;
-use shim_threads::{Answered, Caller, answer_all, with_workers};
+use shim_threads::{Answered, Caller, answer_all, with_gated_workers};
 use std::fs::File;
 use std::io::{Read, Write};
 use std::marker::Brand;
@@ -19,7 +20,6 @@ use std::process::ExitCode;
 use std::sync::Wait;
 use std::sync::ledger::Blank;
 use std::thread::Threads;
-use std::time::Instant;
 
 /// What `serve` is to do.
 #[derive(Clone, Copy)]
@@ -27,8 +27,6 @@ struct Service<'a> {
     workers: u64,
     scripts: &'a [String],
     wanted: Wanted,
-    /// When it began; None if the clock failed.
-    start: Option<Instant>,
 }
 
 // Opens the file of each script, in order.
@@ -62,10 +60,14 @@ fn serve_stream<J: Row + Send + Sync, H: Threads + Wait + Sync, R: Read + Drop>(
     let mut input = Watched::new(reader);
     let mut output = Watched::new(rt.stdout());
     let (from, to) = (&mut input, &mut output);
-    let watch = Watch::new(*rt, service.wanted, service.start, "");
-    let driven = with_workers(threads, alloc, shim, service.workers, move || {
+    let watch = Watch::new(*rt, service.wanted, "");
+    let gate = LogGate {
+        log: service.wanted.log,
+    };
+    let driven = with_gated_workers(threads, alloc, shim, service.workers, &gate, move || {
         let mut watch = watch;
         let (_seat, driven) = drive(threads, alloc, shim, seat, from, to, &mut watch);
+        watch.log_end();
         driven
     });
     match driven {
@@ -96,7 +98,7 @@ fn callers_of<'a, J: Row, H: Wait>(
         let caller = Caller {
             seat,
             reader: Watched::new(file),
-            notes: Watch::new(*rt, service.wanted, service.start, script.as_str()),
+            notes: Watch::new(*rt, service.wanted, script.as_str()),
         };
         if callers.push(caller).is_err() {
             return Err(failed(rt, OUT_OF_MEMORY));
@@ -116,6 +118,7 @@ fn tell<J: Row>(
         file_failed(rt, name, "its thread cannot be started");
         return false;
     };
+    answered.caller.notes.log_end();
     if let Err(error) = rt.stdout().write_all(answered.replies.as_slice()) {
         stream_failed(rt, "standard output", &error);
         return false;
@@ -164,7 +167,10 @@ fn serve_scripts<J: Row + Send + Sync, H: Threads + Wait + Sync>(
         Ok(callers) => callers,
         Err(status) => return status,
     };
-    let done = with_workers(threads, alloc, shim, service.workers, move || {
+    let gate = LogGate {
+        log: service.wanted.log,
+    };
+    let done = with_gated_workers(threads, alloc, shim, service.workers, &gate, move || {
         answer_all(threads, alloc, shim, callers)
     });
     match done {
@@ -224,7 +230,6 @@ pub fn serve<H: Threads + Wait + Sync>(
         workers,
         scripts,
         wanted,
-        start: Instant::now(rt).ok(),
     };
     let blank = Blank::new(MOST_SEATS + 1);
     serve_callers::<Brand, _>(rt, threads, service, files, cells, desk, blank)

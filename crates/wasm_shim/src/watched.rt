@@ -1,24 +1,22 @@
 //! What `serve` says on standard error of the lines of a caller: why they are refused, and a log.
 
+use crate::log::Log;
 use call_journal::{Row, Seat, Shim};
 use callers::{Notes, find_content};
 use reasons::{Contents, id_in, why_request};
+use shim_log::By;
 use std::alloc::{AllocError, Global};
 use std::io::Write;
-use std::time::Instant;
-use task_board::{ExitRecord, Reply, TaskState};
+use task_board::{ExitRecord, Reply, Status, TaskState};
 use wasm_ast::{Refusal, Text};
-
-/// How many tasks are remembered whose end is in the log: those that a board may have.
-const MOST_ENDED: usize = 64;
 
 /// What is said on standard error.
 #[derive(Clone, Copy)]
 pub struct Wanted {
     /// Why each refused request is refused.
     pub explain: bool,
-    /// Each create, end and refusal.
-    pub log: bool,
+    /// What becomes of tasks and callers.
+    pub log: Log,
 }
 
 /// The contents that a seat has seen.
@@ -40,14 +38,12 @@ impl<J: Row> Contents for Seen<'_, J> {
 pub struct Watch<'a> {
     rt: HostRuntime,
     wanted: Wanted,
-    /// When the program began; None if the clock failed.
-    start: Option<Instant>,
     /// The name of the file of the caller's lines; empty if that is standard input.
     name: &'a str,
     /// How many lines of the caller have been answered.
     lines: u64,
-    /// The tasks whose end is in the log, by their ids.
-    ended: Vec<Text>,
+    /// How many entries of the journal the caller has seen.
+    entries: usize,
 }
 
 // A name, with `?` for each control character.
@@ -59,32 +55,21 @@ fn plain_name(alloc: Global, name: &str) -> Result<String, AllocError> {
     Ok(plain)
 }
 
-// How a task ended, as the log has it.
-fn end_text(alloc: Global, end: ExitRecord) -> Result<String, AllocError> {
-    let cause = end.cause();
-    let exit = end.exit();
-    match end {
-        ExitRecord::Trapped(trap) => format!(in alloc; "cause={cause} exit={exit} trap={trap}"),
-        _ => format!(in alloc; "cause={cause} exit={exit}"),
-    }
-}
-
 impl<'a> Watch<'a> {
     /// What watches the lines of the file of this name, or those of standard input if it is empty.
-    pub fn new(
-        rt: HostRuntime,
-        wanted: Wanted,
-        start: Option<Instant>,
-        name: &'a str,
-    ) -> Watch<'a> {
+    pub fn new(rt: HostRuntime, wanted: Wanted, name: &'a str) -> Watch<'a> {
         Watch {
             rt,
             wanted,
-            start,
             name,
             lines: 0,
-            ended: Vec::new(rt.alloc()),
+            entries: 0,
         }
+    }
+
+    /// Logs that the caller's lines have ended.
+    pub fn log_end(&self) {
+        self.wanted.log.caller_ended(self.name, self.lines);
     }
 
     // Writes a line to standard error.
@@ -105,70 +90,6 @@ impl<'a> Watch<'a> {
         format!(in alloc; "{name} line {lines}")
     }
 
-    // The seconds since the start.
-    fn time(&self) -> Result<String, AllocError> {
-        let alloc = self.rt.alloc();
-        let passed = match self.start {
-            Some(start) => start.elapsed(&self.rt).ok(),
-            None => None,
-        };
-        match passed {
-            Some(passed) => {
-                let seconds = passed.as_secs();
-                let micros = passed.subsec_micros();
-                format!(in alloc; "{seconds}.{micros:06}")
-            }
-            None => String::from_str(alloc, "-"),
-        }
-    }
-
-    // A line of the log.
-    fn log_line(&self, what: &str) -> Result<String, AllocError> {
-        let alloc = self.rt.alloc();
-        let time = self.time()?;
-        let place = self.place()?;
-        format!(in alloc; "log: {time} {place} {what}\n")
-    }
-
-    // The line of the log for a task that was created.
-    fn created_line(&self, id: &Text) -> Result<String, AllocError> {
-        let alloc = self.rt.alloc();
-        let what = format!(in alloc; "created id={id} turns=0")?;
-        self.log_line(what.as_str())
-    }
-
-    // The line of the log for a task that has ended.
-    fn ended_line(&self, state: &TaskState, end: ExitRecord) -> Result<String, AllocError> {
-        let alloc = self.rt.alloc();
-        let id = &state.id;
-        let turns = state.n;
-        let end = end_text(alloc, end)?;
-        let what = format!(in alloc; "ended id={id} turns={turns} {end}")?;
-        self.log_line(what.as_str())
-    }
-
-    // The id that a line names, as the log has it; an empty text if it names none.
-    fn id_text(&self, line: Option<&[u8]>) -> Result<String, AllocError> {
-        let alloc = self.rt.alloc();
-        let found = match line {
-            Some(line) => id_in(alloc, line)?,
-            None => None,
-        };
-        match found {
-            Some(id) => format!(in alloc; " id={id}"),
-            None => Ok(String::new(alloc)),
-        }
-    }
-
-    // The line of the log for a refusal.
-    fn refused_line(&self, line: Option<&[u8]>, refusal: Refusal) -> Result<String, AllocError> {
-        let alloc = self.rt.alloc();
-        let id = self.id_text(line)?;
-        let number = refusal.number();
-        let what = format!(in alloc; "refused{id} number={number} cause={refusal}")?;
-        self.log_line(what.as_str())
-    }
-
     // The line that says why a request is refused.
     fn why_line<J: Row>(
         &self,
@@ -183,48 +104,60 @@ impl<'a> Watch<'a> {
         format!(in alloc; "why: {place}, {number} {refusal}: {reason}\n")
     }
 
-    // Forgets that the end of a task is in the log.
-    fn forget(&mut self, id: &Text) {
-        if let Some(i) = self.ended.iter().position(|ended| ended.is(id)) {
-            let _id = self.ended.swap_remove(i);
-        }
+    // The line that is being answered.
+    fn by(&self) -> By<'a> {
+        By::Line(self.name, self.lines)
     }
 
-    // Remembers that the end of a task is in the log, if there is memory for it.
-    fn remember(&mut self, id: &Text) {
-        if self.ended.len() >= MOST_ENDED {
-            let _oldest = self.ended.remove(0);
+    // Logs the turns of a step, and the end of the task if it ended in it.
+    fn log_step(&self, state: &TaskState) {
+        let log = self.wanted.log;
+        let id = state.id.as_str();
+        log.counted(self.by(), "stepped", id, state.n);
+        if let Some(end) = state.end {
+            log.ended(self.by(), id, state.n, end);
         }
-        if let Ok(id) = id.copy(self.rt.alloc()) {
-            let _kept = self.ended.push(id);
-        }
-    }
-
-    // Logs the end of a task, if it has ended and that is not in the log.
-    fn log_end(&mut self, state: &TaskState) {
-        let Some(end) = state.end else {
-            return;
-        };
-        if self.ended.iter().any(|ended| ended.is(&state.id)) {
-            return;
-        }
-        self.say(self.ended_line(state, end));
-        self.remember(&state.id);
     }
 
     // Logs what was answered.
-    fn log_reply(&mut self, reply: &Reply) {
+    fn log_reply(&self, reply: &Reply) {
+        let log = self.wanted.log;
         match reply {
-            Reply::Create { id, .. } => {
-                self.forget(id);
-                self.say(self.created_line(id));
-            }
-            Reply::State(state) | Reply::Wait(state) | Reply::Step(state) => self.log_end(state),
-            Reply::Delete(state) => {
-                self.log_end(state);
-                self.forget(&state.id);
-            }
+            Reply::Create { id, .. } => log.counted(self.by(), "created", id.as_str(), 0),
+            Reply::Start { id, status } => self.log_done("started", id, Some(*status)),
+            Reply::Pause { id, status } => self.log_done("paused", id, Some(*status)),
+            Reply::Resume { id, status } => self.log_done("resumed", id, Some(*status)),
+            Reply::Kill { id, status } => self.log_done("killed", id, Some(*status)),
+            Reply::Delete(state) => self.log_done("deleted", &state.id, None),
+            Reply::Break { id } => self.log_done("break-set", id, None),
+            Reply::Unbreak { id } => self.log_done("break-removed", id, None),
+            Reply::Step(state) => self.log_step(state),
             _ => {}
+        }
+    }
+
+    // Logs what was done to a task.
+    fn log_done(&self, event: &str, id: &Text, status: Option<Status>) {
+        self.wanted.log.done(self.by(), event, id.as_str(), status);
+    }
+
+    // Logs a refusal, with the id that the line names, if it names one.
+    fn log_refusal(&self, line: Option<&[u8]>, refusal: Refusal) {
+        let found = match line {
+            Some(line) => id_in(self.rt.alloc(), line),
+            None => Ok(None),
+        };
+        match found {
+            Ok(Some(id)) => self.wanted.log.refused(self.by(), Some(id.as_str()), refusal),
+            _ => self.wanted.log.refused(self.by(), None, refusal),
+        }
+    }
+
+    // Logs how full the journal is, if the caller's call has made an entry of it.
+    fn log_entries(&mut self, entries: usize) {
+        if entries != self.entries {
+            self.entries = entries;
+            self.wanted.log.filled(self.by(), entries);
         }
     }
 }
@@ -238,13 +171,14 @@ impl Notes for Watch<'_> {
         answer: &Result<Reply, Refusal>,
     ) {
         self.lines = self.lines.saturating_add(1);
+        let is_logged = self.wanted.log.is_wanted();
         match answer {
-            Ok(reply) => if self.wanted.log {
+            Ok(reply) => if is_logged {
                 self.log_reply(reply);
             },
             Err(refusal) => {
-                if self.wanted.log {
-                    self.say(self.refused_line(line, *refusal));
+                if is_logged {
+                    self.log_refusal(line, *refusal);
                 }
                 if self.wanted.explain {
                     let seen = Seen { shim, seat };
@@ -252,5 +186,13 @@ impl Notes for Watch<'_> {
                 }
             }
         }
+        if is_logged {
+            self.log_entries(seat.len());
+        }
+    }
+
+    fn ended(&mut self, id: &Text, turns: u64, end: ExitRecord) {
+        let by = By::Line(self.name, self.lines.saturating_add(1));
+        self.wanted.log.ended(by, id.as_str(), turns, end);
     }
 }
