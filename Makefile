@@ -3,7 +3,7 @@
 PYTHON ?= /usr/bin/python3
 export PYTHON
 # The crates whose programs `check-all` runs beside the product's.
-TEST_PROGRAMS = both_machines reason_rows refusals
+TEST_PROGRAMS = test_both_machines test_reasons test_allocations
 # Suites that can be run one by one.
 SUITES = examples rows clients/python floats real-programs dap-emacs compare compare-text compare-reasons compare-serve-reasons \
 	serve-threads check-history refuse-allocations hostile

@@ -14,7 +14,7 @@ import pytest
 from suite.places import TOP, built
 
 pytestmark = pytest.mark.program
-ROWS = TOP / "crates/worked_rows"
+ROWS = TOP / "crates/test_rows"
 SERVED = TOP / "crates/wasm_shim"
 RUN = re.compile(rb"<(\d+)\*([^>]*)>")
 

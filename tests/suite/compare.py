@@ -13,10 +13,10 @@ smallest module first, and the status is 1; so it is at the first difference of 
 the environment names another one. With --dry there is no program: the second reading alone answers, and what it answered is
 counted.
 
-With --both it is another program that is compared, `both_machines`, over the modules alone: it runs each on the machine
+With --both it is another program that is compared, `test_both_machines`, over the modules alone: it runs each on the machine
 that programs use and on the one that keeps labels, and prints what the second shows at random turns, and whether the
 first shows the same there. Both are to show the end, the output and the frames that the second reading has. Build it
-first (rt run </dev/null in crates/both_machines); BOTH_MACHINES in the environment names another one.
+first (rt run </dev/null in crates/test_both_machines); TEST_BOTH_MACHINES in the environment names another one.
 """
 import collections
 import hashlib
@@ -144,7 +144,7 @@ def compare_machines(tally: "Tally", differing: Differing) -> None:
     modules = [(data, [*itertools.accumulate(slices)]) for data, slices in (some_module() for _ in range(60))]
     lines = [" ".join([data.hex(), *map(str, counts)]).encode() for data, counts in modules]
     script = b"\n".join([*lines, b""])
-    run = subprocess.run([built("both_machines")], input=script, stdout=subprocess.PIPE, check=True)
+    run = subprocess.run([built("test_both_machines")], input=script, stdout=subprocess.PIPE, check=True)
     answers = [answer.split(b"\n") for answer in run.stdout.split(b"\n\n")] + [[]] * len(modules)
     for line, (data, counts), found in zip(lines, modules, answers):
         wanted = shown_at(data, counts)

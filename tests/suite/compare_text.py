@@ -24,7 +24,7 @@ from suite.places import EXAMPLES, TOP, built, need
 from suite.reference import wasm
 from suite.summary import Summary
 
-ROWS = TOP / "crates/worked_rows/data"
+ROWS = TOP / "crates/test_rows/data"
 FRAME = ('(module (type $p (func (param i32))) (type $v (func)) (import "wasi_snapshot_preview1" "proc_exit"'
          ' (func $exit (type $p))) %s (func $s (type $v) %s) (export "_start" (func $s)))')
 # Texts of which wat2wasm is known to write other bytes than the text denotes, and why.

@@ -12,9 +12,9 @@ EXAMPLES = TOP / "examples"
 CLIENT = TOP / "clients/python"
 # The environment variable that names a built program in place of the one in crates/NAME/out, and what builds that.
 BUILT = {"wasm_shim": ("PROGRAM", "make build"),
-         "both_machines": ("BOTH_MACHINES", "rt run </dev/null in crates/both_machines"),
-         "reason_rows": ("REASON_ROWS", "rt run </dev/null in crates/reason_rows"),
-         "refusals": ("REFUSALS", "rt run </dev/null in crates/refusals")}
+         "test_both_machines": ("TEST_BOTH_MACHINES", "rt run </dev/null in crates/test_both_machines"),
+         "test_reasons": ("TEST_REASONS", "rt run </dev/null in crates/test_reasons"),
+         "test_allocations": ("TEST_ALLOCATIONS", "rt run </dev/null in crates/test_allocations")}
 
 
 def built(crate: str = "wasm_shim") -> Path:

@@ -1,4 +1,4 @@
-"""Refuses each allocation of the program `refusals` in turn, and compares what it prints.
+"""Refuses each allocation of the program `test_allocations` in turn, and compares what it prints.
 
     tests/run refuse-allocations [COUNT]
 
@@ -10,7 +10,7 @@ that many allocations in a row are refused each time.
 
 Allocations are those that the program asks of the C library (malloc, calloc and realloc) after it is
 loaded: the loader's own come before them and are not refused. Build the program first (rt run </dev/null in
-crates/refusals); REFUSALS in the environment names another one. Needs a C compiler, as `cc`.
+crates/test_allocations); TEST_ALLOCATIONS in the environment names another one. Needs a C compiler, as `cc`.
 """
 from __future__ import annotations
 
@@ -25,7 +25,7 @@ from pathlib import Path
 from suite.places import TOP, built, need
 from suite.summary import Summary
 
-WANTED = TOP / "crates/refusals/stdout"
+WANTED = TOP / "crates/test_allocations/stdout"
 SOURCE = Path(__file__).with_suffix(".c")
 TOLD = b"refused for memory: "
 
@@ -65,7 +65,7 @@ def main(words: list[str]) -> int:
     parser.add_argument("count", nargs="?", type=int, default=1, metavar="COUNT")
     given = parser.parse_args(words)
     need({"cc": "gcc"})
-    program = built("refusals")
+    program = built("test_allocations")
     with tempfile.TemporaryDirectory(prefix="refuse-") as folder:
         refused, met, is_right = refuse_each(program, compiled(Path(folder)), given.count)
     print(f"{refused} allocations refused, {given.count} in a row: the output was the same each time, and the program was "

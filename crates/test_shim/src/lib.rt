@@ -1,6 +1,6 @@
 //! Tests over the public calls of all crates: that each can succeed, with answers that were worked out by
-//! hand, and what no contract says. What a line can show is a row of `worked_rows`; callers and workers are
-//! those of `caller_tests`.
+//! hand, and what no contract says. What a line can show is a row of `test_rows`; callers and workers are
+//! those of `test_callers`.
 #![tactic(auto)]
 
 #[cfg(test)]

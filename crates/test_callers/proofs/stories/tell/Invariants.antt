@@ -1,5 +1,5 @@
 use Rattle.call_journal.specs.Desks.{spot_names}
-use Rattle.caller_tests.proofs.stories.tell.Given as goal
+use Rattle.test_callers.proofs.stories.tell.Given as goal
 
 abbrev pub ghosts-told_of-R-Row : goal.ghosts-told_of-R-Row
 ghosts-told_of-R-Row g a = record { cells = a.cells; slots = spot_names a.desk }
