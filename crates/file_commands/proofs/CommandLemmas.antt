@@ -29,8 +29,8 @@ named_from_chosen arguments found e none (Serve workers scripts callers explain 
     (none, subst (λ f. IsCommand f (Serve workers scripts callers explain log format)) e h, complete)
 named_from_chosen arguments found e none (Replay file) (h, complete) =
     (none, subst (λ f. IsCommand f (Replay file)) e h, complete)
-named_from_chosen arguments found e none (Asm file explain) (h, complete) =
-    (none, subst (λ f. IsCommand f (Asm file explain)) e h, complete)
+named_from_chosen arguments found e none (Asm file output explain) (h, complete) =
+    (none, subst (λ f. IsCommand f (Asm file output explain)) e h, complete)
 named_from_chosen arguments found e none (Check file list task memory explain) (h, complete) =
     (none, subst (λ f. IsCommand f (Check file list task memory explain)) e h, complete)
 named_from_chosen arguments found e none (Run name args settings explain) (h, complete) =
@@ -42,7 +42,7 @@ pub named_from_shown :
     → (c : Command) → IsShown kind c → Name arguments c
 named_from_shown arguments kind h (Serve workers scripts callers explain log format) shown = absurd shown
 named_from_shown arguments kind h (Replay file) shown = absurd shown
-named_from_shown arguments kind h (Asm file explain) shown = absurd shown
+named_from_shown arguments kind h (Asm file output explain) shown = absurd shown
 named_from_shown arguments kind h (Check file list task memory explain) shown = absurd shown
 named_from_shown arguments kind h (Run name args settings explain) shown = absurd shown
 named_from_shown arguments kind (inl memory) (Show text) (inl help) = cc

@@ -32,6 +32,15 @@ explain_rule = flag_rule (codes "explain")
 abbrev pub log_rule : Rule
 log_rule = flag_rule (codes "log")
 
+-- the option `-o` or `--output`, whose value is the name of a file
+abbrev pub output_rule : Rule
+output_rule =
+    record (new_rule (codes "output")) {
+      long = Some (codes "output");
+      short = Some 111;
+      value_names = 1;
+    }
+
 -- the option `--log-format`, whose value is a text
 abbrev pub format_rule : Rule
 format_rule =
@@ -101,8 +110,8 @@ bare_program =
     }
 
 -- `serve [--workers N] [--explain] [--log] [--log-format FORMAT] [--caller IN:OUT]* [SCRIPT..]`,
--- `replay FILE`, `asm [--explain] FILE`, `check [--task [--memory BYTES]] [--list] [--explain] FILE`
--- and `run [--env NAME=VALUE]* [--memory BYTES] [--explain] MODULE [ARG..]`
+-- `replay FILE`, `asm [-o FILE] [--explain] FILE`, `check [--task [--memory BYTES]] [--list]
+-- [--explain] FILE` and `run [--env NAME=VALUE]* [--memory BYTES] [--explain] MODULE [ARG..]`
 abbrev pub serve_shape : Shape
 serve_shape =
     command_shape (codes "serve")
@@ -112,7 +121,7 @@ abbrev pub replay_shape : Shape
 replay_shape = command_shape (codes "replay") (file_rule ∷ [])
 
 abbrev pub asm_shape : Shape
-asm_shape = command_shape (codes "asm") (explain_rule ∷ file_rule ∷ [])
+asm_shape = command_shape (codes "asm") (output_rule ∷ explain_rule ∷ file_rule ∷ [])
 
 abbrev pub check_shape : Shape
 check_shape =
@@ -155,6 +164,10 @@ has_explain rows = is_set (first_of (codes "explain") rows)
 -- `--log` is among them
 abbrev pub has_log : List Row → Bool
 has_log rows = is_set (first_of (codes "log") rows)
+
+-- the value of `-o`, if it is among them
+abbrev pub output_in : List Row → Option Text
+output_in = first_of (codes "output")
 
 -- the value of `--log-format`, if it is among them
 abbrev pub format_in : List Row → Option Text
@@ -206,8 +219,9 @@ abbrev pub command_in : List Text → Option (Text × List Row)
 command_in = subcommand_of program
 
 -- its name with its workers, its SCRIPTs, its callers, which flags are there and the log's format; with
--- its FILE; with its FILE, the limit on memory and which flags are there; and with its MODULE and ARGs,
--- the settings of the task and whether `--explain` is there
+-- its FILE; with its FILE, the file of `-o` and whether `--explain` is there; with its FILE, the limit on
+-- memory and which flags are there; and with its MODULE and ARGs, the settings of the task and whether
+-- `--explain` is there
 abbrev pub with_scripts :
     Text × List Row → Text × ℕ × List Text × List Text × Bool × Bool × Option Text
 with_scripts p =
@@ -224,8 +238,8 @@ with_scripts p =
 abbrev pub with_file : Text × List Row → Text × Option Text
 with_file p = (p.0, file_in p.1)
 
-abbrev pub with_explain : Text × List Row → Text × Option Text × Bool
-with_explain p = (p.0, file_in p.1, has_explain p.1)
+abbrev pub with_output : Text × List Row → Text × Option Text × Option Text × Bool
+with_output p = (p.0, file_in p.1, output_in p.1, has_explain p.1)
 
 abbrev pub with_flags : Text × List Row → Text × Option Text × Bool × Bool × Option ℕ × Bool
 with_flags p = (p.0, file_in p.1, has_list p.1, has_task p.1, memory_in p.1, has_explain p.1)
@@ -249,8 +263,9 @@ IsCommand found (Serve workers scripts callers explain log format) =
     )
 IsCommand found (Replay file) =
     option_map with_file found ≡ Some (codes "replay", Some (string_bytes file))
-IsCommand found (Asm file explain) =
-    option_map with_explain found ≡ Some (codes "asm", Some (string_bytes file), explain)
+IsCommand found (Asm file output explain) =
+    option_map with_output found
+    ≡ Some (codes "asm", Some (string_bytes file), option_map string_bytes output, explain)
 IsCommand found (Check file list task memory explain) =
     option_map with_flags found
     ≡ Some (codes "check", Some (string_bytes file), list, task, memory, explain)

@@ -6,7 +6,7 @@ ghost use Rattle.clap.specs.Simple.{app_of, shape_of, subcommand_rows_of};
 ghost use Rattle.clap.specs.Values.{kind_of};
 ghost use Rattle.clap.specs.Walk.{Row, Text, first_of, all_of, rows_of, rule_of};
 ghost use Rattle.clap.specs.declared.builder.command.Command.TheViews.{out-Command as fields_of};
-ghost use Rattle.file_commands.specs.Command.{file_rule, task_rule, list_rule, explain_rule, log_rule, format_rule, workers_rule, env_rule, memory_rule, caller_rule, script_rule, module_rule, command_shape, serve_shape, asm_shape, check_shape, run_shape, workers_in, scripts_in, texts_from, env_in, memory_in, format_in, is_no_format, bare_program, line_program, program, file_in, is_set, has_explain, module_in, is_unfit, IsCommand, Name, AreFaulty};
+ghost use Rattle.file_commands.specs.Command.{file_rule, task_rule, list_rule, explain_rule, log_rule, output_rule, format_rule, workers_rule, env_rule, memory_rule, caller_rule, script_rule, module_rule, command_shape, serve_shape, asm_shape, check_shape, run_shape, workers_in, scripts_in, texts_from, env_in, memory_in, is_no_format, bare_program, line_program, program, file_in, is_set, has_explain, module_in, is_unfit, IsCommand, Name, AreFaulty};
 ghost use Rattle.file_commands.specs.Callers.{are_unfit};
 ghost use Rattle.file_commands.specs.Inside.Chosen.{IsShown, IsRefusedFor, IsOfArguments};
 
@@ -37,9 +37,11 @@ pub enum Command {
     Replay {
         file: String,
     },
-    /// Writes the encoding of the module in the file of this name. A refusal is explained if that is wanted.
+    /// Writes the encoding of the module in the file of this name: in hexadecimal to standard output, or
+    /// its bytes to the file `output`. A refusal is explained if that is wanted.
     Asm {
         file: String,
+        output: Option<String>,
         explain: bool,
     },
     /// Says whether the module in the file of this name is valid and, if `task` holds, whether a task can
@@ -145,6 +147,18 @@ fn log_arg<'a>(alloc: Global) -> Arg<'a>
         .long("log")
         .action(ArgAction::SetTrue)
         .help("Also log what becomes of tasks and callers, in lines on standard error")
+}
+
+// The option `-o`.
+fn output_arg<'a>(alloc: Global) -> Arg<'a>
+    ensures rule { rule_of result ≡ output_rule }
+    ensures local { result.global ≡ false }
+{
+    Arg::new(alloc, "output")
+        .long("output")
+        .short('o')
+        .value_name("OUTPUT")
+        .help("Write the bytes to this file, and nothing to standard output")
 }
 
 // The option `--log-format`.
@@ -288,7 +302,7 @@ fn file_command<'a>(
     command.arg(file_arg(alloc, file))
 }
 
-// `asm [--explain] FILE`
+// `asm [-o OUTPUT] [--explain] FILE`
 fn asm_command<'a>(alloc: Global) -> Result<Parser<'a>, AllocError>
     ensures shape { IfOk result (λ p. shape_of p ≡ asm_shape) }
     ensures local { IfOk result (λ p. (fields_of p).has_globals ≡ false) }
@@ -297,9 +311,10 @@ fn asm_command<'a>(alloc: Global) -> Result<Parser<'a>, AllocError>
         alloc,
         "asm",
         "Write the binary format of the module of a file, in hexadecimal",
-        "Example: wasm-shim asm examples/hello.wat",
+        "Example: wasm-shim asm -o hello.wasm examples/hello.wat",
     );
-    let explained = command.arg(explain_arg(alloc))?;
+    let put_out = command.arg(output_arg(alloc))?;
+    let explained = put_out.arg(explain_arg(alloc))?;
     explained.arg(file_arg(alloc, MODULE_FILE))
 }
 
@@ -477,17 +492,21 @@ fn words_of(alloc: Global, found: &ArgMatches<'_>, name: &str) -> Result<Vec<Str
     }
 }
 
-// The format of the log that was found, if there is one.
-fn format_of(alloc: Global, found: &ArgMatches<'_>) -> Result<Option<String>, CommandError>
+// The value of the option of this name that was found, if there is one.
+fn value_of(
+    alloc: Global,
+    found: &ArgMatches<'_>,
+    name: &str,
+) -> Result<Option<String>, CommandError>
     ensures ok { IfOk result (λ f. option_map string_bytes f
-        ≡ format_in (rows_of (found_of found.now))) }
+        ≡ first_of name.now (rows_of (found_of found.now))) }
     ensures err { IfErr result (λ f. f ≡ CommandError.OutOfMemory) }
 {
-    let Some(name) = found.get_str("log-format") else {
+    let Some(text) = found.get_str(name) else {
         return Ok(None);
     };
-    match String::from_str(alloc, name) {
-        Ok(format) => Ok(Some(format)),
+    match String::from_str(alloc, text) {
+        Ok(value) => Ok(Some(value)),
         Err(_) => Err(CommandError::OutOfMemory),
     }
 }
@@ -501,7 +520,7 @@ fn serve_of(alloc: Global, found: &ArgMatches<'_>) -> Result<Command, CommandErr
     let workers = workers_of(found)?;
     let scripts = words_of(alloc, found, "SCRIPT")?;
     let callers = words_of(alloc, found, "caller")?;
-    let format = format_of(alloc, found)?;
+    let format = value_of(alloc, found, "log-format")?;
     Ok(Command::Serve {
         workers,
         scripts,
@@ -564,6 +583,21 @@ fn run_of(alloc: Global, found: &ArgMatches<'_>) -> Result<Command, CommandError
         Some(words) => run_with(alloc, words, settings, has_flag(found, "explain")),
         None => Err(CommandError::OutOfMemory),
     }
+}
+
+// The command `asm` with the arguments that were found.
+fn asm_of(alloc: Global, found: &ArgMatches<'_>) -> Result<Command, CommandError>
+    ensures ok { IfOk result
+        (IsCommand (Some (codes "asm", rows_of (found_of found.now)))) }
+    ensures err { IfErr result (λ f. f ≡ CommandError.OutOfMemory) }
+{
+    let file = file_of(alloc, found)?;
+    let output = value_of(alloc, found, "output")?;
+    Ok(Command::Asm {
+        file,
+        output,
+        explain: has_flag(found, "explain"),
+    })
 }
 
 // The command `check` with the arguments that were found.
@@ -685,13 +719,7 @@ fn chosen(alloc: Global, matches: &ArgMatches<'_>) -> Result<Command, CommandErr
             let file = file_of(alloc, found)?;
             Ok(Command::Replay { file })
         }
-        Some(("asm", found)) => {
-            let file = file_of(alloc, found)?;
-            Ok(Command::Asm {
-                file,
-                explain: has_flag(found, "explain"),
-            })
-        }
+        Some(("asm", found)) => asm_of(alloc, found),
         Some(("check", found)) => check_of(alloc, found),
         Some(("run", found)) => run_of(alloc, found),
         _ => Err(CommandError::OutOfMemory),
@@ -714,7 +742,7 @@ fn whole(alloc: Global, matches: &ArgMatches<'_>) -> Result<Command, CommandErro
 ///
 /// `serve [--workers N] [--explain] [--log] [--log-format FORMAT] [--caller IN:OUT]* [SCRIPT..]`, with N
 /// from 1 to 16, FORMAT `text` or `json`, up to 130 callers, no two with one OUT, and none beside
-/// SCRIPTs, `replay FILE`, `asm [--explain] FILE`, `check [--task [--memory BYTES]] [--list] [--explain] FILE` and `run [--env NAME=VALUE]*
+/// SCRIPTs, `replay FILE`, `asm [-o OUTPUT] [--explain] FILE`, `check [--task [--memory BYTES]] [--list] [--explain] FILE` and `run [--env NAME=VALUE]*
 /// [--memory BYTES] [--explain] MODULE [ARG..]` are the commands, BYTES a number below 2^64. Every
 /// word after MODULE is an ARG, one that begins with a dash too. `--help` and `--version`, alone or
 /// after a command, and `help` are shown. All else is `CommandError::Arguments`, and

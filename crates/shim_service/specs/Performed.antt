@@ -14,7 +14,7 @@ use Rattle.shim_service.specs.Replay.{IsReplay}
 -- the file that a command reads
 abbrev pub file_of : Command → Option (List ℕ)
 file_of (Replay file) = Some (string_bytes file)
-file_of (Asm file explain) = Some (string_bytes file)
+file_of (Asm file output explain) = Some (string_bytes file)
 file_of (Check file list task memory explain) = Some (string_bytes file)
 file_of (Run name args settings explain) = Some (string_bytes name)
 file_of other = None
@@ -34,7 +34,7 @@ IsCheck true name bytes list limit =
 abbrev pub IsPerformed : Command → (bytes : List ℕ) → Ran → Type 0
 IsPerformed (Serve workers scripts callers explain log format) bytes = λ ran. ran ≡ succeeded []
 IsPerformed (Replay file) bytes = λ ran. IsReplay bytes ran.out × (ran ≡ succeeded ran.out)
-IsPerformed (Asm file explain) bytes = IsToldBy explain refused (IsAssembled bytes)
+IsPerformed (Asm file output explain) bytes = IsToldBy explain refused (IsAssembled bytes)
 IsPerformed (Check file list task memory explain) bytes =
     IsToldBy explain refused (IsCheck task (string_bytes file) bytes list memory)
 IsPerformed (Run name args settings explain) bytes =

@@ -311,7 +311,7 @@ fn found(alloc: Global, line: &str) -> Result<(&'static str, String), Fail> {
     match command_of(alloc, arguments(alloc, line)?.as_slice()) {
         Ok(Command::Serve { .. }) => Ok(("serves", String::new(alloc))),
         Ok(Command::Replay { file }) => Ok(("replays", file)),
-        Ok(Command::Asm { file, explain }) => Ok((
+        Ok(Command::Asm { file, explain, .. }) => Ok((
             which(explain, "assembles", "explains asm"),
             file,
         )),

@@ -278,6 +278,7 @@ fn a_command_names_the_stream_that_failed(rt: HostRuntime) -> Result<(), Fail> {
     );
     let asm = Command::Asm {
         file: String::from_str(alloc, "m")?,
+        output: None,
         explain: false,
     };
     let refused = perform(alloc, &asm, b"(module", &mut other, &mut full);

@@ -1,19 +1,21 @@
 //! The program `wasm-shim`: WebAssembly modules, run as container tasks.
 #![tactic(auto)]
 
+mod assembling;
 mod live;
 mod log;
 mod report;
 mod serve;
 mod watched;
 
+use crate::assembling::assemble_into;
 use crate::live::serve_live;
 use crate::log::Log;
-use crate::report::{failed, stream_failed};
+use crate::report::{failed, finish, stream_failed};
 use crate::serve::serve;
 use crate::watched::Wanted;
 use shim_log::Format;
-use shim_service::{Command, CommandError, RunError, command_of, file_of, perform};
+use shim_service::{Command, CommandError, command_of, file_of, perform};
 use std::fs::File;
 use std::io::Read;
 use std::process::ExitCode;
@@ -57,22 +59,18 @@ fn bytes_for(rt: &HostRuntime, command: &Command) -> Result<Vec<u8>, ExitCode> {
     }
 }
 
-// Ends with what a command came to. If standard error failed, there is nowhere to say so.
-fn finish(rt: &HostRuntime, ran: Result<u8, RunError>) -> ExitCode {
-    match ran {
-        Ok(status) => ExitCode::from(status),
-        Err(RunError::StandardError(_)) => ExitCode::FAILURE,
-        Err(RunError::StandardOutput(error)) => stream_failed(rt, "standard output", &error),
-        Err(RunError::OutOfMemory) => failed(rt, "out of memory"),
-    }
-}
-
 // Carries out a command that reads a file, or none.
 fn carry_out(rt: &HostRuntime, command: &Command) -> ExitCode {
     let bytes = match bytes_for(rt, command) {
         Ok(bytes) => bytes,
         Err(status) => return status,
     };
+    if let Command::Asm {
+        output: Some(name),
+        ..
+    } = command {
+        return assemble_into(rt, command, bytes.as_slice(), name.as_str());
+    }
     let mut out = rt.stdout();
     let mut err = rt.stderr();
     let ran = perform(rt.alloc(), command, bytes.as_slice(), &mut out, &mut err);

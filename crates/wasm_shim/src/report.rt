@@ -1,6 +1,7 @@
 //! What the program says on standard error.
 
 use callers::Driven;
+use shim_service::RunError;
 use shim_threads::StartError;
 use std::io;
 use std::process::ExitCode;
@@ -81,5 +82,15 @@ pub fn not_started(rt: &HostRuntime, error: StartError) -> ExitCode {
     match error {
         StartError::OutOfMemory => failed(rt, OUT_OF_MEMORY),
         StartError::NoThread => failed(rt, "a thread cannot be started"),
+    }
+}
+
+/// Ends with what a command came to. If standard error failed, there is nowhere to say so.
+pub fn finish(rt: &HostRuntime, ran: Result<u8, RunError>) -> ExitCode {
+    match ran {
+        Ok(status) => ExitCode::from(status),
+        Err(RunError::StandardError(_)) => ExitCode::FAILURE,
+        Err(RunError::StandardOutput(error)) => stream_failed(rt, "standard output", &error),
+        Err(RunError::OutOfMemory) => failed(rt, OUT_OF_MEMORY),
     }
 }
