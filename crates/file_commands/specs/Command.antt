@@ -224,16 +224,15 @@ command_in = subcommand_of program
 -- `--explain` is there
 abbrev pub with_scripts :
     Text × List Row → Text × ℕ × List Text × List Text × Bool × Bool × Option Text
-with_scripts p =
-    (
-      p.0,
-      workers_in p.1,
-      scripts_in p.1,
-      callers_in p.1,
-      has_explain p.1,
-      has_log p.1,
-      format_in p.1,
-    )
+with_scripts p = (
+  p.0,
+  workers_in p.1,
+  scripts_in p.1,
+  callers_in p.1,
+  has_explain p.1,
+  has_log p.1,
+  format_in p.1,
+)
 
 abbrev pub with_file : Text × List Row → Text × Option Text
 with_file p = (p.0, file_in p.1)

@@ -742,11 +742,12 @@ fn whole(alloc: Global, matches: &ArgMatches<'_>) -> Result<Command, CommandErro
 ///
 /// `serve [--workers N] [--explain] [--log] [--log-format FORMAT] [--caller IN:OUT]* [SCRIPT..]`, with N
 /// from 1 to 16, FORMAT `text` or `json`, up to 130 callers, no two with one OUT, and none beside
-/// SCRIPTs, `replay FILE`, `asm [-o OUTPUT] [--explain] FILE`, `check [--task [--memory BYTES]] [--list] [--explain] FILE` and `run [--env NAME=VALUE]*
-/// [--memory BYTES] [--explain] MODULE [ARG..]` are the commands, BYTES a number below 2^64. Every
-/// word after MODULE is an ARG, one that begins with a dash too. `--help` and `--version`, alone or
-/// after a command, and `help` are shown. All else is `CommandError::Arguments`, and
-/// `CommandError::OutOfMemory` comes if memory ran out.
+/// SCRIPTs, `replay FILE`, `asm [-o OUTPUT] [--explain] FILE`, `check [--task [--memory BYTES]]
+/// [--list] [--explain] FILE` and `run [--env NAME=VALUE]* [--memory BYTES] [--explain] MODULE
+/// [ARG..]` are the commands, BYTES a number below 2^64. Every word after MODULE is an ARG, one
+/// that begins with a dash too. `--help` and `--version`, alone or after a command, and `help` are
+/// shown. All else is `CommandError::Arguments`, and `CommandError::OutOfMemory` comes if memory
+/// ran out.
 pub fn command_of(alloc: Global, arguments: &[String]) -> Result<Command, CommandError>
     ensures ok { IfOk result (Name (map string_bytes arguments.now)) }
     ensures err { IfErr result (AreFaulty (map string_bytes arguments.now)) }

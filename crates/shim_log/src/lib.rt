@@ -5,3 +5,6 @@
 mod line;
 
 pub use line::{By, Format, Line, Moment};
+
+#[cfg(test)]
+mod tests;

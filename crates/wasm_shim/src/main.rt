@@ -68,7 +68,8 @@ fn carry_out(rt: &HostRuntime, command: &Command) -> ExitCode {
     if let Command::Asm {
         output: Some(name),
         ..
-    } = command {
+    } = command
+    {
         return assemble_into(rt, command, bytes.as_slice(), name.as_str());
     }
     let mut out = rt.stdout();

@@ -148,7 +148,10 @@ impl<'a> Watch<'a> {
             None => Ok(None),
         };
         match found {
-            Ok(Some(id)) => self.wanted.log.refused(self.by(), Some(id.as_str()), refusal),
+            Ok(Some(id)) => self
+                .wanted
+                .log
+                .refused(self.by(), Some(id.as_str()), refusal),
             _ => self.wanted.log.refused(self.by(), None, refusal),
         }
     }
