@@ -9,13 +9,13 @@ use std::time::Duration;
 // Why a test could not be run to its end.
 #[derive(Debug, Drop)]
 enum Fail {
-    Memory,
+    Alloc,
     Time,
 }
 
 impl From<AllocError> for Fail {
     fn from(_error: AllocError) -> Fail {
-        Fail::Memory
+        Fail::Alloc
     }
 }
 
