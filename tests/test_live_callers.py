@@ -24,8 +24,8 @@ pytestmark = pytest.mark.program
 BOTH = pytest.mark.parametrize("over", ["fifos", "pipes"])
 TASKS = 64
 MOST_CALLERS = 130
-# What 129 callers more may take: 64 KiB each for the bytes that are read ahead, and their stacks.
-MOST_RESIDENT = 16 * 1024 * 1024
+# What 129 callers more may take: 16 KiB each for the bytes that are read ahead, and their stacks.
+MOST_RESIDENT = 8 * 1024 * 1024
 IDS = [f"t{number}" for number in range(TASKS)]
 # A task that makes some ten thousand turns, and ends.
 LONG = ('(module (type $e (func)) (func $s (type $e) (local $i i32) loop $l local.get $i i32.const 1 i32.add local.tee $i '

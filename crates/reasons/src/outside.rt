@@ -16,6 +16,7 @@ struct Feature {
 }
 
 const FLOATS: &str = "floats are outside the profile (feulgama lower translates them)";
+
 const BULK_MEMORY: &str = "bulk memory is outside the profile (feulgama lower translates it)";
 
 const FEATURES: &[Feature] = &[
@@ -345,7 +346,8 @@ pub fn section_name(id: u8) -> &'static str {
         9 => "element",
         10 => "code",
         11 => "data",
-        12 => "data count, of bulk memory, which is outside the profile; feulgama lower translates it",
+        12 =>
+            "data count, of bulk memory, which is outside the profile; feulgama lower translates it",
         13 => "tag, of exceptions, which are outside the profile",
         _ => "none",
     }

@@ -9,6 +9,7 @@ pub mod LastTurn
 pub mod OutputLemmas
 pub mod SettleTerminates
 pub mod TreeLimits
+pub mod LimitLemmas
 pub mod EvaluationContexts
 pub mod HostCallLemmas
 pub mod TypeEquality
