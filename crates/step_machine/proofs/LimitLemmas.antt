@@ -1,5 +1,5 @@
 -- The limits of frames and values hold after any number of turns.
-use Rattle.std.proofs.Common.{◌≡◌, ℕ, zero, suc, ◌+◌, ◌≤◌, ◌==◌, List, [], ◌∷◌, Bool, true, false, ◌||◌, cond, nat_lt, Option, Some, None, true≢false, refl, sym, ap, ◌∙◌, subst, arith}
+use Rattle.std.proofs.Common.{◌≡◌, ℕ, zero, suc, ◌≤◌, ◌==◌, List, Bool, true, false, ◌||◌, cond, nat_lt, Option, Some, None, true≢false, refl, sym, ap, ◌∙◌, subst, arith}
 use Rattle.std.specs.Prelude.{slice_get, if◌then◌else◌}
 use Rattle.std.proofs.lemmas.Bool.Decides.{nat_tests}
 use Rattle.wasm_ast.specs.declared.values.Value.{Value}
@@ -14,7 +14,7 @@ use Rattle.step_machine.specs.Program.{Function, host, own, unknown, Program, pr
 use Rattle.step_machine.specs.Configuration.{Store, Target, Tree, seq, Items, done, more, Item, plain, label, frame, enter, invoke, branch, ret, State, running, exited, trapped, stuck, Configuration, frames, values, is_halted, is_settled}
 use Rattle.step_machine.specs.Effects.{Env, Effect, gives, becomes, halts, effect}
 use Rattle.step_machine.specs.Reduction.{Reduced, to, ends, by_effect, at_label, at_frame, answered, by_host, call_function, reduce, reduce_item, limited, of_reduced, step_state, step}
-use Rattle.step_machine.specs.Turns.{settle, settled, turn, numbered, from, state_weight}
+use Rattle.step_machine.specs.Turns.{settle, turn, numbered, from, state_weight}
 use Rattle.step_machine.specs.Instantiation.{entry, first_state, first_store, initial, after}
 use Rattle.step_machine.proofs.OutputLemmas.{is_end, Kept, effect_kept}
 
@@ -24,7 +24,7 @@ Fits s = (t : Tree) → s ≡ running t → (frames t ≤ max_frames) × (values
 end_fits : (s : State) → is_end s ≡ true → Fits s
 end_fits s end t same = absurd (true≢false (sym end ∙ ap is_end same))
 
-tree_of : Tree → State → Tree
+abbrev tree_of : Tree → State → Tree
 tree_of other (running t) = t
 tree_of other _ = other
 
