@@ -36,7 +36,8 @@ def of(told: list[dict[str, Any]], event: str) -> list[dict[str, Any]]:
 
 def serve(lines: list[dict[str, Any]], *words: str) -> tuple[list[dict[str, Any]], bytes]:
     """The replies to these lines by standard input, and what is on standard error."""
-    ran = subprocess.run([built(), "serve", "--log", *words], input=b"".join(map(line_of, lines)), capture_output=True, check=True)
+    text = b"".join(map(line_of, lines))
+    ran = subprocess.run([built(), "serve", "--log", *words], input=text, capture_output=True, check=True)
     return [json.loads(line) for line in ran.stdout.splitlines()], ran.stderr
 
 
@@ -150,7 +151,8 @@ def test_both_formats_say_the_same(tmp_path: Path) -> None:
         ("line 2", "refused", " id=a number=5 cause=NoContent"), ("line 3", "refused", " number=1 cause=BadRequest"),
         (None, "caller-ended", " lines=3")]
     for line in text:
-        assert line is not None and before < datetime.fromisoformat(line["time"].replace("Z", "+00:00")) < datetime.now(timezone.utc)
+        assert line is not None
+        assert before < datetime.fromisoformat(line["time"].replace("Z", "+00:00")) < datetime.now(timezone.utc)
     told = [json.loads(line) for line in serve(lines, "--log-format", "json")[1].splitlines()]
     assert [(line.get("line"), line["event"]) for line in told] == [(2, "refused"), (3, "refused"), (None, "caller-ended")]
     assert told[0]["id"] == "a" and (told[0]["number"], told[0]["cause"]) == (5, "NoContent")

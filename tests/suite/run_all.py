@@ -50,7 +50,7 @@ SUITES = [
     of_tests("own-tests", "tests/test_checks.py", "tests/test_gate.py", "tests/test_suites.py", "tests/test_tools.py"),
     of_tests("examples", "tests/test_examples.py"),
     of_tests("rows", "tests/test_rows.py"),
-    of_tests("live-callers", "tests/test_live_callers.py"),
+    of_tests("live-callers", "tests/test_live_callers.py", "tests/test_log.py", "tests/test_units.py"),
     Suite("clients/python", (*PYTEST, "tests"), True, CLIENT, {"SUITE": "clients/python"}, needs_program=True),
     Suite("floats", (*PYTEST, "--slow", "tests"), False, CLIENT, {"SUITE": "floats"}),
     of_tests("real-programs", "tests/test_real_programs.py"),
