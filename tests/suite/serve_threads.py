@@ -338,7 +338,9 @@ class Storms:
         """A storm that is as it should be: it ends, its replies are acceptances and these refusals, all of them
         together are not found to be illegal, and it needs no more memory than others. None of another, which is kept.
         Where the search is given up, the storm is counted as not decided."""
-        storm = storms.blown(built(), workers, scripts, self.folder, seconds)
+        return self.look_at(name, storms.blown(built(), workers, scripts, self.folder, seconds), workers, refusals)
+
+    def look_at(self, name: str, storm: storms.Storm, workers: int, refusals: tuple[int, ...]) -> storms.Storm | None:
         found = report.report(storm.scripts, storm.printed, most=MOST_STATES, rounds=storm.rounds)
         if found.is_legal is None:
             found = report.report(storm.scripts, storm.printed, most=MORE_STATES, rounds=storm.rounds)
@@ -391,6 +393,19 @@ def try_storms(folder: Path, seconds: float) -> None:
                 return
             count += 11 * len(KINDS)
         check(f"{count} storms of four callers, workers: {workers}", True, str(found))
+
+
+def try_live_storms(folder: Path, seconds: float) -> None:
+    """Storms of 4 and of 32 live callers, with ten rounds and with one. Every one of them is decided."""
+    for callers, part in ((4, 50), (32, 500)):
+        found, end, count = Storms(folder), time.monotonic() + seconds, 0
+        while count == 0 or time.monotonic() < end:
+            for name, (script, size, refusals) in KINDS.items():
+                scripts = [script(max(1, size // part)) for _ in range(callers)]
+                if found.look_at(name, storms.blown_live(4, scripts, folder), 4, refusals) is None:
+                    return
+                count += 1
+        check(f"{count} storms of {callers} live callers, workers: 4", not any(kind[None] for kind in found.found.values()), str(found))
 
 
 def try_long_storm(folder: Path, seconds: float) -> None:
@@ -452,4 +467,5 @@ def main(words: list[str]) -> int:
         for part in (try_shares, try_short_among_long, try_idle, try_journal):
             part()
         try_storms(folder, given.storm)
+        try_live_storms(folder, given.storm / 2)
     return Summary("serve-threads", len(passed), len(failures)).end()

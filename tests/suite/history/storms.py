@@ -13,6 +13,7 @@ from pathlib import Path
 
 from suite.history.calls import lines_in, reply_in
 from suite.history.written import request_as
+from suite.live import Live
 
 LIFE = ["create {} endless", "start {}", "pause {}", "kill {}", "resume {}", "delete {}"]
 STORE = ["put short", "put short", "put endless", "remove short", "remove endless", "gc", "lease_create l",
@@ -109,6 +110,25 @@ def blown(program: Path, workers: int, scripts: list[list[bytes]], folder: Path,
     printed, errors = process.communicate()
     rounds = rounds_of(scripts) if seconds else []
     return Storm([b"".join(parts) for parts in scripts], process.returncode, printed, errors, samples, most, rounds)
+
+
+def blown_live(workers: int, scripts: list[list[bytes]], folder: Path) -> Storm:
+    """The same by live callers beside an owner. A line of each is written, and then the replies to all are read: a round."""
+    parts = [b"".join(script).splitlines(keepends=True) for script in scripts]
+    printed: list[list[bytes]] = [[] for _ in scripts]
+    rounds, samples = list[list[int]](), list[int]()
+    with Live(1 + len(scripts), "pipes", folder, "--workers", str(workers)) as live:
+        for number in range(max(map(len, parts))):
+            asked = [(caller, lines[number], told) for caller, lines, told in zip(live.others, parts, printed) if number < len(lines)]
+            for caller, line, _ in asked:
+                os.write(caller.lines, line)
+            for caller, _, told in asked:
+                told.append(json.dumps(caller.read(), separators=(",", ":")).encode() + b"\n")
+            rounds.append([min(number + 1, len(lines)) for lines in parts])
+            samples.append(resident(live.process.pid, "VmRSS"))
+        status, errors = live.end()
+    return Storm([b"".join(lines) for lines in parts], status, b"".join(map(b"".join, printed)), errors, samples, max(samples),
+                 rounds[:-1])
 
 
 def rounds_of(scripts: list[list[bytes]]) -> list[list[int]]:
