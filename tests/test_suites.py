@@ -2,6 +2,7 @@
 from __future__ import annotations
 
 import os
+import re
 import subprocess
 import sys
 from pathlib import Path
@@ -48,6 +49,26 @@ def test_each_suite_is_there() -> None:
     assert sorted(files) == Tree(TOP).matching("tests/test_*.py")
     commands = {suite.name.split()[0] for suite in run_all.SUITES} & COMMANDS.keys()
     assert COMMANDS.keys() - commands == {"all", "check-ci", "manifest", "dap-screenshot"}
+
+
+def targets() -> set[str]:
+    """The targets of the Makefile, without those of suites."""
+    return set(re.findall(r"^([a-z-]+):", (TOP / "Makefile").read_text(), re.MULTILINE))
+
+
+def test_each_suite_is_a_target() -> None:
+    listed = re.search(r"^SUITES = ((?:.*\\\n)*.*)$", (TOP / "Makefile").read_text(), re.MULTILINE)
+    assert listed is not None
+    assert sorted(listed[1].replace("\\", "").split()) == sorted({suite.name.split()[0] for suite in run_all.SUITES})
+
+
+def test_each_target_that_a_page_names_is_there() -> None:
+    suites = {suite.name.split()[0] for suite in run_all.SUITES}
+    commands = {(page, command) for page in Tree(TOP).matching("*.md")
+                for command in re.findall(r"`make ([a-z][^`]*)`", Tree(TOP).text(page))}
+    named = {(page, word) for page, command in commands for word in command.split() if "=" not in word}
+    assert {"gate", "check-ci", "check-history"} <= {word for _, word in named}
+    assert [one for one in sorted(named) if one[1] not in targets() | suites] == []
 
 
 @pytest.mark.parametrize("name", ["compare", "compare-text", "compare-serve-reasons", "serve-threads", "hostile"])
