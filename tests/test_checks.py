@@ -56,6 +56,10 @@ def test_nothing_is_wrong(check: Check, tmp_path: Path) -> None:
     assert count > 0
 
 
+def test_the_gate_makes_each_of_these_checks() -> None:
+    assert set(CHECKS) <= set(run.CHECKS.values())
+
+
 CODE = FILES["crates/file_commands/src/command.rt"]
 MAP = FILES["docs/Map.md"]
 WRONG: dict[str, tuple[Check, dict[str, str | None], str]] = {
@@ -114,6 +118,8 @@ WRONG: dict[str, tuple[Check, dict[str, str | None], str]] = {
         versions.check, {"clients/python/pyproject.toml": '[project]\nversion = "0.1.0"\n'}, "says 0.1.0"),
     "another version of a client in Go": (
         versions.check, {"clients/oci/main.go": 'package main\n\nconst version = "0.1.0"\n'}, "says 0.1.0"),
+    "another version in a client's words": (
+        versions.check, {"clients/python/feulgama/program.py": '"""It says `wasm-shim 0.1.0`."""\n'}, "says 0.1.0"),
     "another version of the runtime": (
         versions.check, {"clients/oci/src/version/version.go": 'package version\n\nconst Number = "0.1.0"\n'}, "says 0.1.0"),
     "a file of the version without one": (

@@ -30,6 +30,7 @@ SOURCES = [
     Source("clients/*/version.py", re.compile(rf"^__version__ = \"{NUMBER}\"", re.MULTILINE), says=True),
     Source("clients/*/version/version.go", re.compile(rf"^const Number = \"{NUMBER}\"", re.MULTILINE), says=True),
     Source("clients/*/__init__.py", re.compile(rf"^__version__(?:: [\w\[\].]+)? = \"{NUMBER}\"", re.MULTILINE)),
+    Source("clients/*.py", re.compile(rf"wasm-shim(?:-\w+)? {NUMBER}")),
     Source("clients/*/package.json", re.compile(rf"\"version\": \"{NUMBER}\"")),
     Source("clients/*.go", re.compile(rf"^\s*(?:const |var )?[vV]ersion(?: string)?\s*=\s*\"{NUMBER}\"", re.MULTILINE)),
     Source("*debian/changelog", re.compile(rf"^[a-z][\w+.-]* \({NUMBER}", re.MULTILINE), is_first=True),
