@@ -14,7 +14,7 @@ help: ## what each target does
 	@sed -n 's/^\([a-z-]*\):.*## \(.*\)/\1\t\2/p' $(MAKEFILE_LIST) | expand -t 18
 	@echo "A suite of tests by its name, as in make compare: $(SUITES)" | fold -s -w 120
 
-try: ## serve the first run of examples/ by the program before any proof, after some two minutes
+try: ## serve the first run of examples/ by the program before any proof; two minutes, and then at once
 	tools/try
 
 build: ## prove the program's crates and build it, an hour from nothing
