@@ -14,13 +14,14 @@ import pytest
 
 import feulgama
 from feulgama.config import Config, digest_of
-from feulgama.debug import watched_module, writes
+from feulgama.debug import counted_body, watched_module, writes
 from feulgama.debug.commands import Commands
+from feulgama.debug.track import Track
 from feulgama.debug.watched_module import NotWatchableError, Watch, watched
 from feulgama.debug.writes import Writes
 from feulgama.opening import open_debugger
 from feulgama.program import assemble
-from feulgama.wasm.module import decode
+from feulgama.wasm.module import Module, decode
 from tests.support import CLIENT, SHIM, callers, machine_of, some_programs, wasm
 
 WORDS = CLIENT / "examples/words.wasm"
@@ -55,8 +56,7 @@ class Exact(unittest.TestCase):
 
     def setUp(self) -> None:
         random.seed(31)
-        self.enterContext(mock.patch.multiple(writes, MANY=2, DENSE=3, LEAST_WAY=1))
-        self.enterContext(mock.patch.object(watched_module, "MANY", 2))
+        self.enterContext(mock.patch.multiple(writes, MANY=2, WALK=9, LOOKS=4, WINDOW=2))
         self.found = 0
 
     def programs(self) -> Iterator[bytes]:
@@ -83,7 +83,7 @@ class Exact(unittest.TestCase):
         wanted = second.changes(address, size)
         with feulgama.Shim(SHIM) as shim:
             watch = Watch(address, size, True, second.first[address:address + size])
-            self.assertEqual(wasm.refusals_of(watched(module, config, watch, 1, 1).data), set())
+            self.assertEqual(wasm.refusals_of(watched(module, config, watch, 0).data), set())
             found = Writes(shim, module, config, watch, lambda: None)
             self.assertEqual(found.next(0, interrupted), wanted[0])
             for turn in random.sample(range(len(second.states)), 3):
@@ -182,6 +182,66 @@ class Sessions(unittest.TestCase):
         self.assertTrue(shown[2].endswith("call 1"), shown[2])
 
 
+class CountedTurns:
+    """The attribute `turn` of a task, which adds up how far tasks go."""
+
+    def __init__(self) -> None:
+        self.made = 0
+
+    def __get__(self, track: Track, _kind: type[Track]) -> int:
+        return int(track.__dict__["turn"])
+
+    def __set__(self, track: Track, turn: int) -> None:
+        self.made += max(0, turn - track.__dict__.get("turn", 0))
+        track.__dict__["turn"] = turn
+
+
+class Cost(unittest.TestCase):
+    """Where each round of a short loop writes, all tasks together make at most five times the turns of the run for a
+    search. A loop of 16 turns stores its round at 32, and at 16 the round divided by 256."""
+
+    ROUNDS = 1500
+    MOST = 5
+    DATA = bytes.fromhex("0061736d01000000" "010401600000" "03020100" "0503010001" "070a01065f73746172740000"
+                         "0a27012501017f" "0340" "4110" "2000" "4108" "76" "360200" "4120" "2000" "360200"
+                         "2000" "4101" "6a" "2200" "41dc0b" "49" "0d00" "0b" "0b")
+
+    def setUp(self) -> None:
+        self.turns = CountedTurns()
+        self.enterContext(mock.patch.object(Track, "turn", self.turns, create=True))
+        shim = self.enterContext(feulgama.Shim(SHIM, workers=1))
+        self.commands = Commands(open_debugger(shim, Path("module"), self.DATA, [], {}, None))
+        self.addCleanup(self.commands.timeline.close)
+        list(self.commands.answer("continue"))
+        self.end = self.commands.timeline.turn
+        self.assertEqual(self.end, 16 * self.ROUNDS)
+
+    def cost(self, words: str) -> float:
+        """How many times the turns of the run a command takes."""
+        self.turns.made = 0
+        list(self.commands.answer(words))
+        return self.turns.made / self.end
+
+    def test_last_writes(self) -> None:
+        for words, before in (("last-write 32", 8), ("last-write 16", 11)):
+            self.commands.timeline.seek(self.end)
+            for round_ in range(5):
+                self.assertLess(self.cost(words), self.MOST)
+                self.assertEqual(self.commands.timeline.turn, self.end - before - 16 * round_)
+
+    def test_changes(self) -> None:
+        """At 16 there are 1, 2 and so on, the last of them 1,499 / 256, which is 5."""
+        self.commands.timeline.seek(0)
+        list(self.commands.answer("watch 16"))
+        for value in (1, 2, 3):
+            self.assertLess(self.cost("continue"), self.MOST)
+            self.assertEqual(list(self.commands.answer("x/dw 16")), [f"0x00000010: {value}"])
+        self.commands.timeline.seek(self.end)
+        for value in (4, 3, 2):
+            self.assertLess(self.cost("reverse-continue"), self.MOST)
+            self.assertEqual(list(self.commands.answer("x/dw 16")), [f"0x00000010: {value}"])
+
+
 @pytest.mark.program
 class Speed(unittest.TestCase):
     """Over the program: a search is broken off soon, and costs at most ten runs."""
@@ -211,7 +271,7 @@ class Speed(unittest.TestCase):
             begin = time.monotonic()
             list(self.commands.answer(words))
             self.assertEqual(self.commands.timeline.turn, turn)
-            self.assertLess(time.monotonic() - begin, 10 * run + 20)
+            self.assertLess(time.monotonic() - begin, 10 * run + 2)
         list(self.commands.answer("goto 0"))
         list(self.commands.answer("watch 16"))
         for value in (1, 2):
@@ -229,16 +289,31 @@ class Speed(unittest.TestCase):
 
 class NotWatchable(unittest.TestCase):
     def test_a_module_that_would_be_too_large(self) -> None:
-        with mock.patch.object(writes, "MOST_BYTES", 1000), feulgama.Shim(SHIM) as shim:
+        with mock.patch.object(watched_module, "MOST_BYTES", 1000), feulgama.Shim(SHIM) as shim:
             commands = Commands(open_debugger(shim, WORDS, WORDS.read_bytes(), [], {}, None))
             list(commands.answer("watch 0x430"))
             with self.assertRaisesRegex(NotWatchableError, "too large to be watched"):
                 list(commands.answer("continue"))
 
 
-class ExactWithManyStores(Exact):
-    """The same where all stores are counted by one function, as in a module with more kinds of them than breakpoints."""
+class ShortMaker(watched_module.Maker):
+    """Makes the module as if it would have too many bytes otherwise."""
+
+    def __init__(self, module: Module, config: Config, watch: Watch, _is_short: bool) -> None:
+        super().__init__(module, config, watch, True)
+
+
+class ExactWhereStoresAreFunctions(Exact):
+    """The same where each store is a function."""
 
     def setUp(self) -> None:
         super().setUp()
-        self.enterContext(mock.patch.object(watched_module, "MOST_PROBES", 0))
+        self.enterContext(mock.patch.object(watched_module, "Maker", ShortMaker))
+
+
+class ExactWithShortSegments(Exact):
+    """The same where few turns are counted together."""
+
+    def setUp(self) -> None:
+        super().setUp()
+        self.enterContext(mock.patch.multiple(counted_body, LONGEST=3, FAR_APART=5))

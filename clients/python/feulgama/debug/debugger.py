@@ -13,6 +13,7 @@ from feulgama.debug.lines import SourceLine
 from feulgama.debug.look import Look, Place
 from feulgama.debug.symbols import Symbols
 from feulgama.debug.timeline import LAST_TURN, Timeline, Why
+from feulgama.debug.trail import after_store
 from feulgama.debug.writes import InterruptedSearchError, Writes
 from feulgama.model import Cause, Frame
 
@@ -249,11 +250,15 @@ class Debugger:
 
     def change(self, watchpoint: Watchpoint, turn: int) -> Change:
         """What a turn writes to watched bytes. The run is shown before the turn then."""
-        self.timeline.seek(turn)
-        after = self.timeline.memory(watchpoint.address, watchpoint.size)
         self.timeline.seek(turn - 1)
-        before = self.timeline.memory(watchpoint.address, watchpoint.size)
-        return Change(watchpoint, self.timeline.look().place, before, after, turn)
+        before, look = self.timeline.memory(watchpoint.address, watchpoint.size), self.timeline.look()
+        instruction = None if look.place is None else self.symbols.instruction(look.place)
+        after = None if instruction is None else after_store(instruction, look, watchpoint.address, before)
+        if after is None:
+            self.timeline.seek(turn)
+            after = self.timeline.memory(watchpoint.address, watchpoint.size)
+            self.timeline.seek(turn - 1)
+        return Change(watchpoint, look.place, before, after, turn)
 
     def go_back(self) -> Why:
         """Runs back to the last breakpoint, before the last write that is watched, or to the first turn."""

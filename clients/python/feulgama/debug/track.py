@@ -144,11 +144,11 @@ class Track:
             was = State(self._id, Status.PAUSED, self.turn)
             self._note(run_before(self._shim, was, turn, is_exact, self._shims.gait, watch))
 
-    def run_to(self, breaks: frozenset[Place], turn: int, watch: Watch) -> Look | None:
+    def run_to(self, breaks: frozenset[Place], turn: int, watch: Watch, is_exact: bool = False) -> Look | None:
         """Runs at full speed to the next of these breakpoints, and where that is; None if it is at none of them: it has
-        ended, has come to a turn or has passed it, or the move is over."""
+        ended, has come to a turn or has passed it, if `is_exact` to a moment before it, or the move is over."""
         before = self.turn
-        self._run(turn, False, breaks, watch)
+        self._run(turn, is_exact, breaks, watch)
         look = self.look() if self.exit is None and self.turn > before else None
         return look if look is not None and look.place in breaks else None
 

@@ -19,7 +19,6 @@ from feulgama.wasm.body import Instruction
 from feulgama.wasm.module import Module
 
 OFFSET = re.compile(r"offset=(\d+)")
-FIRST_STORE, LAST_STORE = 0x36, 0x3E
 # System calls: how many of their last operands are addresses at which they write four bytes.
 WRITTEN_WORDS = {"fd_write": 1, "args_sizes_get": 2, "environ_sizes_get": 2, "proc_exit": 0, "sched_yield": 0}
 
@@ -86,7 +85,7 @@ def written_by(module: Module, look: Look) -> list[tuple[int, int]] | None:
     instruction = module.instruction(*look.place) if look.place is not None else None
     if instruction is None:
         return []
-    if FIRST_STORE <= instruction.opcode <= LAST_STORE:
+    if instruction.opcode in op.STORES:
         return [stored(instruction, innermost(look))]
     if instruction.opcode == op.CALL:
         index = int(instruction.text.split()[1])
@@ -99,6 +98,16 @@ def stored(instruction: Instruction, frame: Frame) -> tuple[int, int]:
     offset = OFFSET.search(instruction.text)
     address = frame.operands[-2].number % 2**32 + (int(offset[1]) if offset is not None else 0)
     return address, op.ACCESSES[instruction.opcode][1]
+
+
+def after_store(instruction: Instruction, look: Look, address: int, data: bytes) -> bytes | None:
+    """What bytes from an address on are after the next instruction, if it is a store; None of another one."""
+    if instruction.opcode not in op.STORES:
+        return None
+    frame = innermost(look)
+    at, size = stored(instruction, frame)
+    value = (frame.operands[-1].number % 2**(8 * size)).to_bytes(size, "little")
+    return bytes(value[one - at] if at <= one < at + size else byte for one, byte in enumerate(data, address))
 
 
 def written_by_call(name: str, look: Look) -> list[tuple[int, int]] | None:

@@ -48,6 +48,11 @@ class Module:
         own = index - len(self.imports)
         return self.functions[own] if 0 <= own < len(self.functions) else None
 
+    def type_of(self, index: int) -> FuncType:
+        """The type of a function, which may be an import."""
+        own = index - len(self.imports)
+        return self.types[self.imports[index][2] if own < 0 else self.indices[own]]
+
     def instruction(self, func: int, place: int) -> Instruction | None:
         """The instruction at a place; None if there is none."""
         function = self.function(func)

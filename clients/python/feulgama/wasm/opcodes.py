@@ -5,6 +5,10 @@ BLOCK, LOOP, IF, ELSE, END = 0x02, 0x03, 0x04, 0x05, 0x0B
 BR, BR_IF, BR_TABLE, CALL, CALL_INDIRECT = 0x0C, 0x0D, 0x0E, 0x10, 0x11
 I32_CONST, I64_CONST = 0x41, 0x42
 MEMORY_SIZE, MEMORY_GROW = 0x3F, 0x40
+UNREACHABLE, NOP, RETURN, DROP, SELECT = 0x00, 0x01, 0x0F, 0x1A, 0x1B
+LOCAL_GET, LOCAL_SET, LOCAL_TEE, GLOBAL_GET, GLOBAL_SET = 0x20, 0x21, 0x22, 0x23, 0x24
+I32_ADD, I32_SUB = 0x6A, 0x6B
+LOADS, STORES = range(0x28, 0x36), range(0x36, 0x3F)
 I32, I64 = 0x7F, 0x7E
 TYPES = {I32: "i32", I64: "i64"}
 CALLS = (CALL, CALL_INDIRECT)
@@ -23,7 +27,7 @@ def words(first: int, kind: str, names: tuple[str, ...]) -> dict[int, str]:
 
 # Instructions with nothing after their opcode.
 BARE: dict[int, str] = {
-    0x00: "unreachable", 0x01: "nop", 0x0F: "return", 0x1A: "drop", 0x1B: "select",
+    UNREACHABLE: "unreachable", NOP: "nop", RETURN: "return", DROP: "drop", SELECT: "select",
     **words(0x45, "i32", ("eqz", *RELATIONS)), **words(0x50, "i64", ("eqz", *RELATIONS)),
     **words(0x67, "i32", UNARY + BINARY), **words(0x79, "i64", UNARY + BINARY),
     0xA7: "i32.wrap_i64", 0xAC: "i64.extend_i32_s", 0xAD: "i64.extend_i32_u",
@@ -34,7 +38,8 @@ BARE: dict[int, str] = {
 # Instructions with an index after their opcode.
 INDEXED: dict[int, str] = {
     BR: "br", BR_IF: "br_if", CALL: "call",
-    0x20: "local.get", 0x21: "local.set", 0x22: "local.tee", 0x23: "global.get", 0x24: "global.set",
+    LOCAL_GET: "local.get", LOCAL_SET: "local.set", LOCAL_TEE: "local.tee", GLOBAL_GET: "global.get",
+    GLOBAL_SET: "global.set",
 }
 
 # Loads and stores: their words, and how many bytes they access.

@@ -45,6 +45,11 @@ class Code:
         self.count += len(instructions)
         return self
 
+    def otherwise(self) -> Code:
+        """Begins the second arm of a block."""
+        self.data += bytes([op.ELSE])
+        return self
+
     def end(self) -> Code:
         """Ends a block."""
         self.data += bytes([op.END])
@@ -58,6 +63,10 @@ class Code:
 
 def get(index: int) -> bytes:
     return b"\x20" + unsigned(index)
+
+
+def set_local(index: int) -> bytes:
+    return b"\x21" + unsigned(index)
 
 
 def tee(index: int) -> bytes:
@@ -88,7 +97,7 @@ def call(index: int) -> bytes:
 IF = bytes([op.IF, 0x40])
 DROP = b"\x1a"
 I32_EQZ, I32_LT_U, I32_ADD, I32_AND, I32_OR = b"\x45", b"\x49", b"\x6a", b"\x71", b"\x72"
-I64_EQZ, I64_EQ, I64_NE, I64_ADD, I64_AND = b"\x50", b"\x51", b"\x52", b"\x7c", b"\x83"
+I64_NE, I64_GT_S, I64_ADD, I64_SUB = b"\x52", b"\x55", b"\x7c", b"\x7d"
 LOADS = {1: b"\x31\0", 2: b"\x33\0", 4: b"\x35\0", 8: b"\x29\0"}  # into an i64, without a sign
 
 
