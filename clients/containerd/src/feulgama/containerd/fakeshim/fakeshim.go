@@ -1,0 +1,202 @@
+// Package fakeshim speaks as `wasm-shim serve --caller ..` does, for tests of what happens when it is killed, is full, or
+// does not do what it should. A module is a text here: what the task is to do.
+package fakeshim
+
+import (
+	"bufio"
+	"crypto/sha256"
+	"encoding/hex"
+	"encoding/json"
+	"fmt"
+	"os"
+	"strings"
+	"sync"
+	"time"
+)
+
+// Modules that the program knows, after eight bytes of a module's head.
+const (
+	Head   = "\x00asm\x01\x00\x00\x00"
+	Hello  = Head + "hello"  // writes a line, and ends with 7
+	Loop   = Head + "loop"   // writes a line, and runs until it is killed
+	Refuse = Head + "refuse" // is refused
+	Deaf   = Head + "deaf"   // is not ended by a kill
+	Die    = Head + "die"    // ends the program when it starts
+	Noise  = Head + "noise"  // answers a line that is no reply, when it starts
+)
+
+// Written is what Hello and Loop write to standard output.
+const Written = "begun\n"
+
+// Main is the program. It returns when the lines of the first caller have ended.
+func Main(words []string) int {
+	board := &board{contents: map[string]string{}}
+	board.changed = sync.NewCond(&board.mu)
+	owner := make(chan struct{})
+	first := true
+	for number, word := range words {
+		if word != "--caller" {
+			continue
+		}
+		input, output, _ := strings.Cut(words[number+1], ":")
+		read, err := os.Open(input)
+		if err != nil {
+			fmt.Fprintln(os.Stderr, err)
+			return 1
+		}
+		write, err := os.OpenFile(output, os.O_WRONLY, 0)
+		if err != nil {
+			fmt.Fprintln(os.Stderr, err)
+			return 1
+		}
+		go func(owns bool) {
+			board.serve(input, read, write)
+			if owns {
+				close(owner)
+			}
+		}(first)
+		first = false
+	}
+	<-owner
+	return 0
+}
+
+type request struct {
+	Op, ID, Hex, Config string
+	Signal, Stream      int
+}
+
+type board struct {
+	mu       sync.Mutex
+	changed  *sync.Cond
+	contents map[string]string
+	module   string
+	status   string
+	exit     uint32
+	signal   int
+}
+
+type object map[string]interface{}
+
+func (b *board) serve(input string, read, write *os.File) {
+	lines := bufio.NewScanner(read)
+	lines.Buffer(nil, 2<<20)
+	for number := 1; lines.Scan(); number++ {
+		var r request
+		answer := object{"ok": false, "number": 1, "error": "BadRequest"}
+		if json.Unmarshal(lines.Bytes(), &r) == nil {
+			answer = b.answer(r, fmt.Sprintf("%s line %d", input, number))
+		}
+		text, _ := json.Marshal(answer)
+		if b.module == Noise && r.Op == "start" {
+			text = []byte("this is no reply")
+		}
+		write.Write(append(text, '\n'))
+	}
+}
+
+func (b *board) answer(r request, line string) object {
+	b.mu.Lock()
+	defer b.mu.Unlock()
+	defer b.changed.Broadcast()
+	switch r.Op {
+	case "put":
+		content, _ := hex.DecodeString(r.Hex)
+		digest := fmt.Sprintf("sha256:%x", sha256.Sum256(content))
+		b.contents[digest] = string(content)
+		return object{"ok": true, "digest": digest, "size": len(content)}
+	case "create":
+		return b.create(r, line)
+	case "wait":
+		for b.status == "running" {
+			b.changed.Wait()
+		}
+	case "kill":
+		if b.status == "stopped" {
+			return wrongStatus()
+		}
+		if b.module != Deaf {
+			b.stop("kill", uint32(128+r.Signal), r.Signal)
+		}
+	case "output":
+		written := ""
+		if r.Stream == 1 && b.status != "created" {
+			written = Written
+		}
+		return object{"ok": true, "id": r.ID, "hex": hex.EncodeToString([]byte(written)), "size": len(written)}
+	case "peek":
+		return object{"ok": true, "id": r.ID, "hex": strings.Repeat("2a", 4)}
+	case "inspect":
+		return object{"ok": true, "id": r.ID, "n": 3, "frames": []object{{"func": 0, "next": 1, "locals": []string{"i64:5"},
+			"labels": []int{}, "operands": []string{}}}}
+	default:
+		if !b.change(r.Op) {
+			return wrongStatus()
+		}
+	}
+	return b.state(r.ID)
+}
+
+// change moves the task by start, pause, resume or delete, if its status lets it.
+func (b *board) change(op string) bool {
+	from := map[string]string{"start": "created", "pause": "running", "resume": "paused", "delete": "stopped"}[op]
+	if from != "" && b.status != from {
+		return false
+	}
+	switch op {
+	case "start":
+		b.start()
+	case "pause":
+		b.status = "paused"
+	case "resume":
+		b.status = "running"
+	}
+	return true
+}
+
+func (b *board) start() {
+	b.status = "running"
+	switch b.module {
+	case Die:
+		os.Exit(3)
+	case Hello:
+		go func() {
+			time.Sleep(10 * time.Millisecond)
+			b.mu.Lock()
+			defer b.mu.Unlock()
+			b.stop("exit", 7, 0)
+			b.changed.Broadcast()
+		}()
+	}
+}
+
+func (b *board) create(r request, line string) object {
+	var config struct{ Annotations map[string]string }
+	_ = json.Unmarshal([]byte(r.Config), &config)
+	b.module = b.contents[config.Annotations["dev.shim.module"]]
+	if b.module == Refuse {
+		fmt.Fprintf(os.Stderr, "why: %s, 7 BadModule: create: it is written so\n", line)
+		return object{"ok": false, "number": 7, "error": "BadModule"}
+	}
+	b.status = "created"
+	return b.state(r.ID)
+}
+
+func (b *board) stop(cause string, exit uint32, signal int) {
+	b.status, b.exit, b.signal = "stopped", exit, signal
+}
+
+func (b *board) state(id string) object {
+	answer := object{"ok": true, "id": id, "status": b.status, "n": 3}
+	if b.status == "stopped" {
+		answer["cause"], answer["exit"] = "exit", b.exit
+		if b.signal != 0 {
+			answer["cause"], answer["signal"] = "kill", b.signal
+		}
+	}
+	return answer
+}
+
+func wrongStatus() object {
+	return object{"ok": false, "number": 11, "error": "WrongStatus"}
+}

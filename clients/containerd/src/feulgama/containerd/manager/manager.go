@@ -1,0 +1,149 @@
+// Package manager answers the calls of the shim's program by which containerd starts a shim, and cleans up after one.
+package manager
+
+import (
+	"context"
+	"encoding/json"
+	"errors"
+	"fmt"
+	"os"
+	"os/exec"
+	"path/filepath"
+	"syscall"
+	"time"
+
+	"github.com/containerd/containerd/namespaces"
+	"github.com/containerd/containerd/runtime/v2/shim"
+	"golang.org/x/sys/unix"
+
+	"feulgama/containerd/bundle"
+	"feulgama/containerd/remains"
+)
+
+// Manager starts shims. Its value is the name of the runtime.
+type Manager string
+
+var _ shim.Manager = Manager("")
+
+// Name is the name of the runtime.
+func (m Manager) Name() string { return string(m) }
+
+// Start answers the address of the shim for a container: that of its pod, if it runs, or else of a new one. The folder
+// of the container is the current one.
+func (m Manager) Start(ctx context.Context, id string, opts shim.StartOpts) (string, error) {
+	group, err := groupOf(id)
+	if err != nil {
+		return "", err
+	}
+	address, err := shim.SocketAddress(ctx, opts.Address, group)
+	if err != nil {
+		return "", err
+	}
+	socket, err := listen(address)
+	if err != nil {
+		return "", err
+	}
+	// It is written before the shim begins, which removes the socket that it finds here.
+	if err := shim.WriteAddress("address", address); err != nil {
+		return "", fmt.Errorf("write the address of the shim: %w", err)
+	}
+	if socket == nil {
+		return address, nil
+	}
+	defer socket.Close()
+	if err := startShim(ctx, id, opts, socket); err != nil {
+		_ = shim.RemoveSocket(address)
+		return "", err
+	}
+	return address, nil
+}
+
+// groupOf is the pod of a container, which has one shim, or else the container.
+func groupOf(id string) (string, error) {
+	var config struct {
+		Annotations map[string]string `json:"annotations"`
+	}
+	text, err := os.ReadFile("config.json")
+	if err == nil {
+		err = json.Unmarshal(text, &config)
+	}
+	if err != nil {
+		return "", fmt.Errorf("read the config of %s: %w", id, err)
+	}
+	if pod := config.Annotations[bundle.Sandbox]; pod != "" {
+		return pod, nil
+	}
+	return id, nil
+}
+
+// listen answers a new socket, or none if a shim answers there.
+func listen(address string) (*os.File, error) {
+	socket, err := shim.NewSocket(address)
+	if err != nil && shim.SocketEaddrinuse(err) {
+		if shim.CanConnect(address) {
+			return nil, nil
+		}
+		if err := shim.RemoveSocket(address); err != nil && !errors.Is(err, os.ErrNotExist) {
+			return nil, fmt.Errorf("remove the socket of a shim that has ended: %w", err)
+		}
+		socket, err = shim.NewSocket(address)
+	}
+	if err != nil {
+		return nil, fmt.Errorf("make the socket of a shim: %w", err)
+	}
+	file, err := socket.File()
+	if err != nil {
+		return nil, err
+	}
+	socket.SetUnlinkOnClose(false) // the shim has it now
+	return file, socket.Close()
+}
+
+// startShim starts this program once more, to stay.
+func startShim(ctx context.Context, id string, opts shim.StartOpts, socket *os.File) error {
+	namespace, err := namespaces.NamespaceRequired(ctx)
+	if err != nil {
+		return err
+	}
+	own, err := os.Executable()
+	if err != nil {
+		return fmt.Errorf("find the file of the shim: %w", err)
+	}
+	words := []string{"-namespace", namespace, "-id", id, "-address", opts.Address}
+	if opts.Debug {
+		words = append(words, "-debug")
+	}
+	command := exec.Command(own, words...)
+	command.ExtraFiles = []*os.File{socket}
+	command.SysProcAttr = &syscall.SysProcAttr{Setpgid: true}
+	if err := command.Start(); err != nil {
+		return fmt.Errorf("start the shim: %w", err)
+	}
+	if err := shim.AdjustOOMScore(command.Process.Pid); err != nil {
+		_ = command.Process.Kill()
+		_ = command.Wait()
+		return fmt.Errorf("tell the kernel what to end first when memory runs out: %w", err)
+	}
+	return nil
+}
+
+// Stop cleans up after a container whose shim is gone. containerd also calls it when the container was deleted.
+func (m Manager) Stop(_ context.Context, id string) (shim.StopStatus, error) {
+	current, err := os.Getwd()
+	if err != nil {
+		return shim.StopStatus{}, err
+	}
+	folder := filepath.Join(filepath.Dir(current), id)
+	record, err := remains.Clean(folder)
+	if err != nil {
+		return shim.StopStatus{}, err
+	}
+	if address, err := shim.ReadAddress(filepath.Join(folder, "address")); err == nil && !shim.CanConnect(address) {
+		_ = shim.RemoveSocket(address) // it may be gone
+	}
+	status := shim.StopStatus{Pid: record.PID, ExitStatus: 128 + int(unix.SIGKILL), ExitedAt: time.Now()}
+	if record.Exit != nil {
+		status.ExitStatus, status.ExitedAt = int(*record.Exit), record.At
+	}
+	return status, nil
+}

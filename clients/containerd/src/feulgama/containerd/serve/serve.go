@@ -1,0 +1,210 @@
+// Package serve runs `wasm-shim serve` for one container, and speaks with it: one caller controls the task, and another
+// waits for its end (docs/PROTOCOL.md, "Live callers").
+package serve
+
+import (
+	"errors"
+	"fmt"
+	"os"
+	"os/exec"
+	"strings"
+	"sync"
+	"sync/atomic"
+	"syscall"
+	"time"
+
+	"feulgama/lines"
+)
+
+// How many requests are kept back, so that a container can always be ended.
+const (
+	ForCopies = 256 // what only shows something is asked while more than these are left
+	ForPauses = 16  // a pause is asked while more than these are left
+)
+
+// reasonSeconds is how long the reason of a refusal may be behind the refusal.
+const reasonTime = 100 * time.Millisecond
+
+// ErrEnded says that the process has ended.
+var ErrEnded = errors.New("wasm-shim has ended")
+
+// Process is a running `wasm-shim serve`.
+type Process struct {
+	command *exec.Cmd
+	control *caller
+	waiter  *caller
+	reasons *reasons
+	left    int64
+	ended   chan struct{}
+	status  syscall.WaitStatus
+	reap    sync.Once
+}
+
+// Start starts the program, and gives its id to join before the first request is sent.
+func Start(program string, join func(pid int) error) (*Process, error) {
+	p := &Process{left: lines.Requests, ended: make(chan struct{})}
+	pipes, err := openPipes()
+	if err != nil {
+		return nil, fmt.Errorf("make pipes: %w", err)
+	}
+	p.command = command(program, pipes)
+	err = startWithoutRights(p.command)
+	pipes.closeTheirs()
+	if err != nil {
+		pipes.closeOurs()
+		return nil, fmt.Errorf("start %s: %w", program, err)
+	}
+	p.reasons = readReasons(pipes.reasons)
+	p.control = newCaller(pipes.control, p.reapSoon)
+	p.waiter = newCaller(pipes.waiter, p.reapSoon)
+	if err := join(p.PID()); err != nil {
+		p.Kill()
+		<-p.ended
+		return nil, err
+	}
+	return p, nil
+}
+
+// command is the command of the program, whose pipes are its descriptors from 3 on.
+func command(program string, pipes *pipes) *exec.Cmd {
+	return &exec.Cmd{
+		Path: program,
+		Args: []string{"wasm-shim", "serve", "--workers", "1", "--explain",
+			"--caller", "/dev/fd/3:/dev/fd/4", "--caller", "/dev/fd/5:/dev/fd/6"},
+		Env: []string{}, Dir: "/",
+		Stderr:      pipes.theirs[0],
+		ExtraFiles:  pipes.theirs[1:],
+		SysProcAttr: apart(),
+	}
+}
+
+// PID is the id of the process.
+func (p *Process) PID() int { return p.command.Process.Pid }
+
+// Left is how many requests may still be sent.
+func (p *Process) Left() int { return int(atomic.LoadInt64(&p.left)) }
+
+// Ended is closed when the process has ended.
+func (p *Process) Ended() <-chan struct{} { return p.ended }
+
+// Status is how the process ended, in the way of a shell: 128 and the signal, or its exit status.
+func (p *Process) Status() uint32 {
+	<-p.ended
+	if p.status.Signaled() {
+		return 128 + uint32(p.status.Signal())
+	}
+	return uint32(p.status.ExitStatus())
+}
+
+// Kill ends the process itself, whatever its task does.
+func (p *Process) Kill() {
+	_ = p.command.Process.Kill() // it has ended already otherwise
+}
+
+// Ask sends a request by the caller that controls, and answers the reply. A refusal has its reason.
+func (p *Process) Ask(request []byte) (lines.Reply, error) {
+	return p.ask(p.control, request)
+}
+
+// Wait sends a request by the caller that waits. Requests by the other one are heard meanwhile.
+func (p *Process) Wait(request []byte) (lines.Reply, error) {
+	return p.ask(p.waiter, request)
+}
+
+func (p *Process) ask(by *caller, request []byte) (lines.Reply, error) {
+	atomic.AddInt64(&p.left, -1)
+	text, number, err := by.ask(request)
+	if err != nil {
+		return lines.Reply{}, err
+	}
+	reply, err := lines.Read(text)
+	var refusal *lines.Refusal
+	if errors.As(err, &refusal) {
+		refusal.Why = p.reasons.find(by.input, number, reasonTime)
+	}
+	return reply, err
+}
+
+// reapSoon takes the status of the process once its pipes have ended.
+func (p *Process) reapSoon() {
+	p.reap.Do(func() {
+		go func() {
+			p.control.close()
+			p.waiter.close()
+			_ = p.command.Wait() // the status says it
+			if status, ok := p.command.ProcessState.Sys().(syscall.WaitStatus); ok {
+				p.status = status
+			}
+			close(p.ended)
+		}()
+	})
+}
+
+// Said is what the program has written to standard error besides reasons, for a log.
+func (p *Process) Said() string {
+	return strings.TrimSpace(p.reasons.rest())
+}
+
+// pipes are the ends of the pipes: ours, and those of the program in the order of its descriptors from 2 on.
+type pipes struct {
+	control, waiter pair
+	reasons         *os.File
+	theirs          []*os.File
+}
+
+// pair is what a caller writes to, and what it reads from.
+type pair struct {
+	input string // as the program calls it
+	write *os.File
+	read  *os.File
+}
+
+func openPipes() (_ *pipes, err error) {
+	p := &pipes{}
+	defer func() {
+		if err != nil {
+			p.closeOurs()
+			p.closeTheirs()
+		}
+	}()
+	reasons, write, err := os.Pipe()
+	if err != nil {
+		return nil, err
+	}
+	p.reasons = reasons
+	p.theirs = append(p.theirs, write)
+	for number, one := range []*pair{&p.control, &p.waiter} {
+		one.input = fmt.Sprintf("/dev/fd/%d", 3+2*number)
+		read, write, err := os.Pipe()
+		if err != nil {
+			return nil, err
+		}
+		one.write = write
+		p.theirs = append(p.theirs, read)
+		if one.read, write, err = os.Pipe(); err != nil {
+			return nil, err
+		}
+		p.theirs = append(p.theirs, write)
+	}
+	for _, file := range p.theirs {
+		// The program opens its pipes by name, as a user of its own.
+		if err := file.Chown(nobody, nobody); err != nil && os.Geteuid() == 0 {
+			return nil, err
+		}
+	}
+	return p, nil
+}
+
+func (p *pipes) closeTheirs() {
+	for _, file := range p.theirs {
+		file.Close()
+	}
+}
+
+func (p *pipes) closeOurs() {
+	for _, file := range []*os.File{p.reasons, p.control.write, p.control.read, p.waiter.write, p.waiter.read} {
+		if file != nil {
+			file.Close()
+		}
+	}
+}

@@ -1,0 +1,195 @@
+package serve
+
+import (
+	"errors"
+	"io"
+	"os"
+	"path/filepath"
+	"strings"
+	"testing"
+	"time"
+
+	"feulgama/containerd/fakeshim"
+	"feulgama/lines"
+)
+
+// The test is the program itself, if it is called so.
+func TestMain(m *testing.M) {
+	if len(os.Args) > 1 && os.Args[1] == "serve" {
+		os.Exit(fakeshim.Main(os.Args[1:]))
+	}
+	os.Exit(m.Run())
+}
+
+// start starts the fake, from a place where nobody can run it.
+func start(t *testing.T) *Process {
+	t.Helper()
+	folder, err := os.MkdirTemp("", "feulgama-serve-")
+	if err != nil {
+		t.Fatal(err)
+	}
+	t.Cleanup(func() { os.RemoveAll(folder) })
+	own, err := os.Open("/proc/self/exe")
+	if err != nil {
+		t.Fatal(err)
+	}
+	defer own.Close()
+	program := filepath.Join(folder, "fake")
+	file, err := os.OpenFile(program, os.O_CREATE|os.O_WRONLY, 0o755)
+	if err == nil {
+		_, err = io.Copy(file, own)
+	}
+	if err == nil {
+		err = file.Close()
+	}
+	if err == nil {
+		err = os.Chmod(folder, 0o755)
+	}
+	if err != nil {
+		t.Fatal(err)
+	}
+	p, err := Start(program, func(pid int) error { return nil })
+	if err != nil {
+		t.Fatal(err)
+	}
+	t.Cleanup(func() { p.Kill(); <-p.Ended() })
+	return p
+}
+
+// ask sends a request that has to be accepted.
+func ask(t *testing.T, p *Process, request []byte) lines.Reply {
+	t.Helper()
+	reply, err := p.Ask(request)
+	if err != nil {
+		t.Fatalf("%s: %v", request, err)
+	}
+	return reply
+}
+
+// load makes a task of a module of the fake.
+func load(t *testing.T, p *Process, module string) {
+	t.Helper()
+	put := ask(t, p, lines.Put([]byte(module)))
+	ask(t, p, lines.Create("a", []byte(`{"annotations":{"dev.shim.module":"`+put.Digest+`"}}`)))
+}
+
+func TestATaskFromItsStartToItsEnd(t *testing.T) {
+	p := start(t)
+	load(t, p, fakeshim.Hello)
+	ask(t, p, lines.Of(lines.Start, "a"))
+	reply, err := p.Wait(lines.Of(lines.Wait, "a"))
+	if err != nil || reply.Status != lines.Stopped || reply.Exit != 7 {
+		t.Errorf("%+v, %v", reply, err)
+	}
+	if left := p.Left(); left != lines.Requests-4 {
+		t.Errorf("%d requests are left after 4", left)
+	}
+}
+
+func TestAKillIsHeardWhileTheOtherCallerWaits(t *testing.T) {
+	p := start(t)
+	load(t, p, fakeshim.Loop)
+	ask(t, p, lines.Of(lines.Start, "a"))
+	told := make(chan lines.Reply)
+	go func() {
+		reply, _ := p.Wait(lines.Of(lines.Wait, "a"))
+		told <- reply
+	}()
+	select {
+	case reply := <-told:
+		t.Fatalf("a wait for a task that runs is answered %+v", reply)
+	case <-time.After(50 * time.Millisecond):
+	}
+	ask(t, p, lines.Kill("a", lines.SIGTERM))
+	if reply := <-told; reply.Exit != 143 {
+		t.Errorf("%+v", reply)
+	}
+}
+
+func TestARefusalHasItsReason(t *testing.T) {
+	p := start(t)
+	put := ask(t, p, lines.Put([]byte(fakeshim.Refuse)))
+	_, err := p.Ask(lines.Create("a", []byte(`{"annotations":{"dev.shim.module":"`+put.Digest+`"}}`)))
+	if err == nil || err.Error() != "refused 7 BadModule: create: it is written so" {
+		t.Errorf("%v", err)
+	}
+}
+
+func TestTheEndOfTheProgramIsNoticed(t *testing.T) {
+	p := start(t)
+	p.Kill()
+	select {
+	case <-p.Ended():
+	case <-time.After(10 * time.Second):
+		t.Fatal("the end of the program is not noticed")
+	}
+	if status := p.Status(); status != 137 {
+		t.Errorf("it ended by SIGKILL with %d", status)
+	}
+	for name, ask := range map[string]func([]byte) (lines.Reply, error){"control": p.Ask, "waiter": p.Wait} {
+		if _, err := ask(lines.Of(lines.State, "a")); !errors.Is(err, ErrEnded) {
+			t.Errorf("%s: %v", name, err)
+		}
+	}
+}
+
+func TestTheEndOfTheProgramEndsARequest(t *testing.T) {
+	p := start(t)
+	load(t, p, fakeshim.Die)
+	if _, err := p.Ask(lines.Of(lines.Start, "a")); !errors.Is(err, ErrEnded) {
+		t.Errorf("%v", err)
+	}
+	if status := p.Status(); status != 3 {
+		t.Errorf("it ended with %d", status)
+	}
+}
+
+func TestALineThatIsNoReply(t *testing.T) {
+	p := start(t)
+	load(t, p, fakeshim.Noise)
+	_, err := p.Ask(lines.Of(lines.Start, "a"))
+	if err == nil || !strings.Contains(err.Error(), "read a reply") {
+		t.Errorf("%v", err)
+	}
+}
+
+func TestALineWithoutAnEndIsTheEnd(t *testing.T) {
+	read, write, err := os.Pipe()
+	if err != nil {
+		t.Fatal(err)
+	}
+	go func() {
+		defer write.Close()
+		for part := make([]byte, 1<<20); err == nil; {
+			_, err = write.Write(part)
+		}
+	}()
+	ended := make(chan struct{})
+	c := newCaller(pair{read: read, write: write}, func() { close(ended) })
+	select {
+	case <-ended:
+	case <-time.After(10 * time.Second):
+		t.Fatal("it is read for ever")
+	}
+	if _, more := <-c.replies; more {
+		t.Error("it is taken for a reply")
+	}
+}
+
+func TestAProgramThatIsNotThere(t *testing.T) {
+	if _, err := Start("/nothing/here", func(int) error { return nil }); err == nil || !strings.Contains(err.Error(), "/nothing/here") {
+		t.Errorf("%v", err)
+	}
+}
+
+func TestAProgramThatCannotJoinIsEnded(t *testing.T) {
+	joined := 0
+	wrong := errors.New("no cgroup")
+	_, err := Start("/bin/sleep", func(pid int) error { joined = pid; return wrong })
+	if !errors.Is(err, wrong) {
+		t.Errorf("%v", err)
+	}
+	if _, err := os.Stat(filepath.Join("/proc", "self", "task")); err != nil || joined == 0 {
+		t.Errorf("joined %d, %v", joined, err)
+	}
+}

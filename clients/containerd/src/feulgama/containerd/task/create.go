@@ -1,0 +1,123 @@
+package task
+
+import (
+	"crypto/sha256"
+	"encoding/hex"
+	"fmt"
+	"regexp"
+
+	events "github.com/containerd/containerd/api/events"
+	"github.com/containerd/containerd/mount"
+	"github.com/containerd/containerd/runtime"
+	api "github.com/containerd/containerd/runtime/v2/task"
+
+	"feulgama/containerd/bundle"
+	"feulgama/containerd/group"
+	"feulgama/containerd/output"
+	"feulgama/containerd/remains"
+	"feulgama/containerd/serve"
+	"feulgama/lines"
+)
+
+// create makes a container, and tells containerd.
+func (s *Service) create(r *api.CreateTaskRequest) (unit, error) {
+	b, err := bundle.Open(r.Bundle)
+	if err != nil {
+		return nil, err
+	}
+	var made unit
+	if b.IsSandbox() {
+		made = newSandbox(r, s.events)
+	} else if made, err = s.createContainer(r, b); err != nil {
+		return nil, err
+	}
+	s.events.Tell(runtime.TaskCreateEventTopic, &events.TaskCreate{
+		ContainerID: r.ID, Bundle: r.Bundle, Rootfs: r.Rootfs, Pid: made.pid(),
+		IO: &events.TaskIO{Stdin: r.Stdin, Stdout: r.Stdout, Stderr: r.Stderr, Terminal: r.Terminal},
+	})
+	return made, nil
+}
+
+func (s *Service) createContainer(r *api.CreateTaskRequest, b *bundle.Bundle) (unit, error) {
+	module, err := b.Module(mounts(r))
+	if err != nil {
+		return nil, err
+	}
+	c := &container{
+		request: r, namespace: s.namespace, events: s.events, task: taskID(r.ID), module: module,
+		status: lines.Created, wakes: make(chan struct{}, 1), end: newEnding(), looks: map[string]*looking{},
+	}
+	if err := c.open(s, b); err != nil {
+		c.letGo()
+		return nil, err
+	}
+	go c.watch()
+	return c, nil
+}
+
+// open gives a container all that it has on the machine. What it has when this fails has to be let go.
+func (c *container) open(s *Service, b *bundle.Bundle) error {
+	program, err := s.program()
+	if err != nil {
+		return err
+	}
+	cgroup, err := group.Path(b.Cgroup, s.namespace, c.request.ID)
+	if err != nil {
+		return err
+	}
+	if c.group, err = group.New(cgroup, b.Resources); err != nil {
+		return err
+	}
+	c.process, err = serve.Start(program, func(pid int) error {
+		c.record = remains.Of(pid, cgroup)
+		if err := remains.Write(c.request.Bundle, c.record); err != nil {
+			return err
+		}
+		return c.group.Add(pid)
+	})
+	if err != nil {
+		return err
+	}
+	if err := c.load(b); err != nil {
+		return err
+	}
+	c.streams, err = output.Open(output.Wish{
+		ID: c.request.ID, Namespace: s.namespace, Stdout: c.request.Stdout, Stderr: c.request.Stderr,
+	})
+	return err
+}
+
+// load makes the task in wasm-shim.
+func (c *container) load(b *bundle.Bundle) error {
+	put, err := c.process.Ask(lines.Put(c.module))
+	if err != nil {
+		return err
+	}
+	config, err := b.Config(put.Digest)
+	if err != nil {
+		return err
+	}
+	if _, err = c.process.Ask(lines.Create(c.task, config)); err != nil {
+		return fmt.Errorf("%w%s", err, b.Hint(err))
+	}
+	return nil
+}
+
+func mounts(r *api.CreateTaskRequest) []mount.Mount {
+	var wanted []mount.Mount
+	for _, one := range r.Rootfs {
+		wanted = append(wanted, mount.Mount{Type: one.Type, Source: one.Source, Options: one.Options})
+	}
+	return wanted
+}
+
+var wellFormed = regexp.MustCompile(`^[A-Za-z0-9][A-Za-z0-9._-]*$`)
+
+// taskID is the id of a container in its wasm-shim: the same, or a hash of one that is too long.
+func taskID(id string) string {
+	if len(id) <= lines.MostID && wellFormed.MatchString(id) {
+		return id
+	}
+	sum := sha256.Sum256([]byte(id))
+	return hex.EncodeToString(sum[:])
+}

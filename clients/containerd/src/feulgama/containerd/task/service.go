@@ -1,0 +1,132 @@
+// Package task answers containerd's requests for the containers of a shim. Each container has a `wasm-shim serve` of its
+// own, which decides what a request may do: what is kept here is what that has answered.
+package task
+
+import (
+	"context"
+	"fmt"
+	"os"
+	"sync"
+
+	"github.com/containerd/containerd/errdefs"
+	"github.com/containerd/containerd/pkg/shutdown"
+	"github.com/containerd/containerd/runtime/v2/shim"
+	api "github.com/containerd/containerd/runtime/v2/task"
+	"github.com/containerd/ttrpc"
+	"github.com/gogo/protobuf/types"
+)
+
+var (
+	_     api.TaskService = (*Service)(nil)
+	empty                 = &types.Empty{}
+)
+
+// Teller tells containerd of an event.
+type Teller interface {
+	Tell(topic string, event interface{})
+}
+
+// Service is the shim's answer to requests.
+type Service struct {
+	namespace string
+	events    Teller
+	program   func() (string, error) // finds wasm-shim
+	shutdown  shutdown.Service
+	mu        sync.Mutex
+	units     map[string]unit // nil while it is made
+}
+
+// New makes the service of a shim.
+func New(namespace string, events Teller, program func() (string, error), down shutdown.Service) *Service {
+	s := &Service{namespace: namespace, events: events, program: program, shutdown: down, units: map[string]unit{}}
+	if address, err := shim.ReadAddress("address"); err == nil {
+		down.RegisterCallback(func(context.Context) error { return shim.RemoveSocket(address) })
+	}
+	return s
+}
+
+// RegisterTTRPC tells the server of requests who answers.
+func (s *Service) RegisterTTRPC(server *ttrpc.Server) error {
+	api.RegisterTaskService(server, s)
+	return nil
+}
+
+// find answers the container of a request.
+func (s *Service) find(id string) (unit, error) {
+	s.mu.Lock()
+	defer s.mu.Unlock()
+	if found := s.units[id]; found != nil {
+		return found, nil
+	}
+	return nil, errdefs.ToGRPCf(errdefs.ErrNotFound, "container %s", id)
+}
+
+// reserve takes an id for a container that is to be made.
+func (s *Service) reserve(id string) error {
+	s.mu.Lock()
+	defer s.mu.Unlock()
+	if _, there := s.units[id]; there {
+		return errdefs.ToGRPCf(errdefs.ErrAlreadyExists, "container %s", id)
+	}
+	s.units[id] = nil
+	return nil
+}
+
+// settle says what became of a reserved id.
+func (s *Service) settle(id string, made unit) {
+	s.mu.Lock()
+	defer s.mu.Unlock()
+	if made == nil {
+		delete(s.units, id)
+	} else {
+		s.units[id] = made
+	}
+}
+
+// Connect answers the ids of processes.
+func (s *Service) Connect(_ context.Context, r *api.ConnectRequest) (*api.ConnectResponse, error) {
+	answer := &api.ConnectResponse{ShimPid: uint32(os.Getpid())}
+	if found, err := s.find(r.ID); err == nil {
+		answer.TaskPid = found.pid()
+	}
+	return answer, nil
+}
+
+// Shutdown ends the shim, unless it has containers.
+func (s *Service) Shutdown(context.Context, *api.ShutdownRequest) (*types.Empty, error) {
+	s.mu.Lock()
+	defer s.mu.Unlock()
+	if len(s.units) == 0 {
+		s.shutdown.Shutdown()
+	}
+	return empty, nil
+}
+
+// Checkpoint is not there.
+func (s *Service) Checkpoint(context.Context, *api.CheckpointTaskRequest) (*types.Empty, error) {
+	return nil, missing("checkpoints")
+}
+
+// Update is not there: the limits of a module are those that it was created with.
+func (s *Service) Update(context.Context, *api.UpdateTaskRequest) (*types.Empty, error) {
+	return nil, missing("new limits for a container")
+}
+
+// CloseIO is not there, because a module has no standard input.
+func (s *Service) CloseIO(context.Context, *api.CloseIORequest) (*types.Empty, error) {
+	return nil, missing("standard input")
+}
+
+// ResizePty has nothing to do: a module does not know of a terminal.
+func (s *Service) ResizePty(context.Context, *api.ResizePtyRequest) (*types.Empty, error) {
+	return empty, nil
+}
+
+func missing(what string) error {
+	return errdefs.ToGRPCf(errdefs.ErrNotImplemented, "a container of a module has no %s", what)
+}
+
+// failed is an error in containerd's words, after what was tried.
+func failed(what string, err error) error {
+	return errdefs.ToGRPC(fmt.Errorf("%s: %w", what, err))
+}
