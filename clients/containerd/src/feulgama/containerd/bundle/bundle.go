@@ -76,7 +76,7 @@ func (b *Bundle) Module(mounts []mount.Mount) (_ []byte, err error) {
 				err = fmt.Errorf("unmount the image: %w", unmountErr)
 			}
 		}()
-		if err := mount.All(mounts, root); err != nil {
+		if err := mount.All(readOnly(mounts), root); err != nil {
 			return nil, fmt.Errorf("mount the image: %w", err)
 		}
 	}
@@ -89,6 +89,23 @@ func (b *Bundle) Module(mounts []mount.Mount) (_ []byte, err error) {
 			b.program(), errdefs.ErrInvalidArgument)
 	}
 	return module.Content, nil
+}
+
+// readOnly are mounts that cannot be written. So the kernel has nothing to write out when they are taken away, which could
+// take long.
+func readOnly(mounts []mount.Mount) []mount.Mount {
+	changed := make([]mount.Mount, len(mounts))
+	for at, one := range mounts {
+		options := []string{"ro"}
+		for _, option := range one.Options {
+			if option != "rw" && option != "ro" {
+				options = append(options, option)
+			}
+		}
+		one.Options = options
+		changed[at] = one
+	}
+	return changed
 }
 
 func (b *Bundle) program() string {

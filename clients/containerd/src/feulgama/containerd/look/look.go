@@ -14,10 +14,7 @@ import (
 const most = 4096
 
 // Usage says what can be asked.
-const Usage = `inspect               the frames of the module: its calls that have not returned, the innermost first
-peek ADDRESS LENGTH   bytes of its memory, at most 4096; numbers may be hexadecimal, as 0x400
-state                 what it is doing, and how many instructions it has executed
-`
+const Usage = "inspect, peek ADDRESS LENGTH, or state"
 
 // Look is something that was asked for.
 type Look struct {

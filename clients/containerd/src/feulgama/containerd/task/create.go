@@ -39,15 +39,26 @@ func (s *Service) create(r *api.CreateTaskRequest) (unit, error) {
 }
 
 func (s *Service) createContainer(r *api.CreateTaskRequest, b *bundle.Bundle) (unit, error) {
-	module, err := b.Module(mounts(r))
-	if err != nil {
-		return nil, err
-	}
 	c := &container{
-		request: r, namespace: s.namespace, events: s.events, task: taskID(r.ID), module: module,
+		request: r, namespace: s.namespace, events: s.events, task: taskID(r.ID),
 		status: lines.Created, wakes: make(chan struct{}, 1), end: newEnding(), looks: map[string]*looking{},
 	}
-	if err := c.open(s, b); err != nil {
+	// The module is looked for while wasm-shim starts.
+	var moduleErr error
+	looked := make(chan struct{})
+	go func() {
+		defer close(looked)
+		c.module, moduleErr = b.Module(mounts(r))
+	}()
+	err := c.open(s, b)
+	<-looked
+	if moduleErr != nil {
+		err = moduleErr
+	}
+	if err == nil {
+		err = c.load(b)
+	}
+	if err != nil {
 		c.letGo()
 		return nil, err
 	}
@@ -76,9 +87,6 @@ func (c *container) open(s *Service, b *bundle.Bundle) error {
 		return c.group.Add(pid)
 	})
 	if err != nil {
-		return err
-	}
-	if err := c.load(b); err != nil {
 		return err
 	}
 	c.streams, err = output.Open(output.Wish{

@@ -39,7 +39,7 @@ func (c *container) addLook(r *api.ExecProcessRequest) error {
 	}
 	at, err := look.Parse(wanted.Args)
 	if err != nil {
-		return fmt.Errorf("%v; what can be asked:\n%s%w", err, look.Usage, errdefs.ErrNotImplemented)
+		return fmt.Errorf("%v; what can be asked is %s: %w", err, look.Usage, errdefs.ErrNotImplemented)
 	}
 	c.mu.Lock()
 	defer c.mu.Unlock()
