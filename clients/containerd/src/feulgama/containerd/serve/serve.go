@@ -22,7 +22,7 @@ const (
 	ForPauses = 16  // a pause is asked while more than these are left
 )
 
-// reasonSeconds is how long the reason of a refusal may be behind the refusal.
+// reasonTime is how long the reason of a refusal may be behind the refusal.
 const reasonTime = 100 * time.Millisecond
 
 // ErrEnded says that the process has ended.
@@ -83,6 +83,9 @@ func (p *Process) PID() int { return p.command.Process.Pid }
 
 // Left is how many requests may still be sent.
 func (p *Process) Left() int { return int(atomic.LoadInt64(&p.left)) }
+
+// Spend counts requests as sent that were not, so that tests come near the last one.
+func (p *Process) Spend(requests int) { atomic.AddInt64(&p.left, -int64(requests)) }
 
 // Ended is closed when the process has ended.
 func (p *Process) Ended() <-chan struct{} { return p.ended }

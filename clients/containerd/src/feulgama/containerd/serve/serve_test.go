@@ -2,9 +2,9 @@ package serve
 
 import (
 	"errors"
-	"io"
 	"os"
 	"path/filepath"
+	"strconv"
 	"strings"
 	"testing"
 	"time"
@@ -13,42 +13,21 @@ import (
 	"feulgama/lines"
 )
 
-// The test is the program itself, if it is called so.
 func TestMain(m *testing.M) {
-	if len(os.Args) > 1 && os.Args[1] == "serve" {
-		os.Exit(fakeshim.Main(os.Args[1:]))
-	}
-	os.Exit(m.Run())
+	os.Exit(fakeshim.Run(m))
 }
 
-// start starts the fake, from a place where nobody can run it.
+// byTheClock passes over a test that a busy machine may fail, if the tests are to be short.
+func byTheClock(t *testing.T) {
+	t.Helper()
+	if testing.Short() {
+		t.Skip("goes by the clock")
+	}
+}
+
 func start(t *testing.T) *Process {
 	t.Helper()
-	folder, err := os.MkdirTemp("", "feulgama-serve-")
-	if err != nil {
-		t.Fatal(err)
-	}
-	t.Cleanup(func() { os.RemoveAll(folder) })
-	own, err := os.Open("/proc/self/exe")
-	if err != nil {
-		t.Fatal(err)
-	}
-	defer own.Close()
-	program := filepath.Join(folder, "fake")
-	file, err := os.OpenFile(program, os.O_CREATE|os.O_WRONLY, 0o755)
-	if err == nil {
-		_, err = io.Copy(file, own)
-	}
-	if err == nil {
-		err = file.Close()
-	}
-	if err == nil {
-		err = os.Chmod(folder, 0o755)
-	}
-	if err != nil {
-		t.Fatal(err)
-	}
-	p, err := Start(program, func(pid int) error { return nil })
+	p, err := Start(fakeshim.Program(t), func(int) error { return nil })
 	if err != nil {
 		t.Fatal(err)
 	}
@@ -87,6 +66,7 @@ func TestATaskFromItsStartToItsEnd(t *testing.T) {
 }
 
 func TestAKillIsHeardWhileTheOtherCallerWaits(t *testing.T) {
+	byTheClock(t)
 	p := start(t)
 	load(t, p, fakeshim.Loop)
 	ask(t, p, lines.Of(lines.Start, "a"))
@@ -116,6 +96,7 @@ func TestARefusalHasItsReason(t *testing.T) {
 }
 
 func TestTheEndOfTheProgramIsNoticed(t *testing.T) {
+	byTheClock(t)
 	p := start(t)
 	p.Kill()
 	select {
@@ -154,6 +135,7 @@ func TestALineThatIsNoReply(t *testing.T) {
 }
 
 func TestALineWithoutAnEndIsTheEnd(t *testing.T) {
+	byTheClock(t)
 	read, write, err := os.Pipe()
 	if err != nil {
 		t.Fatal(err)
@@ -185,11 +167,40 @@ func TestAProgramThatIsNotThere(t *testing.T) {
 func TestAProgramThatCannotJoinIsEnded(t *testing.T) {
 	joined := 0
 	wrong := errors.New("no cgroup")
-	_, err := Start("/bin/sleep", func(pid int) error { joined = pid; return wrong })
+	_, err := Start(fakeshim.Program(t), func(pid int) error { joined = pid; return wrong })
 	if !errors.Is(err, wrong) {
 		t.Errorf("%v", err)
 	}
-	if _, err := os.Stat(filepath.Join("/proc", "self", "task")); err != nil || joined == 0 {
-		t.Errorf("joined %d, %v", joined, err)
+	if _, err := os.Stat(filepath.Join("/proc", strconv.Itoa(joined))); joined == 0 || !errors.Is(err, os.ErrNotExist) {
+		t.Errorf("process %d: %v", joined, err)
+	}
+}
+
+// What the program has of the system: no rights, and its pipes only. It is the kernel that says so.
+func TestTheProgramHasNoRights(t *testing.T) {
+	if os.Geteuid() != 0 {
+		t.Skip("only root can give up rights")
+	}
+	p := start(t)
+	load(t, p, fakeshim.Loop) // so it has begun
+	text, err := os.ReadFile(filepath.Join("/proc", strconv.Itoa(p.PID()), "status"))
+	if err != nil {
+		t.Fatal(err)
+	}
+	for _, want := range []string{
+		"Uid:\t65534\t65534\t65534\t65534\n", "Gid:\t65534\t65534\t65534\t65534\n", "Groups:\t \n", "NoNewPrivs:\t1\n",
+		"CapInh:\t0000000000000000\n", "CapPrm:\t0000000000000000\n", "CapEff:\t0000000000000000\n",
+		"CapBnd:\t0000000000000000\n", "CapAmb:\t0000000000000000\n",
+	} {
+		if !strings.Contains(string(text), want) {
+			t.Errorf("no %q in\n%s", want, text)
+		}
+	}
+	for _, kind := range []string{"net", "ipc", "uts", "pid"} {
+		theirs, err := os.Readlink(filepath.Join("/proc", strconv.Itoa(p.PID()), "ns", kind))
+		ours, ownErr := os.Readlink(filepath.Join("/proc/self/ns", kind))
+		if err != nil || ownErr != nil || theirs == ours {
+			t.Errorf("%s: %s, %s, %v, %v", kind, theirs, ours, err, ownErr)
+		}
 	}
 }

@@ -21,7 +21,7 @@ import (
 )
 
 // killTime is how long a task may take to end by SIGKILL, before its process is killed.
-const killTime = 10 * time.Second
+var killTime = 10 * time.Second
 
 // container is a container of a module, with the process that runs it.
 type container struct {

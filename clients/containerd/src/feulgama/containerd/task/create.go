@@ -76,7 +76,7 @@ func (c *container) open(s *Service, b *bundle.Bundle) error {
 	if err != nil {
 		return err
 	}
-	if c.group, err = group.New(cgroup, b.Resources); err != nil {
+	if c.group, err = s.newGroup(cgroup, b.Resources); err != nil {
 		return err
 	}
 	c.process, err = serve.Start(program, func(pid int) error {

@@ -17,10 +17,10 @@ func newEnding() *ending {
 	return &ending{done: make(chan struct{})}
 }
 
-// set says how it ended. Only the first call counts.
-func (e *ending) set(status uint32) {
+// set says how and when it ended. Only the first call counts.
+func (e *ending) set(status uint32, at time.Time) {
 	e.once.Do(func() {
-		e.status, e.at = status, time.Now()
+		e.status, e.at = status, at
 		close(e.done)
 	})
 }

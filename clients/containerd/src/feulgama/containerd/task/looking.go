@@ -4,6 +4,7 @@ import (
 	"encoding/json"
 	"fmt"
 	"sync"
+	"time"
 
 	events "github.com/containerd/containerd/api/events"
 	"github.com/containerd/containerd/api/types/task"
@@ -124,10 +125,11 @@ func (l *looking) run() {
 	l.mu.Lock()
 	defer l.mu.Unlock()
 	l.status = task.StatusStopped
-	l.end.set(status)
+	at := time.Now()
 	l.of.events.Tell(runtime.TaskExitEventTopic, &events.TaskExit{
-		ContainerID: l.of.request.ID, ID: l.request.ExecID, Pid: l.of.pid(), ExitStatus: status, ExitedAt: l.end.at,
+		ContainerID: l.of.request.ID, ID: l.request.ExecID, Pid: l.of.pid(), ExitStatus: status, ExitedAt: at,
 	})
+	l.end.set(status, at)
 }
 
 func (l *looking) text() (text string, err error) {

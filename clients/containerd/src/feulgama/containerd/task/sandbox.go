@@ -4,6 +4,7 @@ import (
 	"fmt"
 	"os"
 	"sync"
+	"time"
 
 	events "github.com/containerd/containerd/api/events"
 	"github.com/containerd/containerd/api/types/task"
@@ -63,7 +64,7 @@ func (s *sandbox) kill(signal uint32) error {
 		return nil
 	}
 	s.status = task.StatusStopped
-	s.end.set(128 + by)
+	s.end.set(128+by, time.Now())
 	s.events.Tell(runtime.TaskExitEventTopic, &events.TaskExit{
 		ContainerID: s.request.ID, ID: s.request.ID, Pid: s.pid(), ExitStatus: s.end.status, ExitedAt: s.end.at,
 	})
@@ -76,7 +77,7 @@ func (s *sandbox) remove() error {
 	if s.status == task.StatusRunning {
 		return fmt.Errorf("the sandbox runs: %w", errdefs.ErrFailedPrecondition)
 	}
-	s.end.set(0)
+	s.end.set(0, time.Now())
 	s.events.Tell(runtime.TaskDeleteEventTopic, &events.TaskDelete{
 		ContainerID: s.request.ID, Pid: s.pid(), ExitStatus: s.end.status, ExitedAt: s.end.at,
 	})

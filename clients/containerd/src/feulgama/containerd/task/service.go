@@ -14,6 +14,9 @@ import (
 	api "github.com/containerd/containerd/runtime/v2/task"
 	"github.com/containerd/ttrpc"
 	"github.com/gogo/protobuf/types"
+	specs "github.com/opencontainers/runtime-spec/specs-go"
+
+	"feulgama/containerd/group"
 )
 
 var (
@@ -31,6 +34,7 @@ type Service struct {
 	namespace string
 	events    Teller
 	program   func() (string, error) // finds wasm-shim
+	newGroup  func(string, *specs.LinuxResources) (group.Group, error)
 	shutdown  shutdown.Service
 	mu        sync.Mutex
 	units     map[string]unit // nil while it is made
@@ -38,7 +42,8 @@ type Service struct {
 
 // New makes the service of a shim.
 func New(namespace string, events Teller, program func() (string, error), down shutdown.Service) *Service {
-	s := &Service{namespace: namespace, events: events, program: program, shutdown: down, units: map[string]unit{}}
+	s := &Service{namespace: namespace, events: events, program: program, newGroup: group.New, shutdown: down,
+		units: map[string]unit{}}
 	if address, err := shim.ReadAddress("address"); err == nil {
 		down.RegisterCallback(func(context.Context) error { return shim.RemoveSocket(address) })
 	}

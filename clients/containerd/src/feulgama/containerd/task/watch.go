@@ -2,6 +2,7 @@ package task
 
 import (
 	"errors"
+	"time"
 
 	events "github.com/containerd/containerd/api/events"
 	"github.com/containerd/containerd/runtime"
@@ -76,13 +77,12 @@ func (c *container) tellEnd(status uint32) {
 	c.mu.Lock()
 	defer c.mu.Unlock()
 	c.status = lines.Stopped
-	c.record.Exit = &status
-	c.end.set(status)
-	c.record.At = c.end.at
+	c.record.Exit, c.record.At = &status, time.Now()
 	if err := remains.Write(c.request.Bundle, c.record); err != nil {
 		logrus.WithError(err).Warn("keep the end of a container")
 	}
 	c.events.Tell(runtime.TaskExitEventTopic, &events.TaskExit{
-		ContainerID: c.request.ID, ID: c.request.ID, Pid: c.pid(), ExitStatus: status, ExitedAt: c.end.at,
+		ContainerID: c.request.ID, ID: c.request.ID, Pid: c.pid(), ExitStatus: status, ExitedAt: c.record.At,
 	})
+	c.end.set(status, c.record.At)
 }

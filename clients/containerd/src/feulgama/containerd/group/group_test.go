@@ -1,0 +1,88 @@
+package group
+
+import (
+	"errors"
+	"fmt"
+	"os"
+	"os/exec"
+	"strings"
+	"testing"
+
+	specs "github.com/opencontainers/runtime-spec/specs-go"
+)
+
+func TestPaths(t *testing.T) {
+	for configured, want := range map[string]string{
+		"":                              "/ns/id",
+		"/default/one":                  "/default/one",
+		"kubepods/pod1/c":               "/kubepods/pod1/c",
+		"../../up":                      "/up",
+		"system.slice:cri:abc":          "/system.slice/cri-abc.scope",
+		"a-b-c.slice:cri-containerd:id": "/a.slice/a-b.slice/a-b-c.slice/cri-containerd-id.scope",
+		"a.slice::b.slice":              "/a.slice/b.slice",
+		":cri:abc":                      "/cri-abc.scope",
+		"a.slice:x:../y":                "/a.slice/x-.._y.scope",
+	} {
+		if got, err := Path(configured, "ns", "id"); err != nil || got != want {
+			t.Errorf("%q: %s, %v", configured, got, err)
+		}
+	}
+	for _, wrong := range []string{"a:b:c", "a--b.slice:x:y", "../a.slice:x:y"} {
+		if got, err := Path(wrong, "ns", "id"); err == nil {
+			t.Errorf("%q: %s", wrong, got)
+		}
+	}
+}
+
+func TestOurLimits(t *testing.T) {
+	some, none := int64(64<<20), int64(-1)
+	pids := &specs.LinuxPids{Limit: 1}
+	if got := ours(&specs.LinuxResources{Memory: &specs.LinuxMemory{Limit: &some}, Pids: pids}); *got.Memory.Limit != 96<<20 || got.Pids != nil {
+		t.Errorf("%+v", got)
+	}
+	if got := ours(&specs.LinuxResources{Memory: &specs.LinuxMemory{Limit: &none}}); got.Memory != nil {
+		t.Errorf("%+v", got)
+	}
+	if got := ours(nil); got == nil || got.Memory != nil {
+		t.Errorf("%+v", got)
+	}
+}
+
+// A cgroup of the machine's version holds a process, and is gone afterwards.
+func TestACgroupOfTheMachine(t *testing.T) {
+	if testing.Short() {
+		t.Skip("makes a cgroup")
+	}
+	name := fmt.Sprintf("/feulgama-test-%d", os.Getpid())
+	limit := int64(64 << 20)
+	made, err := New(name, &specs.LinuxResources{Memory: &specs.LinuxMemory{Limit: &limit}})
+	if errors.Is(err, ErrNone) || errors.Is(err, os.ErrPermission) {
+		t.Skip(err)
+	}
+	if err != nil {
+		t.Fatal(err)
+	}
+	command := exec.Command("sleep", "60")
+	if err := command.Start(); err != nil {
+		t.Fatal(err)
+	}
+	if err := made.Add(command.Process.Pid); err != nil {
+		t.Error(err)
+	}
+	text, err := os.ReadFile(fmt.Sprintf("/proc/%d/cgroup", command.Process.Pid))
+	if err != nil || !strings.Contains(string(text), ":"+name+"\n") {
+		t.Errorf("%s, %v", text, err)
+	}
+	if metrics, err := made.Stats(); err != nil || metrics == nil {
+		t.Errorf("%v, %v", metrics, err)
+	}
+	_ = command.Process.Kill()
+	_ = command.Wait()
+	loaded, err := Load(name)
+	if err != nil {
+		t.Fatal(err)
+	}
+	if err := loaded.Delete(); err != nil {
+		t.Error(err)
+	}
+}

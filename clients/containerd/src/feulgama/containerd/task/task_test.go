@@ -1,0 +1,303 @@
+package task
+
+import (
+	"context"
+	"errors"
+	"os"
+	"path/filepath"
+	"reflect"
+	"strings"
+	"syscall"
+	"testing"
+	"time"
+
+	"github.com/containerd/containerd/api/types/task"
+	"github.com/containerd/containerd/errdefs"
+	api "github.com/containerd/containerd/runtime/v2/task"
+	specs "github.com/opencontainers/runtime-spec/specs-go"
+
+	"feulgama/containerd/fakeshim"
+	"feulgama/containerd/group"
+	"feulgama/containerd/serve"
+	"feulgama/lines"
+)
+
+// is tells whether an error, as it comes to containerd, is of a class.
+func is(t *testing.T, err, class error) {
+	t.Helper()
+	if !errors.Is(errdefs.FromGRPC(err), class) {
+		t.Errorf("%v, and not %v", err, class)
+	}
+}
+
+func TestAContainerFromCreateToDelete(t *testing.T) {
+	s := newShim(t)
+	s.run("one", fakeshim.Hello)
+	if status := s.wait("one"); status != 7 {
+		t.Errorf("exit status %d", status)
+	}
+	if text := s.written("one"); text != fakeshim.Written {
+		t.Errorf("written: %q", text)
+	}
+	if status, err := s.delete("one"); status != 7 || err != nil {
+		t.Errorf("deleted with %d, %v", status, err)
+	}
+	topics, exits := s.events.all()
+	want := []string{"/tasks/create", "/tasks/start", "/tasks/exit", "/tasks/delete"}
+	if !reflect.DeepEqual(topics, want) || exits[0].ExitStatus != 7 || exits[0].ID != "one" {
+		t.Errorf("%v, %+v", topics, exits)
+	}
+	_, err := s.State(background, &api.StateRequest{ID: "one"})
+	is(t, err, errdefs.ErrNotFound)
+	if _, err := os.Stat(filepath.Join(s.folder, "one", "feulgama.json")); !errors.Is(err, os.ErrNotExist) {
+		t.Errorf("the record is left: %v", err)
+	}
+}
+
+func TestARefusedModuleFailsAtCreate(t *testing.T) {
+	s := newShim(t)
+	err := s.create("bad", fakeshim.Refuse)
+	is(t, err, errdefs.ErrInvalidArgument)
+	if !strings.Contains(err.Error(), "create: refused 7 BadModule: create: it is written so") {
+		t.Errorf("%v", err)
+	}
+	if topics, _ := s.events.all(); len(topics) != 0 || len(s.units) != 0 {
+		t.Errorf("%v, %v", topics, s.units)
+	}
+}
+
+func TestAnImageWithoutAModule(t *testing.T) {
+	s := newShim(t)
+	err := s.create("other", "\x7fELF and more")
+	is(t, err, errdefs.ErrInvalidArgument)
+	if !strings.Contains(err.Error(), `"/m.wasm", is no WebAssembly module`) {
+		t.Errorf("%v", err)
+	}
+}
+
+func TestSignals(t *testing.T) {
+	for _, c := range []struct{ signal, want uint32 }{{15, 143}, {9, 137}, {uint32(syscall.SIGINT), 143}} {
+		s := newShim(t)
+		s.run("one", fakeshim.Loop)
+		if err := s.signal("one", uint32(syscall.SIGWINCH)); err != nil {
+			t.Error(err)
+		}
+		if err := s.signal("one", c.signal); err != nil {
+			t.Error(err)
+		}
+		if status := s.wait("one"); status != c.want {
+			t.Errorf("signal %d ends it with %d", c.signal, status)
+		}
+		is(t, s.signal("one", 15), errdefs.ErrNotFound)
+	}
+}
+
+func TestDeleteOfAContainerThatHasNotEnded(t *testing.T) {
+	s := newShim(t)
+	s.run("one", fakeshim.Loop)
+	_, err := s.delete("one")
+	is(t, err, errdefs.ErrFailedPrecondition)
+	if err := s.create("two", fakeshim.Loop); err != nil {
+		t.Fatal(err)
+	}
+	if status, err := s.delete("two"); status != 137 || err != nil {
+		t.Errorf("one that was not started is deleted with %d, %v", status, err)
+	}
+}
+
+func TestTheEndOfTheProcessIsTheEndOfTheContainer(t *testing.T) {
+	for _, status := range []string{lines.Created, lines.Running, lines.Paused} {
+		s := newShim(t)
+		if err := s.create("one", fakeshim.Loop); err != nil {
+			t.Fatal(err)
+		}
+		c := s.units["one"].(*container)
+		if status != lines.Created {
+			if _, err := s.Start(background, &api.StartRequest{ID: "one"}); err != nil {
+				t.Fatal(err)
+			}
+		}
+		if status == lines.Paused {
+			if _, err := s.Pause(background, &api.PauseRequest{ID: "one"}); err != nil {
+				t.Fatal(err)
+			}
+		}
+		c.process.Kill()
+		if exit := s.wait("one"); exit != 137 {
+			t.Errorf("%s: exit status %d", status, exit)
+		}
+		if _, exits := s.events.all(); len(exits) != 1 {
+			t.Errorf("%s: the exit is told %d times", status, len(exits))
+		}
+		if exit, err := s.delete("one"); exit != 137 || err != nil {
+			t.Errorf("%s: deleted with %d, %v", status, exit, err)
+		}
+	}
+}
+
+func TestAProcessThatDoesNotEndATaskIsKilled(t *testing.T) {
+	before := killTime
+	killTime = 50 * time.Millisecond
+	defer func() { killTime = before }()
+	s := newShim(t)
+	s.run("one", fakeshim.Deaf)
+	if err := s.signal("one", 9); err != nil {
+		t.Error(err)
+	}
+	if status := s.wait("one"); status != 137 {
+		t.Errorf("exit status %d", status)
+	}
+}
+
+func TestPauseAndResume(t *testing.T) {
+	s := newShim(t)
+	s.run("one", fakeshim.Loop)
+	for _, want := range []task.Status{task.StatusPaused, task.StatusRunning} {
+		var err error
+		if want == task.StatusPaused {
+			_, err = s.Pause(background, &api.PauseRequest{ID: "one"})
+		} else {
+			_, err = s.Resume(background, &api.ResumeRequest{ID: "one"})
+		}
+		state, stateErr := s.State(background, &api.StateRequest{ID: "one"})
+		if err != nil || stateErr != nil || state.Status != want {
+			t.Errorf("%v, %v, %v", state, err, stateErr)
+		}
+	}
+	_, err := s.Resume(background, &api.ResumeRequest{ID: "one"})
+	is(t, err, errdefs.ErrFailedPrecondition)
+	if err := s.signal("one", 15); err != nil {
+		t.Error(err)
+	}
+	if status := s.wait("one"); status != 143 {
+		t.Errorf("after a resume it ends with %d", status)
+	}
+}
+
+func TestOutputComesWhileTheTaskRuns(t *testing.T) {
+	s := newShim(t)
+	s.run("one", fakeshim.Loop)
+	until(t, "output", func() bool { return s.written("one") == fakeshim.Written })
+	if state, _ := s.State(background, &api.StateRequest{ID: "one"}); state.Status != task.StatusRunning {
+		t.Errorf("%v", state)
+	}
+}
+
+// With few requests left there are no more copies and looks, and with nearly none no pause. A kill and its end work.
+func TestAShimThatHasAnsweredNearlyAll(t *testing.T) {
+	byTheClock(t)
+	s := newShim(t)
+	c := s.run("one", fakeshim.Loop)
+	c.process.Spend(c.process.Left() - serve.ForCopies + 1)
+	left := c.process.Left()
+	time.Sleep(4 * firstCopy)
+	if now := c.process.Left(); left-now > 10 {
+		t.Errorf("%d requests were sent with %d left", left-now, left)
+	}
+	_, err := s.Exec(background, lookAt("one", "x", "state"))
+	is(t, err, errdefs.ErrUnavailable)
+	if _, err = s.Pause(background, &api.PauseRequest{ID: "one"}); err != nil {
+		t.Error(err)
+	}
+	c.process.Spend(c.process.Left() - serve.ForPauses + 1)
+	if _, err = s.Resume(background, &api.ResumeRequest{ID: "one"}); err != nil {
+		t.Error(err)
+	}
+	_, err = s.Pause(background, &api.PauseRequest{ID: "one"})
+	is(t, err, errdefs.ErrUnavailable)
+	if err := s.signal("one", 15); err != nil {
+		t.Error(err)
+	}
+	if status := s.wait("one"); status != 143 {
+		t.Errorf("exit status %d", status)
+	}
+	if text := s.written("one"); text != fakeshim.Written {
+		t.Errorf("written: %q", text)
+	}
+	if status, err := s.delete("one"); status != 143 || err != nil {
+		t.Errorf("deleted with %d, %v", status, err)
+	}
+	if c.process.Left() < 0 {
+		t.Errorf("%d requests too many", -c.process.Left())
+	}
+}
+
+func TestWaitEndsWithItsCaller(t *testing.T) {
+	s := newShim(t)
+	s.run("one", fakeshim.Loop)
+	gone, cancel := context.WithCancel(background)
+	cancel()
+	if _, err := s.Wait(gone, &api.WaitRequest{ID: "one"}); err == nil {
+		t.Error("it is answered")
+	}
+}
+
+func TestWhatIsNotThere(t *testing.T) {
+	s := newShim(t)
+	s.run("one", fakeshim.Loop)
+	_, checkpoint := s.Checkpoint(background, &api.CheckpointTaskRequest{ID: "one"})
+	_, update := s.Update(background, &api.UpdateTaskRequest{ID: "one"})
+	_, input := s.CloseIO(background, &api.CloseIORequest{ID: "one"})
+	_, exec := s.Exec(background, lookAt("one", "x", "sh"))
+	for _, err := range []error{checkpoint, update, input, exec} {
+		is(t, err, errdefs.ErrNotImplemented)
+	}
+	_, start := s.Start(background, &api.StartRequest{ID: "one", ExecID: "x"})
+	_, state := s.State(background, &api.StateRequest{ID: "none"})
+	for _, err := range []error{start, state} {
+		is(t, err, errdefs.ErrNotFound)
+	}
+}
+
+func TestTheShimEndsWithItsLastContainer(t *testing.T) {
+	s := newShim(t)
+	s.run("one", fakeshim.Hello)
+	s.wait("one")
+	if _, err := s.Shutdown(background, &api.ShutdownRequest{}); err != nil || s.down.called {
+		t.Errorf("it is shut down with a container: %v", err)
+	}
+	if _, err := s.delete("one"); err != nil {
+		t.Error(err)
+	}
+	if _, err := s.Shutdown(background, &api.ShutdownRequest{}); err != nil || !s.down.called {
+		t.Errorf("it is not shut down: %v", err)
+	}
+}
+
+func TestOneIDTwice(t *testing.T) {
+	s := newShim(t)
+	s.run("one", fakeshim.Loop)
+	is(t, s.create("one", fakeshim.Loop), errdefs.ErrAlreadyExists)
+}
+
+func TestTheLimitOfTheConfigIsThatOfTheCgroup(t *testing.T) {
+	s := newShim(t)
+	var given *specs.LinuxResources
+	s.newGroup = func(_ string, limits *specs.LinuxResources) (group.Group, error) {
+		given = limits
+		return noGroup{}, nil
+	}
+	folder := s.bundle("one", fakeshim.Loop, func(config map[string]interface{}) {
+		config["linux"] = map[string]interface{}{"resources": map[string]interface{}{"memory": map[string]interface{}{"limit": 7}}}
+	})
+	if _, err := s.Create(background, &api.CreateTaskRequest{ID: "one", Bundle: folder}); err != nil {
+		t.Fatal(err)
+	}
+	if given == nil || given.Memory == nil || *given.Memory.Limit != 7 {
+		t.Errorf("%+v", given)
+	}
+}
+
+func TestIDs(t *testing.T) {
+	long := strings.Repeat("k8s.io_", 11)
+	for id, want := range map[string]string{"a.b-c_1": "a.b-c_1", long[:64]: long[:64]} {
+		if got := taskID(id); got != want {
+			t.Errorf("%s becomes %s", id, got)
+		}
+	}
+	for _, id := range []string{long, "-a", "ä", ""} {
+		if got := taskID(id); len(got) != 64 || got == id {
+			t.Errorf("%s becomes %s", id, got)
+		}
+	}
+}
