@@ -88,11 +88,17 @@ func (b *board) serve(input string, read, write *os.File) {
 			answer = b.answer(r, fmt.Sprintf("%s line %d", input, number))
 		}
 		text, _ := json.Marshal(answer)
-		if b.module == Noise && r.Op == "start" {
+		if r.Op == "start" && b.is(Noise) {
 			text = []byte("this is no reply")
 		}
 		write.Write(append(text, '\n'))
 	}
+}
+
+func (b *board) is(module string) bool {
+	b.mu.Lock()
+	defer b.mu.Unlock()
+	return b.module == module
 }
 
 func (b *board) answer(r request, line string) object {

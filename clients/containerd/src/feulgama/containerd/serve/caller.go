@@ -19,16 +19,18 @@ type caller struct {
 	replies chan []byte
 }
 
-// newCaller begins to read replies, and calls ended when no more come.
-func newCaller(ends pair, ended func()) *caller {
-	c := &caller{input: ends.input, write: ends.write, replies: make(chan []byte, 1)}
+func newCaller(ends pair) *caller {
+	return &caller{input: ends.input, write: ends.write, replies: make(chan []byte, 1)}
+}
+
+// begin begins to read replies, and calls ended when no more come.
+func (c *caller) begin(stream io.ReadCloser, ended func()) {
 	go func() {
 		defer ended()
 		defer close(c.replies)
-		defer ends.read.Close()
-		c.read(ends.read)
+		defer stream.Close()
+		c.read(stream)
 	}()
-	return c
 }
 
 // read hands replies on until the stream ends, or has a line that nobody would write.

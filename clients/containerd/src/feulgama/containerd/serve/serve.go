@@ -55,8 +55,9 @@ func Start(program string, join func(pid int) error) (*Process, error) {
 		return nil, fmt.Errorf("start %s: %w", program, err)
 	}
 	p.reasons = readReasons(pipes.reasons)
-	p.control = newCaller(pipes.control, p.reapSoon)
-	p.waiter = newCaller(pipes.waiter, p.reapSoon)
+	p.control, p.waiter = newCaller(pipes.control), newCaller(pipes.waiter)
+	p.control.begin(pipes.control.read, p.reapSoon)
+	p.waiter.begin(pipes.waiter.read, p.reapSoon)
 	if err := join(p.PID()); err != nil {
 		p.Kill()
 		<-p.ended

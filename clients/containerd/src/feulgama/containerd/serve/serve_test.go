@@ -147,7 +147,8 @@ func TestALineWithoutAnEndIsTheEnd(t *testing.T) {
 		}
 	}()
 	ended := make(chan struct{})
-	c := newCaller(pair{read: read, write: write}, func() { close(ended) })
+	c := newCaller(pair{write: write})
+	c.begin(read, func() { close(ended) })
 	select {
 	case <-ended:
 	case <-time.After(10 * time.Second):
