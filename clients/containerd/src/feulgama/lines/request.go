@@ -35,11 +35,12 @@ const (
 
 // Limits of the protocol that an adapter has to know.
 const (
-	Requests  = 16384   // that a shim answers
-	MostPeek  = 256     // bytes of a peek
-	MostID    = 64      // characters of an id
-	MostEnv   = 64      // entries of an environment
-	MostReply = 8 << 20 // more bytes than any reply has
+	Requests   = 16384   // that a shim answers
+	MostPeek   = 256     // bytes of a peek
+	MostID     = 64      // characters of an id
+	MostOutput = 65536   // bytes of a stream
+	MostEnv    = 64      // entries of an environment
+	MostReply  = 8 << 20 // more bytes than any reply has
 )
 
 type named struct {

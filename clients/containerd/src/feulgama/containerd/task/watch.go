@@ -2,6 +2,7 @@ package task
 
 import (
 	"errors"
+	"fmt"
 	"time"
 
 	events "github.com/containerd/containerd/api/events"
@@ -55,11 +56,23 @@ func (c *container) finish(reply lines.Reply) {
 	if err != nil {
 		logrus.WithError(err).Errorf("read the output of %s", c.request.ID)
 	}
-	if reply.Cause == "trap" {
-		all[lines.Stderr] = append(all[lines.Stderr], "trap: "+reply.Trap+"\n"...)
-	}
+	all[lines.Stderr] = append(all[lines.Stderr], remarks(all, reply)...)
 	c.streams.Finish(all)
 	c.tellEnd(reply.Exit)
+}
+
+// remarks is what standard error says after the module, as that of `wasm-shim run` does.
+func remarks(all map[int][]byte, reply lines.Reply) string {
+	text := ""
+	if reply.Cause == "trap" {
+		text = "trap: " + reply.Trap + "\n"
+	}
+	for stream, name := range map[int]string{lines.Stdout: "standard output", lines.Stderr: "standard error"} {
+		if len(all[stream]) >= lines.MostOutput {
+			text += fmt.Sprintf("%s is full: %d bytes\n", name, lines.MostOutput)
+		}
+	}
+	return text
 }
 
 // lost tells the end of a task whose process has ended.

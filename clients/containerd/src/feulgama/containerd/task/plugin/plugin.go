@@ -9,6 +9,7 @@ import (
 	"github.com/containerd/containerd/namespaces"
 	"github.com/containerd/containerd/pkg/shutdown"
 	"github.com/containerd/containerd/plugin"
+	"github.com/containerd/containerd/runtime/v2/shim"
 
 	"feulgama/containerd/events"
 	"feulgama/containerd/serve"
@@ -29,6 +30,11 @@ func start(ic *plugin.InitContext) (interface{}, error) {
 	if err := serve.Seal(); err != nil {
 		return nil, fmt.Errorf("keep the shim's files to itself: %w", err)
 	}
+	// The library waits for the end of its own publisher, which is not used: it changes the order of events.
+	publisher, err := ic.GetByID(plugin.EventPlugin, "publisher")
+	if err != nil {
+		return nil, err
+	}
 	down, err := ic.GetByID(plugin.InternalPlugin, "shutdown")
 	if err != nil {
 		return nil, err
@@ -42,7 +48,10 @@ func start(ic *plugin.InitContext) (interface{}, error) {
 		return nil, err
 	}
 	ends := down.(shutdown.Service)
-	ends.RegisterCallback(func(context.Context) error { queue.Close(); return nil })
+	ends.RegisterCallback(func(context.Context) error {
+		queue.Close()
+		return publisher.(shim.Publisher).Close()
+	})
 	return task.New(namespace, queue, program, ends), nil
 }
 

@@ -1,0 +1,73 @@
+"""What has to be there before a test begins: the built programs and the images."""
+from __future__ import annotations
+
+import os
+import shutil
+import sys
+from pathlib import Path
+
+from checks.images import HEAD, TOP, Images, load_tool
+from checks.machine import PACKAGES, Machine, missing, must
+
+from .daemon import Setting
+
+CLIENT = TOP / "clients/containerd"
+LIBRARY = "/usr/share/gocode/src/github.com/containerd/containerd"
+PACKAGES[LIBRARY] = "golang-github-containerd-containerd-dev"
+TOOLS = ("go", "gofmt", "gcc", LIBRARY, "containerd", "ctr", "containerd-shim-runc-v2", "runc")
+# Another native program, static and as small as the module `hello`.
+NATIVE = '#include <unistd.h>\nint main(void) { return write(1, "hello, feulgama\\n", 16) != 16; }\n'
+# exit1000 ends with a status that has more than 8 bits; full writes 77,000 bytes; pages begins with 17 pages, as programs
+# in Rust do, and exits with that number.
+TEXTS = {
+    "exit1000": HEAD + "(func $start (type $v) i32.const 1000 call $proc_exit))",
+    "full": HEAD + '''(data (offset i32.const 0) "\\08\\00\\00\\00\\0b\\00\\00\\000123456789\\n")
+  (func $start (type $v) (local $i i32) loop i32.const 1 i32.const 0 i32.const 1 i32.const 32 call $fd_write drop
+  local.get $i i32.const 1 i32.add local.tee $i i32.const 7000 i32.lt_u br_if 0 end))''',
+    "pages": HEAD.replace("(memory 1)", "(memory 17)") + "(func $start (type $v) memory.size call $proc_exit))",
+}
+
+
+def can_run(program: Path) -> bool:
+    """Whether the tests can be run at all; standard error says why not."""
+    absent = missing(TOOLS)
+    if not program.is_file():
+        print(f"{program} is not there: tools/shim --version builds it, and --program names another", file=sys.stderr)
+    elif os.geteuid() != 0:
+        print("these tests make containers, mounts and cgroups, and need to be root", file=sys.stderr)
+    elif absent:
+        print(f"To run: apt-get install -y --no-install-recommends {' '.join(absent)}", file=sys.stderr)
+    else:
+        return True
+    return False
+
+
+def go_environment(race: bool = False) -> dict[str, str]:
+    """The environment in which go finds the source of this repository and Debian's libraries only."""
+    path = f"/usr/share/gocode:{CLIENT}:{TOP / 'clients/oci'}"
+    return {
+        **os.environ, "GO111MODULE": "off", "GOPROXY": "off", "GOFLAGS": "", "GOPATH": path,
+        "CGO_ENABLED": "1" if race else "0",
+    }
+
+
+def prepare(machine: Machine, program: Path, race: bool) -> Setting:
+    """Builds the programs, and makes the images."""
+    folder = machine.folder / "bin"
+    folder.mkdir()
+    shutil.copy(program, folder / "wasm-shim")
+    (folder / "wasm-shim").chmod(0o755)
+    must([CLIENT / "build", *(["--race"] if race else []), folder / "containerd-shim-feulgama-v1"], seconds=600)
+    must([TOP / "clients/oci/build", folder / "feulgama-oci"], seconds=600)
+    must(["go", "build", "-trimpath", "-o", folder / "cri-call", "feulgama/cri-call"], go_environment(), seconds=600)
+    (folder / "native.c").write_text(NATIVE)
+    must(["gcc", "-O2", "-static", "-o", folder / "native", folder / "native.c"])
+    work = machine.folder / "images"
+    work.mkdir()
+    images = Images(folder / "wasm-shim", folder / "feulgama-oci", work)
+    images.make()
+    for name, text in TEXTS.items():
+        images.modules[name] = images.assemble(text)
+        images.add(name, {f"{name}.wasm": images.modules[name]}, f"/{name}.wasm")
+    images.add("static", {"native": (folder / "native").read_bytes()}, "/native")
+    return Setting(machine, images, load_tool(), folder, race)

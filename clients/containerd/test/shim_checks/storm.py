@@ -1,0 +1,103 @@
+"""Many containers, and processes that are killed at random moments."""
+from __future__ import annotations
+
+import os
+import random
+import signal
+import time
+from collections import Counter
+from concurrent.futures import ThreadPoolExecutor
+from contextlib import suppress
+from pathlib import Path
+
+from checks.machine import until
+
+from .base import WithDaemon
+from .containers import FULL
+from .daemon import Events
+
+CONTAINERS, AT_ONCE, IN_A_POD, MOMENTS = 1000, 20, 64, 50
+
+
+class Storm(WithDaemon):
+    """No output is lost, no exit status is wrong, each exit is told once, and nothing is left."""
+
+    images = ("hello", "counts", "echo", "exit7", "full")
+
+    def all_gone(self) -> None:
+        """Checks that no container has left anything."""
+        until("all shims have ended", lambda: self.daemon.shims() == [], 60)
+        folder = self.daemon.at / "state/io.containerd.runtime.v2.task/default"
+        until("all folders are gone", lambda: not folder.exists() or list(folder.iterdir()) == [], 60)
+        self.assertEqual(list(Path("/run/containerd/s").iterdir()), [])
+        mounts = Path("/proc/self/mountinfo").read_text()
+        self.assertNotIn(f"{self.daemon.at}/state", mounts)
+        groups = [path for path in Path("/sys/fs/cgroup").glob(f"*/{self.daemon.cgroup}/*") if path.is_dir()]
+        self.assertEqual(groups, [])
+
+    def test_1_short_containers(self) -> None:
+        """1,000 short containers, 20 at once: no output lost, no exit status wrong, nothing left"""
+        def one(number: int) -> str:
+            name, kind = f"short-{number}", number % 4
+            if kind == 0:
+                ended, want = self.daemon.run("exit7", name=name), (7, "")
+            elif kind == 1:
+                ended, want = self.daemon.run("full", name=name), (0, FULL)
+            else:
+                ended = self.daemon.run("echo", "/echo.wasm", f"line {number}", name=name)
+                want = 0, f"/echo.wasm\nline {number}\n"
+            is_right = (ended.status, ended.out) == want
+            return "" if is_right else f"{name}: {ended.status}, {ended.out[:200]!r}, {ended.err[:500]}"
+        with ThreadPoolExecutor(AT_ONCE) as pool:
+            faults = [fault for fault in pool.map(one, range(CONTAINERS)) if fault]
+        self.assertEqual(faults, [])
+        self.all_gone()
+
+    def test_2_large_pod(self) -> None:
+        """64 containers in one pod have one shim, run, and end with their statuses"""
+        def one(number: int) -> str:
+            options = ["--annotation=io.kubernetes.cri.sandbox-id=large"]
+            return self.daemon.begin("counts", options=options, name=f"pod-{number}")
+        with ThreadPoolExecutor(AT_ONCE) as pool:
+            names = list(pool.map(one, range(IN_A_POD)))
+            self.assertEqual(len(self.daemon.shims()), 1)
+            threads = len(list(Path(f"/proc/{self.daemon.shims()[0]}/task").iterdir()))
+            self.assertLess(threads, IN_A_POD)
+            list(pool.map(self.daemon.kill, names))
+            self.assertEqual(list(pool.map(self.daemon.remove, names)), [143] * IN_A_POD)
+        self.all_gone()
+
+    def killed(self, name: str, what: str, chance: random.Random) -> None:
+        """Kills a process of a container at a random moment of its life."""
+        time.sleep(chance.random() * 0.5)
+        with suppress(IndexError, ProcessLookupError, RuntimeError):  # there is none yet, or none any more
+            if what == "containerd":
+                self.daemon.end(hard=True)
+                self.daemon.start()
+            else:
+                os.kill(self.daemon.shims()[0] if what == "shim" else self.daemon.pid(name), signal.SIGKILL)
+
+    def test_3_kills(self) -> None:
+        """a shim, a process of a module or containerd is killed at 50 random moments: exits are told once, nothing is left"""
+        chance = random.Random(20261128)
+        told: Counter[str] = Counter()
+        for number in range(MOMENTS):
+            what = chance.choice(["containerd", "shim", "process"])
+            name, events = f"killed-{number}", Events(self.daemon)
+            with ThreadPoolExecutor(1) as pool:
+                options = [*self.daemon.options(name), f"--log-uri=file://{self.daemon.log(name)}"]
+                reference = self.setting.images.all["counts"].reference
+                started = pool.submit(self.daemon.ctr, "run", "-d", *options, reference, name)
+                self.killed(name, what, chance)
+                started.result()
+            if self.daemon.row(name):
+                self.daemon.ctr("tasks", "kill", "--signal=SIGKILL", name)
+                until("it has stopped", lambda: (self.daemon.row(name) or ["", "", "STOPPED"])[2] == "STOPPED")
+                self.daemon.ctr("tasks", "delete", name)
+            until("the task is gone", lambda: self.daemon.row(name) == [])
+            self.daemon.ctr("containers", "delete", name)
+            events.end()
+            told[f"{what}: {events.topics(name).count('exit')} exits"] += 1
+            self.assertLessEqual(events.topics(name).count("exit"), 1, f"{name}: {what}: {events.topics(name)}")
+        print("       ", dict(sorted(told.items())))
+        self.all_gone()
