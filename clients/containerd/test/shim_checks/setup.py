@@ -21,9 +21,9 @@ NATIVE = '#include <unistd.h>\nint main(void) { return write(1, "hello, feulgama
 # in Rust do, and exits with that number.
 TEXTS = {
     "exit1000": HEAD + "(func $start (type $v) i32.const 1000 call $proc_exit))",
-    "full": HEAD + '''(data (offset i32.const 0) "\\08\\00\\00\\00\\0b\\00\\00\\000123456789\\n")
-  (func $start (type $v) (local $i i32) loop i32.const 1 i32.const 0 i32.const 1 i32.const 32 call $fd_write drop
-  local.get $i i32.const 1 i32.add local.tee $i i32.const 7000 i32.lt_u br_if 0 end))''',
+    "full": HEAD + '(data (offset i32.const 0) "\\08\\00\\00\\00\\4c\\04\\00\\00' + "0123456789\\n" * 100 + '''")
+  (func $start (type $v) (local $i i32) loop i32.const 1 i32.const 0 i32.const 1 i32.const 2000 call $fd_write drop
+  local.get $i i32.const 1 i32.add local.tee $i i32.const 70 i32.lt_u br_if 0 end))''',
     "pages": HEAD.replace("(memory 1)", "(memory 17)") + "(func $start (type $v) memory.size call $proc_exit))",
 }
 

@@ -173,7 +173,7 @@ class Page(unittest.TestCase):
         self.host(Containerd)
 
     def test_all_blocks_are_run(self) -> None:
-        """each block of commands is for a host that is run"""
+        """each block of commands is for a host that is run, here or by the tests of the containerd shim"""
         text = PAGE.read_text()
         self.assertEqual(len(BLOCK.findall(text)), text.count("```console"))
-        self.assertEqual({name for name, _ in BLOCK.findall(text)}, {"setup", "podman", "docker", "containerd"})
+        self.assertEqual({name for name, _ in BLOCK.findall(text)}, {"setup", "podman", "docker", "containerd", "shim"})

@@ -80,7 +80,7 @@ func groupOf(id string) (string, error) {
 func listen(address string) (*os.File, error) {
 	socket, err := shim.NewSocket(address)
 	if err != nil && shim.SocketEaddrinuse(err) {
-		if shim.CanConnect(address) {
+		if answers(address) {
 			return nil, nil
 		}
 		if err := shim.RemoveSocket(address); err != nil && !errors.Is(err, os.ErrNotExist) {
@@ -97,6 +97,17 @@ func listen(address string) (*os.File, error) {
 	}
 	socket.SetUnlinkOnClose(false) // the shim has it now
 	return file, socket.Close()
+}
+
+// answers tells whether a shim listens at an address. One that is just being started may not listen yet.
+func answers(address string) bool {
+	for tries := 0; tries < 5; tries++ {
+		if shim.CanConnect(address) {
+			return true
+		}
+		time.Sleep(10 * time.Millisecond)
+	}
+	return false
 }
 
 // startShim starts this program once more, to stay.
