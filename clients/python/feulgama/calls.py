@@ -20,7 +20,6 @@ class Calls:
     kill = requests.kill
     delete = requests.delete
     state = requests.state
-    wait = requests.wait
     output = requests.output
     break_ = requests.break_
     unbreak = requests.unbreak

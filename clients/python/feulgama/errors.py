@@ -4,6 +4,8 @@ from __future__ import annotations
 from collections.abc import Callable, Mapping
 from typing import ClassVar
 
+from feulgama.model import Ran
+
 Reason = Callable[[], str | None]
 
 
@@ -29,6 +31,19 @@ class ShimEndedError(FeulgamaError):
         super().__init__(f"{why}{told}{': ' + said if said else ''}")
         self.status = status
         self.said = said
+
+
+class OldShimError(ShimEndedError):
+    """The program of the shim is too old for this package: its `serve` has no option `--caller`."""
+
+
+class TimedOutError(FeulgamaError, TimeoutError):
+    """A task has neither ended nor paused in the time that was given. Of a `run` the task is killed, and `ran` has what it
+    did before; of a `wait` it goes on, and `ran` is None."""
+
+    def __init__(self, why: str, ran: Ran | None = None) -> None:
+        super().__init__(why)
+        self.ran = ran
 
 
 class InterferenceError(FeulgamaError):
@@ -191,6 +206,11 @@ class BadTextError(RefusalError):
         return f" line {reply.get('line')} column {reply.get('column')}"
 
 
+class ClosedError(RefusalError):
+    """The shim is being closed."""
+    NUMBER = 19
+
+
 class NoEntryError(RefusalError):
     """The module has no entry function, or no memory for its system calls."""
     NUMBER = 21
@@ -216,6 +236,13 @@ Limit, BadConfig, WrongStatus, Busy = LimitError, BadConfigError, WrongStatusErr
 OutOfRange, TooMany, JournalFull, DigestConflict = OutOfRangeError, TooManyError, JournalFullError, DigestConflictError
 NoMemory, BadText, NoEntry, BadImport = NoMemoryError, BadTextError, NoEntryError, BadImportError
 SegmentOutOfBounds = SegmentOutOfBoundsError
+
+
+def ended(why: str, status: int | None, said: str) -> ShimEndedError:
+    """The exception for a shim that has ended."""
+    if status == 2 and "'--caller'" in said:
+        return OldShimError(f"the program of the shim is too old: its `serve` has no option --caller. {why}", status, said)
+    return ShimEndedError(why, status, said)
 
 
 def optional_number(reply: Mapping[str, object], key: str) -> int | None:

@@ -1,4 +1,4 @@
-"""A shim's process and its pipes: lines go in, and as many lines come out."""
+"""A shim's process and the pipes of its callers: lines go in, and as many lines come out."""
 from __future__ import annotations
 
 import contextlib
@@ -9,35 +9,53 @@ import subprocess
 import threading
 import time
 
-from feulgama.errors import BadReplyError, NoShimError, ShimEndedError
-from feulgama.said import Said
+from feulgama.callers import pipes
+from feulgama.errors import BadReplyError, NoShimError, ShimEndedError, TimedOutError, ended
+from feulgama.said import Line, Said
+from feulgama.waits import Wait, Waits
 
 CHUNK = 1 << 18
 PATIENCE, LAST_WORDS = 5.0, 0.2
 
 
 class Pipe:
-    """A running `wasm-shim serve`, of the words that start it. It has a session of its own, so that a Ctrl-C in a
-    terminal does not reach it. `asked` is how many lines it was sent; `said` is what it writes to standard error, which a
-    thread reads, so that the shim never waits for a reader."""
+    """A running `wasm-shim serve`, of the words that start it, with a caller that controls it and so many that wait. It
+    has a session of its own, so that a Ctrl-C in a terminal does not reach it. `asked` is how many lines it was sent;
+    `said` is what it writes to standard error, which a thread reads, so that the shim never waits for a reader."""
 
-    def __init__(self, words: list[str]) -> None:
+    def __init__(self, words: list[str], waiters: int) -> None:
+        made = pipes(waiters)
         try:
-            self._process = subprocess.Popen(words, bufsize=0, start_new_session=True, stdin=subprocess.PIPE,
-                                             stdout=subprocess.PIPE, stderr=subprocess.PIPE)
+            self._process = subprocess.Popen([*words, *made.words()], bufsize=0, start_new_session=True, pass_fds=made.given,
+                                             stdin=subprocess.DEVNULL, stdout=subprocess.DEVNULL, stderr=subprocess.PIPE)
         except OSError as error:
-            raise NoShimError(f"{' '.join(words)}: {error.strerror}") from error
-        if self._process.stdin is None or self._process.stdout is None or self._process.stderr is None:
-            raise NoShimError(f"{' '.join(words)}: it was started without pipes")
-        self._streams = self._process.stdin, self._process.stdout
-        self._in, self._out = (stream.fileno() for stream in self._streams)
-        os.set_blocking(self._in, False)
+            made.close()
+            raise NoShimError(f"{words[0]}: {error.strerror}") from error
+        made.close_given()
+        self._control = made.ends[0]
+        self._in, self._out = self._control.lines, self._control.replies
+        # Closed too if this object is given up, which ends the shim.
+        self._streams = os.fdopen(self._in, "wb", 0), os.fdopen(self._out, "rb", 0)
         self.said = Said()
-        self._listener = threading.Thread(target=self.said.listen, args=(self._process.stderr,), daemon=True)
+        self._listener = threading.Thread(target=self._listen, daemon=True)
         self._listener.start()
+        self._waits = Waits(made.ends[1:])
+        self._ending = threading.Lock()
         self._ended: ShimEndedError | None = None
-        self._unanswered = 0
-        self.asked = 0
+        self._unanswered = self._controlled = 0
+
+    def _listen(self) -> None:
+        if self._process.stderr is not None:
+            self.said.listen(self._process.stderr)
+
+    @property
+    def asked(self) -> int:
+        """How many lines it was sent."""
+        return self._controlled + self._waits.asked
+
+    def line(self, back: int = 0) -> Line:
+        """The last line that controls it, or one so many before."""
+        return Line(self._control.name, self._controlled - back)
 
     @property
     def pid(self) -> int:
@@ -77,7 +95,7 @@ class Pipe:
         if self._unanswered:
             raise self.end("an earlier request was broken off")
         self._unanswered = count
-        self.asked += count
+        self._controlled += count
 
     def _pump(self, lines: bytes, count: int) -> bytes:
         poll = select.poll()
@@ -117,15 +135,36 @@ class Pipe:
 
     def end(self, why: str) -> ShimEndedError:
         """Ends the process, if it has not ended, and says how it did."""
-        if self._ended is None:
-            status = self._process.poll()
-            if status is None:
-                status = self._stop()
-            self._listener.join(LAST_WORDS)
-            self._ended = ShimEndedError(why, status, self.said.other())
-            for stream in self._streams:
-                stream.close()
-        return self._ended
+        with self._ending:
+            if self._ended is None:
+                status = self._process.poll()
+                if status is None:
+                    status = self._stop()
+                self._listener.join(LAST_WORDS)
+                self._ended = ended(why, status, self.said.other())
+            return self._ended
+
+    # Waits.
+
+    def ask_wait(self, task: str, line: bytes, timeout: float | None) -> Wait:
+        """The wait for a task, by a caller of its own. Raises TimedOutError if none is free in time."""
+        found = self._waits.ask(task, line, timeout) if self._ended is None else None
+        if found is None:
+            raise self.end("the shim has ended")
+        return found
+
+    def answer_to(self, wait: Wait, timeout: float | None) -> bytes:
+        """The line that answers a wait. Raises TimedOutError if it does not come in time."""
+        try:
+            return wait.reply.result(timeout)
+        except TimeoutError as error:
+            raise TimedOutError("the time that was given for a wait is over") from error
+        except EOFError as error:
+            raise self.end("the shim has ended") from error
+
+    def changes(self, line: bytes) -> None:
+        """Takes note of a line that changes a task, before it is sent: the next wait for that task is a new one."""
+        self._waits.forget(line)
 
     def _stop(self) -> int | None:
         """Waits a moment for a process that is about to end, and then kills it with what it has started."""
@@ -149,10 +188,12 @@ class Pipe:
 
     def close(self) -> None:
         """Closes its input, and waits until it has ended."""
-        if self._ended is not None:
+        if self._streams[0].closed:
             return
-        if not self._unanswered:
-            self._streams[0].close()
+        self._streams[0].close()
+        if self._ended is None and not self._unanswered:
             with contextlib.suppress(subprocess.TimeoutExpired):
                 self._process.wait(PATIENCE)
         self.end("the shim was closed")
+        self._waits.close(LAST_WORDS)
+        self._streams[1].close()

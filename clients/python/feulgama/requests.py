@@ -12,6 +12,7 @@ from feulgama.operation import Operation, Reply
 from feulgama.operation import Request as Request
 
 JOURNAL = 16_384  # how many requests a shim answers
+CHANGES = frozenset({"create", "start", "pause", "resume", "kill", "delete", "step"})  # what changes a task
 IDS = itertools.count()
 
 

@@ -4,34 +4,39 @@ from __future__ import annotations
 import contextlib
 import os
 import threading
+import time
 from collections.abc import Mapping, Sequence
 from functools import partial
 from types import TracebackType
 from typing import Self, TypeVar
 
+from feulgama import requests
 from feulgama.calls import Calls
 from feulgama.config import Config, digest_of
-from feulgama.errors import BadReplyError, ExistsError, FeulgamaError
+from feulgama.errors import BadReplyError, ExistsError, FeulgamaError, TimedOutError, WrongStatusError
 from feulgama.lowering import lower as lowered
-from feulgama.model import Ran, Stream
+from feulgama.model import Ran, State, Stream
 from feulgama.operation import Asks, Request
 from feulgama.pipe import Pipe
 from feulgama.program import program, serving
-from feulgama.requests import JOURNAL, ran_of
+from feulgama.requests import CHANGES, JOURNAL, ran_of
+from feulgama.said import Line
 
 T = TypeVar("T")
+WAITERS = 4
 
 
 class Shim(Calls, Asks):
     """A `wasm-shim serve` that this object has started, and ends when it is closed. Several threads may use it: a
     request waits until the one before it is answered. Each method raises the RefusalError that the request is answered,
     ShimEndedError if the shim ends, and BadReplyError if it writes what is no reply. `workers` is how many threads run
-    its tasks, from 1 to 16. Without `explain` refusals have no reasons."""
+    its tasks, from 1 to 16; `waiters` for how many tasks threads may `wait` at once, from 1 to 129. Without `explain`
+    refusals have no reasons."""
 
     def __init__(self, program_file: str | os.PathLike[str] | None = None, *, workers: int | None = None,
-                 explain: bool = True) -> None:
-        self._program_file, self._workers, self._explain = program_file, workers, explain
-        self._pipe = Pipe(serving(program_file, workers, explain))
+                 explain: bool = True, waiters: int = WAITERS) -> None:
+        self._program_file, self._workers, self._explain, self._waiters = program_file, workers, explain, waiters
+        self._pipe = Pipe(serving(program_file, workers, explain), waiters)
         self._lock = threading.Lock()
 
     def __enter__(self) -> Self:
@@ -62,7 +67,7 @@ class Shim(Calls, Asks):
 
     def another(self) -> Shim:
         """A new shim of the same program, with as many workers."""
-        return Shim(self._program_file, workers=self._workers, explain=self._explain)
+        return Shim(self._program_file, workers=self._workers, explain=self._explain, waiters=self._waiters)
 
     def kill_shim(self) -> None:
         """Ends the shim at once, also while another thread waits for a reply."""
@@ -71,33 +76,52 @@ class Shim(Calls, Asks):
     def call(self, request: Request[T]) -> T:
         """The result of a request."""
         with self._lock:
+            if request.op in CHANGES:
+                self._pipe.changes(request.line)
             line = self._pipe.exchange(request.line)
-            try:
-                return request.result(line, partial(self._why, self._pipe.asked))
-            except BadReplyError as bad:
-                self._pipe.refuse(line)
-                raise bad
+            return self._result(request, line, self._pipe.line())
+
+    def _result(self, request: Request[T], line: bytes, asked: Line) -> T:
+        """What a line answers to a request."""
+        try:
+            return request.result(line, partial(self._why, asked))
+        except BadReplyError as bad:
+            self._pipe.refuse(line)
+            raise bad
+
+    def wait(self, task: str, timeout: float | None = None) -> State:
+        """Waits until a task is not running; its state. Other threads may ask meanwhile. Raises TimedOutError after so
+        many seconds."""
+        request, until = requests.wait(task), None if timeout is None else time.monotonic() + timeout
+        try:
+            found = self._pipe.ask_wait(task, request.line, timeout)
+            line = self._pipe.answer_to(found, None if until is None else max(0.0, until - time.monotonic()))
+        except TimedOutError as error:
+            raise TimedOutError(f"task {task} still runs after {timeout} seconds") from error
+        return self._result(request, line, Line(found.name, found.number))
 
     def call_all(self, asked: Sequence[Request[T]]) -> list[T | FeulgamaError]:
         """The results of several requests, sent without waiting for the replies between them. A request that is
         refused has its RefusalError as result, and does not stop the others."""
         with self._lock:
-            first = self._pipe.asked + 1
+            for request in asked:
+                if request.op in CHANGES:
+                    self._pipe.changes(request.line)
             lines = self._pipe.exchange_many(b"".join(request.line for request in asked), len(asked)).split(b"\n")
+            last = self._pipe.line()
         results: list[T | FeulgamaError] = []
-        for number, (request, line) in enumerate(zip(asked, lines), first):
+        for back, (request, line) in zip(range(len(asked) - 1, -1, -1), zip(asked, lines)):
             try:
-                results.append(request.result(line, partial(self._why, number)))
+                results.append(self._result(request, line, last._replace(number=last.number - back)))
             except BadReplyError:
-                self._pipe.refuse(line)
                 raise
             except FeulgamaError as refused:
                 results.append(refused)
         return results
 
-    def _why(self, number: int) -> str | None:
+    def _why(self, line: Line) -> str | None:
         """The reason of the refusal of a line."""
-        return self._pipe.said.why(number) if self._explain else None
+        return self._pipe.said.why(line) if self._explain else None
 
     def raw(self, lines: bytes, count: int) -> bytes:
         """The lines that this many lines are answered, as bytes."""
@@ -110,23 +134,37 @@ class Shim(Calls, Asks):
         return digest_of(data)
 
     def run(self, module: bytes, args: Sequence[str] = ("module",), env: Mapping[str, str] | None = None,
-            memory_limit: int | None = None, lower: bool = False) -> Ran:
+            memory_limit: int | None = None, lower: bool = False, timeout: float | None = None) -> Ran:
         """Runs a module to its end as one task, which is deleted then. A module that was not stored before is
-        removed again. With `lower` it is lowered first, which raises LoweringError if that cannot be done."""
+        removed again. With `lower` it is lowered first, which raises LoweringError if that cannot be done. After
+        `timeout` seconds it is killed, and TimedOutError raised."""
         module = lowered(module).data if lower else module
         config = Config(digest_of(module), args, env or {}, memory_limit)
         is_new = self._put_new(module)
         try:
             task = self.create(config).id
             self.start(task)
-            state = self.wait(task)
+            late = None
+            try:
+                state = self.wait(task, timeout)
+            except TimedOutError as error:
+                late, state = error, self._killed(task)
             outputs = self.output(task, Stream.STDOUT), self.output(task, Stream.STDERR)
-            self.delete(task)
+            if state.exit is not None:
+                self.delete(task)
         finally:
             if is_new:
                 with contextlib.suppress(FeulgamaError):
                     self.remove(config.module)
+        if late is not None:
+            raise TimedOutError(str(late), ran_of(state, *outputs)) from late
         return ran_of(state, *outputs)
+
+    def _killed(self, task: str) -> State:
+        """Ends a task that may have ended by itself; its state then."""
+        with contextlib.suppress(WrongStatusError):
+            self.kill(task)
+        return self.wait(task)
 
     def _put_new(self, data: bytes) -> bool:
         """Stores bytes; whether they were not there before."""

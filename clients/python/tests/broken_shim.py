@@ -3,35 +3,38 @@
 import os
 import sys
 import time
+from pathlib import Path
+
+sys.path.insert(0, str(Path(__file__).resolve().parents[1]))
+
+from tests.stub_callers import callers_of  # noqa: E402
 
 
 def main() -> int:
-    line = sys.stdin.buffer.readline()
-    out = sys.stdout.buffer
+    caller = callers_of(sys.argv)[0]
+    line = os.read(caller.lines, 1000)
     match os.environ["BROKEN"]:
         case "ends":
             print("wasm-shim: out of memory", file=sys.stderr)
             return 1
         case "half":
-            out.write(b'{"ok":tr')
+            caller.reply(b'{"ok":tr')
         case "words":
-            out.write(b"hello\n")
+            caller.reply(b"hello\n")
         case "list":
-            out.write(b"[1]\n")
+            caller.reply(b"[1]\n")
         case "bare":
-            out.write(b"{}\n")
+            caller.reply(b"{}\n")
         case "keys":
-            out.write(b'{"ok":true}\n')
+            caller.reply(b'{"ok":true}\n')
         case "two":
-            out.write(b'{"ok":true,"removed":[]}\n{"ok":true,"removed":[]}\n')
+            caller.reply(b'{"ok":true,"removed":[]}\n{"ok":true,"removed":[]}\n')
         case "closes":
-            os.close(1)
+            os.closerange(3, 1000)
             time.sleep(60)
         case "new":
-            out.write(b'{"error":"Odd","number":99,"ok":false}\n')
-            out.flush()
-            sys.stdin.buffer.read()
-    out.flush()
+            caller.reply(b'{"error":"Odd","number":99,"ok":false}\n')
+            os.read(caller.lines, 1000)
     return len(line) == 0
 
 

@@ -1,13 +1,13 @@
 #!/usr/bin/env python3
 """The second reading of the standards (tests/suite/reference), and a shim that it answers: for tests without the program.
 
-    reference_shim.py serve
+    reference_shim.py serve --caller IN:OUT ..
     reference_shim.py asm FILE      (a file of bytes alone)
 
-A task that is started runs to its end while a `wait` for it is answered, and a slice each time that it is asked for
-its state. With the environment variable EAGER it runs as soon as it is started or resumed, as if there were a worker
-that is faster than all requests. Of texts it knows the empty module alone. It gives no reasons of refusals, unless the
-environment variable EXPLAIN has one, which it gives for each.
+A task that is started runs a slice each time that it is asked for its state, and while it is waited for. With the
+environment variable EAGER it runs as soon as it is started or resumed, as if there were a worker that is faster than
+all requests. Of texts it knows the empty module alone. It gives no reasons of refusals, unless the environment variable
+EXPLAIN has one, which it gives for each.
 """
 import importlib.util
 import json
@@ -33,10 +33,12 @@ def load_second_reading() -> None:
 
 
 load_second_reading()
+sys.path.insert(0, str(Path(__file__).resolve().parents[1]))
 
 from suite.reference import callers, frames, programs, wasm  # noqa: E402
 from suite.reference.board import Board  # noqa: E402
 from suite.reference.execute import Machine  # noqa: E402
+from tests.stub_callers import Caller, lines_of  # noqa: E402
 
 __all__ = ["Machine", "callers", "frames", "programs", "wasm"]
 
@@ -78,23 +80,49 @@ def read_text(line: bytes) -> bytes:
     return json.dumps({"op": "put", **EMPTY_MODULE}).encode()
 
 
-def serve() -> None:
-    """Answers the lines of standard input."""
-    board: Board = EagerBoard(False) if os.environ.get("EAGER") else SlicedBoard(False)
-    reason = os.environ.get("EXPLAIN")
-    for number, line in enumerate(sys.stdin.buffer, 1):
-        reply = board.answer(read_text(line.removesuffix(b"\n")))
-        sys.stdout.buffer.write(reply + b"\n")
-        sys.stdout.buffer.flush()
+class Server:
+    """Answers lines. A line that waits for a task is kept while that task runs."""
+
+    def __init__(self) -> None:
+        self._board: Board = EagerBoard(False) if os.environ.get("EAGER") else SlicedBoard(False)
+        self._reason = os.environ.get("EXPLAIN")
+        self._kept: list[tuple[Caller, bytes, Any]] = []
+
+    def go_on(self) -> bool:
+        """Makes a slice of each task that is waited for; whether there is one."""
+        kept, self._kept = self._kept, []
+        for caller, line, task in kept:
+            if task.status == "running":
+                task.run(SLICE)
+            self.take(caller, line)
+        return bool(self._kept)
+
+    def take(self, caller: Caller, line: bytes) -> None:
+        """Answers a line, or keeps it."""
+        if b'"wait"' in line:
+            task = self._board.tasks.get(json.loads(line)["id"])
+            if task is not None and task.status == "running":
+                self._kept.append((caller, line, task))
+                return
+        reply = self._board.answer(read_text(line))
         found = json.loads(reply)
-        if reason is not None and not found["ok"]:
+        if self._reason is not None and not found["ok"]:
             op = json.loads(line)["op"]
-            print(f"why: line {number}, {found['number']} {found['error']}: {op}: {reason}", file=sys.stderr, flush=True)
+            print(f"why: {caller.name} line {caller.count}, {found['number']} {found['error']}: {op}: {self._reason}",
+                  file=sys.stderr, flush=True)
+        caller.reply(reply + b"\n")
+
+
+def serve(words: list[str]) -> None:
+    """Answers the lines of all callers."""
+    server = Server()
+    for caller, line in lines_of(words, server.go_on):
+        server.take(caller, line)
 
 
 def main(words: list[str]) -> int:
     if words[:1] == ["serve"]:
-        serve()
+        serve(words)
     elif words[:1] == ["asm"]:
         print(Path(words[-1]).read_bytes().hex())
     else:

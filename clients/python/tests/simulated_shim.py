@@ -3,7 +3,7 @@
 its tasks run at any speed that is asked for, by the clock, in slices of 10,000 turns. What is tested with it is how
 a client comes to a turn while a task runs.
 
-    simulated_shim.py serve
+    simulated_shim.py serve --caller IN:OUT ..
 
 SPEED in the environment is how many turns a task makes in a second, or two numbers: before its turn 20,000,000 and
 then. LATE is how many seconds late a `pause` takes hold, as if the client had slept too long, and how many times. A
@@ -13,7 +13,12 @@ import json
 import os
 import sys
 import time
+from pathlib import Path
 from typing import Any
+
+sys.path.insert(0, str(Path(__file__).resolve().parents[1]))
+
+from tests.stub_callers import lines_of  # noqa: E402
 
 ROUND, SLICE, JOURNAL = 6, 10_000, 16_384
 CHANGE = 20_000_000
@@ -145,7 +150,7 @@ class Simulation:
 
 def main() -> int:
     board = Simulation()
-    for count, line in enumerate(sys.stdin.buffer):
+    for count, (caller, line) in enumerate(lines_of(sys.argv)):
         keys, reply = json.loads(line), dict[str, Any]()
         try:
             if count >= JOURNAL:
@@ -154,8 +159,7 @@ def main() -> int:
         except Refused as refused:
             number = int(refused.args[0])
             reply = {"error": NAMES[number], "number": number, "ok": False}
-        sys.stdout.buffer.write(json.dumps(reply, separators=(",", ":"), sort_keys=True).encode() + b"\n")
-        sys.stdout.buffer.flush()
+        caller.reply(json.dumps(reply, separators=(",", ":"), sort_keys=True).encode() + b"\n")
     return 0
 
 

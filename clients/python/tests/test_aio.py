@@ -115,8 +115,8 @@ class Running(unittest.IsolatedAsyncioTestCase):
         for _ in range(rounds):
             config, machine = random.choice(self.written)
             await self.shim.create(config, id)
-            _, state, out, err = await asyncio.gather(self.shim.start(id), self.shim.wait(id), self.shim.output(id),
-                                                      self.shim.output(id, feulgama.Stream.STDERR))
+            _, state = await asyncio.gather(self.shim.start(id), self.shim.wait(id))
+            out, err = await asyncio.gather(self.shim.output(id), self.shim.output(id, feulgama.Stream.STDERR))
             self.assertEqual((out, err), (bytes(machine.streams[1]), bytes(machine.streams[2])))
             self.assertIn(config.args[0].encode(), out)
             self.assertEqual((state.id, state.turns), (id, machine.turns))

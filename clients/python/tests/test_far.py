@@ -85,7 +85,7 @@ class Far(unittest.TestCase):
     def test_an_interrupt_while_a_shim_takes_the_place_of_another(self) -> None:
         timeline = self.opened().timeline
         self.go_to([50_000_000])
-        timeline._track._shim._pipe.asked = JOURNAL - 1
+        timeline._track._shim._pipe._controlled = JOURNAL - 1
         threading.Timer(0.3, timeline.interrupted.set).start()
         begin = time.monotonic()
         self.assertIs(timeline.forward(Search(lambda _: False, each_turn=True)), Why.INTERRUPTED)

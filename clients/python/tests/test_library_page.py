@@ -36,7 +36,7 @@ class Page(unittest.TestCase):
 
     def test_one_for_every_call(self) -> None:
         text = examples()
-        for name in Calls.__dict__.keys() | {"run", "ensure", "call", "call_all", "another", "kill_shim", "close"}:
+        for name in Calls.__dict__.keys() | {"wait", "run", "ensure", "call", "call_all", "another", "kill_shim", "close"}:
             if not name.startswith("_") and name != "new_id":
                 self.assertRegex(text, rf"\b(shim|third|before|other)\.{name}\(", name)
 
@@ -46,7 +46,7 @@ class Table(unittest.TestCase):
 
     def test_each_request_is_a_method(self) -> None:
         table = {name for name, found in vars(requests).items() if isinstance(found, Operation)}
-        self.assertEqual(table, {name for name, found in vars(Calls).items() if isinstance(found, Operation)})
+        self.assertEqual(table, {name for name, found in vars(Calls).items() if isinstance(found, Operation)} | {"wait"})
         self.assertEqual(len(table), 21)
 
     def test_methods_tell_their_arguments(self) -> None:

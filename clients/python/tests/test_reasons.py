@@ -12,10 +12,14 @@ import pytest
 
 import feulgama
 from feulgama import errors, requests, said
-from feulgama.said import Said
+from feulgama.said import Line, Said
 from tests.support import REFERENCE, SHIM
 
 LONG = "x" * 1000
+
+
+def line(number: int, caller: str = "") -> Line:
+    return Line(caller, number)
 
 
 class Lines(unittest.TestCase):
@@ -24,17 +28,24 @@ class Lines(unittest.TestCase):
     def test_reasons_and_all_else(self) -> None:
         found = Said()
         found.feed(b"a word\nwhy: line 2, 4 NotFound: state: there is no t")
-        self.assertFalse(found.is_known(2))
+        self.assertFalse(found.is_known(line(2)))
         found.feed(b'ask "a"\nwhy: line 5, 1 BadRequest: invalid JSON at line 1 column 1\nlast')
-        self.assertEqual((found.why(2), found.why(5), found.why(3)),
+        self.assertEqual((found.why(line(2)), found.why(line(5)), found.why(line(3))),
                          ('there is no task "a"', "invalid JSON at line 1 column 1", None))
         self.assertEqual(found.other(), "a word\nlast")
+
+    def test_each_caller_counts_its_own_lines(self) -> None:
+        found = Said()
+        found.feed(b"why: /dev/fd/5 line 2, 4 NotFound: state: one\n"
+                   b"why: b line 2, 4 NotFound: wait: b line 3, 5 Odd: two\n")
+        self.assertEqual((found.why(line(2, "/dev/fd/5")), found.why(line(2, "b"))), ("one", "b line 3, 5 Odd: two"))
+        self.assertEqual((found.is_known(line(2)), found.is_known(line(1, "/dev/fd/5"))), (False, True))
 
     @pytest.mark.clock
     def test_one_that_comes_late(self) -> None:
         found = Said()
         threading.Timer(0.2, found.feed, [b"why: line 1, 5 NoContent: remove: late\n"]).start()
-        self.assertEqual(found.why(1), "late")
+        self.assertEqual(found.why(line(1)), "late")
 
     @pytest.mark.clock
     def test_a_shim_that_gives_none(self) -> None:
@@ -42,12 +53,12 @@ class Lines(unittest.TestCase):
         found = Said()
         with mock.patch.object(said, "PATIENCE", 0.2):
             begin = time.monotonic()
-            self.assertEqual([found.why(line) for line in range(50)], [None] * 50)
+            self.assertEqual([found.why(line(number)) for number in range(50)], [None] * 50)
             self.assertLess(time.monotonic() - begin, 1)
             found.feed(b"why: line 60, 5 NoContent: remove: at last\n")
-            self.assertEqual((found.why(60), found.is_known(61)), ("at last", False))
+            self.assertEqual((found.why(line(60)), found.is_known(line(61))), ("at last", False))
         found.end()
-        self.assertIsNone(found.why(61))
+        self.assertIsNone(found.why(line(61)))
 
 
 class Given(unittest.TestCase):
@@ -135,10 +146,10 @@ class OfTheProgram(unittest.TestCase):
 class Names(unittest.TestCase):
     def test_old_names_are_the_same_classes(self) -> None:
         new = [name for name, found in vars(errors).items() if isinstance(found, type) and name.endswith("Error")]
-        for name in set(new) - {"FeulgamaError", "InterferenceError"}:
+        for name in set(new) - {"FeulgamaError", "InterferenceError", "OldShimError", "TimedOutError", "ClosedError"}:
             self.assertIs(getattr(feulgama, name.removesuffix("Error")), getattr(feulgama, name), name)
             self.assertIs(getattr(errors, name.removesuffix("Error")), getattr(errors, name), name)
-        self.assertEqual(len(new), 27)
+        self.assertEqual(len(new), 30)
 
     def test_each_is_an_error_by_name(self) -> None:
         """Of the whole package."""

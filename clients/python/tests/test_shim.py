@@ -127,7 +127,7 @@ class Refusals(unittest.TestCase):
         self.assertEqual((fault.exception.func, fault.exception.place), (0, 1))
 
     def test_numbers_are_those_of_the_page(self) -> None:
-        self.assertEqual(sorted(feulgama.REFUSALS), [*range(1, 19), 21, 22, 23])
+        self.assertEqual(sorted(feulgama.REFUSALS), [*range(1, 20), 21, 22, 23])
 
 
 @pytest.mark.program

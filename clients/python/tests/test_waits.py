@@ -1,0 +1,274 @@
+"""Waits, which hold up nothing else: by threads and by asyncio, with a limit of time or cancelled; and killed clients."""
+from __future__ import annotations
+
+import asyncio
+import os
+import random
+import subprocess
+import sys
+import threading
+import time
+import unittest
+from pathlib import Path
+
+import pytest
+
+import feulgama
+from feulgama.aio import WAITERS
+from feulgama.model import Cause, Status
+from tests.support import CLIENT, EXIT_7, FOREVER_BYTES, SHIM, module_of
+
+OLD, CLIENT_TO_KILL = (Path(__file__).with_name(name) for name in ("old_shim.py", "killed_client.py"))
+SOON = 0.3
+KILLS = 50
+MARK = "FEULGAMA_TEST_OF_A_KILLED_CLIENT"
+
+
+class Old(unittest.TestCase):
+    """A program of before says that it does not know `--caller`."""
+
+    def test_shim(self) -> None:
+        with feulgama.Shim(OLD) as shim, self.assertRaisesRegex(feulgama.OldShimError, "too old.*--caller"):
+            shim.gc()
+        with feulgama.Shim(OLD) as shim, self.assertRaisesRegex(feulgama.OldShimError, "too old.*--caller"):
+            shim.wait("a")
+
+    def test_asyncio(self) -> None:
+        async def ask() -> None:
+            async with feulgama.AsyncShim(OLD) as shim:
+                await shim.gc()
+        with self.assertRaisesRegex(feulgama.OldShimError, "too old.*--caller"):
+            asyncio.run(ask())
+
+    def test_callers_that_there_cannot_be(self) -> None:
+        for waiters in (0, 130):
+            with self.assertRaises(feulgama.NoShimError):
+                feulgama.Shim(SHIM, waiters=waiters)
+
+
+class Threads(unittest.TestCase):
+    def setUp(self) -> None:
+        self.shim = self.enterContext(feulgama.Shim(SHIM, waiters=2))
+
+    def endless(self) -> str:
+        task = self.shim.create(feulgama.Config(self.shim.ensure(FOREVER_BYTES))).id
+        self.shim.start(task)
+        return task
+
+    def in_thread(self, task: str, states: list[feulgama.State]) -> threading.Thread:
+        thread = threading.Thread(target=lambda: states.append(self.shim.wait(task)), daemon=True)
+        thread.start()
+        return thread
+
+    def test_others_ask_meanwhile(self) -> None:
+        """Six threads wait for two tasks, by two callers. A kill of one is heard, and its waits end alone."""
+        tasks, states = [self.endless(), self.endless()], list[feulgama.State]()
+        threads = [self.in_thread(task, states) for task in 3 * tasks]
+        time.sleep(SOON)
+        self.assertEqual((self.shim.state(tasks[0]).status, states), (Status.RUNNING, []))
+        for count, task in enumerate(tasks, 1):
+            self.shim.kill(task)
+            for thread in threads[count - 1::2]:
+                thread.join(10)
+            self.assertEqual(sorted(state.id for state in states), sorted(3 * tasks[:count]))
+        self.assertEqual({state.exit.cause for state in states if state.exit is not None}, {Cause.KILL})
+
+    def test_a_limit_of_time(self) -> None:
+        task = self.endless()
+        for _ in range(5):
+            with self.assertRaisesRegex(feulgama.TimedOutError, f"{task} still runs after 0.01 seconds") as found:
+                self.shim.wait(task, timeout=0.01)
+            self.assertIsInstance(found.exception, TimeoutError)
+        self.shim.pause(task)
+        self.assertEqual(self.shim.wait(task, timeout=10).status, Status.PAUSED)
+        self.shim.resume(task)
+        with self.assertRaises(feulgama.TimedOutError):
+            self.shim.wait(task, timeout=0.01)
+        self.shim.kill(task)
+        self.assertEqual(self.shim.wait(task, timeout=10).status, Status.STOPPED)
+
+    def test_no_caller_is_free(self) -> None:
+        """A third task cannot be waited for by two callers, until one of the others has ended."""
+        tasks = [self.endless() for _ in range(3)]
+        for task in tasks[:2]:
+            with self.assertRaises(feulgama.TimedOutError):
+                self.shim.wait(task, timeout=0.05)
+        with self.assertRaises(feulgama.TimedOutError):
+            self.shim.wait(tasks[2], timeout=0.05)
+        states: list[feulgama.State] = []
+        thread = self.in_thread(tasks[2], states)
+        self.shim.kill(tasks[2])
+        self.shim.kill(tasks[0])
+        thread.join(10)
+        self.assertEqual([state.id for state in states], [tasks[2]])
+
+    def test_a_run_that_takes_too_long(self) -> None:
+        with self.assertRaises(feulgama.TimedOutError) as found:
+            self.shim.run(FOREVER_BYTES, timeout=0.05)
+        ran = found.exception.ran
+        self.assertTrue(ran is not None and ran.exit.cause is Cause.KILL)
+        self.assertEqual(self.shim.gc(), ())
+        self.assertEqual(self.shim.run(EXIT_7, timeout=10).exit.code, 7)
+
+    @pytest.mark.program
+    def test_reasons(self) -> None:
+        """Of each caller's own lines."""
+        for _ in range(3):
+            with self.assertRaisesRegex(feulgama.NotFoundError, "nobody"):
+                self.shim.wait("nobody")
+            with self.assertRaisesRegex(feulgama.NotFoundError, "someone"):
+                self.shim.state("someone")
+
+    def test_a_shim_that_is_killed(self) -> None:
+        task, found = self.endless(), list[BaseException]()
+
+        def wait() -> None:
+            try:
+                self.shim.wait(task)
+            except feulgama.ShimEndedError as error:
+                found.append(error)
+        thread = threading.Thread(target=wait, daemon=True)
+        thread.start()
+        time.sleep(SOON)
+        self.shim.kill_shim()
+        thread.join(10)
+        self.assertEqual(len(found), 1)
+        with self.assertRaises(feulgama.ShimEndedError):
+            self.shim.wait(task)
+
+    @pytest.mark.clock
+    def test_closing_with_waits(self) -> None:
+        with feulgama.Shim(SHIM) as shim:
+            task = shim.create(feulgama.Config(shim.ensure(FOREVER_BYTES))).id
+            shim.start(task)
+            with self.assertRaises(feulgama.TimedOutError):
+                shim.wait(task, timeout=0.05)
+            begin = time.monotonic()
+        self.assertLess(time.monotonic() - begin, 1)
+
+
+class Asyncio(unittest.IsolatedAsyncioTestCase):
+    async def asyncSetUp(self) -> None:
+        asyncio.get_running_loop().set_debug(False)
+        self.shim = await self.enterAsyncContext(feulgama.AsyncShim(SHIM))
+
+    async def endless(self) -> str:
+        task = (await self.shim.create(feulgama.Config(await self.shim.ensure(FOREVER_BYTES)))).id
+        await self.shim.start(task)
+        return task
+
+    async def test_a_short_one_beside_endless_ones(self) -> None:
+        endless = [asyncio.create_task(self.shim.run(FOREVER_BYTES)) for _ in range(40)]
+        async with asyncio.timeout(60):
+            ran = await asyncio.gather(*(self.shim.run(EXIT_7) for _ in range(20)))
+        self.assertEqual({found.exit.code for found in ran}, {7})
+        self.assertFalse(any(task.done() for task in endless))
+        for task in endless:
+            task.cancel()
+        found = await asyncio.gather(*endless, return_exceptions=True)
+        self.assertEqual({type(error) for error in found}, {asyncio.CancelledError})
+        async with asyncio.timeout(60):
+            while await self.shim.gc() == ():  # the tasks of what was cancelled are deleted
+                await asyncio.sleep(0.05)
+            arguments = await self.shim.run(module_of("arguments"), ["x"])
+        self.assertIn(b"x", arguments.stdout)
+
+    async def test_a_wait_that_is_cancelled(self) -> None:
+        task = await self.endless()
+        for _ in range(2 * WAITERS):
+            waiting = asyncio.create_task(self.shim.wait(task))
+            await asyncio.sleep(0)
+            await asyncio.sleep(0)
+            waiting.cancel()
+        self.assertEqual((await self.shim.state(task)).status, Status.RUNNING)
+        last = asyncio.create_task(self.shim.wait(task))
+        self.assertEqual((await self.shim.run(EXIT_7)).exit.code, 7)
+        await self.shim.kill(task)
+        state = await last
+        self.assertTrue(state.exit is not None and state.exit.cause is Cause.KILL)
+        self.assertEqual(await self.shim.wait(task), state)
+
+    async def test_a_limit_of_time(self) -> None:
+        task = await self.endless()
+        with self.assertRaises(feulgama.TimedOutError):
+            await self.shim.wait(task, timeout=0.01)
+        await self.shim.pause(task)
+        self.assertEqual((await self.shim.wait(task, timeout=10)).status, Status.PAUSED)
+        with self.assertRaises(feulgama.TimedOutError) as found:
+            await self.shim.run(FOREVER_BYTES, timeout=0.05)
+        ran = found.exception.ran
+        self.assertTrue(ran is not None and ran.exit.cause is Cause.KILL)
+
+    @pytest.mark.program
+    async def test_reasons(self) -> None:
+        with self.assertRaisesRegex(feulgama.NotFoundError, "nobody"):
+            await self.shim.wait("nobody")
+
+    async def test_more_waits_than_callers(self) -> None:
+        async with feulgama.AsyncShim(SHIM, waiters=2) as shim:
+            digest = await shim.ensure(FOREVER_BYTES)
+            tasks = [(await shim.create(feulgama.Config(digest))).id for _ in range(5)]
+            for task in tasks:
+                await shim.start(task)
+            waiting = [asyncio.create_task(shim.wait(task)) for task in tasks]
+            await asyncio.sleep(SOON)
+            waiting[2].cancel()
+            for task in tasks:
+                await shim.kill(task)
+            found = await asyncio.gather(*waiting, return_exceptions=True)
+            ends: list[type[object]] = [feulgama.State] * 5
+            ends[2:3] = [asyncio.CancelledError]
+            self.assertEqual([type(one) for one in found], ends)
+
+    @pytest.mark.program
+    @pytest.mark.clock
+    async def test_leaving_is_soon(self) -> None:
+        """With as many waits as there are callers."""
+        for _ in range(5):
+            async with feulgama.AsyncShim(SHIM) as shim:
+                digest = await shim.ensure(FOREVER_BYTES)
+                tasks = [(await shim.create(feulgama.Config(digest))).id for _ in range(WAITERS)]
+                await asyncio.gather(*map(shim.start, tasks))
+                waiting = [asyncio.create_task(shim.wait(task)) for task in tasks]
+                await asyncio.sleep(SOON)
+                begin = time.monotonic()
+            self.assertLess(time.monotonic() - begin, 1)
+            found = await asyncio.gather(*waiting, return_exceptions=True)
+            self.assertEqual({type(error) for error in found}, {feulgama.ClosedError})
+
+
+def started_by(mark: str) -> list[int]:
+    """The processes whose environment has this mark, which children inherit, but for those that have ended."""
+    found = []
+    for folder in Path("/proc").glob("[0-9]*"):
+        try:
+            if f"{MARK}={mark}\0".encode() in (folder / "environ").read_bytes():
+                found.append(int(folder.name))
+        except OSError:
+            pass
+    return found
+
+
+@pytest.mark.program
+class KilledClient(unittest.TestCase):
+    """A client is killed at random moments, from its start on: no process is left of what it has started."""
+
+    @pytest.mark.clock
+    def test_nothing_is_left(self) -> None:
+        random.seed(5)
+        with_shim = 0
+        for number in range(KILLS):
+            mark, how = f"{os.getpid()}.{number}", ("threads", "asyncio")[number % 2]
+            with subprocess.Popen([sys.executable, CLIENT_TO_KILL, SHIM, how], env={**os.environ, MARK: mark}, cwd=CLIENT,
+                                  stderr=subprocess.DEVNULL) as client:
+                until = time.monotonic() + 60
+                while len(started_by(mark)) < 2 and time.monotonic() < until and number % 5:
+                    time.sleep(0.01)
+                time.sleep(random.uniform(0, 0.5))
+                with_shim += len(started_by(mark)) > 1
+                client.kill()
+            until = time.monotonic() + 1
+            while started_by(mark) and time.monotonic() < until:
+                time.sleep(0.02)
+            self.assertEqual(started_by(mark), [], how)
+        self.assertGreaterEqual(with_shim, KILLS * 4 // 5)
