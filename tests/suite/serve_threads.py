@@ -405,7 +405,8 @@ def try_live_storms(folder: Path, seconds: float) -> None:
                 if found.look_at(name, storms.blown_live(4, scripts, folder), 4, refusals) is None:
                     return
                 count += 1
-        check(f"{count} storms of {callers} live callers, workers: 4", not any(kind[None] for kind in found.found.values()), str(found))
+        is_decided = not any(kind[None] for kind in found.found.values())
+        check(f"{count} storms of {callers} live callers, workers: 4", is_decided, str(found))
 
 
 def try_long_storm(folder: Path, seconds: float) -> None:

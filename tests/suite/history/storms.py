@@ -119,9 +119,9 @@ def blown_live(workers: int, scripts: list[list[bytes]], folder: Path) -> Storm:
     rounds, samples = list[list[int]](), list[int]()
     with Live(1 + len(scripts), "pipes", folder, "--workers", str(workers)) as live:
         for number in range(max(map(len, parts))):
-            asked = [(caller, lines[number], told) for caller, lines, told in zip(live.others, parts, printed) if number < len(lines)]
-            for caller, line, _ in asked:
-                os.write(caller.lines, line)
+            asked = [each for each in zip(live.others, parts, printed) if number < len(each[1])]
+            for caller, lines, _ in asked:
+                os.write(caller.lines, lines[number])
             for caller, _, told in asked:
                 told.append(json.dumps(caller.read(), separators=(",", ":")).encode() + b"\n")
             rounds.append([min(number + 1, len(lines)) for lines in parts])
