@@ -1,13 +1,18 @@
 -- What the definitions of a caller's lines say, case by case.
-use Rattle.std.proofs.Common.{◌≡◌, ◌<◌, ◌≤◌, ◌⊎◌, ◌++◌, ℕ, List, [], ◌∷◌, Option, Some, length, Err, inl, inr, refl, sym, ap, ◌∙◌, arith}
+use Rattle.std.proofs.Common.{◌≡◌, ◌≢◌, ◌↔◌, ◌<◌, ◌≤◌, ◌⊎◌, ◌++◌, ℕ, List, [], ◌∷◌, Option, Some, length, Err, inl, inr, refl, sym, ap, ◌∙◌, subst, arith}
 use Rattle.std.proofs.lemmas.List.{append-nil}
 use Rattle.wasm_ast.specs.declared.refusal.Refusal.TheVariants as refusal
+use Rattle.task_requests.specs.declared.request.Request.{Request}
+use Rattle.task_requests.specs.declared.request.Request.TheVariants.{Wait}
+use Rattle.task_requests.specs.declared.event.Event.{Event}
+use Rattle.task_requests.specs.declared.event.Event.TheVariants.{Call}
 use Rattle.task_board.specs.Step.{Answer}
+use Rattle.request_lines.specs.Request.{IsRequest, IsEvent}
 use Rattle.request_lines.specs.Lines.{joined}
 use Rattle.request_lines.specs.Session.{Session}
 use Rattle.request_lines.specs.Shape.{max_line_bytes}
 use Rattle.call_journal.specs.Seats.{Known}
-use Rattle.callers.specs.Answered.{IsAnswered, IsServed}
+use Rattle.callers.specs.Answered.{IsAnswered, IsDue, IsServed}
 use Rattle.callers.specs.Driving.{AllButLast}
 
 pub long_refused :
@@ -17,6 +22,23 @@ pub long_refused :
 long_refused was line a now long (inl p) = let short = p.is.reads.short in absurd (omega arith)
 long_refused was line a now long (inr (inl p)) = (p.refused, p.same)
 long_refused was line a now long (inr (inr p)) = let short = p.short in absurd (omega arith)
+
+abbrev request_of : Request → Event → Request
+request_of other (Call r) = r
+request_of other _ = other
+
+pub never_busy :
+    ((line : List ℕ) (x y : Event) → IsEvent line x → IsEvent line y → x ≡ y)
+    → ((line : List ℕ) (r : Request) → IsRequest line r ↔ IsEvent line (Call r))
+    → (was : Known) (line : List ℕ) (a : Answer) (now : Known) (id : List ℕ)
+    → IsAnswered was line a now → IsRequest line (Wait id) → a ≢ Err refusal.Busy
+never_busy one same was line a now id (inl p) waits busy =
+    let events = one line (Call p.request) (Call (Wait id)) ((same line p.request).0 p.is)
+    ((same line (Wait id)).0 waits) in
+    let is : p.request ≡ Wait id = ap (request_of (Wait id)) events in
+    subst (λ r. IsDue r a) is p.due busy
+never_busy one same was line a now id (inr (inl p)) waits busy = absurd (p.none (Wait id) waits)
+never_busy one same was line a now id (inr (inr p)) waits busy = let refused = p.refused in cc
 
 pub no_lines : (was : Known) (texts : List (List ℕ)) (now : Known)
     → Session IsServed was [] texts now → (texts ≡ []) × (now ≡ was)

@@ -1,7 +1,8 @@
 -- What a caller's line is answered, and what its seat has seen then.
-use Rattle.std.specs.Prelude.{◌≡◌, ◌≤◌, ◌⊎◌, ℕ, List, length, Err, MatchBool}
-use Rattle.wasm_ast.specs.declared.refusal.Refusal.TheVariants.{BadRequest, NoMemory}
+use Rattle.std.specs.Prelude.{◌≡◌, ◌≢◌, ◌≤◌, ◌⊎◌, ℕ, List, length, Err, MatchBool}
+use Rattle.wasm_ast.specs.declared.refusal.Refusal.TheVariants.{BadRequest, Busy, NoMemory}
 use Rattle.task_requests.specs.declared.request.Request.{Request}
+use Rattle.task_requests.specs.declared.request.Request.TheVariants.{Wait}
 use Rattle.task_board.specs.Step.{Answer}
 use Rattle.request_lines.specs.Shape.{max_line_bytes}
 use Rattle.request_lines.specs.Request.{IsRequest}
@@ -13,11 +14,17 @@ use Rattle.call_journal.specs.Seats.{Known, Extends}
 abbrev pub IsCall : (was now : Known) → Request → Answer → Type 0
 IsCall was now r a = MatchBool (is_journalled a) (Extends was now r a) (now ≡ was)
 
+-- a wait is made once it is due, so it is never answered that its task is busy
+abbrev pub IsDue : Request → Answer → Type 0
+IsDue (Wait id) a = a ≢ Err Busy
+IsDue other a = Unit {0}
+
 -- the line is this request, which is answered so
 pub record IsCalled (was : Known) (line : List ℕ) (a : Answer) (now : Known) : Type 0 where
   pub request : Request
   pub is : IsRequest line request
   pub call : IsCall was now request a
+  pub due : IsDue request a
 
 -- the line is no request
 pub record IsRefused (was : Known) (line : List ℕ) (a : Answer) (now : Known) : Type 0 where

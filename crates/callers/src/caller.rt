@@ -84,7 +84,8 @@ fn call<J: Row, H: Wait, N: Notes>(
     request: Request,
     notes: &mut N,
 ) -> (Seat<J>, Result<Reply, Refusal>)
-    ensures { IsCall seat result.0 request result.1 }
+    ensures call { IsCall seat result.0 request result.1 }
+    ensures due { IsDue request result.1 }
 {
     match request {
         Request::Wait { id } => {

@@ -1,8 +1,10 @@
 //! What is proved of the answers to lines. Each function does nothing, and its contract is the law.
 
-ghost use Rattle.std.specs.Prelude.{◌≡◌, ◌<◌, ◌⊎◌, ◌++◌, [], ◌∷◌, ⊤, List, ℕ, length, Some, Err};
+ghost use Rattle.std.specs.Prelude.{◌≡◌, ◌≢◌, ◌<◌, ◌⊎◌, ◌++◌, [], ◌∷◌, ⊤, List, ℕ, length, Some, Err};
 ghost use Rattle.wasm_ast.specs.declared.refusal.Refusal.TheVariants as refusal;
+ghost use Rattle.task_requests.specs.declared.request.Request.TheVariants as request;
 ghost use Rattle.task_board.specs.Step.{Answer};
+ghost use Rattle.request_lines.specs.Request.{IsRequest};
 ghost use Rattle.request_lines.specs.Lines.{lines_of, joined};
 ghost use Rattle.request_lines.specs.Session.{Session};
 ghost use Rattle.request_lines.specs.Shape.{max_line_bytes};
@@ -12,12 +14,24 @@ ghost use Rattle.callers.specs.Answered.{IsAnswered, IsServed};
 ghost use Rattle.callers.specs.Driving.{Drives, IsTold};
 ghost use Rattle.callers.specs.declared.caller.Driven.TheVariants as driven;
 
+use request_lines::laws::{one_event_to_a_line, requests_are_events};
+
 /// A line that is too long is refused as no request, and the seat has seen what it had seen.
 pub fn long_lines_are_no_requests()
     ensures { (was : Known) (line : List ℕ) (a : Answer) (now : Known)
         → max_line_bytes < length line → IsAnswered was line a now
         → (a ≡ Err refusal.BadRequest) × (now ≡ was) }
 {}
+
+/// A line that is a wait is answered once its task is created, paused or stopped, or for another reason: it
+/// is never answered that its task is busy.
+pub fn waits_are_never_busy()
+    ensures { (was : Known) (line : List ℕ) (a : Answer) (now : Known) (id : List ℕ)
+        → IsAnswered was line a now → IsRequest line (request.Wait id) → a ≢ Err refusal.Busy }
+{
+    one_event_to_a_line();
+    requests_are_events();
+}
 
 /// A line and the lines after it are answered one after another, each by one text: the second from
 /// what the seat has seen after the first.
