@@ -6,6 +6,7 @@ ghost use Rattle.call_journal.specs.Seats.{most_seats};
 
 use crate::histories::{four_callers, full_journal, two_callers, two_seats};
 use crate::storm::storm;
+use crate::waking::{Sleepers, waking};
 use crate::workers::{Meeting, large_output, run_by_two};
 use call_journal::{Cells, Desk, MOST_SEATS, Row, Shim};
 use callers::{Driven, NoNotes, drive};
@@ -37,6 +38,8 @@ pub enum Story<'a> {
     Meeting(&'a Meeting),
     /// `large_output` of `workers`.
     LargeOutput,
+    /// `waking`.
+    Waking(Sleepers<'a>),
 }
 
 fn cells(alloc: Global) -> Result<Cells, Refusal> {
@@ -71,6 +74,7 @@ fn told<R: Row + Send + Sync, W: Threads + Wait + Abort + Sync>(
         Story::TwoWorkers => run_by_two(rt, alloc, shim, &OpenGate),
         Story::Meeting(gate) => run_by_two(rt, alloc, shim, gate),
         Story::LargeOutput => large_output(rt, alloc, shim),
+        Story::Waking(story) => waking(rt, alloc, shim, story),
     }
 }
 
