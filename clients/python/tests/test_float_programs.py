@@ -23,6 +23,8 @@ ARGS, ENV = ["module", "one", "two"], {"KEY": "value"}
 LUA = os.environ.get("LUA", "")
 NEEDED_LUA = "LUA names the folder that `apt-get source lua5.4` makes, with a line deb-src in apt's sources"
 LIBRARY = next(Path("/usr/lib/llvm-14/lib/clang").glob("14*/lib/wasi/libclang_rt.builtins-wasm32.a"), None)
+HAS_EMSCRIPTEN = shutil.which("emcc") is not None
+NEEDED_EMSCRIPTEN = "apt-get install -y --no-install-recommends emscripten"
 HAS_NODE = shutil.which("node") is not None
 
 
@@ -46,9 +48,11 @@ class Compared(unittest.TestCase):
         if HAS_NODE and node_says:
             self.assertEqual(f.in_node(data, ARGS, ENV), (stdout, stderr, status))
 
-    def all_of_c(self, *command: str) -> None:
+    def all_of_c(self, *command: str, has_sleep: bool = True) -> None:
         """The small programs. Of the time node says what it is."""
         for program in (*WITHOUT, *f.PROGRAMS):
+            if program.name == "time" and not has_sleep:
+                continue
             data = self.built(ALL + program.text, ".c", *command)
             self.says(data, program.stdout, program.status, program.stderr, program.name != "time")
 
@@ -63,6 +67,13 @@ class Compared(unittest.TestCase):
         """The same with its default features."""
         self.all_of_c("clang-22", "--target=wasm32-wasi", "--sysroot=/usr", "-O2", "-Wno-deprecated", "-nodefaultlibs", "-lc",
                       "-lm", str(LIBRARY))
+
+    @unittest.skipIf(not HAS_EMSCRIPTEN, f"emcc not there: {NEEDED_EMSCRIPTEN}")
+    def test_c_by_emscripten(self) -> None:
+        """The same with its own library, in the memory that a task has without a limit in its config. Its `sleep` looks at
+        the processor's time, over and over, which it takes for too large a number."""
+        self.all_of_c("emcc", "-O2", "-s", "STANDALONE_WASM", "-s", "INITIAL_MEMORY=1048576", "-s", "TOTAL_STACK=65536",
+                      has_sleep=False)
 
     @unittest.skipIf(not HAS_CPP, f"clang++-14 or its library not there: {NEEDED_CPP}")
     def test_cpp(self) -> None:
