@@ -102,7 +102,7 @@ class Pass:
 
     def _walk(self, search: Search) -> None:
         """Makes some turns one by one, up to where it is known of more turns, or to the end."""
-        looks, before, self._was_shown = [self._track.look()], self.known, False
+        looks, before = [self._track.look()], self.known
         while True:
             for look in looks:
                 self._note(look)
@@ -129,7 +129,7 @@ class Pass:
     def _go_near(self, left: int, search: Search) -> None:
         """Goes on for so many turns of the original, or fewer. It makes no fewer turns of its own for them."""
         moment, most = Moment(search.interrupted), SHARE * self._track.turn / self.known if self.known else 1.0
-        goal = self._track.turn + int(left * max(1.0, most))
+        goal, self._was_shown = self._track.turn + int(left * max(1.0, most)), False
         if self._track.is_far(goal):
             self._track.run_to(frozenset({self._watched.stop}), goal, moment, is_exact=True)
         else:
@@ -142,7 +142,7 @@ class Pass:
         self._check_end()
         while not self._is_last_known:
             self._track.drop()
-            self._track, self.known = Track(self._shims, self._config), 0
+            self._track, self.known, self._was_shown = Track(self._shims, self._config), 0, False
             while self._track.turn < end - back and not self.is_over:
                 search.go_on()
                 self._track.advance(end - back, Moment(search.interrupted))
