@@ -17,7 +17,7 @@ class Stored(unittest.TestCase):
     @unittest.skipUnless(dwarf.IS_THERE, "needs python3-pyelftools")
     def test_sessions(self) -> None:
         scripts = sorted(FOLDER.glob("*.debug"))
-        self.assertEqual([script.stem for script in scripts], ["json", "table", "words"])
+        self.assertEqual([script.stem for script in scripts], ["json", "tree", "words"])
         for script in scripts:
             with self.subTest(script.stem), script.open() as lines:
                 run = subprocess.run([CLIENT / "bin/feulgama", "debug", f"{script.stem}.wasm"], stdin=lines,

@@ -14,7 +14,7 @@ import pytest
 
 import feulgama
 from feulgama.config import Config, digest_of
-from feulgama.debug import counted_body, watched_module, writes
+from feulgama.debug import counted_body, dwarf, watched_module, writes
 from feulgama.debug.commands import Commands
 from feulgama.debug.track import Track
 from feulgama.debug.watched_module import NotWatchableError, Watch, watched
@@ -240,6 +240,25 @@ class Cost(unittest.TestCase):
         for value in (4, 3, 2):
             self.assertLess(self.cost("reverse-continue"), self.MOST)
             self.assertEqual(list(self.commands.answer("x/dw 16")), [f"0x00000010: {value}"])
+
+
+@unittest.skipUnless(dwarf.IS_THERE, "needs python3-pyelftools")
+class CostOfAProgram(unittest.TestCase):
+    """The same of a program of C that traps: at its end, and back from there."""
+
+    MOST = 3
+
+    def test_last_writes(self) -> None:
+        turns, path = CountedTurns(), CLIENT / "examples/json.wasm"
+        with mock.patch.object(Track, "turn", turns, create=True), feulgama.Shim(SHIM) as shim:
+            commands = Commands(open_debugger(shim, path, path.read_bytes(), [], {}, None))
+            list(commands.answer("run"))
+            end = commands.timeline.turn
+            for words in ("last-write item", "last-write item->next"):
+                turns.made = 0
+                self.assertIn("it makes it 0x8598e2", list(commands.answer(words))[0])
+                self.assertLess(turns.made, self.MOST * end)
+            commands.timeline.close()
 
 
 @pytest.mark.program
