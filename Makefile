@@ -35,8 +35,9 @@ check-all: ## every test outside the gate, one after another, with one summary; 
 check-ci: ## what needs no built program: edits, lists, links, versions, layout, types, unit tests; two to five minutes
 	@tests/run check-ci
 
-check-containers: ## feulgama-oci under runc, podman, docker and containerd: as root, minutes; names packages that are missing
+check-containers: ## feulgama-oci and the containerd shim under their hosts: as root, minutes; names packages that are missing
 	clients/oci/test/run $(if $(PROGRAM),--program $(PROGRAM))
+	clients/containerd/test/run $(if $(PROGRAM),--program $(PROGRAM))
 
 bench: ## the speed of the built program beside other engines (docs/BENCHMARKS.md), minutes
 	$(PYTHON) bench/programs.py $(PROGRAM)

@@ -14,7 +14,8 @@ from suite.checks.tree import Tree
 
 PACKAGES = ".ci/packages"
 CLIENT = "clients/python"
-CONTAINERS = "clients/oci/test"
+# Tests with container hosts. The later ones use modules of the first.
+CONTAINERS = ("clients/oci/test", "clients/containerd/test")
 # Neither leaves a file in the repository.
 MYPY = (sys.executable, "-m", "mypy", "--cache-dir", "/dev/null")
 PYTEST = (sys.executable, "-B", "-m", "pytest", "-q", "-p", "no:cacheprovider")
@@ -79,11 +80,15 @@ def check_mypy(tree: Tree) -> Result:
     roots = sorted({name.split("/")[1] for name in names})
     tools = [str(tree.root / name) for name in python_files(tree) if name.startswith("tools/")]
     faults = run("mypy", [*MYPY, *words, *roots, *tools], tree.root / "tests")
-    containers = [name for name in python_files(tree) if name.startswith(f"{CONTAINERS}/")]
-    if containers:
-        roots = sorted({name.removeprefix(f"{CONTAINERS}/").split("/")[0] for name in containers})
-        faults += run(f"mypy of {CONTAINERS}", [*MYPY, *words, *roots], tree.root / CONTAINERS)
-    return len(names) + len(tools) + len(containers), faults
+    count = len(names) + len(tools)
+    for folder in CONTAINERS:
+        inside = [name.removeprefix(f"{folder}/") for name in python_files(tree) if name.startswith(f"{folder}/")]
+        roots = sorted({name.split("/")[0] for name in inside})
+        count += len(inside)
+        if roots:
+            faults += run(f"mypy of {folder}", [*MYPY, *words, *roots], tree.root / folder,
+                          MYPYPATH=str(tree.root / CONTAINERS[0]))
+    return count, faults
 
 
 def check_client_types(tree: Tree) -> Result:
@@ -152,11 +157,12 @@ def go_folders(tree: Tree) -> list[str]:
 
 
 def go_run(tree: Tree, folder: str, *words: str) -> list[str]:
-    """Runs go on the packages of a client, over Debian's libraries only."""
+    """Runs go on the packages of a client, over Debian's libraries and the packages of the other clients only."""
+    path = ":".join(["/usr/share/gocode", *(str(tree.root / other) for other in go_folders(tree))])
     with tempfile.TemporaryDirectory(prefix="go-cache-") as made:
         cache = os.environ.get("GOCACHE") or (str(Path.home() / ".cache/go-build") if os.environ.get("HOME") else made)
         return run(f"go {words[0]} of {folder}", ["go", *words, "./..."], tree.root / folder, GO111MODULE="off", GOPROXY="off",
-                   GOFLAGS="", CGO_ENABLED="0", GOPATH=f"{tree.root / folder}:/usr/share/gocode", GOCACHE=cache)
+                   GOFLAGS="", CGO_ENABLED="0", GOPATH=path, GOCACHE=cache)
 
 
 def check_go(tree: Tree) -> Result:
