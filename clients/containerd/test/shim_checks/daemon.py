@@ -182,7 +182,8 @@ class Events:
     """The events of a containerd, as `ctr events` writes them, from now on."""
 
     def __init__(self, daemon: Daemon) -> None:
-        self.file = daemon.at / "events"
+        daemon.names += 1
+        self.file = daemon.at / f"events-{daemon.names}"
         with self.file.open("wb") as file:
             self.process = subprocess.Popen(daemon.words("events"), stdin=subprocess.DEVNULL, stdout=file,
                                             stderr=subprocess.DEVNULL, env=daemon.environment)

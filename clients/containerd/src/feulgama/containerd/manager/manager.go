@@ -6,9 +6,11 @@ import (
 	"encoding/json"
 	"errors"
 	"fmt"
+	"net"
 	"os"
 	"os/exec"
 	"path/filepath"
+	"strings"
 	"syscall"
 	"time"
 
@@ -35,10 +37,11 @@ func (m Manager) Start(ctx context.Context, id string, opts shim.StartOpts) (str
 	if err != nil {
 		return "", err
 	}
-	address, err := shim.SocketAddress(ctx, opts.Address, group)
+	address, err := addressOf(ctx, opts.Address, group)
 	if err != nil {
 		return "", err
 	}
+	sweep(filepath.Dir(strings.TrimPrefix(address, scheme)))
 	socket, err := listen(address)
 	if err != nil {
 		return "", err
@@ -74,6 +77,44 @@ func groupOf(id string) (string, error) {
 		return pod, nil
 	}
 	return id, nil
+}
+
+const (
+	scheme = "unix://"
+	prefix = "feulgama-" // of the names of sockets, beside those of other shims
+	// oldAge is the age at which a socket that nobody listens at is not one that is just being made.
+	oldAge = 5 * time.Second
+)
+
+// addressOf is the library's address of a shim, with a name that says whose it is.
+func addressOf(ctx context.Context, containerd, group string) (string, error) {
+	address, err := shim.SocketAddress(ctx, containerd, group)
+	if err != nil {
+		return "", err
+	}
+	path := strings.TrimPrefix(address, scheme)
+	return scheme + filepath.Join(filepath.Dir(path), prefix+filepath.Base(path)), nil
+}
+
+// sweep removes the sockets of shims that were killed before containerd knew of them, for which it calls nobody.
+func sweep(folder string) {
+	entries, err := os.ReadDir(folder)
+	if err != nil {
+		return // there are none yet
+	}
+	for _, entry := range entries {
+		about, err := entry.Info()
+		if err != nil || !strings.HasPrefix(entry.Name(), prefix) || time.Since(about.ModTime()) < oldAge {
+			continue
+		}
+		path := filepath.Join(folder, entry.Name())
+		connection, err := net.DialTimeout("unix", path, time.Second)
+		if err == nil {
+			connection.Close()
+		} else if errors.Is(err, syscall.ECONNREFUSED) {
+			os.Remove(path)
+		}
+	}
 }
 
 // listen answers a new socket, or none if a shim answers there.

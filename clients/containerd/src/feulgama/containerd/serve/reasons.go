@@ -21,11 +21,13 @@ type reasons struct {
 	kept  []string
 	other strings.Builder
 	told  chan struct{} // closed and made anew when a line comes
+	done  chan struct{} // closed when no more come
 }
 
 func readReasons(stream *os.File) *reasons {
-	r := &reasons{told: make(chan struct{})}
+	r := &reasons{told: make(chan struct{}), done: make(chan struct{})}
 	go func() {
+		defer close(r.done)
 		defer stream.Close()
 		reader := bufio.NewReader(stream)
 		for {
@@ -85,6 +87,9 @@ func (r *reasons) look(head string) (string, <-chan struct{}) {
 	}
 	return "", r.told
 }
+
+// ended waits until all lines are read.
+func (r *reasons) ended() { <-r.done }
 
 func (r *reasons) rest() string {
 	r.mu.Lock()

@@ -135,6 +135,7 @@ func (p *Process) reapSoon() {
 		go func() {
 			p.control.close()
 			p.waiter.close()
+			p.reasons.ended()
 			_ = p.command.Wait() // the status says it
 			if status, ok := p.command.ProcessState.Sys().(syscall.WaitStatus); ok {
 				p.status = status

@@ -20,8 +20,11 @@ import (
 	"feulgama/lines"
 )
 
-// killTime is how long a task may take to end by SIGKILL, before its process is killed.
-var killTime = 10 * time.Second
+// How long wasm-shim may take before it is killed itself.
+var (
+	killTime = 10 * time.Second // to end a task by SIGKILL
+	loadTime = 5 * time.Minute  // to make a task, also with few processors
+)
 
 // container is a container of a module, with the process that runs it.
 type container struct {
@@ -207,7 +210,8 @@ var errFewLeft = fmt.Errorf("wasm-shim has answered nearly all the requests that
 // fault is an error of a request. A task that has ended is not what containerd takes it for.
 func (c *container) fault(err error) error {
 	if errors.Is(err, serve.ErrEnded) {
-		return fmt.Errorf("%w: %s: %v", errdefs.ErrFailedPrecondition, err, c.process.Said())
+		status := c.process.Status() // after which it has said all
+		return fmt.Errorf("%v with status %d: %s: %w", err, status, c.process.Said(), errdefs.ErrFailedPrecondition)
 	}
 	return err
 }

@@ -5,6 +5,7 @@ import (
 	"encoding/hex"
 	"fmt"
 	"regexp"
+	"time"
 
 	events "github.com/containerd/containerd/api/events"
 	"github.com/containerd/containerd/mount"
@@ -59,6 +60,7 @@ func (s *Service) createContainer(r *api.CreateTaskRequest, b *bundle.Bundle) (u
 		err = c.load(b)
 	}
 	if err != nil {
+		err = c.fault(err)
 		c.letGo()
 		return nil, err
 	}
@@ -95,8 +97,10 @@ func (c *container) open(s *Service, b *bundle.Bundle) error {
 	return err
 }
 
-// load makes the task in wasm-shim.
+// load makes the task in wasm-shim, which is ended if it takes too long over a module.
 func (c *container) load(b *bundle.Bundle) error {
+	limit := time.AfterFunc(loadTime, c.process.Kill)
+	defer limit.Stop()
 	put, err := c.process.Ask(lines.Put(c.module))
 	if err != nil {
 		return err

@@ -7,10 +7,10 @@ import (
 	"fmt"
 	"os"
 	"sync"
+	"time"
 
 	"github.com/containerd/containerd/errdefs"
 	"github.com/containerd/containerd/pkg/shutdown"
-	"github.com/containerd/containerd/runtime/v2/shim"
 	api "github.com/containerd/containerd/runtime/v2/task"
 	"github.com/containerd/ttrpc"
 	"github.com/gogo/protobuf/types"
@@ -40,14 +40,30 @@ type Service struct {
 	units     map[string]unit // nil while it is made
 }
 
+// idleTime is how long a shim stays without a container. containerd ends it before, unless it was killed meanwhile.
+var idleTime = 20 * time.Second
+
 // New makes the service of a shim.
 func New(namespace string, events Teller, program func() (string, error), down shutdown.Service) *Service {
 	s := &Service{namespace: namespace, events: events, program: program, newGroup: group.New, shutdown: down,
 		units: map[string]unit{}}
-	if address, err := shim.ReadAddress("address"); err == nil {
-		down.RegisterCallback(func(context.Context) error { return shim.RemoveSocket(address) })
-	}
+	go s.endWhenIdle(idleTime / 2)
 	return s
+}
+
+// endWhenIdle ends a shim that had no container at two looks.
+func (s *Service) endWhenIdle(between time.Duration) {
+	for empty := 0; empty < 2; {
+		time.Sleep(between)
+		s.mu.Lock()
+		if len(s.units) == 0 {
+			empty++
+		} else {
+			empty = 0
+		}
+		s.mu.Unlock()
+	}
+	s.shutdown.Shutdown()
 }
 
 // RegisterTTRPC tells the server of requests who answers.

@@ -55,9 +55,23 @@ func (o *told) all() ([]string, []*events.TaskExit) {
 }
 
 // down tells whether the shim was shut down.
-type down struct{ called bool }
+type down struct {
+	mu   sync.Mutex
+	done bool
+}
 
-func (d *down) Shutdown()                                    { d.called = true }
+func (d *down) Shutdown() {
+	d.mu.Lock()
+	defer d.mu.Unlock()
+	d.done = true
+}
+
+func (d *down) called() bool {
+	d.mu.Lock()
+	defer d.mu.Unlock()
+	return d.done
+}
+
 func (d *down) RegisterCallback(func(context.Context) error) {}
 func (d *down) Done() <-chan struct{}                        { return nil }
 func (d *down) Err() error                                   { return nil }

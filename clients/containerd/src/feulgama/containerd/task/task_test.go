@@ -66,6 +66,27 @@ func TestARefusedModuleFailsAtCreate(t *testing.T) {
 	}
 }
 
+// An older wasm-shim does not know the options, says so and ends.
+func TestAProgramThatEndsAtOnce(t *testing.T) {
+	s := newShim(t)
+	folder := t.TempDir()
+	program := filepath.Join(folder, "old")
+	if err := os.WriteFile(program, []byte("#!/bin/sh\necho no such option >&2\nexit 2\n"), 0o755); err != nil {
+		t.Fatal(err)
+	}
+	for path := folder; path != "/" && path != os.TempDir(); path = filepath.Dir(path) {
+		if err := os.Chmod(path, 0o755); err != nil {
+			t.Fatal(err)
+		}
+	}
+	s.program = func() (string, error) { return program, nil }
+	err := s.create("one", fakeshim.Hello)
+	is(t, err, errdefs.ErrFailedPrecondition)
+	if !strings.Contains(err.Error(), "wasm-shim has ended with status 2: no such option") {
+		t.Errorf("%v", err)
+	}
+}
+
 func TestAnImageWithoutAModule(t *testing.T) {
 	s := newShim(t)
 	err := s.create("other", "\x7fELF and more")
@@ -253,15 +274,35 @@ func TestTheShimEndsWithItsLastContainer(t *testing.T) {
 	s := newShim(t)
 	s.run("one", fakeshim.Hello)
 	s.wait("one")
-	if _, err := s.Shutdown(background, &api.ShutdownRequest{}); err != nil || s.down.called {
+	if _, err := s.Shutdown(background, &api.ShutdownRequest{}); err != nil || s.down.called() {
 		t.Errorf("it is shut down with a container: %v", err)
 	}
 	if _, err := s.delete("one"); err != nil {
 		t.Error(err)
 	}
-	if _, err := s.Shutdown(background, &api.ShutdownRequest{}); err != nil || !s.down.called {
+	if _, err := s.Shutdown(background, &api.ShutdownRequest{}); err != nil || !s.down.called() {
 		t.Errorf("it is not shut down: %v", err)
 	}
+}
+
+// A shim whose containerd was killed before it made a container is not left.
+func TestAShimWithoutAContainerEnds(t *testing.T) {
+	byTheClock(t)
+	before := idleTime
+	idleTime = 20 * time.Millisecond
+	defer func() { idleTime = before }()
+	s := newShim(t)
+	s.run("one", fakeshim.Loop)
+	time.Sleep(5 * idleTime)
+	if s.down.called() {
+		t.Error("it ends with a container")
+	}
+	_ = s.signal("one", 9)
+	s.wait("one")
+	if _, err := s.delete("one"); err != nil {
+		t.Error(err)
+	}
+	until(t, "its end", s.down.called)
 }
 
 func TestOneIDTwice(t *testing.T) {

@@ -3,6 +3,7 @@ package plugin
 
 import (
 	"context"
+	"errors"
 	"fmt"
 	"os"
 
@@ -10,6 +11,7 @@ import (
 	"github.com/containerd/containerd/pkg/shutdown"
 	"github.com/containerd/containerd/plugin"
 	"github.com/containerd/containerd/runtime/v2/shim"
+	"golang.org/x/sys/unix"
 
 	"feulgama/containerd/events"
 	"feulgama/containerd/serve"
@@ -52,7 +54,23 @@ func start(ic *plugin.InitContext) (interface{}, error) {
 		queue.Close()
 		return publisher.(shim.Publisher).Close()
 	})
+	// The library removes it too, if the folder of the shim's first container is still there to say its name.
+	if socket, err := socketPath(); err == nil {
+		ends.RegisterCallback(func(context.Context) error { return shim.RemoveSocket("unix://" + socket) })
+	}
 	return task.New(namespace, queue, program, ends), nil
+}
+
+// socketPath is the name of the socket with which the shim was started, its descriptor 3.
+func socketPath() (string, error) {
+	address, err := unix.Getsockname(3)
+	if err != nil {
+		return "", err
+	}
+	if named, ok := address.(*unix.SockaddrUnix); ok && named.Name != "" {
+		return named.Name, nil
+	}
+	return "", errors.New("the socket has no name")
 }
 
 // program finds wasm-shim, which has to be one that nobody can run.
