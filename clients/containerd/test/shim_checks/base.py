@@ -49,6 +49,9 @@ class WithDaemon(Check):
     @classmethod
     def tearDownClass(cls) -> None:
         cls.daemon.end()
+        # The shim's standard error is in containerd's log.
+        if cls.setting.race and "DATA RACE" in (cls.daemon.at / "log").read_text():
+            raise AssertionError(f"{cls.__name__}: data race, see {cls.daemon.at}/log")
 
     def counting(self, *options: str) -> str:
         """Starts a container that runs for ever, and waits for its line."""

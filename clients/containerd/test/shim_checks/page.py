@@ -1,6 +1,7 @@
 """The commands of Part 2 of docs/CONTAINERS.md, run as they are written there."""
 from __future__ import annotations
 
+import os
 import re
 import shutil
 from pathlib import Path
@@ -25,6 +26,8 @@ class Page(Check):
         cls.daemon = Daemon(cls.setting, "page")
         path = f"{cls.daemon.at}/bin:/usr/local/bin:/usr/sbin:/usr/bin:/sbin:/bin"
         cls.daemon.environment["PATH"] = path
+        # Without it the build would begin with nothing, since HOME is another.
+        cls.daemon.environment["GOCACHE"] = os.environ.get("GOCACHE", str(Path.home() / ".cache/go-build"))
         cls.daemon.start()
         for name in ("clients", "docs", "examples", "tools"):
             (cls.daemon.at / name).symlink_to(TOP / name)

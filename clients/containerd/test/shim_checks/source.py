@@ -42,6 +42,12 @@ class Source(Check):
         self.assertEqual(*(hashlib.sha256(path.read_bytes()).hexdigest() for path in (first, other / "built")))
         self.assertNotIn(b"/lib64/ld-linux", first.read_bytes()[:4096])
 
+    def test_version(self) -> None:
+        """its version is that of wasm-shim"""
+        shim = must([self.setting.folder / "wasm-shim", "--version"]).split()
+        own = must([self.setting.folder / "containerd-shim-feulgama-v1", "--version"])
+        self.assertEqual(own, f"containerd-shim-feulgama-v1 version {shim[1]}\n")
+
     def test_build_help(self) -> None:
         """the build says how it is used, and refuses options that it does not know"""
         self.assertIn("clients/containerd/build", must([CLIENT / "build", "--help"]))

@@ -23,6 +23,7 @@ const (
 	Deaf   = Head + "deaf"   // is not ended by a kill
 	Die    = Head + "die"    // ends the program when it starts
 	Noise  = Head + "noise"  // answers a line that is no reply, when it starts
+	Full   = Head + "full"   // answers nothing more once it has started, as a shim whose journal is full
 )
 
 // Written is what Hello and Loop write to standard output.
@@ -105,6 +106,9 @@ func (b *board) answer(r request, line string) object {
 	b.mu.Lock()
 	defer b.mu.Unlock()
 	defer b.changed.Broadcast()
+	if b.module == Full && b.status == "running" {
+		return object{"ok": false, "number": 15, "error": "JournalFull"}
+	}
 	switch r.Op {
 	case "put":
 		content, _ := hex.DecodeString(r.Hex)

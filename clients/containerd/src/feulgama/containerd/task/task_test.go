@@ -243,6 +243,18 @@ func TestAShimThatHasAnsweredNearlyAll(t *testing.T) {
 	}
 }
 
+// Should a journal be full all the same, the end of the task cannot be seen, and so it is ended. It is told once.
+func TestAShimThatAnswersNoMore(t *testing.T) {
+	s := newShim(t)
+	s.run("one", fakeshim.Full)
+	if status := s.wait("one"); status != 137 {
+		t.Errorf("exit status %d", status)
+	}
+	if _, exits := s.events.all(); len(exits) != 1 {
+		t.Errorf("the exit is told %d times", len(exits))
+	}
+}
+
 func TestWaitEndsWithItsCaller(t *testing.T) {
 	s := newShim(t)
 	s.run("one", fakeshim.Loop)

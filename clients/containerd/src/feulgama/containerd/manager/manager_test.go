@@ -1,0 +1,121 @@
+package manager
+
+import (
+	"context"
+	"errors"
+	"net"
+	"os"
+	"path/filepath"
+	"strings"
+	"testing"
+	"time"
+
+	"github.com/containerd/containerd/namespaces"
+)
+
+// socket makes a socket that is as old as is said. Nobody listens at it, unless it is to live.
+func socket(t *testing.T, path string, age time.Duration, lives bool) {
+	t.Helper()
+	listener, err := net.ListenUnix("unix", &net.UnixAddr{Name: path, Net: "unix"})
+	if err != nil {
+		t.Fatal(err)
+	}
+	listener.SetUnlinkOnClose(false)
+	if lives {
+		t.Cleanup(func() { listener.Close() })
+	} else {
+		listener.Close()
+	}
+	made := time.Unix(time.Now().Unix(), 0).Add(-age)
+	if err := os.Chtimes(path, made, made); err != nil {
+		t.Fatal(err)
+	}
+}
+
+func TestSweepRemovesOldSocketsOfDeadShims(t *testing.T) {
+	folder := t.TempDir()
+	for name, left := range map[string]bool{"feulgama-dead": false, "feulgama-alive": true, "feulgama-new": true, "other-dead": true} {
+		age := time.Minute
+		if name == "feulgama-new" {
+			age = 0
+		}
+		path := filepath.Join(folder, name)
+		socket(t, path, age, name == "feulgama-alive")
+		sweep(folder)
+		if _, err := os.Lstat(path); errors.Is(err, os.ErrNotExist) == left {
+			t.Errorf("%s: %v", name, err)
+		}
+	}
+	sweep(filepath.Join(folder, "nothing")) // the first shim of a machine
+}
+
+func TestAddresses(t *testing.T) {
+	ctx := namespaces.WithNamespace(context.Background(), "here")
+	one, err := addressOf(ctx, "/run/c.sock", "pod")
+	if err != nil || !strings.HasPrefix(one, "unix:///run/containerd/s/feulgama-") {
+		t.Errorf("%s, %v", one, err)
+	}
+	if length := len(strings.TrimPrefix(one, scheme)); length > 106 {
+		t.Errorf("the kernel takes no socket with a name of %d bytes", length)
+	}
+	for _, other := range []struct{ namespace, group string }{{"here", "other"}, {"there", "pod"}} {
+		two, err := addressOf(namespaces.WithNamespace(ctx, other.namespace), "/run/c.sock", other.group)
+		if err != nil || two == one {
+			t.Errorf("%v has the address %s, %v", other, two, err)
+		}
+	}
+	if _, err := addressOf(context.Background(), "/run/c.sock", "pod"); err == nil {
+		t.Error("an address without a namespace")
+	}
+}
+
+func TestAShimThatListensIsUsedAgain(t *testing.T) {
+	path := filepath.Join(t.TempDir(), "s")
+	first, err := listen(scheme + path)
+	if err != nil || first == nil {
+		t.Fatalf("%v, %v", first, err)
+	}
+	if about, err := os.Stat(path); err != nil || about.Mode().Perm() != 0o600 {
+		t.Errorf("%v, %v", about, err)
+	}
+	if second, err := listen(scheme + path); err != nil || second != nil {
+		t.Errorf("a second shim gets a socket: %v, %v", second, err)
+	}
+	first.Close()
+	third, err := listen(scheme + path)
+	if err != nil || third == nil {
+		t.Fatalf("the socket of a dead shim is in the way: %v", err)
+	}
+	third.Close()
+}
+
+// in runs a test in a folder with a config.
+func in(t *testing.T, config string) {
+	t.Helper()
+	before, err := os.Getwd()
+	if err != nil {
+		t.Fatal(err)
+	}
+	if err := os.Chdir(t.TempDir()); err != nil {
+		t.Fatal(err)
+	}
+	t.Cleanup(func() { _ = os.Chdir(before) })
+	if err := os.WriteFile("config.json", []byte(config), 0o600); err != nil {
+		t.Fatal(err)
+	}
+}
+
+func TestGroups(t *testing.T) {
+	for config, want := range map[string]string{
+		`{}`: "one", `{"annotations":{"other":"x"}}`: "one", `{"annotations":{"io.kubernetes.cri.sandbox-id":"pod"}}`: "pod",
+	} {
+		in(t, config)
+		if got, err := groupOf("one"); err != nil || got != want {
+			t.Errorf("%s: %s, %v", config, got, err)
+		}
+	}
+	in(t, "{")
+	if _, err := groupOf("one"); err == nil {
+		t.Error("a config that is none is read")
+	}
+}
