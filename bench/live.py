@@ -3,8 +3,8 @@
 
     bench/live.py [PROGRAM] [--rounds N]
 
-1. From an end to its reply: 64 tasks that end by themselves, each with a caller that waits. The time of day in the line that logs
-   the end, and that at which the host has read the reply, for N ends (1,000).
+1. From an end to its reply: 64 tasks that end by themselves, each with a caller that waits. The time of day in the line that
+   logs the end, and that at which the host has read the reply, for N ends (1,000).
 2. A `kill` of a task while 64 callers wait, and a `state` with no other caller, in the same run: the time until the reply.
 3. 10,000 lives of tasks (create, start, wait, delete) over as many shims as that takes, with no question for a state.
 """
