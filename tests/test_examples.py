@@ -75,3 +75,17 @@ def test_text(name: str) -> None:
 def test_command(number: int) -> None:
     line, stored = commands()[number]
     assert told(line.split()) == stored
+
+
+def test_asm_writes_a_file(tmp_path: Path) -> None:
+    """The bytes of `asm -o` are those whose digits `asm` writes; a refused module leaves the file as it is."""
+    file = tmp_path / "sum.wasm"
+    digits = run(["asm", "sum.wat"])
+    done = run(["asm", "-o", str(file), "sum.wat"])
+    assert (done.returncode, done.stdout, done.stderr) == (0, b"", b"")
+    assert file.read_bytes() == bytes.fromhex(digits.stdout.decode())
+    refused = run(["asm", "--output", str(file), "commands.txt"])
+    assert (refused.returncode, refused.stdout) == (3, b"") and refused.stderr.startswith(b"refused 18 BadText")
+    assert file.read_bytes() == bytes.fromhex(digits.stdout.decode())
+    nowhere = run(["asm", "-o", str(tmp_path / "nowhere/sum.wasm"), "sum.wat"])
+    assert (nowhere.returncode, nowhere.stdout) == (1, b"") and b"nowhere/sum.wasm: " in nowhere.stderr
