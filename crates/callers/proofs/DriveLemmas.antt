@@ -3,7 +3,7 @@ use Rattle.std.proofs.Common.{suc, Result, ◌≡◌, ℕ, ◌<◌, ◌≤◌, l
 use Rattle.std.specs.Prelude.{MatchBool}
 use Rattle.std.proofs.Math.Nat.{lt_of_not-le}
 use Rattle.std.proofs.KnownBytes.{Appends-trans, Appends-kept}
-use Rattle.std.specs.Io.KnownBytes.{Appends, Keeps, IsAtEnd, prepend_known}
+use Rattle.std.specs.Io.KnownBytes.{Appends, IsAtEnd, prepend_known}
 use Rattle.std.proofs.lemmas.List.{append-nil}
 use Rattle.wasm_ast.specs.declared.refusal.Refusal.{Refusal}
 use Rattle.task_requests.specs.declared.request.Request.{Request}

@@ -4,7 +4,7 @@ ghost use Rattle.std.specs.Prelude.{◌≡◌, List, ℕ, Err, IfOk, option_map,
 ghost use Rattle.task_requests.specs.declared.request.Request.TheVariants as Asked;
 ghost use Rattle.request_lines.specs.Input.{IsKept};
 ghost use Rattle.request_lines.specs.Reply.{json_of, line_text};
-ghost use Rattle.callers.specs.Answered.{IsAnswered, IsCall, IsServed};
+ghost use Rattle.callers.specs.Answered.{IsAnswered, IsCall, IsDue, IsServed};
 ghost use Rattle.callers.specs.Driving.{Drives, IsTold};
 ghost use Rattle.callers.specs.Inside.Writing.{Writes};
 

@@ -1,5 +1,5 @@
 -- What is written of one text.
-use Rattle.std.specs.Prelude.{◌≡◌, ℕ, List, Option, Result, Ok, Err}
+use Rattle.std.specs.Prelude.{ℕ, List, Option, Result, Ok, Err}
 use Rattle.std.specs.Io.KnownBytes.{Appends, Keeps}
 use Rattle.call_journal.specs.Fronts.{Begins}
 use Rattle.callers.specs.declared.caller.WriteError.{WriteError}
