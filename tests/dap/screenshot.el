@@ -1,7 +1,8 @@
 ;;; screenshot.el --- a picture of Emacs' dap-mode with the adapter of clients/python -*- lexical-binding: t -*-
 ;;; Commentary:
 ;; Run by tests/run dap-screenshot, in an Emacs with a window.  The environment variable FEULGAMA names the adapter's program,
-;; EXAMPLES the folder with words.c and words.wasm, and RAW the file that the picture is written to.
+;; EXAMPLES the folder with words.c, json.c and their modules, PICTURE which picture it is, and RAW the file that it is written
+;; to.
 ;;; Code:
 (setq inhibit-startup-screen t
       ring-bell-function #'ignore
@@ -27,6 +28,7 @@
 (add-hook 'dap-stopped-hook (lambda (_) (setq stops (1+ stops))))
 (setq dap-auto-configure-features nil
       dap-auto-show-output nil
+      dap-output-buffer-filter '("stdout" "stderr" "console")
       dap-ui-variable-length 60
       dap-ui-buffer-configurations
       `((,dap-ui--locals-buffer (side . right) (slot . 1) (window-width . 0.44))
@@ -40,8 +42,8 @@
  (lambda (conf) (plist-put conf :dap-server-path (list (getenv "FEULGAMA") "dap"))))
 
 (defun wait-until (what test)
-  "Read from the adapter until TEST holds; WHAT is said if it does not within 20 seconds."
-  (let ((deadline (+ (float-time) 20)))
+  "Read from the adapter until TEST holds; WHAT is said if it does not within 100 seconds."
+  (let ((deadline (+ (float-time) 100)))
     (while (not (funcall test))
       (when (> (float-time) deadline)
         (princ (format "FAILED: waited for %s\n" what) #'external-debugging-output)
@@ -70,25 +72,83 @@
   (goto-char (point-min))
   (forward-line 1))
 
-(defun take ()
-  "Run to the breakpoint for the third time, show the variables and the stack, and take the picture."
-  (find-file (concat examples "words.c"))
+(defun ask (command &rest arguments)
+  "The body of the reply to COMMAND with ARGUMENTS."
+  (let (reply)
+    (dap--send-message (dap--make-request command arguments) (lambda (found) (setq reply found)) (dap--cur-session))
+    (wait-until command (lambda () reply))
+    (gethash "body" reply)))
+
+(defun go-on ()
+  "Continue to another stop."
+  (stop-again (lambda () (dap-continue (dap--cur-session) 1))))
+
+(defun launch (name line)
+  "Debug the module NAME, with its source shown and a breakpoint at LINE, unless that is nil, up to its first stop."
+  (find-file (concat examples name ".c"))
   (display-line-numbers-mode 1)
-  (goto-char (point-min))
-  (forward-line 48)
-  (dap-breakpoint-add)
-  (dap-debug (list :type "feulgama" :request "launch" :name "words" :program (concat examples "words.wasm")))
-  (wait-until "a first stop" (lambda () (and (> stops 0) (frame-shown))))
-  (dotimes (_ 2) (stop-again (lambda () (dap-continue (dap--cur-session) 1))))
-  (let ((source (selected-window)))
+  (when line
+    (goto-char (point-min))
+    (forward-line (1- line))
+    (dap-breakpoint-add))
+  (dap-debug (list :type "feulgama" :request "launch" :name name :program (concat examples name ".wasm")))
+  (wait-until "a first stop" (lambda () (and (> stops 0) (frame-shown)))))
+
+(defun show (nodes lines)
+  "Show NODES of the variables, and the stack; the line of the frame is so many LINES above the end of its window."
+  (let ((source (selected-window))
+        (name (file-name-base buffer-file-name)))
     (dap-ui-locals)
     (let ((dap-ui-locals-expand-depth nil)) (dap-ui-locals--refresh))
-    (mapc #'open-node '("Variables" "Task"))
+    (mapc #'open-node nodes)
     (dap-ui-sessions)
-    (mapc #'open-node '("words" "task"))
+    (mapc #'open-node (list name "task"))
     (select-window source)
-    (recenter -12))
-  (message nil)
+    (recenter (- lines))))
+
+(defun show-breakpoint ()
+  "The breakpoint of words.c for the third time."
+  (launch "words" 49)
+  (dotimes (_ 2) (go-on))
+  (show '("Variables" "Task") 12)
+  (message nil))
+
+(defun show-watch ()
+  "A breakpoint with a condition, and then a data breakpoint, which has stopped."
+  (launch "words" 49)
+  (cl-letf (((symbol-function 'read-string) (lambda (&rest _) "length == 5")))
+    (dap-breakpoint-condition buffer-file-name (dap--get-breakpoint-at-point)))
+  (go-on)
+  (let* ((found (gethash "variablesReference" (ask "evaluate" :expression "found" :frameId 0)))
+         (sum (ask "dataBreakpointInfo" :variablesReference found :name "sum")))
+    (ask "setDataBreakpoints" :breakpoints (vector (list :dataId (gethash "dataId" sum))))
+    (go-on)
+    (show '("Variables" "Task") 22)
+    (show-output)
+    (message "words.c:49 stops if length == 5; data breakpoint: %s" (gethash "description" sum))))
+
+(defun show-trap ()
+  "The trap of json.c."
+  (launch "json" nil)
+  (show '("Variables" "Task") 22)
+  (show-output)
+  (message "Exception: %s" (gethash "description" (ask "exceptionInfo" :threadId 1))))
+
+(defun show-output ()
+  "Show what the adapter has told."
+  (let ((source (selected-window)))
+    (split-window-below -9)
+    (other-window 1)
+    (switch-to-buffer (dap--debug-session-output-buffer (dap--cur-session)))
+    (goto-char (point-min))
+    (select-window source)))
+
+(defun take ()
+  "Make the picture."
+  (pcase (getenv "PICTURE")
+    ("session" (show-breakpoint))
+    ("watch" (show-watch))
+    ("trap" (show-trap)))
   (dotimes (_ 10)
     (redisplay t)
     (sit-for 0.1))

@@ -1,7 +1,7 @@
 ;;; session.el --- a session of Emacs' dap-mode with the adapter of clients/python -*- lexical-binding: t -*-
 ;;; Commentary:
 ;; Run by tests/test_dap_emacs.py in batch mode.  The environment variable FEULGAMA names the adapter's program, and EXAMPLES
-;; the folder with words.c and words.wasm.  Prints a line for each step; a step that fails ends Emacs with status 1.
+;; the folder with words.c, json.c and their modules.  Prints a line for each step; a step that fails ends Emacs with status 1.
 ;;; Code:
 (require 'dap-mode)
 (require 'dap-ui)
@@ -24,8 +24,8 @@
  (lambda (conf) (plist-put conf :dap-server-path (list (getenv "FEULGAMA") "dap"))))
 
 (defun wait-until (what test)
-  "Read from the adapter until TEST holds; WHAT is said if it does not within 20 seconds."
-  (let ((deadline (+ (float-time) 20)))
+  "Read from the adapter until TEST holds; WHAT is said if it does not within 100 seconds."
+  (let ((deadline (+ (float-time) 100)))
     (while (not (funcall test))
       (when (> (float-time) deadline)
         (princ (format "FAILED: waited for %s\n" what))
@@ -57,13 +57,31 @@
   "Send COMMAND, a request of a step that dap-mode has no key for."
   (dap--step command (dap--cur-session)))
 
+(defun launch (name)
+  "Debug the module NAME up to its first stop."
+  (setq stops 0
+        is-over nil)
+  (dap-debug (list :type "feulgama" :request "launch" :name name :program (concat examples name ".wasm")))
+  (wait-until "a first stop" (lambda () (and (> stops 0) (dap--cur-session)
+                                             (dap--debug-session-active-frame (dap--cur-session))))))
+
+(defun value-of (expression)
+  "Print what EXPRESSION is."
+  (princ (format "%s: %s\n" expression (gethash "result" (ask "evaluate" :expression expression :frameId 0)))))
+
+(defun end-session ()
+  "Go on to the end, and print the output."
+  (let ((session (dap--cur-session)))
+    (dap-continue session 1)
+    (wait-until "the end" (lambda () is-over))
+    (with-current-buffer (dap--debug-session-output-buffer session)
+      (princ (format "output: %s\n" (string-trim (replace-regexp-in-string "\n" " | " (string-trim (buffer-string)))))))))
+
 (find-file source)
 (goto-char (point-min))
 (forward-line 48)
 (dap-breakpoint-add)
-(dap-debug (list :type "feulgama" :request "launch" :name "words" :program (concat examples "words.wasm")))
-(wait-until "a first stop" (lambda () (and (> stops 0) (dap--cur-session)
-                                           (dap--debug-session-active-frame (dap--cur-session)))))
+(launch "words")
 (princ (format "breakpoint: %s\n" (place)))
 (seq-doseq (scope (gethash "scopes" (ask "scopes" :frameId 0)))
   (let* ((found (gethash "variables" (ask "variables" :variablesReference (gethash "variablesReference" scope))))
@@ -71,18 +89,33 @@
     (princ (format "%s: %d%s\n" (gethash "name" scope) (length found)
                    (if shown (format ", %s = %s" (gethash "name" shown) (gethash "value" shown)) "")))))
 (dolist (expression '("length" "*(local 3 + 8)" "found"))
-  (princ (format "%s: %s\n" expression (gethash "result" (ask "evaluate" :expression expression :frameId 0)))))
+  (value-of expression))
 (stopped-by "next" (lambda () (dap-next (dap--cur-session))))
 (stopped-by "step back" (lambda () (move-by "stepBack")))
 (stopped-by "step in" (lambda () (dap-step-in (dap--cur-session))))
 (stopped-by "step out" (lambda () (dap-step-out (dap--cur-session))))
 (stopped-by "continue" (lambda () (dap-continue (dap--cur-session) 1)))
 (stopped-by "reverse continue" (lambda () (move-by "reverseContinue")))
+(cl-letf (((symbol-function 'read-string) (lambda (&rest _) "length == 5")))
+  (dap-breakpoint-condition source (dap--get-breakpoint-at-point)))
+(stopped-by "continue to the condition" (lambda () (dap-continue (dap--cur-session) 1)))
+(value-of "length")
+(let* ((found (gethash "variablesReference" (ask "evaluate" :expression "found" :frameId 0)))
+       (sum (ask "dataBreakpointInfo" :variablesReference found :name "sum")))
+  (princ (format "data breakpoint: %s\n" (gethash "description" sum)))
+  (ask "setDataBreakpoints" :breakpoints (vector (list :dataId (gethash "dataId" sum)))))
+(stopped-by "continue to a change" (lambda () (dap-continue (dap--cur-session) 1)))
+(value-of "found.sum")
+(stopped-by "reverse continue to it" (lambda () (move-by "reverseContinue")))
+(value-of "found.sum")
+(ask "setDataBreakpoints" :breakpoints [])
 (dap-breakpoint-delete-all)
-(let ((session (dap--cur-session)))
-  (dap-continue session 1)
-  (wait-until "the end" (lambda () is-over))
-  (with-current-buffer (dap--debug-session-output-buffer session)
-    (princ (format "output: %s\n" (string-trim (replace-regexp-in-string "\n" " | " (string-trim (buffer-string))))))))
+(end-session)
+(find-file (concat examples "json.c"))
+(launch "json")
+(princ (format "trap: %s\n" (place)))
+(princ (format "exception: %s\n" (gethash "description" (ask "exceptionInfo" :threadId 1))))
+(value-of "item")
+(end-session)
 (kill-emacs 0)
 ;;; session.el ends here

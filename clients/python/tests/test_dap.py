@@ -157,6 +157,15 @@ class Lines(WithEditor):
         items = self.editor.ask("evaluate", expression="line", frameId=0)["body"]["variablesReference"]
         self.assertEqual([one["name"] for one in self.children(items)], [f"[{index}]" for index in range(16)])
 
+    def test_what_is_in_an_expression_can_be_watched(self) -> None:
+        self.stop_at(49)
+        for expression, name in (("found", "found.sum"), ("*&found", "(*&found).sum")):
+            opened = self.editor.ask("evaluate", expression=expression, frameId=0)["body"]["variablesReference"]
+            self.assertEqual(self.children(opened)[2]["evaluateName"], name)
+            self.assertEqual(self.editor.evaluate(name), "0")
+            info = self.editor.ask("dataBreakpointInfo", variablesReference=opened, name="sum")
+            self.assertEqual(info["body"]["dataId"], f"0x438 4 {name}")
+
     def children(self, reference: int) -> list[Body]:
         found: list[Body] = self.editor.ask("variables", variablesReference=reference)["body"]["variables"]
         return found

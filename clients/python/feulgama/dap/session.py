@@ -353,7 +353,7 @@ class Session:
                 raise
             self._command(request, text)
             return
-        self._writer.respond(request, self.views.result(found))
+        self._writer.respond(request, self.views.result(found, text))
 
     def _command(self, request: Message, text: str) -> None:
         turn = self.debugger.timeline.turn

@@ -3,6 +3,7 @@ from __future__ import annotations
 
 import base64
 import bisect
+import re
 from dataclasses import dataclass
 from pathlib import Path
 from typing import Any
@@ -20,6 +21,7 @@ FIRST_SOURCE = 1000
 VARIABLES, LOCALS, OPERANDS, MEMORY = 1, 2, 3, 4
 KINDS, FIRST_OPENED = 5, 1 << 20
 MOST_ITEMS = 256
+SIMPLE = re.compile(r"[\w:.\[\]]+")  # expressions that need no parentheses before a member
 
 
 @dataclass(frozen=True, slots=True)
@@ -159,11 +161,12 @@ class Views:
         return {"name": found.name, "value": found.text, "type": found.type, "evaluateName": found.name,
                 **self._inner(found.kind, found.data, found.address, found.name)}
 
-    def result(self, found: Operand) -> Body:
-        """What is shown of the value of an expression."""
+    def result(self, found: Operand, expression: str) -> Body:
+        """What is shown of the value of an expression. What is in it is named by that."""
         if found.kind is not None:
+            name = expression if SIMPLE.fullmatch(expression) else f"({expression})"
             return {"result": found.kind.text(found.data, self._timeline.memory), "type": found.kind.name,
-                    **self._inner(found.kind, found.data, found.address, "")}
+                    **self._inner(found.kind, found.data, found.address, name)}
         shown: Body = {"result": str(found.number if found.value is None else found.value), "variablesReference": 0}
         if found.value is not None:
             shown |= {"type": found.value.type.value, "memoryReference": hex(found.value.number % 2**32)}
@@ -198,9 +201,8 @@ class Views:
                 for member in members_of(kind, data)]
 
     def _child(self, name: str, kind: CType, data: bytes, address: int | None, words: str) -> Body:
-        shown: Body = {"name": name, "value": kind.text(data, self._timeline.memory), "type": kind.name,
-                       **self._inner(kind, data, address, words)}
-        return shown | ({"evaluateName": words} if words[:1] not in (".", "[") else {})
+        return {"name": name, "value": kind.text(data, self._timeline.memory), "type": kind.name, "evaluateName": words,
+                **self._inner(kind, data, address, words)}
 
     def _variable(self, frame: Frame, word: str, index: int, value: Value) -> Body:
         name = self._symbols.names.local(frame.func, index) if word == "local" else None
