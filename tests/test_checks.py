@@ -326,6 +326,26 @@ def test_tests_of_go_are_run(tmp_path: Path) -> None:
     assert "not one" in programs.check_oci_tests(tree_of(tmp_path / "b", {**wrong}))[1][0]
 
 
+def test_a_client_in_go_has_the_packages_of_others(tmp_path: Path) -> None:
+    files = {"clients/oci/src/a/one/one.go": "package one\n\nfunc One() int { return 1 }\n",
+             "clients/other/src/b/one_test.go": GO_TEST.replace("package one", "package b").replace(
+                 'import "testing"', 'import (\n\t"a/one"\n\t"testing"\n)').replace("One() != 1", "one.One() != 1")}
+    tree = tree_of(tmp_path, files)
+    assert programs.check_go(tree)[1] == []
+    assert programs.check_oci_tests(tree) == (1, [])
+
+
+def test_types_of_each_folder_of_container_tests_are_looked_at(tmp_path: Path) -> None:
+    """The later folders use modules of the first."""
+    setup = {"setup.cfg": "[mypy]\nstrict = True\n", "tests/one.py": "ONE = 1\n",
+             "clients/oci/test/checks/__init__.py": "", "clients/oci/test/checks/base.py": "NUMBER = 1\n"}
+    name = "clients/containerd/test/other/more.py"
+    right = "from checks.base import NUMBER\n\nMORE: int = NUMBER\n"
+    assert programs.check_mypy(tree_of(tmp_path / "a", {**setup, name: right}))[1] == []
+    faults = programs.check_mypy(tree_of(tmp_path / "b", {**setup, name: right.replace("int", "str")}))[1]
+    assert len(faults) == 1 and "mypy of clients/containerd/test" in faults[0]
+
+
 def test_tests_of_go_by_the_clock_say_so(tmp_path: Path) -> None:
     name = "clients/oci/src/a/one/late_test.go"
     assert list(programs.unmarked_go_tests(tree_of(tmp_path / "a", {name: GO_CLOCK}))) == [
