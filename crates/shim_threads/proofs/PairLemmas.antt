@@ -1,5 +1,5 @@
 -- Lists of pairs that are related.
-use Rattle.std.proofs.Common.{◌≡◌, sym, subst, refl, List, [], ◌∷◌, ◌++◌, append-nil, ◌∙◌, ◌+◌, length, Result, Ok, Err, IfOk, Option, Some, None, IfSome, option_map, ap}
+use Rattle.std.proofs.Common.{◌≡◌, sym, subst, List, [], ◌∷◌, ◌++◌, append-nil, ◌∙◌, length, Result, Ok, Err, IfOk, Option, Some, None, IfSome, option_map, ap}
 use Rattle.std.specs.Result.{result_ok}
 use native.Mathlib.Omega.{arith}
 use Rattle.shim_threads.specs.Pairs.{Each}

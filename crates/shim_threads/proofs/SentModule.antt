@@ -1,11 +1,11 @@
 -- A valid module may be shared by threads. An instruction has bodies, and a body instructions, so both are shown at
 -- once, one layer from the layer below it; the rest is found field by field.
 use denote.Model.Local.{Parts, rows}
-use denote.Model.Goals.{Law, send, sync, Goals, All, both_laws, tied_goals, has_of, part_has}
+use denote.Model.Goals.{send, sync, All, both_laws, tied_goals, has_of, part_has}
 use denote.Param.Send.{IsSend, IsSync, sendable, view_send, view_sync, recorded_send, recorded_sync}
 use denote.Model.Cut.{split_one}
 use Rattle.wasm_ast.specs.declared.instr.Body.TheDeep as deep
-use denote.Param.SendFields.{as_row_send, as_row_sync, variants_send, variants_sync, declared_send, declared_sync}
+use denote.Param.SendFields.{as_row_send, as_row_sync, variants_send, variants_sync}
 use denote.Struct.Field.{row_field}
 use Rattle.std.proofs.Crossing as std_sent
 use Rattle.wasm_ast.specs.contracts.instr.Simple as simples
@@ -15,7 +15,6 @@ use Rattle.wasm_ast.proofs.instr.BlockType.TheSendSync as types_cross
 use Rattle.wasm_ast.specs.declared.instr.Body.TheDeep.{the_members, member-Body}
 use Rattle.wasm_ast.specs.contracts.instr.Body.TheKnot as knot
 use Rattle.wasm_ast.specs.contracts.instr.Body as bodies
-use Rattle.std.proofs.MapsCrossing as maps_sent
 use Rattle.wasm_ast.specs.contracts.module.Func as funcs
 use Rattle.wasm_ast.specs.contracts.module.Global as globals
 use Rattle.wasm_ast.specs.contracts.module.Element as elements
