@@ -47,7 +47,16 @@ spawn_with-requires-send-F g c κs within =
     let n = b.send-N in
     let js = b.sync-J in
     let hs = b.sync-H in
-    search (sendable, std_sent.crosses, std_sent.send, shim_sync, shim_send, flight.the_sync, caller.the_send, seat.the_send)
+    search (
+      sendable,
+      std_sent.crosses,
+      std_sent.send,
+      shim_sync,
+      shim_send,
+      flight.the_sync,
+      caller.the_send,
+      seat.the_send,
+    )
     depth 30 fits 100000
 
 pub spawn_with-requires-send-T : goal.spawn_with-requires-send-T
