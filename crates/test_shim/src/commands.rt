@@ -46,11 +46,12 @@ Arguments:
   <FILE>  The file of the module, in the binary or the text format
 
 Options:
-      --explain  After a refusal, also say why, in a line on standard error
-  -h, --help     Print help
-  -V, --version  Print version
+  -o, --output <OUTPUT>  Write the bytes to this file, and nothing to standard output
+      --explain          After a refusal, also say why, in a line on standard error
+  -h, --help             Print help
+  -V, --version          Print version
 
-Example: wasm-shim asm examples/hello.wat
+Example: wasm-shim asm -o hello.wasm examples/hello.wat
 ";
 
 const NO_FILE: &str = "error: the following required arguments were not provided:
