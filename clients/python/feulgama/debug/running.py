@@ -62,9 +62,9 @@ class Gait:
         return turns / self.speed if self.speed else float("inf")
 
     def last_turns(self) -> float:
-        """How many turns before a turn a task is paused. They are made by steps, each a request, so they are not too
-        many."""
-        return min(self.margin * self.speed, MOST_LAST_TURNS)
+        """How many turns before a turn a task is paused: two slices at least, since a pause takes hold at the end of one.
+        They are made by steps, each a request, so they are not too many."""
+        return min(max(self.margin * self.speed, 2 * SLICE), MOST_LAST_TURNS)
 
     def is_far(self, turns: int) -> bool:
         """Whether a run comes nearer to what is so many turns ahead, and steps alone would be many."""
