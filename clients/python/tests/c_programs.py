@@ -6,8 +6,9 @@ import shutil
 import subprocess
 from pathlib import Path
 
-CLANG = ["clang-14", "--target=wasm32", "-mcpu=mvp", "-nostdlib", "-ffreestanding", "-fdebug-compilation-dir=.",
-         "-Wl,--no-entry", "-Wl,-z,stack-size=16384"]
+CLANG = ["clang-14", "--target=wasm32", "-mcpu=mvp", "-ffreestanding", "-fdebug-compilation-dir=.", "-c"]
+# Without an option -O, with which clang would run wasm-opt if it is there: that leaves descriptions which fit no more.
+LINK = ["clang-14", "--target=wasm32", "-nostdlib", "-Wl,--no-entry", "-Wl,-z,stack-size=16384"]
 RUSTC = ["/usr/bin/rustc", "--target", "wasm32-unknown-unknown", "-g", "-C", "target-cpu=mvp", "-C", "panic=abort",
          "-C", "link-arg=-zstack-size=16384", "--crate-type", "cdylib"]
 NEEDED = ("clang-14", "wasm-ld-14", "llvm-dwarfdump-14")
@@ -48,7 +49,9 @@ def built_c(folder: Path, name: str, text: str, *options: str) -> Path:
     """The module that clang makes of a text."""
     source, module = folder / f"{name}.c", folder / f"{name}{''.join(options)}.wasm"
     source.write_text(text)
-    subprocess.run([*CLANG, *options, "-o", module.name, source.name], cwd=folder, check=True, capture_output=True)
+    made = module.with_suffix(".o").name
+    for words in ([*CLANG, *options, "-o", made, source.name], [*LINK, "-o", module.name, made]):
+        subprocess.run(words, cwd=folder, check=True, capture_output=True)
     return module
 
 
