@@ -102,6 +102,50 @@ class Exact(unittest.TestCase):
         self.assertEqual([text for _, _, text in story.output], ["35\n"])
 
 
+@pytest.mark.slow
+class Long(unittest.TestCase):
+    """At the real limit: `fib` calls itself, as in `fib(n - 1) + fib(n - 2)`."""
+
+    @staticmethod
+    def fibonacci(number: int) -> bytes:
+        """The module whose entry calls `fib` with a number."""
+        return bytes.fromhex("0061736d01000000" "010902" "600000" "60017f017f" "0303020100" "070a01065f73746172740001"
+                             "0a26021c00" "2000" "4102" "48" "047f" "2000" "05" "2000" "4101" "6b" "1000"
+                             "2000" "4102" "6b" "1000" "6a" "0b" "0b" "0700" f"41{number:02x}" "1000" "1a" "0b")
+
+    def test_up_to_the_limit_each_turn_is_looked_at(self) -> None:
+        data = self.fibonacci(18)
+        story, second = story_of(data), SecondReading(data, 200_000)
+        self.assertTrue(50_000 < second.turns <= 100_000, second.turns)
+        self.assertEqual((story.step, story.turns), (1, second.turns))
+        self.assertEqual(sorted((one.func, one.depth, one.begin, one.end) for one in story.calls), sorted(second.calls))
+
+    def test_beyond_it_some_are(self) -> None:
+        """Each call that is seen is one of the run's, and each long one is seen, as near as the looks are."""
+        for number in (19, 20):
+            data = self.fibonacci(number)
+            story, second = story_of(data), SecondReading(data, 1_000_000)
+            self.assertGreater(second.turns, 100_000)
+            self.assertEqual((story.step, story.turns), (second.turns // 1000, second.turns))
+            for one in story.calls:
+                self.assertTrue(any(call[:2] == (one.func, one.depth) and abs(call[2] - one.begin) <= story.step
+                                    and call[3] <= one.end + story.step for call in second.calls), one)
+            for func, depth, begin, end in second.calls:
+                if end - begin > 2 * story.step:
+                    self.assertTrue(any((one.func, one.depth) == (func, depth) and begin <= one.begin <= begin + story.step
+                                        for one in story.calls), (depth, begin, end))
+
+    def test_the_page_says_so(self) -> None:
+        with tempfile.TemporaryDirectory() as folder:
+            module, page = Path(folder) / "fib.wasm", Path(folder) / "fib.html"
+            module.write_bytes(self.fibonacci(19))
+            with redirect_stderr(io.StringIO()):
+                self.assertEqual(main(["--shim", SHIM, "timeline", "-o", str(page), str(module)]), 0)
+            turns = SecondReading(self.fibonacci(19), 1_000_000).turns
+            self.assertIn(f"{turns} turns", page.read_text())
+            self.assertIn(f"ooked at each {turns // 1000} turns: a call that is shorter may be missing", page.read_text())
+
+
 class Page(unittest.TestCase):
     def setUp(self) -> None:
         self.folder = Path(self.enterContext(tempfile.TemporaryDirectory()))
