@@ -1,5 +1,6 @@
 """A session of Emacs' dap-mode, in batch mode, with the debug adapter of clients/python: a breakpoint at a line of C, the
-locals, steps forward and back, a condition, a data breakpoint, the end, and a trap. What Emacs shows has to be tests/dap/session.expected.
+locals, steps forward and back, a condition, a data breakpoint, the end, and a trap. What
+Emacs shows has to be tests/dap/session.expected.
 
 Needs Debian's emacs-nox, elpa-dap-mode and python3-pyelftools, and the built program.
 """

@@ -2,7 +2,7 @@
 from __future__ import annotations
 
 import threading
-from collections.abc import Callable
+from collections.abc import Callable, Sequence
 from dataclasses import dataclass, field
 
 from feulgama.debug.debugger import Debugger
@@ -10,7 +10,7 @@ from feulgama.debug.look import Look
 from feulgama.debug.running import Watch
 from feulgama.debug.timeline import size_of
 from feulgama.debug.track import Track
-from feulgama.model import Stream
+from feulgama.model import Frame, Stream
 from feulgama.requests import inspect
 from feulgama.wasm import opcodes as op
 from feulgama.wasm.module import Module
@@ -62,6 +62,7 @@ class Teller:
     def __init__(self, story: Story, module: Module, new_track: Callable[[], Track]) -> None:
         self._story, self._module, self._new_track = story, module, new_track
         self._open: list[Call] = []
+        self._keys: list[tuple[int, int | None]] = []
         self._told: list[int] = []
         self._writing = {index for index, (_, name, _) in enumerate(module.imports) if name == "fd_write"}
         self._track = new_track()
@@ -97,22 +98,24 @@ class Teller:
         """Takes note of where the task is after a turn."""
         is_other = look.place is not None and self._open and look.place.func != self._open[-1].func
         if self._story.step > 1 or look.depth != len(self._open) or is_other:
-            self._follow([frame.func for frame in inspect("").result(look.line).frames[::-1]], look.turn)
+            self._follow(inspect("").result(look.line).frames[::-1], look.turn)
         if look.turn == 0 or self._story.step == 1 and self._is_told(self._before):
             self._told.append(look.turn)
         self._before = look
 
-    def _follow(self, funcs: list[int], turn: int) -> None:
+    def _follow(self, frames: Sequence[Frame], turn: int) -> None:
         """Ends the calls that are not there any more, and begins those that are new. One turn calls or returns, and not
         both, but for the last one of the start function, after which the entry is there. So a function that is where it
-        was is the same call, if each turn is looked at."""
+        was, and was called at the same place, is the same call, if each turn is looked at."""
+        keys = [(frame.func, frames[depth - 1].next if depth else None) for depth, frame in enumerate(frames)]
         same = 0
-        while same < min(len(funcs), len(self._open)) and self._open[same].func == funcs[same]:
+        while same < min(len(keys), len(self._keys)) and self._keys[same] == keys[same]:
             same += 1
         for call in self._open[same:]:
             call.end = turn
         del self._open[same:]
-        for depth, func in enumerate(funcs[same:], same):
+        self._keys = keys
+        for depth, (func, _) in enumerate(keys[same:], same):
             self._open.append(Call(func, depth, turn, turn))
             self._story.calls.append(self._open[-1])
 
