@@ -68,6 +68,22 @@ class Storm(WithDaemon):
             self.assertEqual(list(pool.map(self.daemon.remove, names)), [143] * IN_A_POD)
         self.all_gone()
 
+    def test_4_journal(self) -> None:
+        """a container whose requests are used up by looks refuses more, and its kill, exit, output and deletion work"""
+        name = self.counting()
+        words = [name, "peek", "0", "4096"]  # 16 requests, and some to let it stand still
+
+        def look(number: int) -> str:
+            return self.daemon.ctr("tasks", "exec", f"--exec-id=look-{number}", *words).err
+        with ThreadPoolExecutor(4) as pool:
+            refused = [text for text in pool.map(look, range(16384 // 18)) if text]
+        self.assertGreater(len(refused), 0)
+        self.assertEqual([text for text in refused if "wasm-shim has answered nearly all the requests" not in text], [])
+        self.assertEqual(self.daemon.status(name), "running")
+        self.assertEqual(self.end(name), 143)
+        self.assertEqual(self.daemon.log(name).read_text(), "begun\n")
+        self.all_gone()
+
     def killed(self, name: str, what: str, chance: random.Random) -> list[Events]:
         """Kills a process of a container at a random moment of its life. A new containerd has new listeners."""
         time.sleep(chance.random() * 0.5)
