@@ -128,6 +128,19 @@ func (b *board) answer(r request, line string) object {
 		if b.module != Deaf {
 			b.stop("kill", uint32(128+r.Signal), r.Signal)
 		}
+	case "output", "peek", "inspect":
+		return b.shown(r)
+	default:
+		if !b.change(r.Op) {
+			return wrongStatus()
+		}
+	}
+	return b.state(r.ID)
+}
+
+// shown answers what only shows something.
+func (b *board) shown(r request) object {
+	switch r.Op {
 	case "output":
 		written := ""
 		if r.Stream == 1 && b.status != "created" {
@@ -139,12 +152,8 @@ func (b *board) answer(r request, line string) object {
 	case "inspect":
 		return object{"ok": true, "id": r.ID, "n": 3, "frames": []object{{"func": 0, "next": 1, "locals": []string{"i64:5"},
 			"labels": []int{}, "operands": []string{}}}}
-	default:
-		if !b.change(r.Op) {
-			return wrongStatus()
-		}
 	}
-	return b.state(r.ID)
+	return wrongStatus()
 }
 
 // change moves the task by start, pause, resume or delete, if its status lets it.

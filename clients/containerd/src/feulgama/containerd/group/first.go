@@ -13,7 +13,10 @@ var controllers = map[cgroups.Name]bool{
 	cgroups.Cpu: true, cgroups.Cpuacct: true, cgroups.Cpuset: true, cgroups.Memory: true, cgroups.Pids: true,
 }
 
-type first struct{ cgroups.Cgroup }
+type first struct {
+	cgroups.Cgroup
+	name string
+}
 
 func newFirst(name string, limits *specs.LinuxResources) (Group, error) {
 	made, err := cgroups.New(hierarchy, cgroups.StaticPath(name), ours(limits))
@@ -23,7 +26,7 @@ func newFirst(name string, limits *specs.LinuxResources) (Group, error) {
 	if err != nil {
 		return nil, fmt.Errorf("make the cgroup %s: %w", name, err)
 	}
-	return first{made}, nil
+	return first{made, name}, nil
 }
 
 func loadFirst(name string) (Group, error) {
@@ -31,7 +34,7 @@ func loadFirst(name string) (Group, error) {
 	if err != nil {
 		return nil, err
 	}
-	return first{found}, nil
+	return first{found, name}, nil
 }
 
 func hierarchy() ([]cgroups.Subsystem, error) {
@@ -54,4 +57,17 @@ func (f first) Add(pid int) error {
 
 func (f first) Stats() (interface{}, error) {
 	return f.Cgroup.Stat(cgroups.IgnoreNotExist)
+}
+
+// Delete removes the cgroup of each controller. The library's own would remove those below it too.
+func (f first) Delete() error {
+	var first error
+	for _, controller := range f.Cgroup.Subsystems() {
+		if placed, ok := controller.(interface{ Path(string) string }); ok {
+			if err := remove(placed.Path(f.name)); err != nil && first == nil {
+				first = err
+			}
+		}
+	}
+	return first
 }

@@ -6,11 +6,13 @@ import (
 	"fmt"
 	"path"
 	"strings"
+	"time"
 
 	"github.com/containerd/cgroups"
 	statsv1 "github.com/containerd/cgroups/stats/v1"
 	statsv2 "github.com/containerd/cgroups/v2/stats"
 	specs "github.com/opencontainers/runtime-spec/specs-go"
+	"golang.org/x/sys/unix"
 )
 
 // Beside is the memory that the interpreter may take besides that of the module.
@@ -96,6 +98,25 @@ func ours(limits *specs.LinuxResources) *specs.LinuxResources {
 		kept.Memory = &specs.LinuxMemory{Limit: &most}
 	}
 	return kept
+}
+
+// patience is how long a cgroup may still be in use after its process has ended.
+const patience = 100 * time.Millisecond
+
+// remove removes a cgroup, and nothing below it. One that others use too stays.
+func remove(folder string) error {
+	for rest := time.Millisecond; ; rest *= 2 {
+		err := unix.Rmdir(folder)
+		switch {
+		case err == nil, errors.Is(err, unix.ENOENT):
+			return nil
+		case !errors.Is(err, unix.EBUSY):
+			return fmt.Errorf("remove the cgroup %s: %w", folder, err)
+		case rest > patience:
+			return nil
+		}
+		time.Sleep(rest)
+	}
 }
 
 // Nothing are the metrics of no process at all.

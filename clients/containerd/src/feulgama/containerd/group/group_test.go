@@ -5,6 +5,7 @@ import (
 	"fmt"
 	"os"
 	"os/exec"
+	"path/filepath"
 	"strings"
 	"testing"
 
@@ -78,11 +79,36 @@ func TestACgroupOfTheMachine(t *testing.T) {
 	}
 	_ = command.Process.Kill()
 	_ = command.Wait()
-	loaded, err := Load(name)
+	deleteAll(t, name)
+}
+
+// folders are those of a cgroup, of each controller or of version 2.
+func folders(name string) []string {
+	first, _ := filepath.Glob("/sys/fs/cgroup/*" + name)
+	second, _ := filepath.Glob("/sys/fs/cgroup" + name)
+	return append(first, second...)
+}
+
+// deleteAll checks that a cgroup stays as long as it has another one in it, which stays too, and is gone afterwards.
+func deleteAll(t *testing.T, name string) {
+	t.Helper()
+	inner, err := New(name+"/inner", nil)
 	if err != nil {
 		t.Fatal(err)
 	}
-	if err := loaded.Delete(); err != nil {
-		t.Error(err)
+	outer, err := Load(name)
+	if err != nil {
+		t.Fatal(err)
+	}
+	if err := outer.Delete(); err != nil || len(folders(name)) == 0 || len(folders(name+"/inner")) == 0 {
+		t.Errorf("%v: %v, %v", err, folders(name), folders(name+"/inner"))
+	}
+	for _, one := range []Group{inner, outer, outer} {
+		if err := one.Delete(); err != nil {
+			t.Error(err)
+		}
+	}
+	if left := folders(name); len(left) > 0 {
+		t.Errorf("%v are left", left)
 	}
 }

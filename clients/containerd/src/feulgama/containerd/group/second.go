@@ -3,6 +3,7 @@ package group
 import (
 	"errors"
 	"fmt"
+	"path/filepath"
 
 	cgroups "github.com/containerd/cgroups/v2"
 	specs "github.com/opencontainers/runtime-spec/specs-go"
@@ -10,7 +11,10 @@ import (
 
 const mounted = "/sys/fs/cgroup"
 
-type second struct{ *cgroups.Manager }
+type second struct {
+	*cgroups.Manager
+	name string
+}
 
 // wanted are the controllers of version 2 that have limits and metrics for wasm-shim.
 var wanted = []string{"cpu", "cpuset", "memory", "pids"}
@@ -21,10 +25,10 @@ func newSecond(name string, limits *specs.LinuxResources) (Group, error) {
 		return nil, fmt.Errorf("make the cgroup %s: %w", name, err)
 	}
 	if err := limit(made, cgroups.ToResources(ours(limits))); err != nil {
-		_ = made.Delete()
+		_ = remove(filepath.Join(mounted, name))
 		return nil, fmt.Errorf("limit the cgroup %s: %w", name, err)
 	}
-	return second{made}, nil
+	return second{made, name}, nil
 }
 
 // limit sets limits by the controllers that the machine has. Where version 1 has some of them too, version 2 has not.
@@ -62,7 +66,7 @@ func loadSecond(name string) (Group, error) {
 	if err != nil {
 		return nil, err
 	}
-	return second{found}, nil
+	return second{found, name}, nil
 }
 
 func (s second) Add(pid int) error {
@@ -71,4 +75,9 @@ func (s second) Add(pid int) error {
 
 func (s second) Stats() (interface{}, error) {
 	return s.Manager.Stat()
+}
+
+// Delete removes the cgroup. The library's own would remove those below it too.
+func (s second) Delete() error {
+	return remove(filepath.Join(mounted, s.name))
 }

@@ -45,15 +45,15 @@ func (s *Streams) openProgram(wish Wish, address *url.URL) (err error) {
 		}
 	}()
 	for range []int{lines.Stdout, lines.Stderr} {
-		read, write, err := os.Pipe()
+		read, write, err := logPipeEnds()
 		if err != nil {
-			return fmt.Errorf("make a pipe for a log: %w", err)
+			return err
 		}
 		theirs, ours = append(theirs, read), append(ours, write)
 	}
-	ready, write, err := os.Pipe()
+	ready, write, err := logPipeEnds()
 	if err != nil {
-		return fmt.Errorf("make a pipe for a log: %w", err)
+		return err
 	}
 	defer ready.Close()
 	theirs = append(theirs, write)
@@ -68,10 +68,16 @@ func (s *Streams) openProgram(wish Wish, address *url.URL) (err error) {
 		return fmt.Errorf("wait for the program of %s: %w", address, err)
 	}
 	p := &program{command: command, open: len(ours)}
-	for number, file := range map[int]*os.File{lines.Stdout: ours[0], lines.Stderr: ours[1]} {
-		s.streams[number] = &stream{to: logPipe{pipe{file}, p}}
-	}
+	s.streams[lines.Stdout] = &stream{to: logPipe{pipe{ours[0]}, p}}
+	s.streams[lines.Stderr] = &stream{to: logPipe{pipe{ours[1]}, p}}
 	return nil
+}
+
+func logPipeEnds() (read, write *os.File, err error) {
+	if read, write, err = os.Pipe(); err != nil {
+		err = fmt.Errorf("make a pipe for a log: %w", err)
+	}
+	return read, write, err
 }
 
 // waitUntilReady waits for a byte or the end of a pipe.
