@@ -327,9 +327,10 @@ def test_tests_of_go_are_run(tmp_path: Path) -> None:
 
 
 def test_a_client_in_go_has_the_packages_of_others(tmp_path: Path) -> None:
-    files = {"clients/oci/src/a/one/one.go": "package one\n\nfunc One() int { return 1 }\n",
-             "clients/other/src/b/one_test.go": GO_TEST.replace("package one", "package b").replace(
-                 'import "testing"', 'import (\n\t"a/one"\n\t"testing"\n)').replace("One() != 1", "one.One() != 1")}
+    files: dict[str, str | None] = {
+        "clients/oci/src/a/one/one.go": "package one\n\nfunc One() int { return 1 }\n",
+        "clients/other/src/b/one_test.go": GO_TEST.replace("package one", "package b").replace(
+            'import "testing"', 'import (\n\t"a/one"\n\t"testing"\n)').replace("One() != 1", "one.One() != 1")}
     tree = tree_of(tmp_path, files)
     assert programs.check_go(tree)[1] == []
     assert programs.check_oci_tests(tree) == (1, [])

@@ -162,7 +162,8 @@ def test_a_file_name_forges_nothing(tmp_path: Path) -> None:
     name = 'x"\n{"event":"forged"}\nlog: 1'
     (tmp_path / name).write_bytes(line_of({"op": "nothing"}))
     (tmp_path / "y").write_bytes(b"")
-    for words in ([], ["--log-format", "json"]):
+    forms: list[list[str]] = [[], ["--log-format", "json"]]
+    for words in forms:
         ran = subprocess.run([built(), "serve", "--log", *words, name, "y"], cwd=tmp_path, capture_output=True, check=True)
         lines = ran.stderr.decode().splitlines()
         assert len(lines) == 3

@@ -44,7 +44,7 @@ def test_systemd_accepts_them(units: Path) -> None:
 @needs_systemd
 @pytest.mark.parametrize("service", SERVICES)
 def test_nothing_is_exposed(service: str) -> None:
-    words = ["systemd-analyze", "security", "--offline=yes", UNITS / service]
+    words = ["systemd-analyze", "security", "--offline=yes", str(UNITS / service)]
     ran = subprocess.run(words, capture_output=True, text=True, check=True)
     level = re.search(r"Overall exposure level for \S+: ([\d.]+)", ran.stdout)
     assert level is not None and float(level[1]) <= EXPOSED
