@@ -12,7 +12,12 @@ typedef u32 __attribute__((aligned(1), may_alias)) any32; /* at any address */
 typedef u64 __attribute__((aligned(1), may_alias)) any64;
 
 enum { SUCCESS = 0, BADF = 8, FAULT = 21, INVAL = 28, NOTSUP = 58, SPIPE = 70 };
-enum { CHARACTER_DEVICE = 2, CLOCKS = 4, MICROSECOND = 1000, STREAMS = 3 };
+enum { CHARACTER_DEVICE = 2, CLOCKS = 4, MICROSECOND = 1000, STREAMS = 3, WALL_CLOCK = 0 };
+
+/* 2000-01-01, in nanoseconds: where the wall clock begins. The others begin at 0. The state is the time that has passed, and
+   goes no further than the wall clock can. */
+#define WALL_START ((u64)946684800000000000)
+#define LAST (~(u64)0 - WALL_START)
 
 #ifdef HELPERS
 #define CALL(name) __attribute__((export_name(#name))) u32 call_##name
@@ -23,10 +28,10 @@ STATE(random) u64 get_random(void);
 STATE(set_random) void set_random(u64 value);
 #else
 #define CALL(name) u32 __imported_wasi_snapshot_preview1_##name
-static u64 clock_now = 946684800000000000; /* 2000-01-01, in nanoseconds */
+static u64 passed;
 static u64 random_state = 0x9e3779b97f4a7c15;
-static u64 get_clock(void) { return clock_now; }
-static void set_clock(u64 value) { clock_now = value; }
+static u64 get_clock(void) { return passed; }
+static void set_clock(u64 value) { passed = value; }
 static u64 get_random(void) { return random_state; }
 static void set_random(u64 value) { random_state = value; }
 #endif
@@ -75,6 +80,9 @@ CALL(fd_read)(u32 fd, u32 buffers, u32 count, u32 size) {
   return SUCCESS;
 }
 
+static u64 start_of(u32 clock) { return clock == WALL_CLOCK ? WALL_START : 0; }
+static void pass_to(u64 time) { set_clock(time < LAST ? time : LAST); }
+
 CALL(clock_res_get)(u32 clock, u32 time) {
   if (clock >= CLOCKS) return INVAL;
   if (!is_inside(time, 8)) return FAULT;
@@ -86,8 +94,8 @@ CALL(clock_time_get)(u32 clock, u64 precision, u32 time) {
   if (clock >= CLOCKS) return INVAL;
   if (!is_inside(time, 8)) return FAULT;
   u64 now = get_clock();
-  put64(time, now);
-  set_clock(now + MICROSECOND);
+  put64(time, start_of(clock) + now);
+  pass_to(now + MICROSECOND);
   return SUCCESS;
 }
 
@@ -105,15 +113,17 @@ CALL(random_get)(u32 bytes, u32 size) {
   return SUCCESS;
 }
 
-/* A subscription has 48 bytes: a word of its user, at 8 what it waits for; of a clock at 24 the time and at 40 whether it is
-   a time of the clock; of a stream at 16 the descriptor. An event has 32: the word, at 8 an error, at 10 the kind. */
+/* A subscription has 48 bytes: a word of its user, at 8 what it waits for; of a clock at 16 which one, at 24 the time and at
+   40 whether it is a time of the clock; of a stream at 16 the descriptor. An event has 32: the word, at 8 an error, at 10 the
+   kind. */
 enum { OF_CLOCK = 0, OF_READING = 1, OF_WRITING = 2, SUBSCRIPTION = 48, EVENT = 32 };
 
 static u32 kind_of(u32 subscription) { return *(uint8_t *)(subscription + 8); }
 
+/* The time that will have passed. */
 static u64 wakes_at(u32 subscription) {
-  u64 now = get_clock(), time = read64(subscription + 24);
-  if (read32(subscription + 40) & 1) return time;
+  u64 now = get_clock(), time = read64(subscription + 24), start = start_of(read32(subscription + 16));
+  if (read32(subscription + 40) & 1) return time > start ? time - start : 0;
   return now + time < now ? ~(u64)0 : now + time;
 }
 
@@ -150,7 +160,7 @@ CALL(poll_oneoff)(u32 subscriptions, u32 events, u32 count, u32 found) {
         put_event(event, at, SUCCESS, 0);
         event += EVENT;
       }
-    if (first > get_clock()) set_clock(first);
+    if (first > get_clock()) pass_to(first);
   }
   put32(found, (event - events) / EVENT);
   return SUCCESS;

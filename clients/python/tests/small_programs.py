@@ -71,12 +71,16 @@ PROGRAMS = (
     Program("time", """
         int main(void) {
           time_t first = time(0);
+          struct timespec one, other;
+          clock_gettime(CLOCK_MONOTONIC, &one);
           char text[40];
           strftime(text, sizeof text, "%F %T", gmtime(&first));
           puts(text);
           sleep(3);
+          clock_gettime(CLOCK_MONOTONIC, &other);
+          printf("%d to %d\n", (int)one.tv_sec, (int)other.tv_sec);
           return time(0) - first;
-        }""", "2000-01-01 00:00:00\n", 3),
+        }""", "2000-01-01 00:00:00\n0 to 3\n", 3),
     Program("structures", """
         struct large { char bytes[900]; int number; };
         static struct large __attribute__((noinline)) next(struct large from) { from.number++; return from; }

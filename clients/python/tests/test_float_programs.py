@@ -24,6 +24,7 @@ LUA = os.environ.get("LUA", "")
 NEEDED_LUA = "LUA names the folder that `apt-get source lua5.4` makes, with a line deb-src in apt's sources"
 LIBRARY = next(Path("/usr/lib/llvm-14/lib/clang").glob("14*/lib/wasi/libclang_rt.builtins-wasm32.a"), None)
 HAS_EMSCRIPTEN = shutil.which("emcc") is not None
+EMSCRIPTEN = ("emcc", "-O2", "-s", "STANDALONE_WASM", "-s", "INITIAL_MEMORY=1048576", "-s", "TOTAL_STACK=65536")
 NEEDED_EMSCRIPTEN = "apt-get install -y --no-install-recommends emscripten"
 HAS_NODE = shutil.which("node") is not None
 
@@ -71,9 +72,18 @@ class Compared(unittest.TestCase):
     @unittest.skipIf(not HAS_EMSCRIPTEN, f"emcc not there: {NEEDED_EMSCRIPTEN}")
     def test_c_by_emscripten(self) -> None:
         """The same with its own library, in the memory that a task has without a limit in its config. Its `sleep` looks at
-        the processor's time, over and over, which it takes for too large a number."""
-        self.all_of_c("emcc", "-O2", "-s", "STANDALONE_WASM", "-s", "INITIAL_MEMORY=1048576", "-s", "TOTAL_STACK=65536",
-                      has_sleep=False)
+        the processor's time over and over, which for three seconds takes too many turns."""
+        self.all_of_c(*EMSCRIPTEN, has_sleep=False)
+
+    @unittest.skipIf(not HAS_EMSCRIPTEN, f"emcc not there: {NEEDED_EMSCRIPTEN}")
+    def test_a_clock_of_32_bits(self) -> None:
+        """The processor's time begins at 0, and each look takes a microsecond. To sleep is to look at the beginning, and then
+        until the time is over."""
+        text = """int main(void) {
+            long first = clock(), slept = usleep(200), then = clock();
+            printf("%ld %ld %ld\\n", first, slept, then);
+        }"""
+        self.says(self.built(ALL + text, ".c", *EMSCRIPTEN), "0 0 202\n", 0, node_says=False)
 
     @unittest.skipIf(not HAS_CPP, f"clang++-14 or its library not there: {NEEDED_CPP}")
     def test_cpp(self) -> None:

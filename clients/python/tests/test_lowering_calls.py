@@ -110,10 +110,11 @@ class Answers(unittest.TestCase):
         self.assertEqual(written([Call("fd_read", "iiii", (0, 0, 0, 1001), SUCCESS)], 1000, 6, b"\xff" * 6),
                          b"\0\xff\0\0\0\0\xff")
 
-    def test_the_clock_counts_calls(self) -> None:
+    def test_clocks_count_calls(self) -> None:
+        """All clocks go together. That of the wall begins in 2000, and the others at 0."""
         calls = [Call("clock_time_get", "ili", (clock, 0, 1000 + 8 * clock), SUCCESS) for clock in range(4)]
         calls += [Call("clock_res_get", "ii", (0, 1032), SUCCESS)]
-        times = [BEGINNING + 1000 * at for at in range(4)]
+        times = [BEGINNING, 1000, 2000, 3000]
         self.assertEqual(written(calls, 1000, 40), bytes(5) + struct.pack("<QQQQQ", *times, 1000))
 
     def test_random_numbers(self) -> None:
@@ -122,7 +123,7 @@ class Answers(unittest.TestCase):
         self.assertEqual(written(calls, 1000, 13), bytes(3) + m.xorshift(0x9E3779B97F4A7C15, 12) + b"\0")
 
     def after_poll(self, subscriptions: list[bytes]) -> tuple[int, list[bytes], int]:
-        """The answer of a poll, its events, and the clock afterwards."""
+        """The answer of a poll, its events, and the wall clock afterwards."""
         count = len(subscriptions)
         calls = [Call("poll_oneoff", "iiii", (1000, 2000, count, 1992), SUCCESS),
                  Call("clock_time_get", "ili", (0, 0, 1984), SUCCESS)]
@@ -136,10 +137,14 @@ class Answers(unittest.TestCase):
                 ([subscription(7, 0, 1, 5000)], [event(7, 0, 0)], 5000),
                 ([subscription(7, 0, 0, BEGINNING + 9000, 1)], [event(7, 0, 0)], 9000),
                 ([subscription(7, 0, 0, 5, 1)], [event(7, 0, 0)], 0),
+                ([subscription(7, 0, 1, 9000, 1)], [event(7, 0, 0)], 9000),
+                ([subscription(7, 0, 0, BEGINNING + 900, 1), subscription(8, 0, 1, 300, 1), subscription(9, 0, 2, 700)],
+                 [event(8, 0, 0)], 300),
                 ([subscription(7, 0, 0, 900), subscription(8, 0, 0, 300), subscription(9, 0, 0, 300)],
                  [event(8, 0, 0), event(9, 0, 0)], 300),
                 ([subscription(7, 0, 0, 900), subscription(8, 1, 0), subscription(9, 2, 1), subscription(6, 2, 0)],
                  [event(8, 0, 1, 1), event(9, 0, 2), event(6, BADF, 2)], 0),
-                ([subscription(7, 0, 0, 2**64 - 1)], [event(7, 0, 0)], 2**64 - 1 - BEGINNING)):
+                ([subscription(7, 0, 0, 2**64 - 1)], [event(7, 0, 0)], 2**64 - 1 - BEGINNING),
+                ([subscription(7, 0, 1, 2**64 - 1, 1)], [event(7, 0, 0)], 2**64 - 1 - BEGINNING)):
             self.assertEqual(self.after_poll(subscriptions), (SUCCESS, events, BEGINNING + passed))
         self.assertEqual(self.after_poll([subscription(7, 3, 0)])[0], INVAL)

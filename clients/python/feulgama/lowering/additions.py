@@ -14,7 +14,6 @@ from feulgama.wasm import writer as w
 
 NAMES = {MEMORY_INIT: "memory.init", DATA_DROP: "data.drop", MEMORY_COPY: "memory.copy", MEMORY_FILL: "memory.fill"}
 THREE, ONE_TO_WIDE, NOTHING = b"\x60\x03\x7f\x7f\x7f\0", b"\x60\x01\x7f\x01\x7e", b"\x60\0\0"
-START_OF_CLOCK = 946_684_800_000_000_000  # 2000-01-01, in nanoseconds
 SEED = 0x9E3779B97F4A7C15
 
 
@@ -57,8 +56,8 @@ class Additions:
         return index
 
     def state(self, name: str) -> int:
-        """The global that has the clock, or the state of the random numbers."""
-        return self._global(name, op.I64, START_OF_CLOCK if name == "clock" else self.seed)
+        """The global that has the time that has passed, or the state of the random numbers."""
+        return self._global(name, op.I64, 0 if name == "clock" else self.seed)
 
     def _global(self, key: object, kind: int, value: int) -> int:
         if key not in self._known:
