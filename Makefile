@@ -5,7 +5,7 @@ export PYTHON
 # The crates whose programs `check-all` runs beside the product's.
 TEST_PROGRAMS = test_both_machines test_reasons test_allocations
 # Suites that can be run one by one.
-SUITES = own-tests examples rows live-callers clients/python floats real-programs dap-emacs compare compare-text compare-reasons \
+SUITES = own-tests examples pages rows live-callers clients/python floats real-programs dap-emacs compare compare-text compare-reasons \
 	compare-serve-reasons serve-threads check-history refuse-allocations hostile
 
 .PHONY: help try build build-tests gate check check-all check-ci check-containers bench fmt verdict plant attacks $(SUITES)
