@@ -8,7 +8,7 @@ TEST_PROGRAMS = test_both_machines test_reasons test_allocations
 SUITES = own-tests examples pages rows live-callers clients/python floats real-programs dap-emacs compare compare-text compare-reasons \
 	compare-serve-reasons serve-threads check-history refuse-allocations hostile
 
-.PHONY: help try build build-tests gate check check-all check-ci check-containers bench fmt verdict plant attacks $(SUITES)
+.PHONY: help try build build-tests deb gate check check-all check-ci check-containers bench fmt verdict plant attacks $(SUITES)
 
 help: ## what each target does
 	@sed -n 's/^\([a-z-]*\):.*## \(.*\)/\1\t\2/p' $(MAKEFILE_LIST) | expand -t 18
@@ -22,6 +22,9 @@ build: ## prove the program's crates and build it, an hour from nothing
 
 build-tests: ## prove and build the programs that only check-all runs
 	set -e; for name in $(TEST_PROGRAMS); do (cd crates/$$name && rt run </dev/null >/dev/null); done
+
+deb: ## the Debian package out/feulgama_VERSION_amd64.deb of the built program, a minute; names packages that are missing
+	PROGRAM=$(PROGRAM) packaging/build-deb
 
 gate: ## what a change has to pass: check-ci, and then all proofs (rt ci), one to one and a half hours
 	.ci/run
