@@ -8,7 +8,7 @@ TEST_PROGRAMS = test_both_machines test_reasons test_allocations
 SUITES = own-tests examples pages rows live-callers clients/python floats real-programs dap-emacs compare compare-text compare-reasons \
 	compare-serve-reasons serve-threads check-history refuse-allocations hostile
 
-.PHONY: help try build build-tests deb gate check check-all check-ci check-containers bench fmt verdict plant attacks $(SUITES)
+.PHONY: help try build build-tests deb gate check check-all check-ci check-containers check-deb bench fmt verdict plant attacks $(SUITES)
 
 help: ## what each target does
 	@sed -n 's/^\([a-z-]*\):.*## \(.*\)/\1\t\2/p' $(MAKEFILE_LIST) | expand -t 18
@@ -41,6 +41,9 @@ check-ci: ## what needs no built program: edits, lists, links, versions, layout,
 check-containers: ## feulgama-oci and the containerd shim under their hosts: as root, minutes; names packages that are missing
 	clients/oci/test/run $(if $(PROGRAM),--program $(PROGRAM))
 	clients/containerd/test/run $(if $(PROGRAM),--program $(PROGRAM))
+
+check-deb: ## the Debian package, installed and removed among Debian's: as root, minutes; names packages that are missing
+	packaging/test/run $(if $(PROGRAM),--program $(PROGRAM))
 
 bench: ## the speed of the built program beside other engines (docs/BENCHMARKS.md), minutes
 	$(PYTHON) bench/programs.py $(PROGRAM)

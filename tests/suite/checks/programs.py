@@ -15,7 +15,7 @@ from suite.checks.tree import Tree
 PACKAGES = ".ci/packages"
 CLIENT = "clients/python"
 # Tests with container hosts. The later ones use modules of the first.
-CONTAINERS = ("clients/oci/test", "clients/containerd/test")
+CONTAINERS = ("clients/oci/test", "clients/containerd/test", "packaging/test")
 # Neither leaves a file in the repository.
 MYPY = (sys.executable, "-m", "mypy", "--cache-dir", "/dev/null")
 PYTEST = (sys.executable, "-B", "-m", "pytest", "-q", "-p", "no:cacheprovider")

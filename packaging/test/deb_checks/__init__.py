@@ -1,0 +1,1 @@
+"""The tests of the Debian package."""
