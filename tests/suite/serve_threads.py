@@ -396,12 +396,12 @@ def try_storms(folder: Path, seconds: float) -> None:
 
 
 def try_live_storms(folder: Path, seconds: float) -> None:
-    """Storms of 4 and of 32 live callers, with ten rounds and with one. Every one of them is decided."""
-    for callers, part in ((4, 50), (32, 500)):
+    """Storms of 4 live callers with ten rounds, and of 32 with four lines each. Every one of them is decided."""
+    for callers, part, lines in ((4, 50, None), (32, 500, 4)):
         found, end, count = Storms(folder), time.monotonic() + seconds, 0
         while count == 0 or time.monotonic() < end:
             for name, (script, size, refusals) in KINDS.items():
-                scripts = [script(max(1, size // part)) for _ in range(callers)]
+                scripts = [b"".join(script(max(1, size // part))).splitlines(keepends=True)[:lines] for _ in range(callers)]
                 if found.look_at(name, storms.blown_live(4, scripts, folder), 4, refusals) is None:
                     return
                 count += 1
