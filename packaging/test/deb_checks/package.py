@@ -52,7 +52,7 @@ class Package(Check):
 
     def test_2_lintian(self) -> None:
         """lintian finds neither an error nor a warning, but for the one of packaging/debian/feulgama.lintian-overrides"""
-        words = ["lintian", "--allow-root", "--no-cfg", "--fail-on", "error,warning", self.setting.package]
+        words = ["lintian", "--allow-root", "--no-cfg", "--fail-on", "error,warning", str(self.setting.package)]
         ended = command(words, seconds=600)
         self.assertEqual((ended.status, ended.out), (0, ""))
 
