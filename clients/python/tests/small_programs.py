@@ -78,7 +78,7 @@ PROGRAMS = (
           puts(text);
           sleep(3);
           clock_gettime(CLOCK_MONOTONIC, &other);
-          printf("%d to %d\n", (int)one.tv_sec, (int)other.tv_sec);
+          printf("%d to %d\\n", (int)one.tv_sec, (int)other.tv_sec);
           return time(0) - first;
         }""", "2000-01-01 00:00:00\n0 to 3\n", 3),
     Program("structures", """
