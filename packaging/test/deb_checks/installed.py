@@ -17,7 +17,7 @@ PAGES = {"wasm-shim": "1", "feulgama": "1", "feulgama-oci": "8", "containerd-shi
 # What the man page of a program has to say: of its help, and of the page about its commands.
 SAID = {"wasm-shim": ("serve", "replay", "Why a file is refused"), "feulgama": ("debug", "--shim"),
         "feulgama-oci": ("FEULGAMA_RUNC", "supervise"),
-        "containerd-shim-feulgama-v1": ("io.containerd.feulgama.v1", "-namespace")}
+        "containerd-shim-feulgama-v1": ("-publish-binary", "-namespace")}
 LOADED = """. /usr/share/bash-completion/bash_completion
 for name in wasm-shim feulgama; do _completion_loader $name; complete -p $name; done"""
 FOUND = "autoload -Uz compinit; compinit -D; print $_comps[wasm-shim] $_comps[feulgama]"

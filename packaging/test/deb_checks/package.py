@@ -18,7 +18,7 @@ COMPLETIONS = TOP / "packaging/completions"
 COMMANDS = {"wasm-shim": ("serve", "replay", "asm", "check", "run"), "feulgama": ("debug", "timeline", "dap", "lower")}
 GO_PROGRAMS = ("feulgama/feulgama-oci", "feulgama/containerd-shim-feulgama-v1")
 # An option at the beginning of its line of a help, and a second name of it.
-OPTION = re.compile(r"^ +(-[\w-]+)(?:[ =][A-Z<]\S*)?(?:, (-[\w-]+))?", re.MULTILINE)
+OPTION = re.compile(r"^ +(-[\w-]+)(?:[ =][A-Z<][^\s,]*)?(?:, (-[\w-]+))?", re.MULTILINE)
 OFFER = """source "$1"; shift; COMP_WORDS=("$@" -); COMP_CWORD=$#
 _${1//-/_}; printf '%s\\n' "${COMPREPLY[@]}"
 COMP_WORDS=("$@" --); _${1//-/_}; printf '%s\\n' "${COMPREPLY[@]}"
@@ -52,8 +52,7 @@ class Package(Check):
 
     def test_2_lintian(self) -> None:
         """lintian finds neither an error nor a warning, but for the one of packaging/debian/feulgama.lintian-overrides"""
-        words = ["lintian", "--allow-root", "--no-cfg", "--fail-on", "error,warning", str(self.setting.package)]
-        ended = command(words, seconds=600)
+        ended = command(["lintian", "--allow-root", "--no-cfg", "--fail-on=error,warning", self.setting.package], seconds=600)
         self.assertEqual((ended.status, ended.out), (0, ""))
 
     def test_3_unproved(self) -> None:
@@ -82,12 +81,13 @@ class Package(Check):
 
     def test_5_completions_for_bash(self) -> None:
         """bash offers the commands and the options that each help lists"""
+        offered, listed = {}, {}
         for program, commands in COMMANDS.items():
-            for words in ((), *((command,) for command in commands)):
-                with self.subTest(program=program, words=words):
-                    offered = must(["bash", "-c", OFFER, "bash", COMPLETIONS / "bash" / program, program, *words]).split()
-                    self.assertEqual({word for word in offered if word.startswith("-")},
-                                     options_of_help(self.help(program, *words)))
+            for words in ((program,), *((program, command) for command in commands)):
+                said = must(["bash", "-c", OFFER, "bash", COMPLETIONS / "bash" / program, *words]).split()
+                offered[words] = {word for word in said if word.startswith("-")}
+                listed[words] = options_of_help(self.help(*words))
+        self.assertEqual(offered, listed)
 
     def test_6_completions_for_zsh(self) -> None:
         """zsh reads its files, which name the commands and the options that each help lists"""

@@ -14,8 +14,9 @@ SUITE = "bookworm"
 ENVIRONMENT = ("env", "-i", "PATH=/usr/sbin:/usr/bin:/sbin:/bin", "HOME=/root", "LC_ALL=C.UTF-8", "MANPAGER=cat",
                "MANWIDTH=80")
 DEVICES = ("full", "null", "random", "urandom", "zero", "tty")
-# What programs write there is of no package.
-PASSING = ("dev", "proc", "sys", "run", "tmp", "trial", "var/cache", "var/lib/dpkg", "var/log")
+# What programs write there is of no package. The last two are of containerd and podman.
+PASSING = ("dev", "proc", "sys", "run", "tmp", "trial", "var/cache", "var/lib/dpkg", "var/log", "etc/cni/net.d/cni.lock",
+           "var/lib/containers")
 
 
 def unmount(machine: Machine) -> None:
@@ -42,13 +43,16 @@ class Root:
     def mount(self) -> None:
         """Mounts what programs need. Nothing but cgroups is the machine's own, for what is removed here may be gone there."""
         (self.at / "trial").mkdir()
+        # podman makes mounts private from / on, which has to be a mount for that.
+        must(["mount", "--bind", self.at, self.at])
         must(["mount", "-t", "proc", "proc", self.at / "proc"])
         for name, mode in (("dev", "755"), ("run", "755"), ("trial", "755")):
             must(["mount", "-t", "tmpfs", "-o", f"mode={mode}", "tmpfs", self.at / name])
         for name in DEVICES:
             (self.at / "dev" / name).touch()
             must(["mount", "--bind", f"/dev/{name}", self.at / "dev" / name])
-        for name, source in (("fd", "/proc/self/fd"), ("ptmx", "pts/ptmx")):
+        for name, source in (("fd", "/proc/self/fd"), ("stdin", "fd/0"), ("stdout", "fd/1"), ("stderr", "fd/2"),
+                             ("ptmx", "pts/ptmx")):
             (self.at / "dev" / name).symlink_to(source)
         (self.at / "dev/pts").mkdir()
         must(["mount", "-t", "devpts", "-o", "newinstance,ptmxmode=0666", "devpts", self.at / "dev/pts"])
