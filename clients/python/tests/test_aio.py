@@ -96,7 +96,8 @@ class Running(unittest.IsolatedAsyncioTestCase):
         turns, rounds = 0, (count - 4) // 4
         for _ in range(rounds):
             self.assertIn((await self.shim.pause(id)).status, (Status.PAUSED, Status.PAUSING))
-            state, shown = await asyncio.gather(self.shim.wait(id), self.shim.inspect(id))
+            state = await self.shim.wait(id)
+            shown = await self.shim.inspect(id)
             self.assertEqual((state.id, state.status, shown.id, shown.turns), (id, Status.PAUSED, id, state.turns))
             frame, = shown.frames
             self.assertEqual((frame.next, frame.locals[0].number), (state.turns % 6, (state.turns + 1) // 6))

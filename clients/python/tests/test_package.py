@@ -136,7 +136,7 @@ class Versions(unittest.TestCase):
     def test_of_the_program(self) -> None:
         first, second = self.told("--shim", SHIM, "--version")
         self.assertEqual(first, f"feulgama {feulgama.__version__}")
-        self.assertRegex(second, r"^wasm-shim \d+\.\d+\.\d+ \(/.*\)$")
+        self.assertRegex(second, r"^wasm-shim \d+\.\d+\.\d+ \(protocol \d+\) \(/.*\)$")
 
     def test_without_a_program(self) -> None:
         first, second = self.told("--shim", "/none", "--version")
