@@ -60,6 +60,7 @@ class Threads(unittest.TestCase):
         thread.start()
         return thread
 
+    @pytest.mark.clock
     def test_others_ask_meanwhile(self) -> None:
         """Six threads wait for two tasks, by two callers. A kill of one is heard, and its waits end alone."""
         tasks, states = [self.endless(), self.endless()], list[feulgama.State]()
@@ -119,6 +120,7 @@ class Threads(unittest.TestCase):
             with self.assertRaisesRegex(feulgama.NotFoundError, "someone"):
                 self.shim.state("someone")
 
+    @pytest.mark.clock
     def test_a_shim_that_is_killed(self) -> None:
         task, found = self.endless(), list[BaseException]()
 
@@ -157,6 +159,7 @@ class Asyncio(unittest.IsolatedAsyncioTestCase):
         await self.shim.start(task)
         return task
 
+    @pytest.mark.clock
     async def test_a_short_one_beside_endless_ones(self) -> None:
         endless = [asyncio.create_task(self.shim.run(FOREVER_BYTES)) for _ in range(40)]
         async with asyncio.timeout(60):
