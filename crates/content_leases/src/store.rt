@@ -91,8 +91,9 @@ impl Store {
     /// Why the content under a digest cannot be removed, if it cannot. `is_used` tells whether the digest is
     /// one of those that are used.
     pub fn refusal_of_remove(&self, digest: &str, is_used: bool) -> Option<Refusal>
-        ensures { (used : List (List ℕ)) → is_used ≡ is_among digest.now used
+        ensures first { (used : List (List ℕ)) → is_used ≡ is_among digest.now used
             → result ≡ first_refusal (remove_refusals used self.now.state digest.now) }
+        ensures quiet { result ≢ Some Refusal.NoMemory }
     {
         if !is_digest(digest) {
             Some(Refusal::BadId)
@@ -122,7 +123,8 @@ impl Store {
 
     /// Why a lease cannot be deleted, if it cannot.
     pub fn refusal_of_lease_delete(&self, name: &str) -> Option<Refusal>
-        ensures { result ≡ first_refusal (lease_delete_refusals self.now.state name.now) }
+        ensures first { result ≡ first_refusal (lease_delete_refusals self.now.state name.now) }
+        ensures quiet { result ≢ Some Refusal.NoMemory }
     {
         if !is_id(name) {
             Some(Refusal::BadId)
@@ -268,11 +270,13 @@ impl Store {
         Ok(digest)
     }
 
-    /// Removes the content under a digest, unless a lease or one of the digests that are used names it.
+    /// Removes the content under a digest, unless a lease or one of the digests that are used names it. No
+    /// memory is taken.
     pub fn remove(&mut self, digest: &str, used: &[Text]) -> Result<(), Refusal>
-        ensures { IsAnswered (remove_refusals used.now self.old.state digest.now)
+        ensures answered { IsAnswered (remove_refusals used.now self.old.state digest.now)
             (λ done. self.new.state ≡ without_content self.old.state digest.now)
             result self.old.state self.new.state }
+        ensures quiet { result ≢ Err Refusal.NoMemory }
     {
         match self.refusal_of_remove(digest, is_used(used, digest)) {
             Some(refusal) => Err(refusal),
@@ -333,11 +337,12 @@ impl Store {
         Ok(())
     }
 
-    /// Deletes a lease.
+    /// Deletes a lease. No memory is taken.
     pub fn lease_delete(&mut self, name: &str) -> Result<(), Refusal>
-        ensures { IsAnswered (lease_delete_refusals self.old.state name.now)
+        ensures answered { IsAnswered (lease_delete_refusals self.old.state name.now)
             (λ done. self.new.state ≡ without_lease self.old.state name.now)
             result self.old.state self.new.state }
+        ensures quiet { result ≢ Err Refusal.NoMemory }
     {
         match self.refusal_of_lease_delete(name) {
             Some(refusal) => Err(refusal),

@@ -18,4 +18,6 @@ mod files;
 #[cfg(test)]
 mod runs;
 #[cfg(test)]
+mod stores;
+#[cfg(test)]
 mod writers;
