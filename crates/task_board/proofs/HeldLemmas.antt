@@ -276,7 +276,7 @@ there_by s e r s' all h (inr step) = record {
   tasks = step_tasks s e r s' all.sound step all.tasks;
 }
 
-happens_there :
+pub happens_there :
     (s : BoardState) (e : Event) (r : EventReply) (s' : BoardState) → AllThere s → Happens s e r s' → AllThere s'
 happens_there s e r s' all h = there_by s e r s' all h (happens s e r s' h)
 

@@ -615,7 +615,7 @@ step_same s (event.Return id) (answer.Returned x) s1 (answer.Taken y) s2 d a b =
 step_same s (event.Return id) (answer.Called x) s1 r' s2 d a b = absurd a
 step_same s (event.Return id) (answer.Taken x) s1 r' s2 d a b = absurd a
 
-is_step :
+pub is_step :
     (s : BoardState) (e : Event) (r : EventReply) (s' : BoardState) → met_no_memory e r ≡ false
     → Happens s e r s' → Step s e r s'
 is_step s e r s' is h = subst (λ (b : Bool). MatchBool b (s' ≡ s) (Step s e r s')) is h

@@ -22,3 +22,4 @@ pub mod StepTurns
 pub mod PlaceLemmas
 pub mod HeldLemmas
 pub mod LoanStays
+pub mod ClaimLemmas

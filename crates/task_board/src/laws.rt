@@ -1,6 +1,6 @@
 //! Laws of the abstract board. Each function is nothing but its contract.
 
-ghost use Rattle.std.specs.Prelude.{◌≡◌, ℕ, ◌+◌, ◌^◌, ◌<◌, ◌≤◌, List, length, Option, Some, None, is_some, true, false, Err};
+ghost use Rattle.std.specs.Prelude.{◌≡◌, ℕ, ◌+◌, ◌^◌, ◌<◌, ◌≤◌, List, length, Option, Some, None, is_some, true, false, Ok, Err};
 ghost use Rattle.wasm_ast.specs.declared.module.Module.{Module};
 ghost use Rattle.wasm_ast.specs.declared.place.Place.{Place};
 ghost use Rattle.oci_config.specs.declared.process.ProcessConfig.{ProcessConfig};
@@ -14,9 +14,12 @@ ghost use Rattle.task_requests.specs.declared.event.Event.{Event};
 ghost use Rattle.task_requests.specs.declared.event.Event.TheVariants as event;
 ghost use Rattle.task_requests.specs.declared.event.EventReply.{EventReply};
 ghost use Rattle.task_requests.specs.declared.event.EventReply.TheVariants as answer;
+ghost use Rattle.task_requests.specs.declared.request.Request.{Request as RequestValue};
 ghost use Rattle.task_requests.specs.declared.request.Request.TheVariants as request;
+ghost use Rattle.task_requests.specs.declared.request.Reply.{Reply as ReplyValue};
 ghost use Rattle.content_leases.specs.StoreState.{content_in, is_leased, is_held};
-ghost use Rattle.task_board.specs.BoardState.{Task, Entries, BoardState, empty, used_by, task_in};
+ghost use Rattle.task_board.specs.BoardState.{Task, Entries, BoardState, empty, used_by, task_in, task_of};
+ghost use Rattle.task_board.specs.Claims.{asked_of, told_on, SaysTruly};
 ghost use Rattle.task_board.specs.Choices.{IsDetermined, AgreeOnCreate, AgreeOnText};
 ghost use Rattle.task_lifecycle.specs.declared.status.Signal.{Signal as SignalValue};
 ghost use Rattle.task_lifecycle.specs.declared.status.ExitRecord.{ExitRecord as RecordValue};
@@ -146,6 +149,31 @@ pub fn exit_records_are_true()
         → (t' : Task) → task_in k s'.tasks ≡ Some t'
         → (signal : SignalValue) → t'.end ≡ Some (ExitRecord.Kill signal)
         → ended (execution_at t' t'.turns) ≡ None }
+{}
+
+/// What a reply says of a task is true of the reduction of the module that the task's stored bytes encode,
+/// after as many turns as the task has made: its turns, its status, its end, its output, its frames and
+/// bytes of its memory (`reply`). Which module that is, and under which process, is settled by its create
+/// and never changes (`same`). A task that is created, paused or stopped takes no turn but by a step
+/// (`idle`).
+pub fn replies_are_true()
+    ensures reply { (es : List Event) (rs : List EventReply) (s : BoardState) → Run empty es rs s
+        → (q : RequestValue) (a : ReplyValue) (s' : BoardState)
+        → Happens s (event.Call q) (answer.Called (Ok a)) s'
+        → (id : List ℕ) → asked_of q ≡ Some id
+        → (t : Task) × (task_of id (told_on q s s').tasks ≡ Some t)
+        × SaysTruly (told_on q s s').store t q a }
+    ensures same { (es : List Event) (rs : List EventReply) (s : BoardState) → Run empty es rs s
+        → (e : Event) (r : EventReply) (s' : BoardState) → Happens s e r s'
+        → (k : ℕ) (t : Task) → task_in k s.tasks ≡ Some t
+        → (t' : Task) → task_in k s'.tasks ≡ Some t'
+        → (t'.id ≡ t.id) × (t'.module ≡ t.module) × (t'.process ≡ t.process)
+        × (t'.bytes ≡ t.bytes) }
+    ensures idle { (es : List Event) (rs : List EventReply) (s : BoardState) → Run empty es rs s
+        → (e : Event) (r : EventReply) (s' : BoardState) → Happens s e r s'
+        → (k : ℕ) (t : Task) → task_in k s.tasks ≡ Some t → takes_turns t.status ≡ false
+        → (IsStepOf e t → ⊥)
+        → (t' : Task) → task_in k s'.tasks ≡ Some t' → t'.turns ≡ t.turns }
 {}
 
 /// A second kill while the slice is out does not replace the signal of the first.
