@@ -1,5 +1,5 @@
 -- How the program's command line is read, by `clap`'s own reading of its arguments.
-use Rattle.std.specs.Prelude.{ℕ, ◌≡◌, ◌≢◌, ◌⊎◌, List, [], ◌∷◌, map, Bool, true, false, not, ◌&&◌, ◌||◌, bytes_eq, Option, Some, None, is_some, option_map, codes, string_bytes}
+use Rattle.std.specs.Prelude.{ℕ, ◌≡◌, ◌≢◌, ◌⊎◌, List, [], ◌∷◌, map, Bool, true, false, not, ◌&&◌, ◌||◌, nat_le, bytes_eq, Option, Some, None, is_some, option_map, codes, string_bytes}
 use Rattle.std.specs.Str.Parse.{digits_value, without_leading_plus}
 use Rattle.clap.specs.Faults.{fault_of}
 use Rattle.clap.specs.Kinds.{Kinds, IsAmong}
@@ -288,11 +288,20 @@ abbrev pub AskToShow : List Text → Type 0
 AskToShow arguments =
     IsAmong DisplayHelp (faults_in arguments) ⊎ IsAmong DisplayVersion (faults_in arguments)
 
--- a serve whose callers or whose log's format do not fit, or a check with a limit on the memory of a task
--- that is not asked for
+-- how many workers there are at most
+abbrev pub most_workers : ℕ
+most_workers = 16
+
+-- a number of workers that there cannot be
+abbrev pub is_no_count : ℕ → Bool
+is_no_count workers = not (nat_le 1 workers && nat_le workers most_workers)
+
+-- a serve whose workers, whose callers or whose log's format do not fit, or a check with a limit on
+-- the memory of a task that is not asked for
 abbrev pub is_unfit : Command → Bool
 is_unfit (Serve workers scripts callers explain log format) =
-    are_unfit (map string_bytes scripts.items) (map string_bytes callers.items)
+    is_no_count workers
+    || are_unfit (map string_bytes scripts.items) (map string_bytes callers.items)
     || is_no_format (option_map string_bytes format)
 is_unfit (Check file list task memory explain) = is_some memory && not task
 is_unfit other = false

@@ -6,7 +6,7 @@ ghost use Rattle.clap.specs.Simple.{app_of, shape_of, subcommand_rows_of};
 ghost use Rattle.clap.specs.Values.{kind_of};
 ghost use Rattle.clap.specs.Walk.{Row, Text, first_of, all_of, rows_of, rule_of};
 ghost use Rattle.clap.specs.declared.builder.command.Command.TheViews.{out-Command as fields_of};
-ghost use Rattle.file_commands.specs.Command.{file_rule, task_rule, list_rule, explain_rule, log_rule, output_rule, format_rule, workers_rule, env_rule, memory_rule, caller_rule, script_rule, module_rule, command_shape, serve_shape, asm_shape, check_shape, run_shape, workers_in, scripts_in, texts_from, env_in, memory_in, is_no_format, bare_program, line_program, program, file_in, is_set, has_explain, module_in, is_unfit, IsCommand, Name, AreFaulty};
+ghost use Rattle.file_commands.specs.Command.{file_rule, task_rule, list_rule, explain_rule, log_rule, output_rule, format_rule, workers_rule, env_rule, memory_rule, caller_rule, script_rule, module_rule, command_shape, serve_shape, asm_shape, check_shape, run_shape, workers_in, scripts_in, texts_from, env_in, memory_in, is_no_count, is_no_format, bare_program, line_program, program, file_in, is_set, has_explain, module_in, is_unfit, IsCommand, Name, AreFaulty};
 ghost use Rattle.file_commands.specs.Callers.{are_unfit};
 ghost use Rattle.file_commands.specs.Inside.Chosen.{IsShown, IsRefusedFor, IsOfArguments};
 
@@ -89,6 +89,10 @@ const USUAL_WORKERS: u64 = 2;
 // What is said of a check with `--memory` and without `--task`.
 const LONE_MEMORY: &str =
     "error: the argument '--memory <BYTES>' is for '--task' alone\n\nUsage: wasm-shim check [OPTIONS] <FILE>\n\nFor more information, try '--help'.\n";
+
+// What is said of a number of workers that there cannot be.
+const OTHER_COUNT: &str =
+    "error: the value of '--workers <N>' is a number from 1 to 16\n\nUsage: wasm-shim serve [OPTIONS] [SCRIPT]...\n\nFor more information, try '--help'.\n";
 
 // What is said of a format that the log does not have.
 const OTHER_FORMAT: &str =
@@ -661,17 +665,29 @@ fn format_text(alloc: Global, format: &Option<String>) -> Result<Option<String>,
     Ok(Some(text))
 }
 
-// What is said of callers, or else of a format of the log, that do not fit. None if they do.
+// A number of workers that there cannot be.
+fn is_no_count(workers: u64) -> bool
+    ensures { result ≡ is_no_count workers }
+{
+    !(1 <= workers && workers <= MOST_WORKERS)
+}
+
+// What is said of workers, of callers, or else of a format of the log, that do not fit. None if they do.
 fn serve_text(
     alloc: Global,
+    workers: u64,
     scripts: &[String],
     callers: &[String],
     format: &Option<String>,
 ) -> Result<Option<String>, AllocError>
-    ensures { IfOk result (λ t. is_some t
-        ≡ (are_unfit (map string_bytes scripts.now) (map string_bytes callers.now)
+    ensures { IfOk result (λ t. is_some t ≡ (is_no_count workers
+        || are_unfit (map string_bytes scripts.now) (map string_bytes callers.now)
         || is_no_format (option_map string_bytes format.now))) }
 {
+    if is_no_count(workers) {
+        let text = String::from_str(alloc, OTHER_COUNT)?;
+        return Ok(Some(text));
+    }
     match caller_text(alloc, scripts, callers)? {
         Some(text) => Ok(Some(text)),
         None => format_text(alloc, format),
@@ -684,11 +700,18 @@ fn unfit_text(alloc: Global, command: &Command) -> Result<Option<String>, AllocE
 {
     match command {
         Command::Serve {
+            workers,
             scripts,
             callers,
             format,
             ..
-        } => serve_text(alloc, scripts.as_slice(), callers.as_slice(), format),
+        } => serve_text(
+            alloc,
+            *workers,
+            scripts.as_slice(),
+            callers.as_slice(),
+            format,
+        ),
         Command::Check { task, memory, .. } => memory_text(alloc, *memory, *task),
         _ => Ok(None),
     }

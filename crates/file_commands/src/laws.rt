@@ -1,6 +1,9 @@
 //! What is proved of the definitions of the commands for files.
 
-ghost use Rattle.std.specs.Prelude.{◌≡◌, ℕ, List, Bool};
+ghost use Rattle.std.specs.Prelude.{◌≡◌, ◌≤◌, ◌∷◌, ℕ, List, Bool, Option, Some, codes, map, string_bytes};
+ghost use Rattle.clap.specs.Walk.{Row, Text};
+ghost use Rattle.file_commands.specs.Command.{command_in, file_in, module_in, Name};
+ghost use Rattle.file_commands.specs.declared.command.Command.TheVariants as command;
 ghost use Rattle.wasm_ast.specs.declared.module.Module.{Module};
 ghost use Rattle.wasm_ast.specs.declared.refusal.Refusal.{Refusal};
 ghost use Rattle.file_commands.specs.declared.ran.Ran.{Ran};
@@ -14,6 +17,32 @@ ghost use Rattle.file_commands.specs.Explained.{IsExplained, AnswersAs};
 use step_machine::laws::{cuts_commute, halted_stays};
 use text_assembler::laws::denotes_one;
 use wasm_binary::laws::{over_spells_none_within, spells_one};
+
+/// What a command line names: `serve` a number of workers from 1 to 16; `replay`, `asm` and `check` the FILE
+/// among their arguments; `run` the MODULE among its arguments with the words after it.
+pub fn commands_name_what_they_take()
+    ensures workers { (arguments : List Text) (workers : ℕ) (scripts callers : _)
+        (explain log : Bool) (format : _)
+        → Name arguments (command.Serve workers scripts callers explain log format)
+        → (1 ≤ workers) × (workers ≤ 16) }
+    ensures replay { (arguments : List Text) (file : _)
+        → Name arguments (command.Replay file)
+        → (rows : List Row) × (command_in arguments ≡ Some (codes "replay", rows))
+        × (file_in rows ≡ Some (string_bytes file)) }
+    ensures asm { (arguments : List Text) (file output : _) (explain : Bool)
+        → Name arguments (command.Asm file output explain)
+        → (rows : List Row) × (command_in arguments ≡ Some (codes "asm", rows))
+        × (file_in rows ≡ Some (string_bytes file)) }
+    ensures check { (arguments : List Text) (file : _) (list task : Bool) (memory : Option ℕ)
+        (explain : Bool)
+        → Name arguments (command.Check file list task memory explain)
+        → (rows : List Row) × (command_in arguments ≡ Some (codes "check", rows))
+        × (file_in rows ≡ Some (string_bytes file)) }
+    ensures run { (arguments : List Text) (name args settings : _) (explain : Bool)
+        → Name arguments (command.Run name args settings explain)
+        → (rows : List Row) × (command_in arguments ≡ Some (codes "run", rows))
+        × (module_in rows ≡ Some (string_bytes name ∷ map string_bytes args.items)) }
+{}
 
 /// A file has at most one module, and one that has a module is not refused for having none.
 pub fn one_module_to_a_file()
