@@ -3,7 +3,7 @@ use Rattle.std.proofs.Common.{suc, Result, ◌≡◌, ℕ, ◌<◌, ◌≤◌, l
 use Rattle.std.specs.Prelude.{MatchBool}
 use Rattle.std.proofs.Math.Nat.{lt_of_not-le}
 use Rattle.std.proofs.KnownBytes.{Appends-trans, Appends-kept}
-use Rattle.std.specs.Io.KnownBytes.{Appends, IsAtEnd, prepend_known}
+use Rattle.std.specs.Io.KnownBytes.{Appends, Consumes, IsAtEnd, prepend_known}
 use Rattle.std.proofs.lemmas.List.{append-nil}
 use Rattle.wasm_ast.specs.declared.refusal.Refusal.{Refusal}
 use Rattle.task_requests.specs.declared.request.Request.{Request}
@@ -15,7 +15,7 @@ use Rattle.request_lines.specs.declared.line_reader.Stop.TheVariants as stop
 use Rattle.request_lines.specs.Shape.{max_line_bytes}
 use Rattle.request_lines.specs.Request.{IsRequest}
 use Rattle.request_lines.specs.Inside.Parse.{refusal_of}
-use Rattle.request_lines.specs.Input.{IsKept, TakesLine}
+use Rattle.request_lines.specs.Input.{IsKept, TakesLine, TakesWhole, TakesPart}
 use Rattle.request_lines.specs.Lines.{lines_of, joined}
 use Rattle.request_lines.specs.Session.{Session}
 use Rattle.call_journal.specs.Books.{is_journalled}
@@ -26,7 +26,8 @@ use Rattle.callers.specs.declared.caller.Driven.TheVariants as driven
 use Rattle.callers.specs.declared.caller.WriteError.{WriteError}
 use Rattle.callers.specs.declared.caller.WriteError.TheVariants as why
 use Rattle.callers.specs.Answered.{IsCall, IsAnswered, IsServed}
-use Rattle.callers.specs.Driving.{HaveLines, BeginWithLines, AllButLast, Drives, IsTold}
+use Rattle.callers.specs.Driving.{HaveLines, BeginWithLines, AllButLast, Drives, IsTold, fed}
+use Rattle.request_lines.proofs.LineLemmas.{consumes_more}
 use Rattle.callers.specs.Inside.Ends.{of_read, of_write}
 use Rattle.callers.specs.Inside.Writing.{Writes}
 
@@ -77,17 +78,23 @@ TakesLines None left lines = Unit {0}
 TakesLines (Some xs) None lines = ⊥
 TakesLines (Some xs) (Some ys) lines = lines_of xs ≡ lines ++ lines_of ys
 
--- how far the lines have been answered
-pub record Driving (was : Known) (input left before after : Option (List ℕ)) (now : Known) : Type 0 where
+-- how far the lines have been answered; until the reader has answered its end, each of them had its line feed
+pub record Driving (was : Known) (at_end : Bool) (input left before after : Option (List ℕ)) (now : Known) : Type 0
+  where
   pub lines : List (List ℕ)
   pub texts : List (List ℕ)
   pub read : TakesLines input left lines
+  pub whole : at_end ≡ false → Consumes input left (fed lines)
   pub session : Session IsServed was lines texts now
   pub appended : Appends before after (joined texts)
 
 takes_none : (known : Option (List ℕ)) → TakesLines known known []
 takes_none None = tt
 takes_none (Some xs) = refl
+
+consumes_none : (known : Option (List ℕ)) → Consumes known known []
+consumes_none None = tt
+consumes_none (Some xs) = refl
 
 appends_none : (known : Option (List ℕ)) → Appends known known []
 appends_none None = tt
@@ -98,14 +105,17 @@ prepend_none None = refl
 prepend_none (Some xs) = refl
 
 pub driving_none :
-    (was : Known) (input before : Option (List ℕ)) (chunk : List ℕ) → chunk ≡ []
-    → Driving was input (prepend_known chunk input) before before was
-driving_none was input before chunk empty = record {
+    (was : Known) (at_end : Bool) (input before : Option (List ℕ)) (chunk : List ℕ) → chunk ≡ []
+    → Driving was at_end input (prepend_known chunk input) before before was
+driving_none was at_end input before chunk empty = record {
   lines = [];
   texts = [];
   read =
       subst (λ r. TakesLines input r []) (prepend_none input ∙ ap (λ x. prepend_known x input) (sym empty))
       (takes_none input);
+  whole = λ open.
+      subst (λ r. Consumes input r []) (prepend_none input ∙ ap (λ x. prepend_known x input) (sym empty))
+      (consumes_none input);
   session = refl;
   appended = appends_none before;
 }
@@ -129,6 +139,18 @@ appends_more :
 appends_more old now next texts text h g =
     subst (Appends old next) (sym (joined_more texts text)) (Appends-trans old now next (joined texts) text h g)
 
+fed_more : (lines : List (List ℕ)) (line : List ℕ) → fed (lines ++ line ∷ []) ≡ fed lines ++ (line ++ 10 ∷ [])
+fed_more [] line = refl
+fed_more (l ∷ lines) line =
+    ap (λ r. l ++ 10 ∷ r) (fed_more lines line) ∙ sym (append_assoc l (10 ∷ fed lines) (line ++ 10 ∷ []))
+
+whole_more :
+    (input left next : Option (List ℕ)) (lines : List (List ℕ)) (line : List ℕ) → Consumes input left (fed lines)
+    → TakesWhole left next line → Consumes input next (fed (lines ++ line ∷ []))
+whole_more input left next lines line h g =
+    subst (Consumes input next) (sym (fed_more lines line))
+    (consumes_more input left next (fed lines) (line ++ 10 ∷ []) h g)
+
 session_more :
     (was : Known) (lines texts : List (List ℕ)) (mid : Known) (line text : List ℕ) (now : Known)
     → Session IsServed was lines texts mid → IsServed mid line text now
@@ -140,14 +162,18 @@ session_more was (l ∷ lines) (t ∷ texts) mid line text now h g =
     (h.0, h.1, session_more h.0 lines texts mid line text now h.2 g)
 
 pub driving_more :
-    (was : Known) (input left next before writes after : Option (List ℕ)) (mid now : Known) (line text : List ℕ)
-    → Driving was input left before writes mid → TakesLine left next line → IsServed mid line text now
+    (was : Known) (was_end at_end : Bool) (input left next before writes after : Option (List ℕ)) (mid now : Known)
+    (line text : List ℕ)
+    → Driving was was_end input left before writes mid → was_end ≡ false → TakesLine left next line
+    → (at_end ≡ false → TakesWhole left next line) → IsServed mid line text now
     → Appends writes after text
-    → Driving was input next before after now
-driving_more was input left next before writes after mid now line text d takes served appends = record {
+    → Driving was at_end input next before after now
+driving_more was was_end at_end input left next before writes after mid now line text d open takes whole served
+    appends = record {
   lines = d.lines ++ line ∷ [];
   texts = d.texts ++ text ∷ [];
   read = takes_more input left next d.lines line d.read takes;
+  whole = λ on. whole_more input left next d.lines line (d.whole open) (whole on);
   session = session_more was d.lines d.texts mid line text now d.session served;
   appended = appends_more before writes after d.texts text d.appended appends;
 }
@@ -174,8 +200,9 @@ all_written : (texts : List (List ℕ)) → AllButLast texts texts
 all_written texts = record { last = []; one = omega arith; joins = append-nil texts }
 
 -- there was no memory to read a line
-pub drives_none : (was : Known) (input before : Option (List ℕ)) → Drives driven.NoMemory was was input before before
-drives_none was input before = record {
+pub drives_none : (was : Known) (input left before : Option (List ℕ))
+    → Drives driven.NoMemory was was input left before before
+drives_none was input left before = record {
   lines = [];
   texts = [];
   read = no_lines input;
@@ -183,9 +210,9 @@ drives_none was input before = record {
   written = ([], all_written [], appends_none before);
 }
 
-pub drives_end : (was : Known) (input left before after : Option (List ℕ)) (now : Known)
-    → Driving was input left before after now → IsAtEnd left → Drives driven.End was now input before after
-drives_end was input left before after now d end = record {
+pub drives_end : (was : Known) (at_end : Bool) (input left rest before after : Option (List ℕ)) (now : Known)
+    → Driving was at_end input left before after now → IsAtEnd left → Drives driven.End was now input rest before after
+drives_end was at_end input left rest before after now d end = record {
   lines = d.lines;
   texts = d.texts;
   read = have_all input left d.lines d.read end;
@@ -193,20 +220,29 @@ drives_end was input left before after now d end = record {
   written = d.appended;
 }
 
-pub drives_read_fault : (was : Known) (input left before after : Option (List ℕ)) (now : Known)
-    → Driving was input left before after now → Drives driven.ReadFault was now input before after
-drives_read_fault was input left before after now d = record {
+pub drives_read_fault : (was : Known) (at_end : Bool) (input left rest before after : Option (List ℕ)) (now : Known)
+    → Driving was at_end input left before after now → (at_end ≡ false) × TakesPart left rest
+    → Drives driven.ReadFault was now input rest before after
+drives_read_fault was at_end input left rest before after now d part = record {
   lines = d.lines;
   texts = d.texts;
-  read = begin_with input left d.lines d.read;
+  read = (
+    begin_with input left d.lines d.read,
+    part.1.0,
+    part.1.1,
+    consumes_more input left rest (fed d.lines) part.1.0 (d.whole part.0) part.1.2,
+  );
   session = d.session;
   written = d.appended;
 }
 
-pub drives_unread : (was : Known) (input left before after : Option (List ℕ)) (now : Known) (e : Stop)
-    → Driving was input left before after now → Drives (of_read e) was now input before after
-drives_unread was input left before after now stop.Stream d = drives_read_fault was input left before after now d
-drives_unread was input left before after now stop.OutOfMemory d = record {
+pub drives_unread :
+    (was : Known) (at_end : Bool) (input left rest before after : Option (List ℕ)) (now : Known) (e : Stop)
+    → Driving was at_end input left before after now → (e ≡ stop.Stream → (at_end ≡ false) × TakesPart left rest)
+    → Drives (of_read e) was now input rest before after
+drives_unread was at_end input left rest before after now stop.Stream d part =
+    drives_read_fault was at_end input left rest before after now d (part refl)
+drives_unread was at_end input left rest before after now stop.OutOfMemory d part = record {
   lines = d.lines;
   texts = d.texts;
   read = begin_with input left d.lines d.read;
@@ -224,12 +260,13 @@ begins_joined texts text front begins = (
 
 -- a line was answered, and then its answer could not be written
 pub drives_unwritten :
-    (was : Known) (input left next before writes after : Option (List ℕ)) (mid now : Known) (line text : List ℕ)
-    (e : WriteError)
-    → Driving was input left before writes mid → TakesLine left next line → IsServed mid line text now
+    (was : Known) (at_end : Bool) (input left next rest before writes after : Option (List ℕ)) (mid now : Known)
+    (line text : List ℕ) (e : WriteError)
+    → Driving was at_end input left before writes mid → TakesLine left next line → IsServed mid line text now
     → Writes (Err e) text writes after
-    → Drives (of_write e) was now input before after
-drives_unwritten was input left next before writes after mid now line text why.Stream d takes served wrote = record {
+    → Drives (of_write e) was now input rest before after
+drives_unwritten was at_end input left next rest before writes after mid now line text why.Stream d takes served
+    wrote = record {
   lines = d.lines ++ line ∷ [];
   texts = d.texts ++ text ∷ [];
   read = begin_with input next (d.lines ++ line ∷ []) (takes_more input left next d.lines line d.read takes);
@@ -240,8 +277,8 @@ drives_unwritten was input left next before writes after mid now line text why.S
     Appends-trans before writes after (joined d.texts) wrote.0 d.appended wrote.2,
   );
 }
-drives_unwritten was input left next before writes after mid now line text why.OutOfMemory d takes served wrote =
-    record {
+drives_unwritten was at_end input left next rest before writes after mid now line text why.OutOfMemory d takes
+    served wrote = record {
       lines = d.lines ++ line ∷ [];
       texts = d.texts ++ text ∷ [];
       read = begin_with input next (d.lines ++ line ∷ []) (takes_more input left next d.lines line d.read takes);
@@ -261,39 +298,42 @@ abbrev pub Served :
 Served kept mid now r writes after =
     (text : List ℕ) → IsKept kept text → (reply : List ℕ) × IsServed mid text reply now × Writes r reply writes after
 
--- the line that is kept was read
-abbrev pub Came : (kept left next : Option (List ℕ)) → Type 0
-Came kept left next = (text : List ℕ) × IsKept kept text × TakesLine left next text
+-- the line that is kept was read; with its line feed, unless the reader has answered its end
+abbrev pub Came : (at_end : Bool) → (kept left next : Option (List ℕ)) → Type 0
+Came at_end kept left next =
+    (text : List ℕ) × IsKept kept text × TakesLine left next text × (at_end ≡ false → TakesWhole left next text)
 
 served_line :
-    (kept kept' left next writes after : Option (List ℕ)) (mid now : Known) (r : Result Unit WriteError)
-    (came : Came kept left next) → kept' ≡ kept → Served kept' mid now r writes after
+    (at_end : Bool) (kept kept' left next writes after : Option (List ℕ)) (mid now : Known) (r : Result Unit WriteError)
+    (came : Came at_end kept left next) → kept' ≡ kept → Served kept' mid now r writes after
     → (reply : List ℕ) × IsServed mid came.0 reply now × Writes r reply writes after
-served_line kept kept' left next writes after mid now r came same served =
+served_line at_end kept kept' left next writes after mid now r came same served =
     served came.0 (subst (λ k. IsKept k came.0) (sym same) came.1)
 
 pub drives_after :
-    (was : Known) (input left next before writes after kept kept' : Option (List ℕ)) (mid now : Known)
-    (r : Result Unit WriteError) (e : WriteError) (how : Driven)
-    → Driving was input left before writes mid → Came kept left next → kept' ≡ kept
+    (was : Known) (was_end at_end : Bool) (input left next rest before writes after kept kept' : Option (List ℕ))
+    (mid now : Known) (r : Result Unit WriteError) (e : WriteError) (how : Driven)
+    → Driving was was_end input left before writes mid → Came at_end kept left next → kept' ≡ kept
     → Served kept' mid now r writes after → r ≡ Err e → how ≡ of_write e
-    → Drives how was now input before after
-drives_after was input left next before writes after kept kept' mid now r e how d came same served is ends =
-    let line = served_line kept kept' left next writes after mid now r came same served in
-    subst (λ h. Drives h was now input before after) (sym ends)
-    (drives_unwritten was input left next before writes after mid now came.0 line.0 e d came.2 line.1
+    → Drives how was now input rest before after
+drives_after was was_end at_end input left next rest before writes after kept kept' mid now r e how d came same served
+    is ends =
+    let line = served_line at_end kept kept' left next writes after mid now r came same served in
+    subst (λ h. Drives h was now input rest before after) (sym ends)
+    (drives_unwritten was was_end input left next rest before writes after mid now came.0 line.0 e d came.2 line.1
     (subst (λ x. Writes x line.0 writes after) is line.2))
 
 pub driving_after :
-    (was : Known) (input left next before writes after kept kept' : Option (List ℕ)) (mid now : Known)
-    (r : Result Unit WriteError) (done : Unit)
-    → Driving was input left before writes mid → Came kept left next → kept' ≡ kept
+    (was : Known) (was_end at_end : Bool) (input left next before writes after kept kept' : Option (List ℕ))
+    (mid now : Known) (r : Result Unit WriteError) (done : Unit)
+    → Driving was was_end input left before writes mid → was_end ≡ false → Came at_end kept left next → kept' ≡ kept
     → Served kept' mid now r writes after → r ≡ Ok done
-    → Driving was input next before after now
-driving_after was input left next before writes after kept kept' mid now r done d came same served is =
-    let line = served_line kept kept' left next writes after mid now r came same served in
-    driving_more was input left next before writes after mid now came.0 line.0 d came.2 line.1
-    (subst (λ x. Writes x line.0 writes after) is line.2)
+    → Driving was at_end input next before after now
+driving_after was was_end at_end input left next before writes after kept kept' mid now r done d open came same served
+    is =
+    let line = served_line at_end kept kept' left next writes after mid now r came same served in
+    driving_more was was_end at_end input left next before writes after mid now came.0 line.0 d open came.2 came.3
+    line.1 (subst (λ x. Writes x line.0 writes after) is line.2)
 
 -- ---- faults
 

@@ -1,6 +1,7 @@
 -- What is answered to the lines of a stream.
-use Rattle.std.specs.Prelude.{◌≡◌, ◌≤◌, ◌++◌, ℕ, List, length, Option, None, Some}
-use Rattle.std.specs.Io.KnownBytes.{Appends}
+use Rattle.std.specs.Prelude.{◌≡◌, ◌≤◌, ◌++◌, ℕ, List, [], ◌∷◌, length, Option, None, Some}
+use Rattle.std.specs.Io.KnownBytes.{Appends, Consumes}
+use Rattle.request_lines.specs.Input.{HasNoFeed}
 use Rattle.request_lines.specs.Lines.{lines_of, joined}
 use Rattle.request_lines.specs.Session.{Session}
 use Rattle.call_journal.specs.Fronts.{Begins}
@@ -19,10 +20,22 @@ abbrev pub BeginWithLines : Option (List ℕ) → List (List ℕ) → Type 0
 BeginWithLines None lines = Unit {0}
 BeginWithLines (Some bytes) lines = Begins lines (lines_of bytes)
 
--- the lines that were answered: all that there are if the input is at its end, else the first ones
-abbrev pub AreRead : Driven → (input : Option (List ℕ)) → (lines : List (List ℕ)) → Type 0
-AreRead driven.End input lines = HaveLines input lines
-AreRead other input lines = BeginWithLines input lines
+-- the lines, each with its line feed
+abbrev pub fed : List (List ℕ) → List ℕ
+fed [] = []
+fed (line ∷ lines) = line ++ 10 ∷ fed lines
+
+-- the bytes that the reader has given: these lines, each with its line feed, and a part of a line without one
+abbrev pub AreGiven : (input left : Option (List ℕ)) → (lines : List (List ℕ)) → Type 0
+AreGiven input left lines =
+    (part : List ℕ) × HasNoFeed part × Consumes input left (fed lines ++ part)
+
+-- The lines that were answered: all that there are if the input is at its end, else the first ones. If the
+-- reader failed, each that it has given whole, and no other
+abbrev pub AreRead : Driven → (input left : Option (List ℕ)) → (lines : List (List ℕ)) → Type 0
+AreRead driven.End input left lines = HaveLines input lines
+AreRead driven.ReadFault input left lines = BeginWithLines input lines × AreGiven input left lines
+AreRead other input left lines = BeginWithLines input lines
 
 -- all texts but perhaps the last
 pub record AllButLast (texts written : List (List ℕ)) : Type 0 where
@@ -46,11 +59,12 @@ IsTold driven.ReadFault reader writer = reader
 IsTold driven.WriteFault reader writer = writer
 IsTold other reader writer = Unit {0}
 
--- the lines of a stream are answered in their order, each by one line, and the seat has seen this then
-pub record Drives (how : Driven) (was now : Known) (input before after : Option (List ℕ)) :
+-- The lines of a stream are answered in their order, each by one line, and the seat has seen this
+-- then. `input` is what the reader had to give, `left` what it has still
+pub record Drives (how : Driven) (was now : Known) (input left before after : Option (List ℕ)) :
     Type 0 where
   pub lines : List (List ℕ)
   pub texts : List (List ℕ)
-  pub read : AreRead how input lines
+  pub read : AreRead how input left lines
   pub session : Session IsServed was lines texts now
   pub written : AreWritten how before after texts

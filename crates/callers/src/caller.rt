@@ -222,6 +222,7 @@ fn serve_line<J: Row, W: Sink, H: Wait, N: Notes>(
 
 /// Answers each line of a caller's reader by one line, written and flushed before the next line is
 /// waited for, until the reader is at its end. A line that is no request is answered `BadRequest`.
+/// If the reader fails, each line that it has given with its line feed is answered, and no other.
 /// A fault of a stream is told only if that stream has failed. A worker is woken for a task that was
 /// started at the latest when the line after the start was read and is no wait for that task. The
 /// seat is that of the caller, and is given back. The notes are told each line and its answer,
@@ -235,8 +236,8 @@ pub fn drive<J: Row, R: Source, W: Sink, H: Wait, N: Notes>(
     writer: &mut W,
     notes: &mut N,
 ) -> (Seat<J>, Driven)
-    ensures lines { Drives result.1 seat result.0 (R.remaining reader.old) (W.contents writer.old)
-        (W.contents writer.new) }
+    ensures lines { Drives result.1 seat result.0 (R.remaining reader.old) (R.remaining reader.new)
+        (W.contents writer.old) (W.contents writer.new) }
     ensures told { IsTold result.1 (R.has_failed reader.new) (W.has_failed writer.new) }
 {
     let Ok(mut lines) = LineReader::new(alloc) else {

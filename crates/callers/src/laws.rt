@@ -1,17 +1,18 @@
 //! What is proved of the answers to lines. Each function does nothing, and its contract is the law.
 
-ghost use Rattle.std.specs.Prelude.{◌≡◌, ◌≢◌, ◌<◌, ◌⊎◌, ◌++◌, [], ◌∷◌, ⊤, List, ℕ, length, Some, Err};
+ghost use Rattle.std.specs.Prelude.{◌≡◌, ◌≢◌, ◌<◌, ◌⊎◌, ◌++◌, [], ◌∷◌, ⊤, List, ℕ, length, Option, Some, Err};
 ghost use Rattle.wasm_ast.specs.declared.refusal.Refusal.TheVariants as refusal;
 ghost use Rattle.task_requests.specs.declared.request.Request.TheVariants as request;
 ghost use Rattle.task_board.specs.Step.{Answer};
 ghost use Rattle.request_lines.specs.Request.{IsRequest};
+ghost use Rattle.request_lines.specs.Input.{HasNoFeed};
 ghost use Rattle.request_lines.specs.Lines.{lines_of, joined};
 ghost use Rattle.request_lines.specs.Session.{Session};
 ghost use Rattle.request_lines.specs.Shape.{max_line_bytes};
 ghost use Rattle.call_journal.specs.Fronts.{Begins};
 ghost use Rattle.call_journal.specs.Seats.{Known};
 ghost use Rattle.callers.specs.Answered.{IsAnswered, IsServed};
-ghost use Rattle.callers.specs.Driving.{Drives, IsTold};
+ghost use Rattle.callers.specs.Driving.{Drives, IsTold, fed};
 ghost use Rattle.callers.specs.declared.caller.Driven.TheVariants as driven;
 
 use request_lines::laws::{one_event_to_a_line, requests_are_events};
@@ -46,33 +47,37 @@ pub fn lines_are_answered_in_their_order()
 
 /// At the end of the input all its lines have been answered, and all texts are written.
 pub fn all_lines_are_answered_at_the_end()
-    ensures { (was now : Known) (input before after : List ℕ)
-        → (d : Drives driven.End was now (Some input) (Some before) (Some after))
+    ensures { (was now : Known) (input before after : List ℕ) (left : Option (List ℕ))
+        → (d : Drives driven.End was now (Some input) left (Some before) (Some after))
         → (d.lines ≡ lines_of input) × (after ≡ before ++ joined d.texts) }
 {}
 
-/// Where the reader fails first lines have been answered, and all texts are written.
+/// Where the reader fails first lines have been answered, and all texts are written. They are all that the
+/// reader has given with their line feeds: what it has given of another line has none.
 pub fn first_lines_are_answered_where_the_reader_fails()
-    ensures { (was now : Known) (input before after : List ℕ)
-        → (d : Drives driven.ReadFault was now (Some input) (Some before) (Some after))
+    ensures first { (was now : Known) (input before after : List ℕ) (left : Option (List ℕ))
+        → (d : Drives driven.ReadFault was now (Some input) left (Some before) (Some after))
         → Begins d.lines (lines_of input) × (after ≡ before ++ joined d.texts) }
+    ensures whole { (was now : Known) (input left before after : List ℕ)
+        → (d : Drives driven.ReadFault was now (Some input) (Some left) (Some before) (Some after))
+        → (part : List ℕ) × HasNoFeed part × (input ≡ (fed d.lines ++ part) ++ left) }
 {}
 
 /// Where the writer fails first lines have been answered, and a beginning of the texts is written.
 pub fn first_lines_are_answered_where_the_writer_fails()
-    ensures { (was now : Known) (input before after : List ℕ)
-        → (d : Drives driven.WriteFault was now (Some input) (Some before) (Some after))
+    ensures { (was now : Known) (input before after : List ℕ) (left : Option (List ℕ))
+        → (d : Drives driven.WriteFault was now (Some input) left (Some before) (Some after))
         → (front : List ℕ) × Begins d.lines (lines_of input) × Begins front (joined d.texts)
         × (after ≡ before ++ front) }
 {}
 
 /// Where memory runs out first lines have been answered, and all texts are written, or all but the last.
 pub fn first_lines_are_answered_where_memory_runs_out()
-    ensures lines { (was now : Known) (input before after : List ℕ)
-        → (d : Drives driven.NoMemory was now (Some input) (Some before) (Some after))
+    ensures lines { (was now : Known) (input before after : List ℕ) (left : Option (List ℕ))
+        → (d : Drives driven.NoMemory was now (Some input) left (Some before) (Some after))
         → Begins d.lines (lines_of input) }
-    ensures texts { (was now : Known) (input before after : List ℕ)
-        → (d : Drives driven.NoMemory was now (Some input) (Some before) (Some after))
+    ensures texts { (was now : Known) (input before after : List ℕ) (left : Option (List ℕ))
+        → (d : Drives driven.NoMemory was now (Some input) left (Some before) (Some after))
         → (after ≡ before ++ joined d.texts)
         ⊎ ((all : List (List ℕ)) × (last : List ℕ) × (d.texts ≡ all ++ last ∷ [])
         × (after ≡ before ++ joined all)) }

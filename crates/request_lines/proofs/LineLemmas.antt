@@ -1,8 +1,8 @@
 -- Known bytes, as they are read piece by piece.
 use Rattle.std.proofs.Common.{◌≡◌, ◌≢◌, ◌<◌, length, ℕ, List, [], ◌∷◌, ◌++◌, ◌==◌, Option, None, Some, true, false, subst, arith, append_assoc, sym, ap, ◌∙◌, refl}
 use Rattle.std.specs.Io.KnownBytes.{Consumes, Keeps, IsAtEnd, prepend_known}
-use Rattle.request_lines.specs.Input.{IsKept, TakesLine}
-use Rattle.request_lines.specs.Inside.Pieces.{HasNoFeed, TakesPiece, ReadsPiece, IsProgress}
+use Rattle.request_lines.specs.Input.{IsKept, TakesLine, HasNoFeed, TakesWhole, TakesPart}
+use Rattle.request_lines.specs.Inside.Pieces.{TakesPiece, ReadsPiece, IsProgress}
 use Rattle.request_lines.specs.declared.line_reader.Progress.{Progress}
 use Rattle.request_lines.specs.declared.line_reader.Progress.TheVariants.{Found, More, End}
 use Rattle.std.proofs.lemmas.List.{append-nil}
@@ -26,7 +26,7 @@ no_feed_append : (a b : List ℕ) → HasNoFeed a → HasNoFeed b → HasNoFeed 
 no_feed_append [] b h g = g
 no_feed_append (x ∷ a) b h g = (h.0, no_feed_append a b h.1 g)
 
-consumes_more :
+pub consumes_more :
     (old new next : Option (List ℕ)) (a b : List ℕ) → Consumes old new a → Consumes new next b
     → Consumes old next (a ++ b)
 consumes_more None new next a b h g = tt
@@ -74,15 +74,17 @@ takes_line (Some xs) (Some ys) line h g = ap lines_of (g ∙ append_assoc line (
 
 pub takes_found : (old now next : Option (List ℕ)) (was : Option (List ℕ)) (kept : Option (List ℕ))
     → Gathers old now was → (step : Progress) → ReadsPiece step now next was kept → step ≡ Found
-    → (text : List ℕ) × IsKept kept text × TakesLine old next text
+    → (text : List ℕ) × IsKept kept text × TakesLine old next text × TakesWhole old next text
 takes_found old now next was kept g step s is =
     let all =
     consumes_more old now next g.got (s.piece ++ 10 ∷ []) g.bytes
-    (subst (λ x. IsProgress x now next s.piece) is s.bytes) in (
+    (subst (λ x. IsProgress x now next s.piece) is s.bytes) in
+    let whole : TakesWhole old next (g.got ++ s.piece) =
+    subst (Consumes old next) (sym (append_assoc g.got s.piece (10 ∷ []))) all in (
       g.got ++ s.piece,
       s.adds g.got g.held,
-      takes_line old next (g.got ++ s.piece) (no_feed_append g.got s.piece g.plain s.plain)
-          (subst (Consumes old next) (sym (append_assoc g.got s.piece (10 ∷ []))) all),
+      takes_line old next (g.got ++ s.piece) (no_feed_append g.got s.piece g.plain s.plain) whole,
+      whole,
     )
 
 takes_last :
@@ -113,6 +115,24 @@ ends_with_line old now next was kept g step s is some =
 pub kept_nothing : (kept : Option (List ℕ)) (text : List ℕ) → IsKept kept text → text ≡ [] → kept ≡ Some []
 kept_nothing None text k e = let long = subst (λ t. max_line_bytes < length t) e k in absurd (omega (arith, long))
 kept_nothing (Some bytes) text k e = ap Some (k ∙ e)
+
+consumes_kept : (old now left : Option (List ℕ)) (bytes : List ℕ) → Consumes old now bytes → Keeps now left
+    → Consumes old left bytes
+consumes_kept None now left bytes h keeps = tt
+consumes_kept (Some xs) None left bytes h keeps = absurd h
+consumes_kept (Some xs) (Some ys) None bytes h keeps = absurd keeps
+consumes_kept (Some xs) (Some ys) (Some zs) bytes h keeps = h ∙ ap (λ r. bytes ++ r) (sym keeps)
+
+-- a reader that failed has given what was gathered of a line, and nothing else
+pub gathers_part : (old now kept left : Option (List ℕ)) → Gathers old now kept → Keeps now left → TakesPart old left
+gathers_part old now kept left g keeps = (g.got, g.plain, consumes_kept old now left g.got g.bytes keeps)
+
+-- no bytes, and then the known ones
+pub keeps_after_none : (bytes : List ℕ) (known left : Option (List ℕ)) → bytes ≡ [] → Keeps known left
+    → Keeps (prepend_known bytes known) left
+keeps_after_none bytes None left none keeps = tt
+keeps_after_none bytes (Some xs) None none keeps = absurd keeps
+keeps_after_none bytes (Some xs) (Some ys) none keeps = keeps ∙ ap (λ r. r ++ xs) (sym none)
 
 -- at the end none of the known bytes are left
 pub end_of : (old now next : Option (List ℕ)) (was : Option (List ℕ)) (kept : Option (List ℕ))

@@ -2,7 +2,8 @@
 use Rattle.std.proofs.Common.{◌≡◌, ◌≤◌, ◌<◌, ◌-◌, ◌+◌, ◌==◌, ℕ, zero, suc, List, [], ◌∷◌, length, take, drop, ◌++◌, subst, slice_index, Bool, true, false, ap, refl, arith, add-one}
 use Rattle.std.proofs.lemmas.List.{take_all, drop_all, length-drop}
 use Rattle.std.proofs.lemmas.Bool.Decides.{nat_tests}
-use Rattle.request_lines.specs.Inside.Pieces.{HasNoFeed, TakesPiece}
+use Rattle.request_lines.specs.Input.{HasNoFeed}
+use Rattle.request_lines.specs.Inside.Pieces.{TakesPiece}
 use Rattle.request_lines.specs.Lines.{lines_of}
 
 is_false : (b : Bool) → (b ≡ true → ⊥) → b ≡ false

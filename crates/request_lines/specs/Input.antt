@@ -1,6 +1,6 @@
 -- Lines as they are read.
-use Rattle.std.specs.Prelude.{◌≡◌, ◌<◌, ◌+◌, ◌*◌, ℕ, List, ◌∷◌, true, Bool, Option, None, Some, length}
-use Rattle.std.specs.Io.KnownBytes.{IsAtEnd}
+use Rattle.std.specs.Prelude.{◌≡◌, ◌≢◌, ◌<◌, ◌+◌, ◌*◌, ℕ, List, [], ◌∷◌, ◌++◌, true, Bool, Option, None, Some, length}
+use Rattle.std.specs.Io.KnownBytes.{Consumes, IsAtEnd}
 use Rattle.request_lines.specs.Shape.{max_line_bytes}
 use Rattle.request_lines.specs.Lines.{lines_of}
 
@@ -14,6 +14,19 @@ abbrev pub TakesLine : Option (List ℕ) → Option (List ℕ) → List ℕ → 
 TakesLine None new line = Unit {0}
 TakesLine (Some xs) None line = ⊥
 TakesLine (Some xs) (Some ys) line = lines_of xs ≡ line ∷ lines_of ys
+
+-- there is no line feed among the bytes
+abbrev pub HasNoFeed : List ℕ → Type 0
+HasNoFeed [] = Unit {0}
+HasNoFeed (b ∷ rest) = (b ≢ 10) × HasNoFeed rest
+
+-- known bytes lose their first line and the line feed that ends it
+abbrev pub TakesWhole : Option (List ℕ) → Option (List ℕ) → List ℕ → Type 0
+TakesWhole old new line = Consumes old new (line ++ 10 ∷ [])
+
+-- known bytes lose some that have no line feed
+abbrev pub TakesPart : Option (List ℕ) → Option (List ℕ) → Type 0
+TakesPart old new = (part : List ℕ) × HasNoFeed part × Consumes old new part
 
 -- where it says that the reader has answered its end, none of the known bytes are left
 abbrev pub KnowsEnd : (at_end : Bool) → Option (List ℕ) → Type 0

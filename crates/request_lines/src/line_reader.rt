@@ -3,7 +3,7 @@
 ghost use Rattle.std.specs.Prelude.{◌≡◌, ◌≢◌, ◌↔◌, ◌==◌, ◌<◌, ◌≤◌, ◌++◌, [], List, ℕ, Some, None, Ok, Err, false, true, IfOk, OnOk, IsTrue, length, drop, option_map};
 ghost use Rattle.std.specs.List.{list_any};
 ghost use Rattle.std.specs.Io.KnownBytes.{Consumes, Keeps, IsAtEnd, prepend_known};
-ghost use Rattle.request_lines.specs.Input.{IsKept, KnowsEnd, TakesLine, chunk_bytes, still_to_read};
+ghost use Rattle.request_lines.specs.Input.{IsKept, KnowsEnd, TakesLine, TakesWhole, TakesPart, chunk_bytes, still_to_read};
 ghost use Rattle.request_lines.specs.Inside.Pieces.{TakesPiece, ReadsPiece};
 
 use crate::members::MAX_LINE_BYTES;
@@ -102,6 +102,8 @@ impl Chunk {
         ensures some { result ≡ Ok true → self.new ≢ [] }
         ensures end { result ≡ Ok false → IsAtEnd (R.remaining reader.new) × (self.new ≡ []) }
         ensures failed { result ≡ Err Stop.Stream → R.has_failed reader.new }
+        ensures fault { result ≡ Err Stop.Stream
+            → Keeps (R.remaining reader.old) (R.remaining reader.new) }
         ensures left { OnOk result (R.reads_left reader.new < R.reads_left reader.old) }
         ensures fits { length self.new ≤ chunk_bytes }
     {
@@ -219,6 +221,8 @@ fn refill<R: Source>(chunk: &mut Chunk, reader: &mut R) -> Result<bool, Stop>
     ensures some { result ≡ Ok true → chunk.new ≢ [] }
     ensures end { result ≡ Ok false → IsAtEnd (prepend_known chunk.new (R.remaining reader.new)) }
     ensures failed { result ≡ Err Stop.Stream → R.has_failed reader.new }
+    ensures fault { result ≡ Err Stop.Stream
+        → Keeps (prepend_known chunk.old (R.remaining reader.old)) (R.remaining reader.new) }
     ensures left { OnOk result (still_to_read (R.reads_left reader.new) chunk.new
         ≤ still_to_read (R.reads_left reader.old) chunk.old) }
     ensures less { result ≡ Ok false → still_to_read (R.reads_left reader.new) chunk.new
@@ -241,6 +245,8 @@ fn read_piece<R: Source>(
         (prepend_known chunk.new (R.remaining reader.new))
         line.old line.new) }
     ensures failed { result ≡ Err Stop.Stream → R.has_failed reader.new }
+    ensures fault { result ≡ Err Stop.Stream
+        → Keeps (prepend_known chunk.old (R.remaining reader.old)) (R.remaining reader.new) }
     ensures less { OnOk result (still_to_read (R.reads_left reader.new) chunk.new
         < still_to_read (R.reads_left reader.old) chunk.old) }
 {
@@ -259,6 +265,8 @@ fn read_piece<R: Source>(
 fn next_line<R: Source>(chunk: &mut Chunk, line: &mut Line, reader: &mut R) -> Result<bool, Stop>
     ensures found { result ≡ Ok true → (text : List ℕ) × IsKept line.new text
         × TakesLine (prepend_known chunk.old (R.remaining reader.old))
+        (prepend_known chunk.new (R.remaining reader.new)) text
+        × TakesWhole (prepend_known chunk.old (R.remaining reader.old))
         (prepend_known chunk.new (R.remaining reader.new)) text }
     ensures last { result ≡ Ok false → line.new ≢ Some []
         → (text : List ℕ) × IsKept line.new text
@@ -268,6 +276,8 @@ fn next_line<R: Source>(chunk: &mut Chunk, line: &mut Line, reader: &mut R) -> R
         → IsAtEnd (prepend_known chunk.old (R.remaining reader.old)) }
     ensures end { result ≡ Ok false → IsAtEnd (prepend_known chunk.new (R.remaining reader.new)) }
     ensures failed { result ≡ Err Stop.Stream → R.has_failed reader.new }
+    ensures fault { result ≡ Err Stop.Stream
+        → TakesPart (prepend_known chunk.old (R.remaining reader.old)) (R.remaining reader.new) }
     ensures less { OnOk result (still_to_read (R.reads_left reader.new) chunk.new
         < still_to_read (R.reads_left reader.old) chunk.old) }
 {
@@ -315,18 +325,27 @@ impl LineReader {
         self.chunk.bytes().contains(&b'\n')
     }
 
-    /// Reads the next line; false if there is none. `Stream` only if the source has failed.
+    /// Reads the next line; false if there is none. `Stream` only if the source has failed: what was read
+    /// since the last line has no line feed then. A line comes without its line feed only at the end of the
+    /// source, and none comes after it.
     pub fn next<R: Source>(&mut self, reader: &mut R) -> Result<bool, Stop>
         requires { KnowsEnd self.old.at_end
             (prepend_known self.old.chunk (R.remaining reader.old)) }
         ensures line { result ≡ Ok true → (text : List ℕ) × IsKept self.new.line text
             × TakesLine (prepend_known self.old.chunk (R.remaining reader.old))
-            (prepend_known self.new.chunk (R.remaining reader.new)) text }
+            (prepend_known self.new.chunk (R.remaining reader.new)) text
+            × (self.new.at_end ≡ false
+            → TakesWhole (prepend_known self.old.chunk (R.remaining reader.old))
+            (prepend_known self.new.chunk (R.remaining reader.new)) text) }
+        ensures goes_on { result ≡ Ok true → self.old.at_end ≡ false }
         ensures end { result ≡ Ok false
             → IsAtEnd (prepend_known self.old.chunk (R.remaining reader.old)) }
         ensures ends { OnOk result (KnowsEnd self.new.at_end
             (prepend_known self.new.chunk (R.remaining reader.new))) }
         ensures failed { result ≡ Err Stop.Stream → R.has_failed reader.new }
+        ensures fault { result ≡ Err Stop.Stream → (self.old.at_end ≡ false)
+            × TakesPart (prepend_known self.old.chunk (R.remaining reader.old))
+            (R.remaining reader.new) }
         ensures less { result ≡ Ok true → still_to_read (R.reads_left reader.new) self.new.chunk
             < still_to_read (R.reads_left reader.old) self.old.chunk }
     {

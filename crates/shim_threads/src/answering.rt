@@ -41,7 +41,8 @@ struct Asked<J: Row, R: Source, N> {
 
 impl<J: Row, R: Source, N> Promise<Answered<J, R, N>> for Asked<J, R, N> {
     ghost kept_by = { λ p a. Drives a.driven p.caller.value.seat a.caller.seat
-        (R.remaining p.caller.value.reader) (Some []) (Some a.replies.items)
+        (R.remaining p.caller.value.reader) (R.remaining a.caller.reader) (Some [])
+        (Some a.replies.items)
         × IsTold a.driven (R.has_failed a.caller.reader) ⊤ };
 }
 
@@ -53,7 +54,8 @@ fn answer<J: Row, H: Wait, R: Source + Drop, N: Notes + Drop>(
     caller: Caller<J, R, N>,
 ) -> Answered<J, R, N>
     ensures lines { Drives result.driven caller.seat result.caller.seat
-        (R.remaining caller.reader) (Some []) (Some result.replies.items) }
+        (R.remaining caller.reader) (R.remaining result.caller.reader) (Some [])
+        (Some result.replies.items) }
     ensures told { IsTold result.driven (R.has_failed result.caller.reader) ⊤ }
 {
     let Caller {
@@ -81,7 +83,8 @@ fn finish<J: Row, H: Threads, R: Source, N: Notes>(
 ) -> Option<Answered<J, R, N>>
     ensures { IfSome result (λ a. (p : _) × (option_map (λ t. t.promise) thread ≡ Some p)
         × (Drives a.driven p.caller.value.seat a.caller.seat
-        (R.remaining p.caller.value.reader) (Some []) (Some a.replies.items)
+        (R.remaining p.caller.value.reader) (R.remaining a.caller.reader) (Some [])
+        (Some a.replies.items)
         × IsTold a.driven (R.has_failed a.caller.reader) ⊤)) }
 {
     match thread {
@@ -105,8 +108,9 @@ pub fn answer_all<
     callers: Vec<Caller<J, R, N>>,
 ) -> Result<Vec<Option<Answered<J, R, N>>>, AllocError>
     ensures { IfOk result (λ all. Each
-        (λ c a. IfSome a (λ a. Drives a.driven c.seat a.caller.seat (R.remaining c.reader) (Some [])
-        (Some a.replies.items) × IsTold a.driven (R.has_failed a.caller.reader) ⊤))
+        (λ c a. IfSome a (λ a. Drives a.driven c.seat a.caller.seat (R.remaining c.reader)
+        (R.remaining a.caller.reader) (Some []) (Some a.replies.items)
+        × IsTold a.driven (R.has_failed a.caller.reader) ⊤))
         callers.items all.items) }
 {
     thread::scope(
@@ -116,7 +120,7 @@ pub fn answer_all<
             requires { IsSend J.row × IsSync J.row × IsSync H.row × IsSend R.row × IsSend N.row }
             ensures { IfOk result (λ all. Each
                 (λ c a. IfSome a (λ a. Drives a.driven c.seat a.caller.seat (R.remaining c.reader)
-                (Some []) (Some a.replies.items)
+                (R.remaining a.caller.reader) (Some []) (Some a.replies.items)
                 × IsTold a.driven (R.has_failed a.caller.reader) ⊤))
                 callers.items all.items) }
         {

@@ -47,7 +47,8 @@ pub struct Answers<J: Row, R: Source, W: Sink, N> {
 
 impl<J: Row, R: Source, W: Sink, N> Promise<Ended<J, R, W, N>> for Answers<J, R, W, N> {
     ghost kept_by = { λ p e. Drives e.driven p.caller.value.seat e.caller.value.seat
-        (R.remaining p.caller.value.reader) (W.contents p.caller.value.writer)
+        (R.remaining p.caller.value.reader) (R.remaining e.caller.value.reader)
+        (W.contents p.caller.value.writer)
         (W.contents e.caller.value.writer)
         × IsTold e.driven (R.has_failed e.caller.value.reader) (W.has_failed e.caller.value.writer) };
 }
@@ -63,7 +64,8 @@ fn answer<J: Row, H: Wait, R: Source + Drop, W: Sink + Drop, N: Notes + Drop>(
     caller: LiveCaller<J, R, W, N>,
 ) -> (LiveCaller<J, R, W, N>, Driven)
     ensures lines { Drives result.1 caller.seat result.0.seat
-        (R.remaining caller.reader) (W.contents caller.writer) (W.contents result.0.writer) }
+        (R.remaining caller.reader) (R.remaining result.0.reader)
+        (W.contents caller.writer) (W.contents result.0.writer) }
     ensures told { IsTold result.1 (R.has_failed result.0.reader) (W.has_failed result.0.writer) }
 {
     let LiveCaller {
@@ -97,8 +99,8 @@ fn answer_and_report<
     caller: LiveCaller<J, R, W, N>,
 ) -> Ended<J, R, W, N>
     ensures lines { Drives result.driven caller.seat result.caller.value.seat
-        (R.remaining caller.reader) (W.contents caller.writer)
-        (W.contents result.caller.value.writer) }
+        (R.remaining caller.reader) (R.remaining result.caller.value.reader)
+        (W.contents caller.writer) (W.contents result.caller.value.writer) }
     ensures told { IsTold result.driven (R.has_failed result.caller.value.reader)
         (W.has_failed result.caller.value.writer) }
 {
@@ -169,8 +171,8 @@ pub fn answer_live<
     others: Vec<LiveCaller<J, R, W, N>>,
 ) -> Result<(Ended<J, R, W, N>, Vec<Thread<J, R, W, N>>), StartError>
     ensures lines { IfOk result (λ p. Drives p.0.driven owner.seat p.0.caller.value.seat
-        (R.remaining owner.reader) (W.contents owner.writer)
-        (W.contents p.0.caller.value.writer)) }
+        (R.remaining owner.reader) (R.remaining p.0.caller.value.reader)
+        (W.contents owner.writer) (W.contents p.0.caller.value.writer)) }
     ensures told { IfOk result (λ p. IsTold p.0.driven (R.has_failed p.0.caller.value.reader)
         (W.has_failed p.0.caller.value.writer)) }
     ensures others { IfOk result

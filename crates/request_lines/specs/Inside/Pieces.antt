@@ -1,14 +1,9 @@
 -- Lines as they are read, in pieces.
-use Rattle.std.specs.Prelude.{◌≡◌, ◌≢◌, ℕ, List, [], ◌∷◌, ◌++◌, Bool, Option, MatchBool}
+use Rattle.std.specs.Prelude.{◌≡◌, ℕ, List, [], ◌∷◌, ◌++◌, Bool, Option, MatchBool}
 use Rattle.std.specs.Io.KnownBytes.{Consumes, IsAtEnd}
 use Rattle.request_lines.specs.declared.line_reader.Progress.{Progress}
 use Rattle.request_lines.specs.declared.line_reader.Progress.TheVariants.{Found, More, End}
-use Rattle.request_lines.specs.Input.{IsKept}
-
--- there is no line feed among the bytes
-abbrev pub HasNoFeed : List ℕ → Type 0
-HasNoFeed [] = Unit {0}
-HasNoFeed (b ∷ rest) = (b ≢ 10) × HasNoFeed rest
+use Rattle.request_lines.specs.Input.{IsKept, HasNoFeed}
 
 -- a piece of a line was taken from the front of the bytes, with the line feed after it if that was
 -- found, and else all of them

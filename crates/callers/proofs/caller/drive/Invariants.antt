@@ -6,7 +6,8 @@ use Rattle.callers.proofs.caller.drive.Given as goal
 abbrev pub invariant-loop-spare : goal.invariant-loop-spare
 invariant-loop-spare g l =
     KnowsEnd l.lines.at_end (prepend_known l.lines.chunk (g.R.Source.remaining l.reader))
-    × Driving l.fn.seat (g.R.Source.remaining l.fn.reader) (prepend_known l.lines.chunk (g.R.Source.remaining l.reader))
+    × Driving l.fn.seat l.lines.at_end (g.R.Source.remaining l.fn.reader)
+    (prepend_known l.lines.chunk (g.R.Source.remaining l.reader))
     (g.W.Sink.contents l.fn.writer) (g.W.Sink.contents l.writer) l.seat
 
 -- each line takes something of what there is to read

@@ -55,13 +55,15 @@ returns g c =
     (inner.1 ∙ c.into_iter-thread-iterator.ensures.into_iter_gives.0) in
     each-through _ _ _
     (λ c' t a. joined_is (λ h. h.promise) (λ p. p.caller.value)
-    (λ x b. Drives b.driven x.seat b.caller.seat (g.R.Source.remaining x.reader) (Some []) (Some b.replies.items)
+    (λ x b. Drives b.driven x.seat b.caller.seat (g.R.Source.remaining x.reader)
+    (g.R.Source.remaining b.caller.reader) (Some []) (Some b.replies.items)
     × IsTold b.driven (g.R.Source.has_failed b.caller.reader) ⊤) c' t a)
     c.captures.callers.items c.loop-caller.threads.items c.loop-thread.all.items
     (subst
     (λ xs. Each (λ c' t. IfSome t (λ h. h.promise.caller.value ≡ c')) xs c.loop-caller.threads.items) asked outer.2)
     (subst (λ ts. Each (λ t a. IfSome a (λ a. (p : _) × (option_map (λ h. h.promise) t ≡ Some p)
-    × (Drives a.driven p.caller.value.seat a.caller.seat (g.R.Source.remaining p.caller.value.reader) (Some [])
+    × (Drives a.driven p.caller.value.seat a.caller.seat (g.R.Source.remaining p.caller.value.reader)
+    (g.R.Source.remaining a.caller.reader) (Some [])
     (Some a.replies.items)
     × IsTold a.driven (g.R.Source.has_failed a.caller.reader) ⊤))) ts c.loop-thread.all.items) joined inner.2)
 

@@ -15,6 +15,7 @@ invariant-loop-thread g l =
     ((joined : List _)
     × (joined ++ l.thread-iterator.rest.items ≡ l.initial.thread-iterator.rest.items)
     × Each (λ t a. IfSome a (λ a. (p : _) × (option_map (λ h. h.promise) t ≡ Some p)
-    × (Drives a.driven p.caller.value.seat a.caller.seat (g.R.Source.remaining p.caller.value.reader) (Some [])
+    × (Drives a.driven p.caller.value.seat a.caller.seat (g.R.Source.remaining p.caller.value.reader)
+    (g.R.Source.remaining a.caller.reader) (Some [])
     (Some a.replies.items)
     × IsTold a.driven (g.R.Source.has_failed a.caller.reader) ⊤))) joined l.all.items)
