@@ -18,6 +18,22 @@ none_own n [] (e ∷ rest) f =
     sum_by-cons _ e rest ∙ rw (no, r) refl
 none_own n (x ∷ front) rest f = none_own n front rest (λ k e le p. f (suc k) e (omega arith) p)
 
+-- where one after it is, the rest has a call of the seat
+pub own_there :
+    (n : ℕ) (front rest : List Entry) (k : ℕ) (e : Entry) → length front ≤ k → slice_get (front ++ rest) k ≡ Some e
+    → (e.seat == n) ≡ true → own_calls n rest ≡ 0 → ⊥
+own_there n [] [] k e le p same none = cc
+own_there n [] (x ∷ rest) zero e le p same none =
+    let is : x ≡ e = some_is x e p in
+    let first : (x.seat == n) ≡ true = ap (λ y. y.seat == n) is ∙ same in
+    let count = sym (sum_by-cons _ x rest) ∙ none in
+    absurd (omega (arith, rw first count))
+own_there n [] (x ∷ rest) (suc k) e le p same none =
+    let count = sym (sum_by-cons _ x rest) ∙ none in
+    own_there n [] rest k e (omega arith) p same (omega (arith, count))
+own_there n (x ∷ front) rest zero e le p same none = absurd (omega (arith, le))
+own_there n (x ∷ front) rest (suc k) e le p same none = own_there n front rest k e (omega (arith, le)) p same none
+
 pub one_more :
     (n : ℕ) (history journal : List Entry) → EndsWithCall n history journal
     → own_calls n journal ≡ own_calls n history + 1

@@ -24,6 +24,7 @@ use crate::entry::Entry;
 use crate::journalled::{JournalledBoard, PreparedCall};
 use crate::receipt::Receipt;
 use crate::row::Row;
+use crate::runnable::Runnable;
 use crate::seat::Seat;
 use crate::seen::Seen;
 use std::alloc::Global;
@@ -67,6 +68,16 @@ impl<R: Row> Model for Book<R> {
         × (b.rest.parts + b.seats ≡ most_seats + 1) × (b.seats ≤ most_seats)
         × (b.rest.amount ≡ 0) × (spot_names b.desk ≡ R.slots)
         × AllFit b.desk b.board.board.tasks };
+}
+
+// The task of a ticket, if there is one.
+fn runnable(ticket: Option<Ticket>) -> Option<Runnable>
+    ensures { result ≡ ticket }
+{
+    match ticket {
+        Some(ticket) => Some(Runnable::of(ticket)),
+        None => None,
+    }
 }
 
 impl<R: Row> Book<R> {
@@ -171,6 +182,8 @@ impl<R: Row> Book<R> {
         ensures full { (result ≡ Err Refusal.JournalFull) ↔ ((self.now.journalled.closed ≡ false)
             × (length self.now.journalled.journal ≡ most_entries)) }
         ensures err { IfErr result (λ e. is_refused e ≡ true) }
+        ensures fault { result ≡ Err Refusal.JournalFault
+            → GoesOn seat.now.number seat.now.history self.now.journalled.journal → ⊥ }
     {
         self.board.may_call()?;
         if !seat.may_follow(cells, &self.seen) {
@@ -226,22 +239,23 @@ impl<R: Row> Book<R> {
         self.board.ended(id)
     }
 
-    /// Lends the machine of the ticket's task for a slice of at most `budget` turns. None, and nothing has
+    /// Lends the machine of a task for a slice of at most `budget` turns. None, and nothing has
     /// changed, exactly if the book is closed, or that task is gone, of another incarnation, not running, or
     /// out.
-    pub fn take(&mut self, ticket: Ticket, budget: u64) -> Option<(Loan, Receipt<R>)>
+    pub fn take(&mut self, task: Runnable, budget: u64) -> Option<(Loan, Receipt<R>)>
         requires { (1 ≤ budget) × (budget ≤ max_budget) }
         ensures some { IfSome result
-            (λ p. Lends self.old.journalled.board ticket budget p.0 self.new.journalled.board) }
+            (λ p. Lends self.old.journalled.board task budget p.0 self.new.journalled.board) }
         ensures receipt { IfSome result (λ p. p.1 ≡ p.0) }
         ensures opened { IfSome result (λ p. self.old.journalled.closed ≡ false) }
         ensures none { IfNone result (self.old.journalled.closed ≡ false
-            → (t : TaskValue) → CanLend ticket self.old.journalled.board.tasks t → ⊥) }
+            → (t : TaskValue) → CanLend task self.old.journalled.board.tasks t → ⊥) }
         ensures same { IfNone result (self.new ≡ self.old) }
         ensures kept { IsSlice self.old.journalled self.new.journalled
             × (self.new.seats ≡ self.old.seats) × (self.new.total ≡ self.old.total) }
     {
         self.board.sound();
+        let ticket = task.into_ticket();
         let loan = self.board.take(ticket, budget)?;
         let slip = self.desk.lend(ticket.slot, &loan);
         let receipt = Receipt::new(ticket.slot, &loan, slip);
@@ -249,9 +263,9 @@ impl<R: Row> Book<R> {
     }
 
     /// Takes back the machine of a loan that has been run, with its receipt: so nothing is compared. A loan
-    /// that does not fit is ended, and changes nothing. A ticket of the task comes exactly if the loan fits
-    /// and the task is running afterwards.
-    pub fn give_back(&mut self, loan: Loan, receipt: Receipt<R>) -> Option<Ticket>
+    /// that does not fit is ended, and changes nothing. The task comes exactly if the loan fits and it
+    /// is running afterwards.
+    pub fn give_back(&mut self, loan: Loan, receipt: Receipt<R>) -> Option<Runnable>
         requires ran { loan.ran ≡ true }
         requires receipt { loan ≡ record receipt { ran = true } }
         ensures step { Fits loan self.old.journalled.board.tasks → Step self.old.journalled.board
@@ -264,11 +278,12 @@ impl<R: Row> Book<R> {
             × (self.new.seats ≡ self.old.seats) × (self.new.total ≡ self.old.total) }
     {
         self.board.sound();
-        if receipt.end(&mut self.desk) {
+        let ticket = if receipt.end(&mut self.desk) {
             self.board.receive(loan)
         } else {
             self.board.give_back(loan)
-        }
+        };
+        runnable(ticket)
     }
 
     /// Whether a worker has nothing to do: the book is not closed, and no task waits for a worker.
@@ -287,7 +302,7 @@ impl<R: Row> Book<R> {
 
     /// The task that has waited longest for a worker, which waits no more. None, and nothing has
     /// changed, if the book is closed; and None if none waits.
-    pub fn next(&mut self) -> Option<Ticket>
+    pub fn next(&mut self) -> Option<Runnable>
         ensures some { IfSome result (λ ticket. (self.old.journalled.closed ≡ false)
             × (self.old.journalled.waiting ≡ ticket ∷ self.new.journalled.waiting)) }
         ensures none { IfNone result ((self.new ≡ self.old)
@@ -300,11 +315,11 @@ impl<R: Row> Book<R> {
         if self.board.is_closed() {
             return None;
         }
-        self.board.next_waiting()
+        runnable(self.board.next_waiting())
     }
 
     /// The task that has waited longest for a worker, which waits no more. None if none waits.
-    pub fn next_waiting(&mut self) -> Option<Ticket>
+    pub fn next_waiting(&mut self) -> Option<Runnable>
         ensures some { IfSome result
             (λ ticket. self.old.journalled.waiting ≡ ticket ∷ self.new.journalled.waiting) }
         ensures none { IfNone result (self.old.journalled.waiting ≡ []) }
@@ -313,12 +328,12 @@ impl<R: Row> Book<R> {
               = record self.old.journalled { waiting = self.new.journalled.waiting };
         } }
     {
-        self.board.next_waiting()
+        runnable(self.board.next_waiting())
     }
 
-    /// The ticket of the task with an id, which waits for a worker and now no more. None, and
+    /// The task with an id, which waits for a worker and now no more. None, and
     /// nothing has changed, if no task has the id or that does not wait.
-    pub fn leave_waiting(&mut self, id: &Text) -> Option<Ticket>
+    pub fn leave_waiting(&mut self, id: &Text) -> Option<Runnable>
         ensures ticket { result
             ≡ waiting_ticket id.now self.old.journalled.board.tasks self.old.journalled.waiting }
         ensures some { IfSome result (λ t. self.new ≡ record self.old {
@@ -327,20 +342,20 @@ impl<R: Row> Book<R> {
         }) }
         ensures none { IfNone result (self.new ≡ self.old) }
     {
-        self.board.leave_waiting(id)
+        runnable(self.board.leave_waiting(id))
     }
 
-    /// Lets the ticket's task wait for a worker, after all that wait, unless it waits already. A ticket of no
-    /// present task is dropped.
-    pub fn wait_again(&mut self, ticket: Ticket)
+    /// Lets a task wait for a worker, after all that wait, unless it waits already. One that is
+    /// gone is dropped.
+    pub fn wait_again(&mut self, task: Runnable)
         ensures { self.new ≡ record self.old {
           journalled = record self.old.journalled {
             waiting =
-                enter_again self.old.journalled.board.tasks ticket self.old.journalled.waiting;
+                enter_again self.old.journalled.board.tasks task self.old.journalled.waiting;
           };
         } }
     {
-        self.board.wait_again(ticket);
+        self.board.wait_again(task.into_ticket());
     }
 
     /// Closes the book.

@@ -1,12 +1,12 @@
 //! What a task is after its slice.
 
-use task_board::{ExitRecord, Ticket};
+use crate::runnable::Runnable;
+use task_board::ExitRecord;
 
 /// What the task of a slice is, once its machine has been given back.
-#[derive(Clone, Copy, Drop)]
 pub enum Returned {
-    /// It is running: a ticket of it.
-    Running(Ticket),
+    /// It is running.
+    Running(Runnable),
     /// It has ended so, after this number of turns.
     Ended(u64, ExitRecord),
     /// It is paused.

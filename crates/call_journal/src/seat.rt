@@ -1,5 +1,5 @@
 //! Seats: each caller has one.
-ghost use Rattle.std.specs.Prelude.{◌≡◌, ◌<◌, ◌≤◌, ◌+◌, List, [], ◌∷◌, ◌++◌, length, option_map, slice_get, IsTrue};
+ghost use Rattle.std.specs.Prelude.{◌≡◌, ◌<◌, ◌≤◌, ◌+◌, List, [], ◌∷◌, ◌++◌, length, option_map, slice_get, IsTrue, false};
 ghost use Rattle.std.specs.Ordering.{nat_cmp};
 ghost use Rattle.call_journal.specs.declared.entry.Entry.{Entry as EntryValue};
 ghost use Rattle.call_journal.specs.Fronts.{Begins};
@@ -95,7 +95,8 @@ impl<R: Row> Seat<R> {
     // Whether the journal goes on from what the seat has seen, with no call of the seat.
     pub(crate) fn may_follow(&self, cells: &Cells, journal: &Seen<R>) -> bool
         requires { cells.now ≡ R.cells }
-        ensures { IsTrue result → GoesOn self.now.number self.now.history journal.now }
+        ensures on { IsTrue result → GoesOn self.now.number self.now.history journal.now }
+        ensures off { result ≡ false → GoesOn self.now.number self.now.history journal.now → ⊥ }
     {
         if self.seen.len() > journal.len() {
             return false;

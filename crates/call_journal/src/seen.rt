@@ -1,5 +1,5 @@
 //! What has been seen of a row.
-ghost use Rattle.std.specs.Prelude.{◌≡◌, ◌<◌, ◌≤◌, ◌==◌, ℕ, length, [], ◌∷◌, ◌++◌, Some, option_map, slice_get, IfSome, false};
+ghost use Rattle.std.specs.Prelude.{◌≡◌, ◌<◌, ◌≤◌, ◌==◌, ℕ, length, [], ◌∷◌, ◌++◌, Some, option_map, slice_get, IfSome, true, false};
 ghost use Rattle.std.specs.Ordering.{nat_cmp};
 ghost use Rattle.call_journal.specs.declared.entry.Entry.{Entry as EntryValue};
 ghost use Rattle.call_journal.specs.Fronts.{Begins};
@@ -93,9 +93,12 @@ impl<R: Row> Seen<R> {
     // Whether an entry from this index on is of the seat with a number.
     pub(crate) fn has_call(&self, cells: &Cells, from: usize, number: u64) -> bool
         requires { cells.now ≡ R.cells }
-        ensures { result ≡ false → (i : ℕ) → (e : EntryValue) → from ≤ i
+        ensures none { result ≡ false → (i : ℕ) → (e : EntryValue) → from ≤ i
             → slice_get self.now i ≡ Some e
             → (e.seat == number) ≡ false }
+        ensures one { result ≡ true → (i : ℕ) × (e : EntryValue) × (from ≤ i)
+            × (slice_get self.now i ≡ Some e)
+            × ((e.seat == number) ≡ true) }
     {
         for i in from..self.len {
             if let Some(entry) = self.entry(cells, i) {

@@ -15,13 +15,14 @@ use crate::entry::Entry;
 use crate::receipt::Receipt;
 use crate::returned::Returned;
 use crate::row::Row;
+use crate::runnable::Runnable;
 use crate::seat::Seat;
 use crate::shared::Shared;
 use std::alloc::Global;
 use std::cmp::Ordering;
 use std::sync::ledger::Blank;
 use std::sync::{Condvar, Mutex, Wait};
-use task_board::{ExitRecord, Loan, Reply, Request, Status, Ticket};
+use task_board::{ExitRecord, Loan, Reply, Request, Status};
 use wasm_ast::{Refusal, Text};
 
 /// A shim: a book that callers and workers share, and the cells that hold its journal.
@@ -174,8 +175,8 @@ impl<R: Row> Shim<R> {
         let (mut loan, receipt) = self.take_waiting(rt, id, budget)?;
         loan.run();
         match self.receive(rt, id.as_str(), loan, receipt) {
-            Returned::Running(ticket) => {
-                self.wait_again(rt, ticket);
+            Returned::Running(task) => {
+                self.wait_again(rt, task);
                 None
             }
             Returned::Ended(turns, end) => Some((turns, end)),
@@ -189,8 +190,8 @@ impl<R: Row> Shim<R> {
         ensures { IfSome result (λ p. (p.0.ran ≡ false) × (p.0.budget ≡ budget) × (p.1 ≡ p.0)) }
     {
         let mut shared = self.shared.lock(rt);
-        let ticket = shared.book.leave_waiting(id)?;
-        shared.book.take(ticket, budget)
+        let task = shared.book.leave_waiting(id)?;
+        shared.book.take(task, budget)
     }
 
     /// The entry, exactly if the seat has seen it. It takes no lock.
@@ -212,25 +213,27 @@ impl<R: Row> Shim<R> {
         one.meet(other)
     }
 
-    /// Lends the machine of the ticket's task for a slice of at most `budget` turns, as `Book::take` does.
-    pub fn take<W: Wait>(&self, rt: &W, ticket: Ticket, budget: u64) -> Option<(Loan, Receipt<R>)>
+    /// Lends the machine of a task for a slice of at most `budget` turns, as `Book::take` does.
+    pub fn take<W: Wait>(&self, rt: &W, task: Runnable, budget: u64) -> Option<(Loan, Receipt<R>)>
         requires { (1 ≤ budget) × (budget ≤ max_budget) }
         ensures { IfSome result (λ p. (p.0.ran ≡ false) × (p.0.budget ≡ budget) × (p.1 ≡ p.0)) }
     {
-        self.shared.lock(rt).book.take(ticket, budget)
+        self.shared.lock(rt).book.take(task, budget)
     }
 
     /// Takes back the machine of a loan that has been run, as `Book::give_back` does.
-    pub fn give_back<W: Wait>(&self, rt: &W, loan: Loan, receipt: Receipt<R>) -> Option<Ticket>
+    pub fn give_back<W: Wait>(&self, rt: &W, loan: Loan, receipt: Receipt<R>) -> Option<Runnable>
         requires ran { loan.ran ≡ true }
         requires receipt { loan ≡ record receipt { ran = true } }
     {
         let mut shared = self.shared.lock(rt);
-        let ticket = shared.book.give_back(loan, receipt);
-        if ticket.is_none() {
-            self.tell_callers(&shared);
+        match shared.book.give_back(loan, receipt) {
+            Some(task) => Some(task),
+            None => {
+                self.tell_callers(&shared);
+                None
+            }
         }
-        ticket
     }
 
     /// As `give_back`, and says what the loan's task is then, which has this id. The lock is not let go of in
@@ -240,13 +243,15 @@ impl<R: Row> Shim<R> {
         requires receipt { loan ≡ record receipt { ran = true } }
     {
         let mut shared = self.shared.lock(rt);
-        if let Some(ticket) = shared.book.give_back(loan, receipt) {
-            return Returned::Running(ticket);
-        }
-        self.tell_callers(&shared);
-        match shared.book.ended(id) {
-            Some((turns, end)) => Returned::Ended(turns, end),
-            None => Returned::Paused,
+        match shared.book.give_back(loan, receipt) {
+            Some(task) => Returned::Running(task),
+            None => {
+                self.tell_callers(&shared);
+                match shared.book.ended(id) {
+                    Some((turns, end)) => Returned::Ended(turns, end),
+                    None => Returned::Paused,
+                }
+            }
         }
     }
 
@@ -256,22 +261,22 @@ impl<R: Row> Shim<R> {
         self.shared.lock(rt).book.ended(id)
     }
 
-    /// Lets the ticket's task wait for a worker if a worker sleeps, and wakes it; else gives the ticket back.
-    pub fn offer<W: Wait>(&self, rt: &W, ticket: Ticket) -> Option<Ticket>
-        ensures { IfSome result (λ t. t ≡ ticket) }
+    /// Lets a task wait for a worker if a worker sleeps, and wakes it; else gives the task back.
+    pub fn offer<W: Wait>(&self, rt: &W, task: Runnable) -> Option<Runnable>
+        ensures { IfSome result (λ t. t ≡ task) }
     {
         let mut shared = self.shared.lock(rt);
         if shared.workers == 0 {
-            return Some(ticket);
+            return Some(task);
         }
-        shared.book.wait_again(ticket);
+        shared.book.wait_again(task);
         self.tell_worker(&shared);
         None
     }
 
     /// The task that has waited longest for a worker, which waits no more: sleeps until one waits,
     /// or the shim is closed. None once it is closed.
-    pub fn next<W: Wait>(&self, rt: &W) -> Option<Ticket> {
+    pub fn next<W: Wait>(&self, rt: &W) -> Option<Runnable> {
         let mut shared = self.shared.lock(rt);
         shared.workers = shared.workers.wrapping_add(1);
         let mut shared = self.waiting.wait_while(rt, shared, |s| s.book.is_idle());
@@ -280,14 +285,14 @@ impl<R: Row> Shim<R> {
     }
 
     /// The task that has waited longest for a worker, which waits no more. None if none waits.
-    pub fn next_waiting<W: Wait>(&self, rt: &W) -> Option<Ticket> {
+    pub fn next_waiting<W: Wait>(&self, rt: &W) -> Option<Runnable> {
         self.shared.lock(rt).book.next_waiting()
     }
 
-    /// Lets the ticket's task wait for a worker, as `Book::wait_again` does.
-    pub fn wait_again<W: Wait>(&self, rt: &W, ticket: Ticket) {
+    /// Lets a task wait for a worker, as `Book::wait_again` does.
+    pub fn wait_again<W: Wait>(&self, rt: &W, task: Runnable) {
         let mut shared = self.shared.lock(rt);
-        shared.book.wait_again(ticket);
+        shared.book.wait_again(task);
         self.tell_worker(&shared);
     }
 

@@ -9,6 +9,6 @@ mod tickets;
 pub use gate::{Gate, OpenGate};
 pub use serving::worker;
 pub use tickets::{
-    Another, Hand, MOST_TICKETS, Puts, Queue, Takes, Tickets, another_pass, next_ticket,
-    put_ticket, ticket_queue,
+    Another, Hand, MOST_TICKETS, Puts, Queue, Takes, Tickets, another_pass, next_runnable,
+    next_ticket, put_runnable, put_ticket, ticket_queue,
 };

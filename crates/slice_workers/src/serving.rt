@@ -5,9 +5,9 @@ ghost use Rattle.crossbeam_queue.specs.Passes.{IsPassOf};
 ghost use Rattle.task_requests.specs.Limits.{max_budget};
 
 use crate::gate::Gate;
-use crate::tickets::{Hand, Queue, next_ticket, put_ticket};
+use crate::tickets::{Hand, Queue, next_runnable, put_runnable};
 use arrayvec::ArrayString;
-use call_journal::{Returned, Row, Shim};
+use call_journal::{Returned, Row, Runnable, Shim};
 use crossbeam_queue::Pass;
 use std::sync::Wait;
 use task_board::{Loan, Ticket};
@@ -25,18 +25,18 @@ fn id_of(loan: &Loan) -> ArrayString<MOST_ID_BYTES>
     id
 }
 
-/// Runs a slice of the ticket's task, with no lock held. The ticket of the task, if it is running afterwards;
-/// the gate is told if it has ended.
+/// Runs a slice of a task, with no lock held. The task, if it is running afterwards; the gate is
+/// told if it has ended.
 fn run_slice<R: Row, G: Gate, W: Wait>(
     rt: &W,
     shim: &Shim<R>,
     gate: &G,
-    ticket: Ticket,
+    task: Runnable,
     budget: u64,
-) -> Option<Ticket>
+) -> Option<Runnable>
     requires { (1 ≤ budget) × (budget ≤ max_budget) }
 {
-    let (mut loan, receipt) = shim.take(rt, ticket, budget)?;
+    let (mut loan, receipt) = shim.take(rt, task, budget)?;
     let id = id_of(&loan);
     gate.slice(id.as_str(), &mut loan);
     match shim.receive(rt, id.as_str(), loan, receipt) {
@@ -49,74 +49,74 @@ fn run_slice<R: Row, G: Gate, W: Wait>(
     }
 }
 
-/// A ticket that is there: that at the front of the queue or that of the task that has waited longest, the
-/// one or the other first.
+/// A task that is there: that at the front of the queue or the one that has waited longest, the one or the
+/// other first.
 fn find<R: Row, W: Wait>(
     rt: &W,
     shim: &Shim<R>,
     queue: &Queue,
     pass: &mut Pass<Ticket, Hand>,
     queue_first: bool,
-) -> Option<Ticket>
+) -> Option<Runnable>
     requires { IsPassOf queue.now pass.old }
     ensures { IsPassOf queue.now pass.new }
 {
     if queue_first {
-        match next_ticket(queue, pass) {
-            Some(ticket) => Some(ticket),
+        match next_runnable(queue, pass) {
+            Some(task) => Some(task),
             None => shim.next_waiting(rt),
         }
     } else {
         match shim.next_waiting(rt) {
-            Some(ticket) => Some(ticket),
-            None => next_ticket(queue, pass),
+            Some(task) => Some(task),
+            None => next_runnable(queue, pass),
         }
     }
 }
 
-/// A ticket to be served. If there is none, sleeps until a machine can be lent; None after the end.
+/// A task to be served. If there is none, sleeps until a machine can be lent; None after the end.
 fn find_or_sleep<R: Row, W: Wait>(
     rt: &W,
     shim: &Shim<R>,
     queue: &Queue,
     pass: &mut Pass<Ticket, Hand>,
     queue_first: bool,
-) -> Option<Ticket>
+) -> Option<Runnable>
     requires { IsPassOf queue.now pass.old }
     ensures { IsPassOf queue.now pass.new }
 {
     match find(rt, shim, queue, pass, queue_first) {
-        Some(ticket) => Some(ticket),
+        Some(task) => Some(task),
         None => shim.next(rt),
     }
 }
 
-/// Puts a ticket into the queue, or lets its task wait for a worker if that does not take it.
+/// Puts a task into the queue, or lets it wait for a worker if that does not take it.
 fn put_back<R: Row, W: Wait>(
     rt: &W,
     shim: &Shim<R>,
     queue: &Queue,
     pass: &mut Pass<Ticket, Hand>,
-    ticket: Ticket,
+    task: Runnable,
 )
     requires { IsPassOf queue.now pass.old }
     ensures { IsPassOf queue.now pass.new }
 {
-    if !put_ticket(queue, pass, ticket) {
-        shim.wait_again(rt, ticket);
+    if let Some(task) = put_runnable(queue, pass, task) {
+        shim.wait_again(rt, task);
     }
 }
 
-/// The ticket to be served after a slice of a task that is running on: another one, if there is one, and then
-/// the task's own goes to a worker that sleeps, or else to the back of the queue.
+/// The task to be served after a slice of one that is running on: another one, if there is one, and then the
+/// first goes to a worker that sleeps, or else to the back of the queue.
 fn after_slice<R: Row, W: Wait>(
     rt: &W,
     shim: &Shim<R>,
     queue: &Queue,
     pass: &mut Pass<Ticket, Hand>,
-    again: Ticket,
+    again: Runnable,
     queue_first: bool,
-) -> Ticket
+) -> Runnable
     requires { IsPassOf queue.now pass.old }
     ensures { IsPassOf queue.now pass.new }
 {
@@ -150,13 +150,14 @@ pub fn worker<R: Row, G: Gate, W: Wait>(
     let mut known = None;
     for _ in rt.forever() {
         queue_first = !queue_first;
-        if known.is_none() {
-            known = find_or_sleep(rt, shim, queue, pass, queue_first);
-        }
-        let Some(ticket) = known else {
+        let found = match known {
+            Some(task) => Some(task),
+            None => find_or_sleep(rt, shim, queue, pass, queue_first),
+        };
+        let Some(task) = found else {
             return;
         };
-        known = match run_slice(rt, shim, gate, ticket, budget) {
+        known = match run_slice(rt, shim, gate, task, budget) {
             Some(again) => Some(after_slice(rt, shim, queue, pass, again, queue_first)),
             None => None,
         };

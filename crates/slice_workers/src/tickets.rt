@@ -1,9 +1,10 @@
 //! The queue of tickets, under a rule: what was taken and what it holds is a merge of what was put.
 
-ghost use Rattle.std.specs.Prelude.{◌≡◌, [], ◌∷◌, ◌++◌, IfOk, MatchOption, MatchBool};
+ghost use Rattle.std.specs.Prelude.{◌≡◌, [], ◌∷◌, ◌++◌, IfOk, IfSome, IfNone, MatchOption, MatchBool};
 ghost use Rattle.crossbeam_queue.specs.Passes.{view, IsPassOf, ruled_capacity};
 ghost use Rattle.slice_workers.specs.Tickets.{hand, max_tickets};
 
+use call_journal::Runnable;
 use crossbeam_queue::protocol::{Outcome, Protocol, Split};
 use crossbeam_queue::{Pass, RuledArrayQueue};
 use std::alloc::{AllocError, Global};
@@ -98,4 +99,40 @@ pub fn next_ticket(queue: &Queue, pass: &mut Pass<Ticket, Hand>) -> Option<Ticke
         (λ x. view pass.new ≡ hand old.put (old.taken ++ x ∷ [])) }
 {
     queue.try_pop_as::<Takes>(pass)
+}
+
+/// Puts a task at the back. It is given back, and nothing is put, if the queue is full or another thread is
+/// using it.
+pub fn put_runnable(
+    queue: &Queue,
+    pass: &mut Pass<Ticket, Hand>,
+    task: Runnable,
+) -> Option<Runnable>
+    requires { IsPassOf queue.now pass.old }
+    ensures pass { IsPassOf queue.now pass.new }
+    ensures put { let old = view pass.old in
+        IfNone result (view pass.new ≡ hand (old.put ++ task ∷ []) old.taken) }
+    ensures back { IfSome result (λ t. (t ≡ task) × (view pass.new ≡ view pass.old)) }
+{
+    let ticket = task.into_ticket();
+    if put_ticket(queue, pass, ticket) {
+        None
+    } else {
+        Some(Runnable::of(ticket))
+    }
+}
+
+/// Takes the task at the front. None, and nothing is taken, if there is none or another thread is using the
+/// queue.
+pub fn next_runnable(queue: &Queue, pass: &mut Pass<Ticket, Hand>) -> Option<Runnable>
+    requires { IsPassOf queue.now pass.old }
+    ensures pass { IsPassOf queue.now pass.new }
+    ensures taken { let old = view pass.old in MatchOption result
+        (view pass.new ≡ old)
+        (λ x. view pass.new ≡ hand old.put (old.taken ++ x ∷ [])) }
+{
+    match next_ticket(queue, pass) {
+        Some(ticket) => Some(Runnable::of(ticket)),
+        None => None,
+    }
 }

@@ -8,13 +8,13 @@ no_call : (b : Bool) → IsTrue (mathlib.Core.Bool.not b) → b ≡ false
 no_call true h = cc
 no_call false h = mathlib.Core.Path.refl
 
-pub returns : goal.returns
-returns g c h =
+pub returns-clause-on : goal.returns-clause-on
+returns-clause-on g c h =
     let le :
     length c.self.inside.seen ≤ length c.args.journal.now =
     omega (arith, c.len.ensures, c.len-2.ensures, c.if-len.false) in
     let b : Begins c.self.inside.seen c.args.journal.now = c.meet.ensures.first le in
     let none = none_own c.self.inside.number c.self.inside.seen b.0 (λ k e at p.
-    c.has_call.ensures (no_call c.has_call.result h) k e (omega (arith, at, c.len-3.ensures))
+    c.has_call.ensures.none (no_call c.has_call.result h) k e (omega (arith, at, c.len-3.ensures))
     (ap (λ xs. slice_get xs k) (sym b.1) ∙ p)) in
     rw (← c.self.view_is) (record { rest = b.0; joins = b.1; none = none })
