@@ -19,6 +19,8 @@ mod readers;
 #[cfg(test)]
 mod scripts;
 #[cfg(test)]
+mod sharing;
+#[cfg(test)]
 mod stories;
 #[cfg(test)]
 mod storm;

@@ -1,0 +1,162 @@
+//! One worker and several tasks that never end: each gets on, by slices of 10,000 turns.
+
+use crate::scripts::side_by_side;
+use crate::stories::{Story, tell};
+use call_journal::{Row, Shim};
+use shim_threads::with_gated_workers;
+use slice_workers::Gate;
+use std::alloc::Global;
+use std::process::Abort;
+use std::sync::Wait;
+use std::sync::atomic::{AtomicU64, Ordering};
+use std::test::Fail;
+use std::thread;
+use std::thread::Threads;
+use task_board::{ExitRecord, Loan};
+
+/// How many slices each task has to get.
+const FEW_SLICES: u64 = 3;
+
+/// The turns of a slice of a task that never ends.
+const SLICE_TURNS: u64 = 10_000;
+
+/// Stores a module whose entry is an endless loop, creates the tasks `a` to `e` of it and starts them.
+const BEGIN_LINES: &str =
+    r#"{"op":"put","hex":"0061736d0100000001040160000003020100070a01065f737461727400000a0901070003400c000b0b"}
+{"op":"create","id":"a","config":"{\"ociVersion\":\"1.0.2\",\"process\":{\"args\":[\"a\"],\"cwd\":\"/\"},\"annotations\":{\"dev.shim.module\":\"sha256:4ed2cef087a79f7abf368e3903d56c80dd716912cb78b7c9df8a9a8046c5f3a9\"}}"}
+{"op":"create","id":"b","config":"{\"ociVersion\":\"1.0.2\",\"process\":{\"args\":[\"a\"],\"cwd\":\"/\"},\"annotations\":{\"dev.shim.module\":\"sha256:4ed2cef087a79f7abf368e3903d56c80dd716912cb78b7c9df8a9a8046c5f3a9\"}}"}
+{"op":"create","id":"c","config":"{\"ociVersion\":\"1.0.2\",\"process\":{\"args\":[\"a\"],\"cwd\":\"/\"},\"annotations\":{\"dev.shim.module\":\"sha256:4ed2cef087a79f7abf368e3903d56c80dd716912cb78b7c9df8a9a8046c5f3a9\"}}"}
+{"op":"create","id":"d","config":"{\"ociVersion\":\"1.0.2\",\"process\":{\"args\":[\"a\"],\"cwd\":\"/\"},\"annotations\":{\"dev.shim.module\":\"sha256:4ed2cef087a79f7abf368e3903d56c80dd716912cb78b7c9df8a9a8046c5f3a9\"}}"}
+{"op":"create","id":"e","config":"{\"ociVersion\":\"1.0.2\",\"process\":{\"args\":[\"a\"],\"cwd\":\"/\"},\"annotations\":{\"dev.shim.module\":\"sha256:4ed2cef087a79f7abf368e3903d56c80dd716912cb78b7c9df8a9a8046c5f3a9\"}}"}
+{"op":"start","id":"a"}
+{"op":"start","id":"b"}
+{"op":"start","id":"c"}
+{"op":"start","id":"d"}
+{"op":"start","id":"e"}
+"#;
+
+/// Kills the five tasks, and waits for each.
+const END_LINES: &str = r#"{"op":"kill","id":"a","signal":9}
+{"op":"kill","id":"b","signal":9}
+{"op":"kill","id":"c","signal":9}
+{"op":"kill","id":"d","signal":9}
+{"op":"kill","id":"e","signal":9}
+{"op":"wait","id":"a"}
+{"op":"wait","id":"b"}
+{"op":"wait","id":"c"}
+{"op":"wait","id":"d"}
+{"op":"wait","id":"e"}
+"#;
+
+/// A gate that counts the slices of the five tasks.
+#[derive(Drop)]
+pub struct Counted {
+    a: AtomicU64,
+    b: AtomicU64,
+    c: AtomicU64,
+    d: AtomicU64,
+    e: AtomicU64,
+}
+
+impl Counted {
+    fn new() -> Counted {
+        Counted {
+            a: AtomicU64::new(0),
+            b: AtomicU64::new(0),
+            c: AtomicU64::new(0),
+            d: AtomicU64::new(0),
+            e: AtomicU64::new(0),
+        }
+    }
+
+    // The count of a task.
+    fn count_of(&self, id: &str) -> &AtomicU64 {
+        match id {
+            "a" => &self.a,
+            "b" => &self.b,
+            "c" => &self.c,
+            "d" => &self.d,
+            _ => &self.e,
+        }
+    }
+
+    // How many turns the slices of a task have made.
+    fn turns(&self, id: &str) -> u64 {
+        self.count_of(id)
+            .load(Ordering::SeqCst)
+            .saturating_mul(SLICE_TURNS)
+    }
+
+    // Whether each task has had a few slices.
+    fn have_all(&self) -> bool {
+        let few = FEW_SLICES * SLICE_TURNS;
+        ["a", "b", "c", "d", "e"]
+            .iter()
+            .all(|id| self.turns(id) >= few)
+    }
+
+    // Waits until each has, for at most a million yields. Whether it has.
+    fn is_shared(&self) -> bool {
+        for _ in 0..1_000_000 {
+            if self.have_all() {
+                return true;
+            }
+            thread::yield_now();
+        }
+        false
+    }
+}
+
+impl Gate for Counted {
+    fn slice(&self, id: &str, loan: &mut Loan) {
+        self.count_of(id).fetch_add(1, Ordering::SeqCst);
+        loan.run();
+    }
+
+    fn ended(&self, _id: &str, _turns: u64, _end: ExitRecord) {}
+}
+
+// What the five waits are answered. None if memory runs out.
+fn ends(alloc: Global, gate: &Counted) -> Option<String> {
+    let mut text = String::new(alloc);
+    for id in ["a", "b", "c", "d", "e"] {
+        let n = gate.turns(id);
+        let line = format!(in alloc;
+            "{{\"cause\":\"kill\",\"exit\":137,\"id\":\"{id}\",\"n\":{n},\"ok\":true,\"signal\":9,\"status\":\"stopped\"}}\n"
+        ).ok()?;
+        text.push_str(line.as_str()).ok()?;
+    }
+    Some(text)
+}
+
+/// One worker runs five tasks that never end, until each has had a few slices; then they are killed. None if
+/// one of them does not get on, or lines come to no end.
+pub fn sharing<R: Row + Send + Sync, W: Threads + Wait + Abort + Sync>(
+    rt: &W,
+    alloc: Global,
+    shim: &Shim<R>,
+    gate: &Counted,
+) -> Option<()> {
+    let (begin, end) = ([BEGIN_LINES.as_bytes()], [END_LINES.as_bytes()]);
+    let (begin, end) = (begin.as_slice(), end.as_slice());
+    let run = move || {
+        side_by_side(rt, alloc, shim, begin)?;
+        if gate.is_shared() {
+            side_by_side(rt, alloc, shim, end)
+        } else {
+            None
+        }
+    };
+    let told = with_gated_workers(rt, alloc, shim, 1, gate, run).ok()??;
+    let replies = told.first()?.replies.as_slice();
+    assert!(rt;
+        replies.ends_with(ends(alloc, gate)?.as_bytes()),
+        "each slice has 10,000 turns"
+    );
+    Some(())
+}
+
+#[test]
+fn five_endless_tasks_share_one_worker(rt: HostRuntime) -> Result<(), Fail> {
+    tell(&rt, rt.alloc(), Story::Sharing(&Counted::new()))
+}
