@@ -211,8 +211,9 @@ def faults_of_tools(tree: Tree) -> list[str]:
 
 
 def test_scripts_are_read(tmp_path: Path) -> None:
-    good = {"tools/wrap": "#!/bin/sh\nexit 0\n", "tools/reached": "#!/bin/sh\nexit 0\n"}
+    good = {f"tools/{name}": "#!/bin/sh\nexit 0\n" for name in ("wrap", "reached", "calls")}
     wrong = {"tools/some": ("#!/usr/bin/env bash\nif\n", "bash -n tools/some"),
+             "tools/calls": ("#!/bin/sh\nexit 1\n", "tools/calls --check"),
              "tools/wrap": ("#!/bin/sh\nexit 1\n", "tools/wrap --say")}
     assert faults_of_tools(tree_of(tmp_path / "good", {**good})) == []
     for name, (text, said) in wrong.items():

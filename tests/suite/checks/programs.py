@@ -142,13 +142,13 @@ def check_own_tests(tree: Tree) -> Result:
 
 
 def check_tools(tree: Tree) -> Result:
-    """The tools that look at the sources alone."""
-    faults = [fault for command in (["tools/wrap", "--say"], ["tools/reached"])
+    """The tools that look at the sources alone; `tools/calls` also at the pages that it has made of them."""
+    faults = [fault for command in (["tools/wrap", "--say"], ["tools/reached"], ["tools/calls", "--check"])
               for fault in run(" ".join(command), command, tree.root)]
     scripts = [name for name in tree.files if tree.bytes(name).startswith((b"#!/usr/bin/env bash", b"#!/bin/sh"))]
     for name in scripts:
         faults += run(f"bash -n {name}", ["bash", "-n", name], tree.root)
-    return 2 + len(scripts), faults
+    return 3 + len(scripts), faults
 
 
 def go_folders(tree: Tree) -> list[str]:
