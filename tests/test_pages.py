@@ -1,4 +1,5 @@
-"""The commands of the pages, run as they are written there, in a folder that looks like a clone of the repository.
+"""The commands of the pages, run as they are written there, in a folder that looks like a clone of the repository; and the
+session and the replay of the protocol's page.
 
 A comment is before each block of a page: `<!-- run -->`, or `<!-- not run: WHY -->`. The blocks of a page that are run share
 one shell. In them `$ ` begins a command, and the lines below it are what it writes. A line `...` stands for any lines, and
@@ -129,3 +130,17 @@ def test_commands(name: str, tmp_path: Path) -> None:
         assert output.exists(), f"{name}: {command.words}\nwas not reached in {SECONDS} seconds"
         written = output.read_text()
         assert command.is_told(written), f"{name}: {command.words}\nwrites\n{written}\nand the page has\n{command.lines}"
+
+
+@pytest.mark.program
+def test_the_session_and_the_replay_of_the_protocol(tmp_path: Path) -> None:
+    """They are exact: the replay begins with the first two lines of the session."""
+    text = (TOP / "docs/PROTOCOL.md").read_text()
+    asked, said = (lines for _, lines in blocks(text.partition("## A session\n")[2])[:2])
+    more, answers = (lines for _, lines in blocks(text.partition("The rest of a replay")[2])[:2])
+    ran = subprocess.run([built(), "serve"], input=asked, capture_output=True, text=True, check=True, timeout=SECONDS)
+    assert (ran.stdout, ran.stderr) == (said, "")
+    events = tmp_path / "events"
+    events.write_text("".join(asked.splitlines(keepends=True)[:2]) + more)
+    ran = subprocess.run([built(), "replay", events], capture_output=True, text=True, check=True, timeout=SECONDS)
+    assert (ran.stdout, ran.stderr) == ("".join(said.splitlines(keepends=True)[:2]) + answers, "")
