@@ -48,7 +48,8 @@ def parser() -> argparse.ArgumentParser:
                              help="a variable of the task's environment")
         command.add_argument("--memory", metavar="BYTES", type=int, help="the most memory that the task may have")
         command.add_argument("module", metavar="MODULE", type=Path, help="a module, as bytes or as text")
-        command.add_argument("args", metavar="ARG", nargs=argparse.REMAINDER, help="the task's arguments")
+        more = command.add_argument("args", metavar="ARG", nargs=argparse.REMAINDER, help="the task's arguments")
+        more.required = False  # argparse would name it among what is missing
     commands.add_parser("dap", help="speaks the Debug Adapter Protocol on standard input and output")
     lowering.add_options(commands.add_parser("lower", help="translates a module to the shim's profile"))
     return top

@@ -17,7 +17,9 @@ from feulgama.wasm.module import Module, decode
 from feulgama.wasm.reader import NotAModuleError
 
 MOST_BYTES = 262_144
-MORE_MEMORY = "its memory may begin with more pages than the task may have, which an option for memory raises"
+MORE_MEMORY = "its memory may begin with more pages than the task may have, and {} can raise that"
+# What raises the limit, for a config and for who starts a debugger.
+IN_CONFIG, BY_OPTION = "linux.resources.memory.limit", "--memory (`memory` in an editor's configuration)"
 
 
 class NeedsMemoryError(FeulgamaError):
@@ -68,7 +70,8 @@ def open_debugger(shim: Shim, path: Path, data: bytes, args: Sequence[str], env:
     try:
         timeline = Timeline(shim, Config(digest, (str(path), *args), env, memory_limit), module)
     except LimitError as error:
-        raise NeedsMemoryError(f"{path}: {error}{'' if error.why else '; ' + MORE_MEMORY}") from error
+        told = str(error) if error.why else f"{error}; {MORE_MEMORY.format(IN_CONFIG)}"
+        raise NeedsMemoryError(f"{path}: {told.replace(IN_CONFIG, BY_OPTION)}") from error
     except RefusalError as error:
         told = refusal_by_check(data, memory_limit, shim.program) if len(data) <= MOST_BYTES else None
         raise RefusedError(f"{path}: {told or error}") from error

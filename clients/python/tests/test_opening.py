@@ -42,6 +42,12 @@ class Refused(unittest.TestCase):
         self.assertIsInstance(self.refusal(IMPORTS), RefusedError)
         self.assertIsInstance(self.refusal(MEMORY), NeedsMemoryError)
 
+    def test_what_raises_the_memory(self) -> None:
+        """The option of this package, and no key of a config, which nobody has written."""
+        told = str(self.refusal(MEMORY))
+        self.assertTrue(told.endswith("--memory (`memory` in an editor's configuration) can raise that"), told)
+        self.assertNotIn("linux", told)
+
     @pytest.mark.program
     def test_reasons(self) -> None:
         """The words of the program may change: a part of each that says what is wrong."""
@@ -69,3 +75,9 @@ class Refused(unittest.TestCase):
         lines = told.getvalue().splitlines()
         self.assertEqual(len(lines), 2)
         self.assertTrue(all(line.startswith("feulgama: ") for line in lines), lines)
+
+    def test_a_command_without_a_module(self) -> None:
+        with contextlib.redirect_stderr(io.StringIO()) as told, self.assertRaises(SystemExit) as end:
+            main(["debug"])
+        self.assertEqual(end.exception.code, 2)
+        self.assertTrue(told.getvalue().endswith("the following arguments are required: MODULE\n"), told.getvalue())
