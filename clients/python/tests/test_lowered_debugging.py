@@ -1,10 +1,13 @@
 """Debugging of a module that is lowered as it is opened: lines, variables, steps and writes are those of the source."""
 from __future__ import annotations
 
+import subprocess
 import tempfile
 import unittest
 from pathlib import Path
 from typing import Any
+
+import pytest
 
 import feulgama
 from feulgama.debug import dwarf
@@ -14,7 +17,7 @@ from feulgama.lowering.described import NOWHERE, described
 from feulgama.opening import open_debugger
 from feulgama.wasm.module import HEAD, decode
 from tests import written_modules as m
-from tests.c_programs import MISSING, built_c
+from tests.c_programs import HAS_RUST, MISSING, built_c, built_rust
 from tests.support import SHIM
 from tests.test_dap import WithEditor
 from tests.written_modules import Written
@@ -58,7 +61,31 @@ __attribute__((export_name("_start"))) void start(void) {
   found = mean(values, 3);
 }
 """
-# What C says of it.
+RUST = """struct Sum { total: f64, last: f32, count: u32 }
+#[inline(never)]
+fn mean(values: &[f64], scale: f64) -> f64 {
+    let mut all = Sum { total: 0.0, last: 0.0, count: 0 };
+    for value in values {
+        all.total += value;
+        all.last = *value as f32;
+        all.count += 1;
+    }
+    let found = all.total / all.count as f64;
+    found * scale
+}
+"""
+ALONE = """#[panic_handler] fn panic(_: &core::panic::PanicInfo) -> ! { loop {} }
+static mut FOUND: f64 = 0.0;
+#[no_mangle] pub extern "C" fn _start() { unsafe { FOUND = mean(&[0.5, 7.0625, 0.06], 2.5); } }
+"""
+WITH_STD = """use std::collections::HashMap;
+fn main() {
+    let mut means: HashMap<&str, f64> = HashMap::new();
+    means.insert("some", mean(&[0.5, 7.0625, 0.06], 2.5));
+    println!("{:.4}", means["some"]);
+}
+"""
+# What C and Rust say of it.
 SUMS = (0.5, 0.5 + 7.0625, 0.5 + 7.0625 + 0.06)
 FOUND = SUMS[2] / 3 * 2.5
 
@@ -175,6 +202,54 @@ class Doubles(unittest.TestCase):
         self.assertIn(f"returned double {FOUND!r}", self.answer("finish"))
         self.answer("continue")
         self.assertEqual(self.answer("print found"), f"double {FOUND!r}")
+
+
+class RustSession(unittest.TestCase):
+    """A program of Rust with floats: lines, values, and back."""
+
+    def session(self, module: Path, text: str, memory: int | None = None) -> Commands:
+        """Goes to the end of `mean` and back to its second round; the debugger, which is there."""
+        commands = Commands(open_debugger(self.enterContext(feulgama.Shim(SHIM)), module, module.read_bytes(), [], {}, memory))
+
+        def answer(words: str) -> str:
+            return "\n".join(commands.answer(words))
+
+        last, body = (line_of(words, text) for words in ("found * scale", "all.count += 1"))
+        answer(f"break mean.rs:{last}")
+        self.assertIn(f"mean.rs:{last}", answer("continue"))
+        self.assertEqual(answer("print all"), f"Sum {{total = {SUMS[2]!r}, last = 0.06, count = 3}}")
+        self.assertEqual((answer("print found"), answer("print scale")), (f"f64 {SUMS[2] / 3!r}", "f64 2.5"))
+        self.assertIn("(scale=2.5, values={data_ptr = ", answer("bt").splitlines()[0])
+        answer(f"break mean.rs:{body}")
+        for count in (2, 1):
+            self.assertIn(f"mean.rs:{body}", answer("reverse-continue"))
+            self.assertEqual(answer("print all.total"), f"f64 {SUMS[count]!r}")
+            self.assertEqual(answer("print all.count"), f"u32 {count}")
+        self.assertEqual((answer("print *value"), answer("print all.last")), ("f64 7.0625", "f32 7.0625"))
+        self.assertIn(f"it makes it {SUMS[1]!r}", answer("last-write all.total"))
+        return commands
+
+    @unittest.skipUnless(dwarf.IS_THERE, "needs python3-pyelftools")
+    @unittest.skipUnless(HAS_RUST, "needs Debian's rustc and libstd-rust-dev-wasm32")
+    def test_without_a_library(self) -> None:
+        folder, text = Path(self.enterContext(tempfile.TemporaryDirectory())), "#![no_std]\n" + RUST + ALONE
+        commands = self.session(built_rust(folder, "mean", text, 0), text, 2**21)
+        list(commands.answer("delete"))
+        list(commands.answer("continue"))
+        self.assertIn(f"f64 mean::FOUND = {FOUND!r}", list(commands.answer("info variables")))
+
+    @pytest.mark.slow
+    @unittest.skipUnless(dwarf.IS_THERE, "needs python3-pyelftools")
+    @unittest.skipUnless(HAS_RUST, "needs Debian's rustc and libstd-rust-dev-wasm32")
+    def test_as_it_comes_from_the_compiler(self) -> None:
+        """By `rustc -g` alone, with a map whose keys are random: some seven million bytes, which are read in a while."""
+        folder, text = Path(self.enterContext(tempfile.TemporaryDirectory())), RUST + WITH_STD
+        source, module = folder / "mean.rs", folder / "mean.wasm"
+        source.write_text(text)
+        subprocess.run(["/usr/bin/rustc", "--target", "wasm32-wasi", "-g", "-o", module, source], check=True)
+        commands = self.session(module, text, 2**22)
+        list(commands.answer("delete"))
+        self.assertIn(f"stdout: {FOUND:.4f}", list(commands.answer("continue")))
 
 
 class OfEditors(WithEditor):
