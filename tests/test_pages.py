@@ -23,6 +23,8 @@ PAGES = ("README.md", "docs/TOUR.md", "docs/COMMANDS.md", "docs/OPERATIONS.md")
 FENCE = re.compile(r"(?P<before>[^\n]*)\n```(?P<kind>\w*)\n(?P<lines>.*?)^```$", re.DOTALL | re.MULTILINE)
 MARK = re.compile(r"<!-- (?:run|not run: \S.*) -->")
 PROMPT = "(feulgama) "
+# What the debugger says each two seconds of a search. A page has no such line, but a busy machine has.
+PROGRESS = re.compile(r"^looking for writes since \d+ seconds; Ctrl-C breaks it off\n", re.MULTILINE)
 LIBRARY = Path("/usr/lib/wasm32-wasi/libc.a")
 NEEDS = {"docs/COMMANDS.md": {"xxd": "xxd", "clang-14": "clang-14", "wasm-ld-14": "lld-14"}}
 # For all commands of a page.
@@ -40,9 +42,9 @@ class Command:
         return "".join(line.removeprefix(PROMPT) for line in self.lines.splitlines(keepends=True) if line.startswith(PROMPT))
 
     def is_told(self, written: str) -> bool:
-        """Whether this is what the page says that the command writes."""
+        """Whether this is what the page says that the command writes, but for how long it took."""
         text = re.escape(self.lines).replace(re.escape("...\n"), "(?s:.*)").replace(re.escape("..."), ".*")
-        return re.fullmatch(text, written) is not None
+        return re.fullmatch(text, PROGRESS.sub("", written)) is not None
 
 
 def blocks(text: str) -> list[tuple[str, str]]:
@@ -102,6 +104,8 @@ def test_a_difference_is_seen() -> None:
     first, second = commands(text)
     assert (first.words, second) == ("a \\\n  b", Command("c", ""))
     assert first.is_told("one two three\nlast\n") and first.is_told("one 2 three\nmore\nand more\nlast\n")
+    assert first.is_told("one two three\nlooking for writes since 3 seconds; Ctrl-C breaks it off\nlast\n")
+    assert second.is_told("looking for writes since 3 seconds; Ctrl-C breaks it off\n" * 2)
     for written in ("one two three\n", "one two three\nlast", "one two four\nlast\n", "one\ntwo three\nlast\n", ""):
         assert not first.is_told(written)
     assert not second.is_told("more\n")
