@@ -17,8 +17,9 @@ SYSROOT = Path("/usr/lib/wasm32-wasi/libc.a")
 MISSING = [name for name in ("clang-14", "wasm-ld-14", "make") if shutil.which(name) is None] + [
     str(path) for path in (SYSROOT,) if not path.exists()]
 NEEDED = "apt-get install -y --no-install-recommends make clang-14 lld-14 wasi-libc libclang-rt-14-dev-wasm32"
-HAS_22 = shutil.which("clang-22") is not None and shutil.which("wasm-ld-22") is not None
-NEEDED_22 = "apt-get install -y --no-install-recommends clang-22 lld-22"
+HAS_22 = (Path("/usr/lib/llvm-22/lib/clang/22/lib/wasi/libclang_rt.builtins-wasm32.a").exists()
+          and all(shutil.which(name) for name in ("clang-22", "wasm-ld-22")))
+NEEDED_22 = "apt-get install -y --no-install-recommends clang-22 lld-22 libclang-rt-22-dev-wasm32"
 HAS_CPP = shutil.which("clang++-14") is not None and Path("/usr/include/wasm32-wasi/c++/v1/map").exists()
 NEEDED_CPP = "apt-get install -y --no-install-recommends clang-14 libc++-14-dev-wasm32"
 HAS_RUST = Path("/usr/bin/rustc").is_file() and any(Path("/usr/lib/rustlib").glob("wasm32-wasi/lib/libstd-*"))
@@ -61,7 +62,7 @@ class Built(unittest.TestCase):
                 self.assertEqual(lower(data).data, data)
                 self.says(shim, program, data)
 
-    @unittest.skipIf(not HAS_22, f"clang-22 not there: {NEEDED_22}")
+    @unittest.skipIf(not HAS_22, f"clang-22 or its library not there: {NEEDED_22}")
     def test_linked_by_clang_22(self) -> None:
         with feulgama.Shim(SHIM) as shim:
             for program in PROGRAMS:
@@ -79,12 +80,10 @@ class Built(unittest.TestCase):
                 self.says(shim, program, found.data)
         self.assertLessEqual({"memory.copy", "memory.fill", "fd_close", "fd_read", "clock_time_get"}, replaced)
 
-    @unittest.skipIf(not HAS_22, f"clang-22 not there: {NEEDED_22}")
+    @unittest.skipIf(not HAS_22, f"clang-22 or its library not there: {NEEDED_22}")
     def test_lowered_from_clang_22(self) -> None:
-        """Its defaults, with the library for clang 14."""
-        library, = Path("/usr/lib/llvm-14/lib/clang").glob("14*/lib/wasi/libclang_rt.builtins-wasm32.a")
-        flags = ["--target=wasm32-wasi", "--sysroot=/usr", "-O2", "-Wno-deprecated", "-lc-printscan-no-floating-point",
-                 "-nodefaultlibs", "-lc", str(library)]
+        """Its defaults."""
+        flags = ["--target=wasm32-wasi", "--sysroot=/usr", "-O2", "-Wno-deprecated", "-lc-printscan-no-floating-point"]
         with feulgama.Shim(SHIM) as shim:
             for program in PROGRAMS:
                 self.says(shim, program, lower(self.built(program, "clang-22", flags)).data)
