@@ -16,6 +16,9 @@ func TestRequests(t *testing.T) {
 		`{"op":"output","id":"a","stream":2}`:                 Output("a", Stderr),
 		`{"op":"peek","id":"a","address":65532,"length":4}`:   Peek("a", 65532, 4),
 		`{"op":"inspect","id":"0123.-_"}`:                     Of(Inspect, "0123.-_"),
+		`{"op":"step","id":"a","count":1000}`:                 Step("a", 1000),
+		`{"op":"break","id":"a","func":1,"place":5}`:          Break("a", Breakpoint{1, 5}),
+		`{"op":"unbreak","id":"a","func":0,"place":16777216}`: Unbreak("a", Breakpoint{0, 16777216}),
 	} {
 		if !bytes.Equal(got, []byte(want+"\n")) {
 			t.Errorf("%s, and not %s", got, want)

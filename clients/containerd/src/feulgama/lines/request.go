@@ -94,6 +94,36 @@ func Peek(id string, address, length uint64) []byte {
 	}{named{"peek", id}, address, length})
 }
 
+// Step makes turns of a task that is paused.
+func Step(id string, count uint64) []byte {
+	return line(struct {
+		named
+		Count uint64 `json:"count"`
+	}{named{"step", id}, count})
+}
+
+// Breakpoint is an instruction: the index of its function, and its number there.
+type Breakpoint struct {
+	Func  uint32 `json:"func"`
+	Place uint32 `json:"place"`
+}
+
+// Break sets a breakpoint.
+func Break(id string, at Breakpoint) []byte {
+	return line(struct {
+		named
+		Breakpoint
+	}{named{"break", id}, at})
+}
+
+// Unbreak takes a breakpoint away.
+func Unbreak(id string, at Breakpoint) []byte {
+	return line(struct {
+		named
+		Breakpoint
+	}{named{"unbreak", id}, at})
+}
+
 // line is a request with its line feed. None of the types above can fail to be written.
 func line(request interface{}) []byte {
 	text, err := json.Marshal(request)

@@ -26,12 +26,15 @@ const (
 	Full   = Head + "full"   // answers nothing more once it has started, as a shim whose journal is full
 )
 
+// StepsToTheEnd is how many turns of a debugger end a task, with the status 7.
+const StepsToTheEnd = 5000
+
 // Written is what Hello and Loop write to standard output.
 const Written = "begun\n"
 
 // Main is the program. It returns when the lines of the first caller have ended.
 func Main(words []string) int {
-	board := &board{contents: map[string]string{}}
+	board := &board{contents: map[string]string{}, breaks: map[[2]int]bool{}}
 	board.changed = sync.NewCond(&board.mu)
 	owner := make(chan struct{})
 	first := true
@@ -63,8 +66,9 @@ func Main(words []string) int {
 }
 
 type request struct {
-	Op, ID, Hex, Config string
-	Signal, Stream      int
+	Op, ID, Hex, Config   string
+	Signal, Stream, Count int
+	Func, Place           int
 }
 
 type board struct {
@@ -75,6 +79,8 @@ type board struct {
 	status   string
 	exit     uint32
 	signal   int
+	turns    int // made by steps
+	breaks   map[[2]int]bool
 }
 
 type object map[string]interface{}
@@ -130,6 +136,8 @@ func (b *board) answer(r request, line string) object {
 		}
 	case "output", "peek", "inspect":
 		return b.shown(r)
+	case "step", "break", "unbreak":
+		return b.debugged(r)
 	default:
 		if !b.change(r.Op) {
 			return wrongStatus()
@@ -150,10 +158,32 @@ func (b *board) shown(r request) object {
 	case "peek":
 		return object{"ok": true, "id": r.ID, "hex": strings.Repeat("2a", 4)}
 	case "inspect":
-		return object{"ok": true, "id": r.ID, "n": 3, "frames": []object{{"func": 0, "next": 1, "locals": []string{"i64:5"},
+		return object{"ok": true, "id": r.ID, "n": 3 + b.turns, "frames": []object{{"func": 0, "next": 1, "locals": []string{"i64:5"},
 			"labels": []int{}, "operands": []string{}}}}
 	}
 	return wrongStatus()
+}
+
+// debugged answers what a debugger asks of a task that is paused.
+func (b *board) debugged(r request) object {
+	at := [2]int{r.Func, r.Place}
+	switch {
+	case b.status != "paused":
+		return wrongStatus()
+	case r.Op == "step":
+		b.turns += r.Count
+		if b.turns >= StepsToTheEnd {
+			b.stop("exit", 7, 0)
+		}
+		return b.state(r.ID)
+	case r.Op == "break":
+		b.breaks[at] = true
+	case !b.breaks[at]:
+		return object{"ok": false, "number": 4, "error": "NotFound"}
+	default:
+		delete(b.breaks, at)
+	}
+	return object{"ok": true, "id": r.ID}
 }
 
 // change moves the task by start, pause, resume or delete, if its status lets it.
@@ -169,6 +199,9 @@ func (b *board) change(op string) bool {
 		b.status = "paused"
 	case "resume":
 		b.status = "running"
+		if len(b.breaks) > 0 {
+			b.status = "paused" // it meets one at once
+		}
 	}
 	return true
 }
@@ -206,7 +239,7 @@ func (b *board) stop(cause string, exit uint32, signal int) {
 }
 
 func (b *board) state(id string) object {
-	answer := object{"ok": true, "id": id, "status": b.status, "n": 3}
+	answer := object{"ok": true, "id": id, "status": b.status, "n": 3 + b.turns}
 	if b.status == "stopped" {
 		answer["cause"], answer["exit"] = "exit", b.exit
 		if b.signal != 0 {

@@ -18,8 +18,9 @@ import (
 
 // How many requests are kept back, so that a container can always be ended.
 const (
-	ForCopies = 256 // what only shows something is asked while more than these are left
-	ForPauses = 16  // a pause is asked while more than these are left
+	ForDebuggers = 4096 // a debugger is answered while more than these are left
+	ForCopies    = 256  // what only shows something is asked while more than these are left
+	ForPauses    = 16   // a pause is asked while more than these are left
 )
 
 // reasonTime is how long the reason of a refusal may be behind the refusal.
@@ -113,6 +114,17 @@ func (p *Process) Ask(request []byte) (lines.Reply, error) {
 // Wait sends a request by the caller that waits. Requests by the other one are heard meanwhile.
 func (p *Process) Wait(request []byte) (lines.Reply, error) {
 	return p.ask(p.waiter, request)
+}
+
+// Relay sends a request by the caller that controls, and answers the line of the reply too. A refusal has no reason.
+func (p *Process) Relay(request []byte) ([]byte, lines.Reply, error) {
+	atomic.AddInt64(&p.left, -1)
+	text, _, err := p.control.ask(request)
+	if err != nil {
+		return nil, lines.Reply{}, err
+	}
+	reply, err := lines.Read(text)
+	return text, reply, err
 }
 
 func (p *Process) ask(by *caller, request []byte) (lines.Reply, error) {

@@ -13,6 +13,7 @@ import (
 	api "github.com/containerd/containerd/runtime/v2/task"
 	"github.com/sirupsen/logrus"
 
+	"feulgama/containerd/door"
 	"feulgama/containerd/group"
 	"feulgama/containerd/output"
 	"feulgama/containerd/remains"
@@ -33,7 +34,9 @@ type container struct {
 	events    Teller
 	task      string // its id in wasm-shim
 	module    []byte
+	config    []byte // as wasm-shim has it
 	process   *serve.Process
+	door      *door.Door
 	group     group.Group
 	streams   *output.Streams
 	record    remains.Record
@@ -43,6 +46,7 @@ type container struct {
 	mu     sync.Mutex // held while requests are asked that belong together
 	status string     // what wasm-shim has told last
 	looks  map[string]*looking
+	guest  *guest // the debugger that is attached
 }
 
 var statuses = map[string]task.Status{
@@ -121,6 +125,9 @@ func (c *container) kill(signal uint32) error {
 func (c *container) pause() error {
 	c.mu.Lock()
 	defer c.mu.Unlock()
+	if c.guest != nil {
+		return errAttached
+	}
 	if c.process.Left() < serve.ForPauses {
 		return errFewLeft
 	}
@@ -140,6 +147,9 @@ func (c *container) pause() error {
 func (c *container) resume() error {
 	c.mu.Lock()
 	defer c.mu.Unlock()
+	if c.guest != nil {
+		return errAttached
+	}
 	if _, err := c.process.Ask(lines.Of(lines.Resume, c.task)); err != nil {
 		return c.fault(err)
 	}
@@ -189,6 +199,12 @@ func (c *container) endIfCreated() error {
 
 // letGo ends the process, and gives back all that the container has on the machine.
 func (c *container) letGo() {
+	if c.door != nil {
+		c.door.Close()
+	}
+	if c.guest != nil {
+		c.guest.connection.Close()
+	}
 	if c.process != nil {
 		c.process.Kill()
 		<-c.process.Ended()
@@ -204,6 +220,8 @@ func (c *container) letGo() {
 	}
 	remains.Forget(c.request.Bundle)
 }
+
+var errAttached = fmt.Errorf("a debugger is attached, and lets the container run or stand still: %w", errdefs.ErrFailedPrecondition)
 
 var errFewLeft = fmt.Errorf("wasm-shim has answered nearly all the requests that it can: %w", errdefs.ErrUnavailable)
 

@@ -31,7 +31,7 @@ func (c *container) copyWhileItRuns() {
 		case <-time.After(distance):
 		}
 		c.mu.Lock()
-		if c.status == lines.Running && c.process.Left() >= serve.ForCopies {
+		if c.status == lines.Running && c.guest == nil && c.process.Left() >= serve.ForCopies {
 			if err := c.still(func(string) error { c.copyNow(); return nil }); err != nil {
 				logrus.WithError(err).Debug("copy the output of a task")
 			}
@@ -88,10 +88,20 @@ func (c *container) still(look func(status string) error) error {
 	}
 	status, err := c.halt()
 	switch {
-	case lines.IsRefused(err, lines.WrongStatus), err == nil && status == lines.Stopped:
-		return look(lines.Stopped)
+	case lines.IsRefused(err, lines.WrongStatus): // it has ended, or is at a breakpoint of a debugger
+		reply, stateErr := c.process.Ask(lines.Of(lines.State, c.task))
+		if stateErr != nil {
+			return stateErr
+		}
+		return look(reply.Status)
 	case err != nil:
 		return err
+	case status == lines.Stopped:
+		return look(lines.Stopped)
+	}
+	if c.guest != nil && c.guest.isAtBreakpoint() {
+		c.status = lines.Paused // where the debugger will find it
+		return look(lines.Paused)
 	}
 	err = look(lines.Running)
 	_, resumeErr := c.process.Ask(lines.Of(lines.Resume, c.task))

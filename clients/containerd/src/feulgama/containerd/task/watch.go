@@ -59,6 +59,7 @@ func (c *container) finish(reply lines.Reply) {
 	all[lines.Stderr] = append(all[lines.Stderr], remarks(all, reply)...)
 	c.streams.Finish(all)
 	c.tellEnd(reply.Exit)
+	c.tellGuest(reply)
 }
 
 // remarks is what standard error says after the module, as that of `wasm-shim run` does.
