@@ -38,14 +38,17 @@ class Pipes:
         close([*self.given, *(end for ends in self.ends for end in (ends.lines, ends.replies))])
 
 
-def pipes(waiters: int) -> Pipes:
-    """The pipes of a caller to control a shim, and of so many that wait."""
+def pipes(waiters: int, user: int | None = None) -> Pipes:
+    """The pipes of a caller to control a shim, and of so many that wait. A shim opens its pipes by name, so they belong to
+    the user that it runs as, if that is another."""
     if not 1 <= waiters <= MOST_WAITERS:
         raise NoShimError(f"a shim has from 1 to {MOST_WAITERS} callers that wait, and not {waiters}")
     made: list[int] = []
     try:
         for _ in range(2 * (1 + waiters)):
             made += os.pipe()
+            if user is not None:
+                os.fchown(made[-1], user, -1)
     except OSError as error:
         close(made)
         raise NoShimError(f"no pipes for {1 + waiters} callers: {error.strerror}") from error

@@ -1,4 +1,4 @@
-"""The words of the command line: `feulgama debug`, `feulgama timeline`, `feulgama dap` and `feulgama lower`."""
+"""The words of the command line: `feulgama debug`, `attach`, `timeline`, `dap` and `lower`."""
 from __future__ import annotations
 
 import argparse
@@ -9,6 +9,7 @@ import time
 from collections.abc import Sequence
 from pathlib import Path
 
+from feulgama.attach import command as attaching
 from feulgama.dap.adapter import serve
 from feulgama.debug.calls_over_time import told
 from feulgama.debug.commands import Commands
@@ -40,6 +41,7 @@ def parser() -> argparse.ArgumentParser:
     commands = top.add_subparsers(dest="command", metavar="COMMAND")
     terminal = commands.add_parser("debug", help="debugs a module in the terminal")
     terminal.add_argument("--commands", metavar="FILE", type=Path, help="a file of commands that are done first")
+    attaching.add_options(commands.add_parser("attach", help="debugs a container of the containerd shim in the terminal"))
     picture = commands.add_parser("timeline", help="writes a page that shows a run: its calls over its turns")
     picture.add_argument("-o", "--output", metavar="FILE", type=Path, required=True, help="the page, in HTML")
     picture.add_argument("--turns", metavar="TURNS", type=int, default=100_000_000, help="the most turns that are run")
@@ -102,10 +104,14 @@ def main(words: Sequence[str] | None = None) -> int:
     if found.version:
         return show_versions(found.shim)
     if found.command is None:
-        top.error("a command is needed: debug, timeline, dap or lower")
+        top.error("a command is needed: debug, attach, timeline, dap or lower")
     try:
         if found.command == "dap":
             return serve(found.shim)
+        if found.command == "attach":
+            return attaching.run(found)
+        if found.command == "lower" and found.module == lowering.STREAM:
+            return lowering.run(found, sys.stdin.buffer.read())
         data = module_bytes(found.module, found.shim)
         if found.command == "lower":
             return lowering.run(found, data)
@@ -117,4 +123,7 @@ def main(words: Sequence[str] | None = None) -> int:
                 return debug(Commands(opened), sys.stdin, first_lines(found.commands))
     except (FeulgamaError, OSError) as error:
         print(f"feulgama: {error}", file=sys.stderr)
+        return 1
+    except MemoryError:
+        print("feulgama: out of memory", file=sys.stderr)
         return 1

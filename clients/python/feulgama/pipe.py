@@ -20,11 +20,12 @@ PATIENCE, LAST_WORDS = 5.0, 0.2
 
 class Pipe:
     """A running `wasm-shim serve`, of the words that start it, with a caller that controls it and so many that wait. It
-    has a session of its own, so that a Ctrl-C in a terminal does not reach it. `asked` is how many lines it was sent;
-    `said` is what it writes to standard error, which a thread reads, so that the shim never waits for a reader."""
+    has a session of its own, so that a Ctrl-C in a terminal does not reach it. If the words make it the process of another
+    user, that is `user`. `asked` is how many lines it was sent; `said` is what it writes to standard error, which a thread
+    reads, so that the shim never waits for a reader."""
 
-    def __init__(self, words: list[str], waiters: int) -> None:
-        made = pipes(waiters)
+    def __init__(self, words: list[str], waiters: int, user: int | None = None) -> None:
+        made = pipes(waiters, user)
         try:
             self._process = subprocess.Popen([*words, *made.words()], bufsize=0, start_new_session=True, pass_fds=made.given,
                                              stdin=subprocess.DEVNULL, stdout=subprocess.DEVNULL, stderr=subprocess.PIPE)

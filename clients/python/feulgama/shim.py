@@ -11,12 +11,13 @@ from types import TracebackType
 from typing import Self, TypeVar
 
 from feulgama import requests
-from feulgama.calls import Calls
+from feulgama.answering import Answering
 from feulgama.config import Config, digest_of
+from feulgama.confinement import Confinement
 from feulgama.errors import BadReplyError, ExistsError, FeulgamaError, TimedOutError, WrongStatusError
 from feulgama.lowering import lower as lowered
 from feulgama.model import Ran, State, Stream
-from feulgama.operation import Asks, Request
+from feulgama.operation import Request
 from feulgama.pipe import Pipe
 from feulgama.program import program, serving
 from feulgama.requests import CHANGES, JOURNAL, ran_of
@@ -26,17 +27,20 @@ T = TypeVar("T")
 WAITERS = 4
 
 
-class Shim(Calls, Asks):
+class Shim(Answering):
     """A `wasm-shim serve` that this object has started, and ends when it is closed. Several threads may use it: a
     request waits until the one before it is answered. Each method raises the RefusalError that the request is answered,
     ShimEndedError if the shim ends, and BadReplyError if it writes what is no reply. `workers` is how many threads run
     its tasks, from 1 to 16; `waiters` for how many tasks threads may `wait` at once, from 1 to 129. Without `explain`
-    refusals have no reasons."""
+    refusals have no reasons. It runs with the rights that `confined` leaves it, or with those of this process."""
 
     def __init__(self, program_file: str | os.PathLike[str] | None = None, *, workers: int | None = None,
-                 explain: bool = True, waiters: int = WAITERS) -> None:
+                 explain: bool = True, waiters: int = WAITERS, confined: Confinement | None = None) -> None:
         self._program_file, self._workers, self._explain, self._waiters = program_file, workers, explain, waiters
-        self._pipe = Pipe(serving(program_file, workers, explain), waiters)
+        self._confined = confined
+        words = serving(program_file, workers, explain)
+        self._pipe = Pipe(words if confined is None else [*confined.words, *words], waiters,
+                          None if confined is None else confined.user)
         self._lock = threading.Lock()
 
     def __enter__(self) -> Self:
@@ -67,7 +71,8 @@ class Shim(Calls, Asks):
 
     def another(self) -> Shim:
         """A new shim of the same program, with as many workers."""
-        return Shim(self._program_file, workers=self._workers, explain=self._explain, waiters=self._waiters)
+        return Shim(self._program_file, workers=self._workers, explain=self._explain, waiters=self._waiters,
+                    confined=self._confined)
 
     def kill_shim(self) -> None:
         """Ends the shim at once, also while another thread waits for a reply."""

@@ -20,6 +20,7 @@ from feulgama.debug.timeline import Why
 from feulgama.debug.track import TooFarError
 from feulgama.opening import open_debugger
 from feulgama.requests import JOURNAL
+from feulgama.shim import Shim
 from tests.support import FOREVER_BYTES
 
 # Its shim goes by the clock.
@@ -85,7 +86,9 @@ class Far(unittest.TestCase):
     def test_an_interrupt_while_a_shim_takes_the_place_of_another(self) -> None:
         timeline = self.opened().timeline
         self.go_to([50_000_000])
-        timeline._track._shim._pipe._controlled = JOURNAL - 1
+        shim = timeline._track._shim
+        assert isinstance(shim, Shim)
+        shim._pipe._controlled = JOURNAL - 1
         threading.Timer(0.3, timeline.interrupted.set).start()
         begin = time.monotonic()
         self.assertIs(timeline.forward(Search(lambda _: False, each_turn=True)), Why.INTERRUPTED)

@@ -47,6 +47,7 @@ class Setting:
     tool: Any  # tools/image, as a module
     folder: Path  # of the programs: the shim, wasm-shim, cri-call, feulgama-oci and native
     race: bool
+    lines: bool  # whether a debugger shows those of C
     daemon: Daemon = field(init=False)
 
 

@@ -40,6 +40,12 @@ class Page(Check):
         run = f'if [ "$1" = run ]; then shift; exec {call} run --cgroup=/{cls.daemon.cgroup}/$$ "$@"; fi'
         client.write_text(f'#!/bin/sh\n{run}\nexec {call} "$@"\n')
         client.chmod(0o755)
+        # The sanitizer of a program that was not proved needs all of the address space.
+        memory = "--memory=0" if b"AddressSanitizer" in program.read_bytes() else ""
+        debugger = cls.daemon.at / "bin/feulgama"
+        debugger.write_text(f'#!/bin/sh\nshift; exec {TOP}/clients/python/bin/feulgama --shim /usr/local/bin/wasm-shim attach '
+                            f'{memory} --state {cls.daemon.at}/state "$@"\n')
+        debugger.chmod(0o755)
         # /usr/local/bin is the tests' own (see `run`).
         cls.shell = Shell(cls.daemon.at, cls.daemon.environment)
 
@@ -58,6 +64,6 @@ class Page(Check):
         for command in commands("setup"):
             self.shell.run(command.words)
         for command in found:
-            written = self.shell.run(command.words)
+            written = self.shell.run(command.words, command.typed)
             if not re.fullmatch(command.pattern, written):
                 self.fail(f"{command.words}\nwrites\n{written}\nand the page has\n{command.lines}")

@@ -4,10 +4,11 @@ from __future__ import annotations
 import os
 import shutil
 import sys
+import time
 from pathlib import Path
 
 from checks.images import HEAD, TOP, Images, load_tool
-from checks.machine import PACKAGES, Machine, missing, must
+from checks.machine import PACKAGES, Machine, command, missing, must
 
 from .daemon import Setting
 
@@ -17,7 +18,7 @@ PACKAGES[LIBRARY] = "golang-github-containerd-containerd-dev"
 TOOLS = ("go", "gofmt", "gcc", LIBRARY, "containerd", "ctr", "containerd-shim-runc-v2", "runc")
 # Another native program, static and as small as the module `hello`.
 NATIVE = '#include <unistd.h>\nint main(void) { return write(1, "hello, feulgama\\n", 16) != 16; }\n'
-# exit1000 ends with a status that has more than 8 bits; full writes 77,000 bytes; pages begins with 17 pages, as programs
+# rounds calls a function for some seconds, and then ends with 7. exit1000 ends with a status that has more than 8 bits; full writes 77,000 bytes; pages begins with 17 pages, as programs
 # in Rust do, and exits with that number.
 TEXTS = {
     "exit1000": HEAD + "(func $start (type $v) i32.const 1000 call $proc_exit))",
@@ -26,6 +27,28 @@ TEXTS = {
   local.get $i i32.const 1 i32.add local.tee $i i32.const 70 i32.lt_u br_if 0 end))''',
     "pages": HEAD.replace("(memory 1)", "(memory 17)") + "(func $start (type $v) memory.size call $proc_exit))",
 }
+
+ROUNDS = (HEAD + '''(export "add" (func $add))
+  (data (offset i32.const 0) "\\08\\00\\00\\00\\06\\00\\00\\00begun\\0a\\00\\00\\18\\00\\00\\00\\06\\00\\00\\00ended\\0a")
+  (func $add (type $add) local.get 0 i64.const 1 i64.add)
+  (func $start (type $v) (local $i i64) i32.const 1 i32.const 0 i32.const 1 i32.const 32 call $fd_write drop
+  loop local.get $i call $add local.tee $i i64.const {rounds} i64.lt_u br_if 0 end
+  i32.const 1 i32.const 16 i32.const 1 i32.const 32 call $fd_write drop i32.const 7 call $proc_exit))''').replace(
+      "(type $v (func))", "(type $v (func)) (type $add (func (param i64) (result i64)))")
+ROUND_SECONDS = 4.0
+
+
+def rounds(images: Images) -> int:
+    """How many rounds take some seconds by the program under test."""
+    some, file = 100_000, images.folder / "rounds.wasm"
+    while True:
+        file.write_bytes(images.assemble(ROUNDS.replace("{rounds}", str(some))))
+        began = time.monotonic()
+        command([images.program, "run", file])
+        seconds = time.monotonic() - began
+        if seconds > 0.2:
+            return int(some * ROUND_SECONDS / seconds)
+        some *= 4
 
 
 def can_run(program: Path) -> bool:
@@ -69,5 +92,10 @@ def prepare(machine: Machine, program: Path, race: bool) -> Setting:
     for name, text in TEXTS.items():
         images.modules[name] = images.assemble(text)
         images.add(name, {f"{name}.wasm": images.modules[name]}, f"/{name}.wasm")
+    images.modules["rounds"] = images.assemble(ROUNDS.replace("{rounds}", str(rounds(images))))
+    images.modules["words"] = (TOP / "clients/python/examples/words.wasm").read_bytes()
+    for name in ("rounds", "words"):
+        images.add(name, {f"{name}.wasm": images.modules[name]}, f"/{name}.wasm")
     images.add("static", {"native": (folder / "native").read_bytes()}, "/native")
-    return Setting(machine, images, load_tool(), folder, race)
+    lines = command(["/usr/bin/python3", "-c", "import elftools"]).status == 0
+    return Setting(machine, images, load_tool(), folder, race, lines)

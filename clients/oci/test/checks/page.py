@@ -23,6 +23,7 @@ PAGE = TOP / "docs" / "CONTAINERS.md"
 BLOCK = re.compile(r"<!-- run: (\w+) -->\n```console\n(.*?)```\n", re.DOTALL)
 KINDS: tuple[type[Podman] | type[Docker] | type[Containerd], ...] = (Podman, Docker, Containerd)
 MARK = "end of a command of the page"
+PROMPT = "(feulgama) "
 
 
 @dataclass(frozen=True)
@@ -31,6 +32,11 @@ class Command:
 
     words: str
     lines: str
+
+    @property
+    def typed(self) -> str:
+        """What is typed to the command: the lines after the prompt of the debugger."""
+        return "".join(line.removeprefix(PROMPT) for line in self.lines.splitlines(keepends=True) if line.startswith(PROMPT))
 
     @property
     def pattern(self) -> str:
@@ -56,10 +62,10 @@ class Shell:
         self.process = subprocess.Popen(["bash", "--norc"], stdin=subprocess.PIPE, stdout=subprocess.PIPE,
                                         stderr=subprocess.STDOUT, cwd=folder, env=environment)
 
-    def run(self, words: str, seconds: float = 120.0) -> str:
-        """What a command writes. Raises TimeoutError if it takes too long."""
+    def run(self, words: str, typed: str = "", seconds: float = 120.0) -> str:
+        """What a command writes, to which some lines are typed. Raises TimeoutError if it takes too long."""
         assert self.process.stdin is not None and self.process.stdout is not None
-        self.process.stdin.write(f"{{ {words}\n}} </dev/null\necho '{MARK}'\n".encode())
+        self.process.stdin.write(f"{{ {words}\n}} <<'{MARK}'\n{typed}{MARK}\necho '{MARK}'\n".encode())
         self.process.stdin.flush()
         text = b""
         last = time.monotonic() + seconds
@@ -139,7 +145,7 @@ class Page(unittest.TestCase):
         found = commands(name)
         self.assertNotEqual(found, [])
         for command in found:
-            written = self.shell.run(command.words)
+            written = self.shell.run(command.words, command.typed)
             if not re.fullmatch(command.pattern, written):
                 self.fail(f"{command.words}\nwrites\n{written}\nand the page has\n{command.lines}")
 

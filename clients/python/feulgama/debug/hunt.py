@@ -61,7 +61,8 @@ class Hunt:
     def on(self, track: Track, goal: int) -> list[Look]:
         """Lets a task go on; what it has met, in its order. It may have passed the turn `goal`, if it has met nothing
         before that; or be beyond what it has met."""
-        found = self._by_run(track, goal) if self._runs and track.is_far(goal) else self._by_steps(track, goal)
+        is_run = self._runs or track.runs_first and not self._is_dense
+        found = self._by_run(track, goal) if is_run and track.is_far(goal) else self._by_steps(track, goal)
         if found:
             self._since = time.monotonic()
             self.hits += len(found)

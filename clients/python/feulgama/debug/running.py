@@ -11,9 +11,9 @@ import threading
 import time
 from dataclasses import dataclass, field
 
+from feulgama.answering import Answering
 from feulgama.errors import WrongStatusError
 from feulgama.model import State, Status
-from feulgama.shim import Shim
 
 FIRST_REST, LONGEST_SLEEP = 0.0003, 0.02
 SHARE = 32
@@ -93,7 +93,7 @@ def rest(seconds: float, watch: Watch) -> None:
         time.sleep(min(left, LONGEST_SLEEP))
 
 
-def run_before(shim: Shim, was: State, turn: int, is_exact: bool, gait: Gait, watch: Watch) -> State:
+def run_before(shim: Answering, was: State, turn: int, is_exact: bool, gait: Gait, watch: Watch) -> State:
     """Lets a task that is paused run, and pauses it at a turn or later, or if `is_exact` a moment before; earlier if
     the move is over, or if the shim will not answer many more requests. What it is doing then: it may have met a
     breakpoint, have ended, or be beyond the turn nevertheless."""
@@ -115,7 +115,7 @@ def run_before(shim: Shim, was: State, turn: int, is_exact: bool, gait: Gait, wa
         pause = max(FIRST_REST, min((now - watch.since) / SHARE, gait.seconds(turn - turns) / 2))
 
 
-def paused(shim: Shim, task: str) -> State:
+def paused(shim: Answering, task: str) -> State:
     """Pauses a task, unless it has stopped by itself."""
     with contextlib.suppress(WrongStatusError):
         shim.pause(task)

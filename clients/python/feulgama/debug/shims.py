@@ -3,6 +3,7 @@ from __future__ import annotations
 
 import collections
 
+from feulgama.answering import Answering
 from feulgama.debug.running import Gait
 from feulgama.requests import JOURNAL
 from feulgama.shim import Shim
@@ -17,7 +18,7 @@ class Shims:
     def __init__(self, first: Shim, data: bytes) -> None:
         self._first, self._data = first, data
         self._latest = first
-        self._tasks: collections.Counter[Shim] = collections.Counter()
+        self._tasks: collections.Counter[Answering] = collections.Counter()
         self.gait = Gait()
         self.started = 0
 
@@ -31,12 +32,12 @@ class Shims:
         self._tasks[self._latest] += 1
         return self._latest
 
-    def give_back(self, shim: Shim) -> bool:
+    def give_back(self, shim: Answering) -> bool:
         """Takes note that a task is not needed any more; whether its shim has ended with it."""
         self._tasks[shim] -= 1
         return self._end_if_idle(shim)
 
-    def _end_if_idle(self, shim: Shim) -> bool:
+    def _end_if_idle(self, shim: Answering) -> bool:
         if self._tasks[shim] > 0 or shim in (self._first, self._latest):
             return False
         del self._tasks[shim]

@@ -118,6 +118,7 @@ def debug(commands: Commands, source: TextIO, first: Iterable[str] = ()) -> int:
     last = ""
     for shown in commands.stopped():
         print(shown)
+    sys.stdout.flush()
     for line in itertools.chain(scripted(first), asked(commands) if is_user else scripted(source)):
         last = line.strip() or (last if is_user else "")
         if last.startswith("#"):

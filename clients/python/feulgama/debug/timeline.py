@@ -53,7 +53,7 @@ class Timeline:
     def __init__(self, shim: Shim, config: Config, module: Module) -> None:
         self._config, self._module = config, module
         self._shims = Shims(shim, module.sent)
-        self._track = Track(self._shims, config)
+        self._track = self._first_track()
         self._parked: list[Track] = []
         self._seen: dict[int, bytes] = {}
         self._trail: Trail | None = None
@@ -66,6 +66,10 @@ class Timeline:
         self._shim, self._writes = shim, dict[tuple[int, int, bool], Writes]()
         self._size = -1, 0  # a turn, and how many bytes memory has there
         self._told, self._told_turn = dict.fromkeys(Stream, 0), 0
+
+    def _first_track(self) -> Track:
+        """The task that is shown first."""
+        return self.new_track()
 
     @property
     def shims_started(self) -> int:
@@ -118,7 +122,8 @@ class Timeline:
     def memory_size(self) -> int:
         """How many bytes of memory there are."""
         if self._size[0] != self.turn:
-            self._size = self.turn, size_of(self._with_memory()[0])
+            least = self._size[1] if 0 <= self._size[0] < self.turn else 0  # memory never shrinks
+            self._size = self.turn, size_of(self._with_memory()[0], least // PAGE)
         return self._size[1]
 
     def _with_memory(self) -> tuple[Track, Trail | None]:
@@ -169,8 +174,7 @@ class Timeline:
 
     def _take(self, turn: int, interrupted: threading.Event) -> Why:
         """Lets the task that is nearest behind a turn, or a new one, go on to it and be the one that is shown."""
-        behind = [track for track in (self._track, *self._parked) if track.turn <= turn]
-        track = max(behind, key=lambda found: found.turn, default=None) or Track(self._shims, self._config)
+        track = self._behind(turn) or self.new_track()
         try:
             track.advance(turn, Watch(interrupted))
         except TooFarError:
@@ -185,6 +189,11 @@ class Timeline:
             return Why.INTERRUPTED
         self._track = track
         return Why.FOUND if track.turn == turn else Why.ENDED
+
+    def _behind(self, turn: int) -> Track | None:
+        """The task that is nearest behind a turn, or at it, if there is one."""
+        behind = [track for track in (self._track, *self._parked) if track.turn <= turn]
+        return max(behind, key=lambda found: found.turn) if behind else None
 
     def _note_end(self, track: Track) -> None:
         if track.exit is not None:
@@ -224,7 +233,7 @@ class Timeline:
     def _run_on(self, goal: int) -> Why:
         """Goes on to a turn or to the task's end."""
         track, since = self._here(), time.monotonic()
-        while track.turn != goal and track.exit is None:
+        while track.turn < goal and track.exit is None:
             if self.interrupted.is_set():
                 return Why.INTERRUPTED
             now = time.monotonic()
@@ -232,6 +241,9 @@ class Timeline:
             self._note_end(track)
             self.turn = track.turn
             self.progress()
+        if track.turn > goal:
+            why = self.seek(goal)
+            return Why.LIMIT if why is Why.FOUND else why
         return Why.LIMIT if track.turn == goal else Why.ENDED
 
     def new_track(self) -> Track:
@@ -298,9 +310,9 @@ class Timeline:
         return found
 
 
-def size_of(track: Track) -> int:
-    """How many bytes of memory a task has: no bytes may be asked for up to there."""
-    least, most = 0, MOST_PAGES
+def size_of(track: Track, least: int = 0) -> int:
+    """How many bytes of memory a task has, which has so many pages at least: no bytes may be asked for up to there."""
+    most = MOST_PAGES if isinstance(track.peek([((least + 1) * PAGE, 0)])[0], bytes) else least
     while least < most:
         middle = (least + most + 1) // 2
         if isinstance(track.peek([(middle * PAGE, 0)])[0], bytes):

@@ -4,6 +4,7 @@ from __future__ import annotations
 import time
 
 from feulgama import requests
+from feulgama.answering import Answering
 from feulgama.config import Config
 from feulgama.debug.look import Look, Place, innermost_at, look_of
 from feulgama.debug.running import RUN_ROOM, Watch, run_before
@@ -27,13 +28,15 @@ class Track:
     asked for: a breakpoint at its first instruction holds it when it is started. When its shim will not answer many
     more requests, it is made anew in another one and brought to the same turn."""
 
+    runs_first = False  # whether each step costs too much for a breakpoint to be looked for by steps
+
     def __init__(self, shims: Shims, config: Config) -> None:
         self._shims, self._config = shims, config
         self._begin()
 
     def _begin(self) -> None:
         """Has a new task, before its first turn."""
-        self._shim = self._shims.take()
+        self._shim: Answering = self._shims.take()
         self._id = self._shim.create(self._config).id
         self.turn = 0
         self.exit: Exit | None = None

@@ -11,6 +11,7 @@ from feulgama.lowering.errors import LoweringError
 from feulgama.lowering.lower import Lowered, Options, lower
 
 MOST_BYTES = 262_144
+STREAM = Path("-")
 FIXED = "random_get gives the same numbers in each run, so they are no secrets (--seed, --refuse random_get)"
 
 
@@ -24,13 +25,14 @@ def seed(text: str) -> int:
 
 def add_options(command: argparse.ArgumentParser) -> None:
     """The words of the command."""
-    command.add_argument("-o", "--output", metavar="OUT", type=Path, help="the lowered module (by default standard output)")
+    command.add_argument("-o", "--output", metavar="OUT", type=Path,
+                         help="the lowered module; - is standard output, which it is by default")
     command.add_argument("--list", action="store_true", help="says what is replaced; without -o no module is written")
     command.add_argument("--refuse", metavar="NAME", action="append", default=[],
                          help="refuses a module that imports this call and would be given an answer of the tool's")
     command.add_argument("--seed", metavar="NUMBER", type=seed, default=SEED, help="the seed of the numbers of random_get")
     command.add_argument("--strip", action="store_true", help="leaves out custom sections")
-    command.add_argument("module", metavar="IN", type=Path, help="a module, as bytes or as text")
+    command.add_argument("module", metavar="IN", type=Path, help="a module, as bytes or as text; - is standard input")
 
 
 def listing(found: Lowered) -> str:
@@ -45,11 +47,12 @@ def run(words: argparse.Namespace, data: bytes) -> int:
         found = lower(data, Options(frozenset(words.refuse), words.seed, words.strip))
     except LoweringError as error:
         raise LoweringError(f"{words.module}: {error}") from error
+    is_written = words.output == STREAM or words.output is None and not words.list
     if words.list:
-        print(listing(found))
-    if words.output is not None:
+        print(listing(found), file=sys.stderr if is_written else sys.stdout)
+    if words.output is not None and not is_written:
         words.output.write_bytes(found.data)
-    elif not words.list:
+    elif is_written:
         if sys.stdout.isatty():
             raise FeulgamaError("a module is not written to a terminal; -o OUT names a file")
         sys.stdout.buffer.write(found.data)

@@ -13,6 +13,7 @@ import (
 	"feulgama/lines"
 	"feulgama/oci/config"
 	"feulgama/oci/container"
+	"feulgama/oci/lowering"
 )
 
 // Annotations that containerd's CRI writes.
@@ -56,11 +57,7 @@ func Open(folder string) (*Bundle, error) {
 }
 
 // Annotation answers an annotation of the config, or nothing.
-func (b *Bundle) Annotation(name string) string {
-	annotations, _ := b.config.Tree["annotations"].(config.Tree)
-	value, _ := annotations[name].(string)
-	return value
-}
+func (b *Bundle) Annotation(name string) string { return b.config.Annotation(name) }
 
 // IsSandbox tells whether this is the sandbox of a pod, which runs nothing.
 func (b *Bundle) IsSandbox() bool {
@@ -89,6 +86,22 @@ func (b *Bundle) Module(mounts []mount.Mount) (_ []byte, err error) {
 			b.program(), errdefs.ErrInvalidArgument)
 	}
 	return module.Content, nil
+}
+
+// Lower translates a module for wasm-shim, if the config asks for it, and answers what was replaced.
+func (b *Bundle) Lower(module []byte) (_ []byte, replaced string, err error) {
+	wanted, err := lowering.Wanted(b.Annotation(lowering.Annotation))
+	if err != nil {
+		return nil, "", fmt.Errorf("%v: %w", err, errdefs.ErrInvalidArgument)
+	}
+	if !wanted {
+		return module, "", nil
+	}
+	found, err := lowering.Lower(module)
+	if err != nil {
+		return nil, "", fmt.Errorf("%v: %w", err, errdefs.ErrInvalidArgument)
+	}
+	return found.Content, found.Replaced, nil
 }
 
 // readOnly are mounts that cannot be written. So the kernel has nothing to write out when they are taken away, which could

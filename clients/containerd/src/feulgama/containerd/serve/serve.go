@@ -14,6 +14,7 @@ import (
 	"time"
 
 	"feulgama/lines"
+	"feulgama/oci/apart"
 )
 
 // How many requests are kept back, so that a container can always be ended.
@@ -49,7 +50,7 @@ func Start(program string, join func(pid int) error) (*Process, error) {
 		return nil, fmt.Errorf("make pipes: %w", err)
 	}
 	p.command = command(program, pipes)
-	err = startWithoutRights(p.command)
+	err = apart.Start(p.command)
 	pipes.closeTheirs()
 	if err != nil {
 		pipes.closeOurs()
@@ -76,7 +77,7 @@ func command(program string, pipes *pipes) *exec.Cmd {
 		Env: []string{}, Dir: "/",
 		Stderr:      pipes.theirs[0],
 		ExtraFiles:  pipes.theirs[1:],
-		SysProcAttr: apart(),
+		SysProcAttr: apart.Attributes(),
 	}
 }
 
@@ -205,7 +206,7 @@ func openPipes() (_ *pipes, err error) {
 	}
 	for _, file := range p.theirs {
 		// The program opens its pipes by name, as a user of its own.
-		if err := file.Chown(nobody, nobody); err != nil && os.Geteuid() == 0 {
+		if err := file.Chown(apart.Nobody, apart.Nobody); err != nil && os.Geteuid() == 0 {
 			return nil, err
 		}
 	}

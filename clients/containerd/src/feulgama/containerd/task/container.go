@@ -34,6 +34,7 @@ type container struct {
 	events    Teller
 	task      string // its id in wasm-shim
 	module    []byte
+	original  []byte // that of the image, if it was lowered
 	config    []byte // as wasm-shim has it
 	process   *serve.Process
 	door      *door.Door

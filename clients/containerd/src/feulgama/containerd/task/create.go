@@ -51,7 +51,7 @@ func (s *Service) createContainer(r *api.CreateTaskRequest, b *bundle.Bundle) (u
 	looked := make(chan struct{})
 	go func() {
 		defer close(looked)
-		c.module, moduleErr = b.Module(mounts(r))
+		moduleErr = c.findModule(b, mounts(r))
 	}()
 	err := c.open(s, b)
 	<-looked
@@ -73,6 +73,24 @@ func (s *Service) createContainer(r *api.CreateTaskRequest, b *bundle.Bundle) (u
 		go c.answerTheDoor()
 	}
 	return c, nil
+}
+
+// findModule finds the module of the image, and translates it if that is asked for.
+func (c *container) findModule(b *bundle.Bundle, image []mount.Mount) error {
+	found, err := b.Module(image)
+	if err != nil {
+		return err
+	}
+	module, replaced, err := b.Lower(found)
+	if err != nil {
+		return err
+	}
+	c.module = module
+	if replaced != "" {
+		c.original = found
+		logrus.Infof("the module of %s was lowered: %s", c.request.ID, replaced)
+	}
+	return nil
 }
 
 // open gives a container all that it has on the machine. What it has when this fails has to be let go.

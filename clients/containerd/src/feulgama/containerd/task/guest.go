@@ -114,7 +114,8 @@ func (c *container) attach(g *guest) (*greeting, error) {
 	c.guest = g
 	return &greeting{
 		OK: true, Protocol: guestProtocol, Container: c.request.ID, Ran: g.ran, State: state,
-		Left: c.process.Left() - serve.ForDebuggers, Module: hex.EncodeToString(c.module), Config: string(c.config),
+		Left: c.process.Left() - serve.ForDebuggers, Module: hex.EncodeToString(c.module),
+		Original: hex.EncodeToString(c.original), Config: string(c.config),
 	}, nil
 }
 

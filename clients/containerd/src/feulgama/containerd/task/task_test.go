@@ -2,6 +2,7 @@ package task
 
 import (
 	"context"
+	"encoding/hex"
 	"errors"
 	"os"
 	"path/filepath"
@@ -20,6 +21,7 @@ import (
 	"feulgama/containerd/group"
 	"feulgama/containerd/serve"
 	"feulgama/lines"
+	"feulgama/oci/programs"
 )
 
 // is tells whether an error, as it comes to containerd, is of a class.
@@ -352,5 +354,69 @@ func TestIDs(t *testing.T) {
 		if got := taskID(id); len(got) != 64 || got == id {
 			t.Errorf("%s becomes %s", id, got)
 		}
+	}
+}
+
+// lowering makes a script the command feulgama, which every user can run.
+func lowering(t *testing.T, script string) {
+	t.Helper()
+	folder, err := os.MkdirTemp("", "feulgama-lowering-")
+	if err != nil {
+		t.Fatal(err)
+	}
+	t.Cleanup(func() { os.RemoveAll(folder) })
+	path := filepath.Join(folder, "feulgama")
+	if err := os.WriteFile(path, []byte("#!/bin/sh\n"+script), 0o755); err != nil {
+		t.Fatal(err)
+	}
+	if err := os.Chmod(folder, 0o755); err != nil {
+		t.Fatal(err)
+	}
+	t.Setenv(programs.CommandVariable, path)
+}
+
+// annotated makes a container with an annotation.
+func (s *tested) annotated(id, module, name, value string) error {
+	folder := s.bundle(id, module, func(config map[string]interface{}) {
+		config["annotations"] = map[string]string{name: value}
+	})
+	_, err := s.Create(background, &api.CreateTaskRequest{ID: id, Bundle: folder, Stdout: "file://" + s.log(id)})
+	return err
+}
+
+func TestAModuleIsLoweredIfThatIsAskedFor(t *testing.T) {
+	s := newShim(t)
+	lowering(t, `echo "1 f64.add" >&2; printf '\000asm\001\000\000\000hello'`)
+	if err := s.annotated("one", fakeshim.Refuse, "dev.shim.lower", "true"); err != nil {
+		t.Fatal(err)
+	}
+	c := s.units["one"].(*container)
+	if string(c.module) != fakeshim.Hello || string(c.original) != fakeshim.Refuse {
+		t.Errorf("%q, %q", c.module, c.original)
+	}
+	if _, err := s.Start(background, &api.StartRequest{ID: "one"}); err != nil {
+		t.Fatal(err)
+	}
+	if status := s.wait("one"); status != 7 {
+		t.Errorf("exit status %d", status)
+	}
+	if _, first := s.attached("one"); first["original"] != hex.EncodeToString([]byte(fakeshim.Refuse)) {
+		t.Errorf("%v", first)
+	}
+	is(t, s.annotated("two", fakeshim.Refuse, "dev.shim.lower", "false"), errdefs.ErrInvalidArgument)
+}
+
+func TestAModuleThatCannotBeLowered(t *testing.T) {
+	s := newShim(t)
+	lowering(t, `echo "feulgama: -: it has vectors" >&2; exit 1`)
+	err := s.annotated("one", fakeshim.Hello, "dev.shim.lower", "true")
+	is(t, err, errdefs.ErrInvalidArgument)
+	if !strings.Contains(err.Error(), "the module cannot be lowered: it has vectors") {
+		t.Errorf("%v", err)
+	}
+	err = s.annotated("one", fakeshim.Hello, "dev.shim.lower", "perhaps")
+	is(t, err, errdefs.ErrInvalidArgument)
+	if !strings.Contains(err.Error(), `dev.shim.lower is "perhaps"`) || len(s.units) != 0 {
+		t.Errorf("%v, %v", err, s.units)
 	}
 }

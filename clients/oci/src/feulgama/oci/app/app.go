@@ -14,6 +14,7 @@ import (
 	"feulgama/oci/config"
 	"feulgama/oci/container"
 	"feulgama/oci/firstprocess"
+	"feulgama/oci/lowering"
 	"feulgama/oci/ocilog"
 	"feulgama/oci/programs"
 	"feulgama/oci/version"
@@ -51,7 +52,7 @@ func perform(line cmdline.Line, words []string) (int, error) {
 		return start(line, words)
 	}
 	if line.Starts() && !line.Help {
-		if err := prepare(line.Bundle); err != nil {
+		if err := prepare(line); err != nil {
 			return 1, err
 		}
 	}
@@ -67,8 +68,8 @@ func failed(err error) (int, error) {
 }
 
 // prepare rewrites the config of a bundle, if its program is a module.
-func prepare(bundle string) error {
-	c, err := config.Load(bundle)
+func prepare(line cmdline.Line) error {
+	c, err := config.Load(line.Bundle)
 	if err != nil {
 		return err
 	}
@@ -84,10 +85,28 @@ func prepare(bundle string) error {
 	if err != nil {
 		return err
 	}
+	if err := lower(c, module, line); err != nil {
+		return err
+	}
 	if err := container.Contain(c, module, container.Programs{First: own, Shim: shim}); err != nil {
 		return err
 	}
 	return c.Save()
+}
+
+// lower translates the module, if the config asks for it, and says so in the log.
+func lower(c *config.Config, module *container.Module, line cmdline.Line) error {
+	wanted, err := lowering.Wanted(c.Annotation(lowering.Annotation))
+	if err != nil || !wanted {
+		return err
+	}
+	found, err := lowering.Lower(module.Content)
+	if err != nil {
+		return err
+	}
+	module.Content = found.Content
+	ocilog.Note(os.Stderr, line.Log, line.LogFormat, fmt.Sprintf("%s was lowered: %s", module.Words[0], found.Replaced))
+	return nil
 }
 
 func becomeRunc(words []string) error {

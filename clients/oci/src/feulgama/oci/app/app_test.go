@@ -57,7 +57,8 @@ func (s setup) run(t *testing.T, words ...string) result {
 	t.Helper()
 	var out, err bytes.Buffer
 	command := exec.Command(os.Args[0], words...)
-	command.Env = []string{isRuntime + "=1", "FEULGAMA_RUNC=" + s.folder + "/runc", "FEULGAMA_SHIM=/bin/true", "STATUS=" + os.Getenv("STATUS")}
+	command.Env = []string{isRuntime + "=1", "FEULGAMA_RUNC=" + s.folder + "/runc", "FEULGAMA_SHIM=/bin/true",
+		"FEULGAMA_COMMAND=" + s.folder + "/feulgama", "STATUS=" + os.Getenv("STATUS")}
 	command.Stdout, command.Stderr = &out, &err
 	var ended *exec.ExitError
 	if fault := command.Run(); fault != nil && !errors.As(fault, &ended) {
@@ -101,6 +102,52 @@ func TestAnotherProgramIsLeftAsItIs(t *testing.T) {
 	names, err := os.ReadDir(s.bundle)
 	if s.config(t) != s.original || err != nil || len(names) != 2 {
 		t.Errorf("the bundle was changed: %v, %v", names, err)
+	}
+}
+
+// annotate gives the config an annotation, and makes a script the command feulgama, beside the test's runc.
+func (s setup) annotate(t *testing.T, value, script string) {
+	t.Helper()
+	text := strings.Replace(s.original, "{", `{"annotations":{"dev.shim.lower":"`+value+`"},`, 1)
+	for name, text := range map[string]string{"b/config.json": text, "feulgama": "#!/bin/sh\n" + script} {
+		if err := os.WriteFile(filepath.Join(s.folder, name), []byte(text), 0o755); err != nil {
+			t.Fatal(err)
+		}
+	}
+	for path := s.folder; path != "/" && path != os.TempDir(); path = filepath.Dir(path) {
+		if err := os.Chmod(path, 0o755); err != nil {
+			t.Fatal(err)
+		}
+	}
+}
+
+func TestAModuleIsLoweredIfThatIsAskedFor(t *testing.T) {
+	s := newSetup(t, "\x00asm\x01\x00\x00\x00")
+	s.annotate(t, "true", `echo "1 f64.add" >&2; cat; printf lowered`)
+	log := filepath.Join(s.folder, "log.json")
+	got := s.run(t, "--log", log, "--log-format", "json", "create", "--bundle", s.bundle, "id")
+	if got.status != 3 || got.err != "" {
+		t.Errorf("%+v", got)
+	}
+	module, err := os.ReadFile(filepath.Join(s.bundle, container.RootName, "p"))
+	if err != nil || string(module) != "\x00asm\x01\x00\x00\x00lowered" {
+		t.Errorf("%q, %v", module, err)
+	}
+	if text, err := os.ReadFile(log); err != nil || !strings.Contains(string(text), "feulgama-oci: /p was lowered: 1 f64.add") {
+		t.Errorf("%s, %v", text, err)
+	}
+}
+
+func TestAModuleThatCannotBeLowered(t *testing.T) {
+	s := newSetup(t, "\x00asm\x01\x00\x00\x00")
+	for value, want := range map[string]string{
+		"true": "the module cannot be lowered: it has vectors", "yes": `dev.shim.lower is "yes"`,
+	} {
+		s.annotate(t, value, `echo "feulgama: -: it has vectors" >&2; exit 1`)
+		got := s.run(t, "create", "--bundle", s.bundle, "id")
+		if got.status != 1 || !strings.Contains(got.err, want) {
+			t.Errorf("%s: %+v", value, got)
+		}
 	}
 }
 

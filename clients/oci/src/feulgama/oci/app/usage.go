@@ -17,6 +17,8 @@ Commands and options are those of runc (runc --help). Of these are its own:
 Environment:
   FEULGAMA_SHIM  the path of wasm-shim. Without it: beside feulgama-oci, then in PATH, then /usr/bin/wasm-shim
   FEULGAMA_RUNC  the path of runc. Without it: in PATH, then in the usual folders of programs
+  FEULGAMA_COMMAND  the path of the command feulgama, looked for as wasm-shim is. It lowers the module of a container
+                 whose config has the annotation dev.shim.lower: "true"
 
 Exit status: that of runc; 1 if a container is refused, with the reason on standard error and in the file of --log;
 2 without a command. A container has the status of "wasm-shim run".

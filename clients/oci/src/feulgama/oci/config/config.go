@@ -76,6 +76,13 @@ func Load(bundle string) (*Config, error) {
 	return c, nil
 }
 
+// Annotation answers an annotation, or nothing if there is no such text.
+func (c *Config) Annotation(name string) string {
+	annotations, _ := c.Tree["annotations"].(Tree)
+	value, _ := annotations[name].(string)
+	return value
+}
+
 // Bundle is the absolute path of the bundle.
 func (c *Config) Bundle() string { return c.bundle }
 

@@ -20,20 +20,31 @@ func Report(stderr io.Writer, file, format string, fault error) {
 	if file == "" {
 		return
 	}
-	if err := appendLine(file, line(format, message, time.Now())); err != nil {
+	write(stderr, file, line(format, "error", message, time.Now()))
+}
+
+// Note appends a remark to the file of the log, if there is one.
+func Note(stderr io.Writer, file, format, remark string) {
+	if file != "" {
+		write(stderr, file, line(format, "info", Program+": "+remark, time.Now()))
+	}
+}
+
+func write(stderr io.Writer, file, text string) {
+	if err := appendLine(file, text); err != nil {
 		fmt.Fprintf(stderr, "%s: write to the log: %v\n", Program, err)
 	}
 }
 
-func line(format, message string, now time.Time) string {
+func line(format, level, message string, now time.Time) string {
 	at := now.UTC().Format(time.RFC3339)
 	if format == "json" {
-		text, err := json.Marshal(map[string]string{"level": "error", "msg": message, "time": at})
+		text, err := json.Marshal(map[string]string{"level": level, "msg": message, "time": at})
 		if err == nil {
 			return string(text) + "\n"
 		}
 	}
-	return fmt.Sprintf("time=%q level=error msg=%q\n", at, message)
+	return fmt.Sprintf("time=%q level=%s msg=%q\n", at, level, message)
 }
 
 func appendLine(file, text string) error {

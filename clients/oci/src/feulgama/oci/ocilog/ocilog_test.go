@@ -39,7 +39,7 @@ func TestReport(t *testing.T) {
 }
 
 func TestTextFormat(t *testing.T) {
-	got := line("text", "why", time.Unix(0, 0))
+	got := line("text", "error", "why", time.Unix(0, 0))
 	if got != "time=\"1970-01-01T00:00:00Z\" level=error msg=\"why\"\n" {
 		t.Errorf("%q", got)
 	}
@@ -50,5 +50,20 @@ func TestLogThatCannotBeWritten(t *testing.T) {
 	Report(&stderr, t.TempDir(), "json", errors.New("the reason"))
 	if !strings.HasPrefix(stderr.String(), "feulgama-oci: the reason\nfeulgama-oci: write to the log:") {
 		t.Errorf("%q", stderr.String())
+	}
+}
+
+func TestARemarkIsInTheFileOnly(t *testing.T) {
+	file := filepath.Join(t.TempDir(), "log")
+	var told bytes.Buffer
+	Note(&told, file, "json", "done")
+	Note(&told, "", "json", "done")
+	text, err := os.ReadFile(file)
+	var found map[string]string
+	if err == nil {
+		err = json.Unmarshal(text, &found)
+	}
+	if err != nil || found["level"] != "info" || found["msg"] != "feulgama-oci: done" || told.Len() != 0 {
+		t.Errorf("%s, %q, %v", text, told.String(), err)
 	}
 }

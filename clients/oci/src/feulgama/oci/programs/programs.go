@@ -1,4 +1,4 @@
-// Package programs finds the two programs that feulgama-oci needs: wasm-shim and runc.
+// Package programs finds the programs that the adapters need: wasm-shim, runc, and the command feulgama.
 package programs
 
 import (
@@ -12,11 +12,10 @@ import (
 
 // Variables of the environment that name the programs.
 const (
-	ShimVariable = "FEULGAMA_SHIM"
-	RuncVariable = "FEULGAMA_RUNC"
+	ShimVariable    = "FEULGAMA_SHIM"
+	RuncVariable    = "FEULGAMA_RUNC"
+	CommandVariable = "FEULGAMA_COMMAND"
 )
-
-const installed = "/usr/bin/wasm-shim"
 
 // usual are the folders of programs. podman calls its runtime without any environment when it pauses or stops a
 // container, so PATH may be empty.
@@ -24,21 +23,30 @@ const usual = "/usr/local/sbin:/usr/local/bin:/usr/sbin:/usr/bin:/sbin:/bin"
 
 // Shim finds wasm-shim: by FEULGAMA_SHIM, which is believed, else beside the file own, by PATH, or as it is installed.
 func Shim(own string) (string, error) {
-	if named := os.Getenv(ShimVariable); named != "" {
-		return namedProgram(ShimVariable, named)
+	return find("wasm-shim", ShimVariable, own)
+}
+
+// Command finds the command feulgama in the same way, by FEULGAMA_COMMAND.
+func Command(own string) (string, error) {
+	return find("feulgama", CommandVariable, own)
+}
+
+func find(name, variable, own string) (string, error) {
+	if named := os.Getenv(variable); named != "" {
+		return namedProgram(variable, named)
 	}
-	beside := filepath.Join(filepath.Dir(own), "wasm-shim")
+	beside, installed := filepath.Join(filepath.Dir(own), name), filepath.Join("/usr/bin", name)
 	if isProgram(beside) {
 		return beside, nil
 	}
-	if found, err := exec.LookPath("wasm-shim"); err == nil {
+	if found, err := exec.LookPath(name); err == nil {
 		return filepath.Abs(found)
 	}
 	if isProgram(installed) {
 		return installed, nil
 	}
-	return "", fmt.Errorf("wasm-shim was not found: looked for %s, wasm-shim in PATH (%s), and %s; set %s to its path",
-		beside, os.Getenv("PATH"), installed, ShimVariable)
+	return "", fmt.Errorf("%s was not found: looked for %s, %s in PATH (%s), and %s; set %s to its path",
+		name, beside, name, os.Getenv("PATH"), installed, variable)
 }
 
 // Runc finds runc: by FEULGAMA_RUNC, which is believed, else by PATH, or in a usual folder of programs.

@@ -43,7 +43,23 @@ func TestShimIsLookedForInOrder(t *testing.T) {
 	expect(byPath)
 }
 
+func TestCommandIsLookedForInTheSameWay(t *testing.T) {
+	folder := t.TempDir()
+	beside := put(t, filepath.Join(folder, "feulgama"), 0o755)
+	named := put(t, filepath.Join(folder, "named"), 0o755)
+	t.Setenv(ShimVariable, named)
+	t.Setenv(CommandVariable, "")
+	if found, err := Command(filepath.Join(folder, "feulgama-oci")); found != beside || err != nil {
+		t.Errorf("%s, %v", found, err)
+	}
+	t.Setenv(CommandVariable, named)
+	if found, err := Command(filepath.Join(folder, "feulgama-oci")); found != named || err != nil {
+		t.Errorf("%s, %v", found, err)
+	}
+}
+
 func TestShimThatIsNotThere(t *testing.T) {
+	const installed = "/usr/bin/wasm-shim"
 	if _, err := os.Stat(installed); err == nil {
 		t.Skip(installed + " is installed")
 	}

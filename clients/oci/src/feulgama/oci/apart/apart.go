@@ -1,4 +1,5 @@
-package serve
+// Package apart starts programs that share with their parent neither a user nor a right nor a network.
+package apart
 
 import (
 	"fmt"
@@ -10,23 +11,24 @@ import (
 	"golang.org/x/sys/unix"
 )
 
-// nobody is the user of the program.
-const nobody = 65534
+// Nobody is the user of such a program.
+const Nobody = 65534
 
-// apart is what the program does not share with the shim: its user, and what it could reach of the system.
-func apart() *syscall.SysProcAttr {
+// Attributes are what the program does not share with its parent: its user, and what it could reach of the system.
+// Without root it shares the user.
+func Attributes() *syscall.SysProcAttr {
 	if os.Geteuid() != 0 {
-		return &syscall.SysProcAttr{Setsid: true} // the shim's own tests
+		return &syscall.SysProcAttr{Setsid: true}
 	}
 	return &syscall.SysProcAttr{
 		Setsid:     true,
 		Cloneflags: unix.CLONE_NEWNET | unix.CLONE_NEWIPC | unix.CLONE_NEWUTS | unix.CLONE_NEWPID,
-		Credential: &syscall.Credential{Uid: nobody, Gid: nobody},
+		Credential: &syscall.Credential{Uid: Nobody, Gid: Nobody},
 	}
 }
 
-// startWithoutRights starts a command from a thread that can gain no right by a program, and has none to hand on.
-func startWithoutRights(command *exec.Cmd) error {
+// Start starts a command from a thread that can gain no right by a program, and has none to hand on.
+func Start(command *exec.Cmd) error {
 	done := make(chan error)
 	go func() {
 		runtime.LockOSThread() // for good: the thread ends with this function
@@ -52,9 +54,4 @@ func giveUpRights() error {
 		}
 	}
 	return nil
-}
-
-// Seal keeps files that the shim was started with from the programs that it starts.
-func Seal() error {
-	return unix.CloseRange(3, ^uint(0)>>1, unix.CLOSE_RANGE_CLOEXEC)
 }

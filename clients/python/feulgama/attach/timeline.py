@@ -1,0 +1,99 @@
+"""The run of a container as a line of turns. The container itself moves forward only: the turns before the one that it is
+at are those of tasks of the same module and config, in a shim of the debugger's own."""
+from __future__ import annotations
+
+import threading
+from collections.abc import Callable
+
+from feulgama.attach.link import Link
+from feulgama.attach.live import LiveTrack
+from feulgama.config import Config
+from feulgama.debug.hunt import Search
+from feulgama.debug.timeline import Timeline, Why
+from feulgama.debug.track import Track
+from feulgama.debug.trail import Trail
+from feulgama.model import Stream
+from feulgama.shim import Shim
+from feulgama.wasm.module import Module
+
+LONG_WAY = 50_000_000
+
+
+class LiveTimeline(Timeline):
+    """A container's run. A move that goes beyond the turn that the container is at moves it. `say` is told what a user
+    should know of that."""
+
+    def __init__(self, shim: Shim, config: Config, module: Module, link: Link, say: Callable[[str], None]) -> None:
+        self._link, self._say = link, say
+        self._has_told = False
+        super().__init__(shim, config, module)
+
+    def _first_track(self) -> Track:
+        self.live = LiveTrack(self._shims, self._config, self._link)
+        return self.live
+
+    # Which task shows or makes a turn.
+
+    def _behind(self, turn: int) -> Track | None:
+        if self.live.turn <= turn:
+            if self.live.is_usable:
+                return self.live
+            self._tell_unusable()
+        own = [track for track in (self._track, *self._parked) if track is not self.live and track.turn <= turn]
+        found = max(own, key=lambda track: track.turn) if own else None
+        way = turn - (found.turn if found is not None else 0)
+        if way > LONG_WAY:
+            self._say(f"a task of the debugger's own makes {way} turns to get there; Ctrl-C breaks it off")
+        return found
+
+    def _take(self, turn: int, interrupted: threading.Event) -> Why:
+        was_behind = self.live.turn <= turn
+        found = super()._take(turn, interrupted)
+        if was_behind and self.live.turn > turn and not interrupted.is_set():
+            self._say(f"the container could not be stopped at turn {turn}: it is at turn {self.live.turn}")
+            return super()._take(turn, interrupted)
+        return found
+
+    def _leave_unusable(self) -> None:
+        """Lets a task of the debugger's own take the place of a container that is gone, or answers too few requests."""
+        if self._track is self.live and not self.live.is_usable:
+            self._tell_unusable()
+            self._track = self.new_track()
+
+    def _tell_unusable(self) -> None:
+        if not self._has_told and not self._link.is_closed:
+            self._say("the container's wasm-shim answers few requests yet, so the container stays where it is, and a task of "
+                      "the debugger's own goes on")
+        self._has_told = True
+
+    def _with_memory(self) -> tuple[Track, Trail | None]:
+        self._leave_unusable()
+        return super()._with_memory()
+
+    def output(self, stream: int) -> bytes:
+        self._leave_unusable()
+        return super().output(stream)
+
+    def new_output(self) -> dict[Stream, bytes]:
+        """As always; but nothing of a container that is gone, whose output is in its own log."""
+        return {} if self._link.is_closed else super().new_output()
+
+    # Searching.
+
+    def forward(self, search: Search, limit: int | None = None) -> Why:
+        self._to_container()
+        if self._track is self.live and self.live.exit is None:
+            self._leave_unusable()
+        if self.turn >= self.live.turn or not self.live.is_usable or limit is not None and limit <= self.live.turn:
+            return super().forward(search, limit)
+        why = super().forward(search, self.live.turn)
+        if why is not Why.LIMIT:
+            return why
+        self._to_container()
+        return super().forward(search, limit)
+
+    def _to_container(self) -> None:
+        """Shows the turn that the container is at by the container."""
+        if self.turn == self.live.turn and self._track is not self.live and self.live.is_usable:
+            self._park(self._track, self.live)
+            self._track = self.live
