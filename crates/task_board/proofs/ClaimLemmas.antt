@@ -156,7 +156,8 @@ says b id t q a there at words =
 
 -- ---- accepted requests
 
-decided_ok : (o : Option Refusal) (E : Type 0) (s : BoardState) (a : Reply) (s' : BoardState) → DecidedBy o E s (Ok a) s'
+decided_ok :
+    (o : Option Refusal) (E : Type 0) (s : BoardState) (a : Reply) (s' : BoardState) → DecidedBy o E s (Ok a) s'
     → (o ≡ None) × E
 decided_ok None E s a s' d = (refl, d)
 decided_ok (Some e) E s a s' d = let is = d.0 in cc
