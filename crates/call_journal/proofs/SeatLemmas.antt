@@ -1,5 +1,5 @@
 -- How many calls of a history are of one seat.
-use Rattle.std.proofs.Common.{◌≡◌, ℕ, suc, ◌+◌, ◌≤◌, ◌==◌, List, [], ◌∷◌, ◌++◌, length, Some, true, false, refl, ap, ◌∙◌, arith}
+use Rattle.std.proofs.Common.{◌≡◌, ℕ, zero, suc, ◌+◌, ◌≤◌, ◌==◌, List, [], ◌∷◌, ◌++◌, length, Bool, cond, Some, true, false, refl, sym, ap, ◌∙◌, arith}
 use Rattle.std.specs.Prelude.{slice_get}
 use Rattle.std.proofs.lemmas.List.Sums.{sum_by-append, sum_by-cons}
 use Rattle.std.proofs.lemmas.Bool.Decides.{nat_tests}
@@ -18,16 +18,21 @@ none_own n [] (e ∷ rest) f =
     sum_by-cons _ e rest ∙ rw (no, r) refl
 none_own n (x ∷ front) rest f = none_own n front rest (λ k e le p. f (suc k) e (omega arith) p)
 
+some_is : (x y : Entry) → Some x ≡ Some y → x ≡ y
+some_is x y h = cc
+
+counted : (b : Bool) (m : ℕ) → b ≡ true → cond b 1 0 + m ≡ 0 → ⊥
+counted true m h e = omega (arith, e)
+counted false m h e = cc
+
 -- where one after it is, the rest has a call of the seat
 pub own_there :
     (n : ℕ) (front rest : List Entry) (k : ℕ) (e : Entry) → length front ≤ k → slice_get (front ++ rest) k ≡ Some e
     → (e.seat == n) ≡ true → own_calls n rest ≡ 0 → ⊥
 own_there n [] [] k e le p same none = cc
 own_there n [] (x ∷ rest) zero e le p same none =
-    let is : x ≡ e = some_is x e p in
-    let first : (x.seat == n) ≡ true = ap (λ y. y.seat == n) is ∙ same in
-    let count = sym (sum_by-cons _ x rest) ∙ none in
-    absurd (omega (arith, rw first count))
+    let first : (x.seat == n) ≡ true = ap (λ (y : Entry). y.seat == n) (some_is x e p) ∙ same in
+    counted (x.seat == n) (own_calls n rest) first (sym (sum_by-cons _ x rest) ∙ none)
 own_there n [] (x ∷ rest) (suc k) e le p same none =
     let count = sym (sum_by-cons _ x rest) ∙ none in
     own_there n [] rest k e (omega arith) p same (omega (arith, count))

@@ -278,12 +278,11 @@ impl<R: Row> Book<R> {
             × (self.new.seats ≡ self.old.seats) × (self.new.total ≡ self.old.total) }
     {
         self.board.sound();
-        let ticket = if receipt.end(&mut self.desk) {
-            self.board.receive(loan)
+        if receipt.end(&mut self.desk) {
+            runnable(self.board.receive(loan))
         } else {
-            self.board.give_back(loan)
-        };
-        runnable(ticket)
+            runnable(self.board.give_back(loan))
+        }
     }
 
     /// Whether a worker has nothing to do: the book is not closed, and no task waits for a worker.

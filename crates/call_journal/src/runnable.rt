@@ -1,5 +1,7 @@
 //! Tasks that are to run.
 
+ghost use Rattle.std.specs.Prelude.{◌≡◌};
+
 use std::marker::Model;
 use task_board::Ticket;
 

@@ -1,4 +1,4 @@
-use Rattle.std.proofs.Common.{◌≡◌, ◌∙◌, List, ap, sym, subst, true, refl}
+use Rattle.std.proofs.Common.{◌∙◌, List, ap, sym, subst, true, refl}
 use Rattle.task_requests.specs.declared.event.Event.TheVariants as event
 use Rattle.task_requests.specs.declared.event.EventReply.TheVariants as answer
 use Rattle.task_board.specs.Loans.{Fits}
@@ -65,5 +65,6 @@ returns-else-end-clause-step g c fits =
 
 pub returns-else-end-clause-ticket : goal.returns-else-end-clause-ticket
 returns-else-end-clause-ticket g c fits =
-    c.give_back.ensures.ticket
+    c.runnable-else-end.ensures
+    ∙ c.give_back.ensures.ticket
     (subst (λ (b : BookValue). Fits c.args.loan b.journalled.board.tasks) (sym c.self.view_is) fits)

@@ -1,7 +1,6 @@
 use Rattle.std.proofs.Common.{map, true}
 use Rattle.task_requests.specs.declared.event.Event.TheVariants as event
 use Rattle.task_requests.specs.declared.event.EventReply.TheVariants as answer
-use Rattle.call_journal.proofs.JournalledLemmas.{returned}
 use Rattle.call_journal.proofs.journalled.JournalledBoard.give_back.Goals as goal
 
 pub invariant_of-self : goal.invariant_of-self

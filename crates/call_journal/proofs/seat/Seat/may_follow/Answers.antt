@@ -1,7 +1,7 @@
 use Rattle.std.proofs.Common.{◌≡◌, ◌≤◌, Bool, true, false, length, sym, ap, ◌∙◌, arith}
 use Rattle.std.specs.Prelude.{IsTrue, slice_get}
 use Rattle.call_journal.specs.Fronts.{Begins}
-use Rattle.call_journal.proofs.SeatLemmas.{none_own}
+use Rattle.call_journal.proofs.SeatLemmas.{none_own, own_there}
 use Rattle.call_journal.proofs.seat.Seat.may_follow.Goals as goal
 
 no_call : (b : Bool) → IsTrue (mathlib.Core.Bool.not b) → b ≡ false
@@ -18,3 +18,13 @@ returns-clause-on g c h =
     c.has_call.ensures.none (no_call c.has_call.result h) k e (omega (arith, at, c.len-3.ensures))
     (ap (λ xs. slice_get xs k) (sym b.1) ∙ p)) in
     rw (← c.self.view_is) (record { rest = b.0; joins = b.1; none = none })
+
+is_call : (b : Bool) → mathlib.Core.Bool.not b ≡ false → b ≡ true
+is_call true h = mathlib.Core.Path.refl
+is_call false h = cc
+
+pub returns-clause-off : goal.returns-clause-off
+returns-clause-off g c h =
+    let one = c.has_call.ensures.one (is_call c.has_call.result h) in
+    rw (← c.self.view_is) (λ on. own_there c.self.inside.number c.self.inside.seen on.rest one.0 one.1
+    (omega (arith, one.2, c.len-3.ensures)) (ap (λ xs. slice_get xs one.0) on.joins ∙ one.3) one.4 on.none)
