@@ -84,6 +84,27 @@ def test_a_missing_package_is_named() -> None:
         places.need({"no-such-command": "two", "no-such-command-either": "one", "sh": "dash"})
 
 
+def packages_of(text: str) -> set[str]:
+    """The Debian packages that a file of tests says that it needs."""
+    said = re.findall(r"apt-get install (?:-y --no-install-recommends )?((?:[a-z][a-z0-9.+-]* ?)+)", text)
+    said += re.findall(r'"[\w+-]+": "([a-z][a-z0-9.+ -]*)"', "".join(re.findall(r"need\(\{[^}]*\}", text)))
+    said += re.findall(r'^NEEDED\w* = "(clang[a-z0-9.+ -]*)"', text, re.MULTILINE)
+    return {word for words in said for word in words.split()}
+
+
+def test_each_package_that_a_test_needs_is_listed() -> None:
+    """But for those of a picture, which has to be looked at."""
+    tree = Tree(TOP)
+    lines = "\n".join(tree.text(name) for name in (".ci/packages", "tests/packages")).splitlines()
+    listed = [line for line in lines if not line.startswith("#")]
+    assert listed and len(listed) == len(set(listed))
+    left_out = {"tests/test_suites.py", "tests/test_checks.py", "tests/test_gate.py", "tests/suite/dap_screenshot.py"}
+    files = {*tree.matching("tests/*.py"), *tree.matching("clients/python/tests/*.py")} - left_out
+    needed = {package for name in files for package in packages_of(tree.text(name))}
+    assert {"wabt", "gcc", "wasi-libc", "clang-22", "python3-venv", "emscripten", "nodejs", "elpa-dap-mode"} <= needed
+    assert sorted(needed - set(listed)) == []
+
+
 def suite_of(name: str, code: str, folder: Path) -> run_all.Suite:
     return run_all.Suite(name, (sys.executable, "-c", code), True, folder)
 
