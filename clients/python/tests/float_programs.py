@@ -120,7 +120,9 @@ int main(void) {
   return lua_tointeger(lua, -1);
 }
 """
-LUA_SETJMP = "typedef int jmp_buf[1];\n"
+# Headers that Lua's source includes: one that wasi-libc has not, and one that Debian's build of Lua writes.
+LUA_HEADERS = {"setjmp.h": "typedef int jmp_buf[1];\n",
+               "lua5.4-deb-multiarch.h": '#define DEB_HOST_MULTIARCH "wasm32-wasi"\n'}
 LUA_FLAGS = ("-DLUAI_THROW(L,c)=__builtin_trap()", "-DLUAI_TRY(L,c,a)=a", "-Dluai_jmpbuf=int", "-D_WASI_EMULATED_SIGNAL",
              "-D_WASI_EMULATED_PROCESS_CLOCKS", "-lwasi-emulated-process-clocks", "-Wno-everything")
 LUA = """

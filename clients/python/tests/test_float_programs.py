@@ -108,7 +108,8 @@ class Compared(unittest.TestCase):
         """The interpreter, by a script with closures and doubles."""
         headers = self.folder / "headers"
         headers.mkdir()
-        (headers / "setjmp.h").write_text(f.LUA_SETJMP)
+        for name, lines in f.LUA_HEADERS.items():
+            (headers / name).write_text(lines)
         left_out = ("lua", "luac", "linit", "loslib", "liolib", "ldblib", "loadlib", "lcorolib", "lutf8lib")
         sources = [str(file) for file in sorted(Path(LUA, "src").glob("*.c")) if file.stem not in left_out]
         text = f.LUA_MAIN.replace("SCRIPT", json.dumps(f.LUA))
