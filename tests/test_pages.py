@@ -20,8 +20,10 @@ from suite.places import CLIENT, EXAMPLES, TOP, built, need
 from suite.summary import NotRun
 
 PAGES = ("README.md", "docs/TOUR.md", "docs/COMMANDS.md", "docs/OPERATIONS.md")
+# Its blocks name the host that has to be there. `make check-containers` runs them.
+HOSTS = ("docs/CONTAINERS.md", ("setup", "podman", "docker", "containerd", "shim"))
 FENCE = re.compile(r"(?P<before>[^\n]*)\n```(?P<kind>\w*)\n(?P<lines>.*?)^```$", re.DOTALL | re.MULTILINE)
-MARK = re.compile(r"<!-- (?:run|not run: \S.*) -->")
+MARK = re.compile(r"<!-- not run: \S.* -->")
 PROMPT = "(feulgama) "
 # What the debugger says each two seconds of a search. A page has no such line, but a busy machine has.
 PROGRESS = re.compile(r"^looking for writes since \d+ seconds; Ctrl-C breaks it off\n", re.MULTILINE)
@@ -87,14 +89,16 @@ def clone(folder: Path, program: Path) -> None:
     put_program(folder / "bin/wasm-shim", program)
 
 
-@pytest.mark.parametrize("name", PAGES)
+@pytest.mark.parametrize("name", (*PAGES, HOSTS[0]))
 def test_each_block_says_whether_it_is_run(name: str) -> None:
     text = (TOP / name).read_text()
     found = blocks(text)
     assert len(found) == len(re.findall("^```", text, re.MULTILINE)) // 2 > 0
-    unmarked = [lines for before, lines in found if not MARK.fullmatch(before)]
+    runs = {"<!-- run -->"} if name in PAGES else {f"<!-- run: {host} -->" for host in HOSTS[1]}
+    unmarked = [lines for before, lines in found if before not in runs and not MARK.fullmatch(before)]
     assert not unmarked, f"{name}: no comment `run` or `not run: WHY` before\n{unmarked[0]}"
-    strange = [lines for before, lines in found if before == "<!-- run -->" and not lines.startswith("$ ")]
+    assert runs <= {before for before, _ in found}
+    strange = [lines for before, lines in found if before in runs and not lines.startswith("$ ")]
     assert not strange, f"{name}: does not begin with `$ `\n{strange[0]}"
 
 

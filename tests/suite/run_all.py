@@ -49,7 +49,7 @@ def of_command(*words: str, is_quick: bool = False) -> Suite:
 SUITES = [
     of_tests("own-tests", "tests/test_checks.py", "tests/test_gate.py", "tests/test_suites.py", "tests/test_tools.py"),
     of_tests("examples", "tests/test_examples.py"),
-    of_tests("pages", "tests/test_pages.py"),
+    of_tests("pages", "tests/test_pages.py", "tests/test_kubernetes.py"),
     of_tests("rows", "tests/test_rows.py"),
     of_tests("live-callers", "tests/test_live_callers.py", "tests/test_log.py", "tests/test_units.py",
              "tests/test_workers.py"),

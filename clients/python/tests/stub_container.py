@@ -55,6 +55,14 @@ class StubContainer:
             self.shim.step(self.name, min(1000, turns))
             turns -= 1000
 
+    def kill(self) -> None:
+        """Ends the task from outside, which the debugger is told unasked, and removes the container."""
+        self.shim.kill(self.name, 15)
+        state = json.dumps(self._state())
+        if self.guest is not None:
+            self.guest.sendall(b'{"ended":%s}\n' % state.encode())
+        self.close()
+
     def close(self) -> None:
         """Removes the container, with its debugger."""
         self._socket.close()

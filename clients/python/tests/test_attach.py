@@ -215,6 +215,15 @@ class Going(Attached):
         self.assertEqual(timeline.memory(1024, 4), b"the ")
         self.assertEqual(list(commands.answer("reverse-stepi"))[0].split(" at ")[0], f"turn {end - 1}")
 
+    def test_a_container_that_is_killed_and_removed(self) -> None:
+        container = self.container()
+        debugger, timeline = self.opened(self.link())
+        commands = Commands(debugger)
+        container.kill()
+        self.assertEqual(list(commands.answer("stepi")), ["ended after 600 turns: kill, exit 143"])
+        self.assertEqual(list(commands.answer("reverse-stepi 2"))[0].split(" <")[0], "turn 598 at 0:4")
+        self.assertEqual(goodbye(timeline._link, timeline), "one has ended: kill, exit 143")
+
     def test_few_requests_left(self) -> None:
         container = self.container()
         container.left = 400

@@ -15,7 +15,8 @@ from .base import BUILD, Check
 
 DEBIAN = TOP / "packaging/debian"
 COMPLETIONS = TOP / "packaging/completions"
-COMMANDS = {"wasm-shim": ("serve", "replay", "asm", "check", "run"), "feulgama": ("debug", "attach", "timeline", "dap", "lower")}
+COMMANDS = {"wasm-shim": ("serve", "replay", "asm", "check", "run"),
+            "feulgama": ("debug", "attach", "timeline", "dap", "lower")}
 GO_PROGRAMS = ("feulgama/feulgama-oci", "feulgama/containerd-shim-feulgama-v1")
 # An option at the beginning of its line of a help, and a second name of it.
 OPTION = re.compile(r"^ +(-[\w-]+)(?:[ =][A-Z<][^\s,]*)?(?:, (-[\w-]+))?", re.MULTILINE)

@@ -2,10 +2,12 @@
 from __future__ import annotations
 
 import base64
+import importlib
 import re
 import time
 from typing import Any, ClassVar
 
+from checks.images import TOP
 from checks.machine import command, until
 
 from .base import MEBIBYTE, WithDaemon
@@ -15,14 +17,23 @@ NODE = 2  # the network of the host, for which no plugin has to be there
 EXITED = 2
 
 
+def limits(container: dict[str, Any]) -> dict[str, int]:
+    """The limits of a container of Kubernetes, as a kubelet gives them to a runtime."""
+    given = container["resources"]["limits"]
+    found = {"memory_limit_in_bytes": int(given["memory"].removesuffix("Mi")) * MEBIBYTE}
+    if "cpu" in given:
+        found |= {"cpu_period": 100_000, "cpu_quota": int(given["cpu"].removesuffix("m")) * 100}
+    return found
+
+
 class Cri(WithDaemon):
     """Sandboxes, containers, logs, statistics, looks."""
 
     cri = True
-    images = ("hello", "counts", "exit7", "bad", "environment")
+    images = ("hello", "counts", "exit7", "bad", "environment", "echo", "double")
     pods: ClassVar[int] = 0
 
-    def pod(self) -> tuple[str, dict[str, Any]]:
+    def pod(self, **more: object) -> tuple[str, dict[str, Any]]:
         """Runs a sandbox, and answers its id and its config."""
         type(self).pods += 1
         logs = self.daemon.at / f"logs{self.pods}"
@@ -31,6 +42,7 @@ class Cri(WithDaemon):
             "metadata": {"name": f"pod{self.pods}", "uid": f"uid{self.pods}", "namespace": "default"},
             "log_directory": str(logs),
             "linux": {"cgroup_parent": f"/{self.daemon.cgroup}", "security_context": {"namespace_options": {"network": NODE}}},
+            **more,
         }
         answer = self.daemon.call("RunPodSandbox", config=config, runtime_handler="feulgama")
         return str(answer["pod_sandbox_id"]), config
@@ -124,6 +136,39 @@ class Cri(WithDaemon):
         why = self.refused(self.container(pod, "environment", envs=entries))
         self.assertRegex(why, re.escape("refused 10 BadConfig") + ".*" + re.escape("enableServiceLinks: false"))
         self.remove(pod)
+
+    # the files of examples/kubernetes, as a kubelet would ask for them
+
+    def example(self, name: str) -> dict[str, Any]:
+        """The object of a file."""
+        try:
+            yaml = importlib.import_module("yaml")
+        except ImportError:
+            self.skipTest("packages are missing: python3-yaml")
+        found: dict[str, Any] = yaml.safe_load((TOP / "examples/kubernetes" / name).read_text())
+        return found
+
+    def test_example_pod(self) -> None:
+        """pod.yaml: its annotation comes through, and a module with doubles runs"""
+        about = self.example("pod.yaml")
+        pod = self.pod(annotations=about["metadata"]["annotations"])
+        container = self.container(pod, "double", linux={"resources": limits(about["spec"]["containers"][0])})
+        self.daemon.call("StartContainer", container_id=container)
+        self.assertEqual(self.ended(container)["exit_code"], 4)
+        self.remove(pod)
+
+    def test_example_job(self) -> None:
+        """job.yaml: some of its pods, each with its number as argument"""
+        template = self.example("job.yaml")["spec"]["template"]["spec"]["containers"][0]
+        for index in (0, 1, 7, 42, 500, 998, 999):
+            pod = self.pod()
+            words = [word.replace("$(JOB_COMPLETION_INDEX)", str(index)) for word in template["command"]]
+            container = self.container(pod, "echo", command=words, linux={"resources": limits(template)},
+                                       envs=[{"key": "JOB_COMPLETION_INDEX", "value": str(index)}])
+            self.daemon.call("StartContainer", container_id=container)
+            self.assertEqual(self.ended(container).get("exit_code", 0), 0)
+            self.assertEqual(self.log(pod, "echo"), ["stdout F /echo.wasm", f"stdout F {index}"])
+            self.remove(pod)
 
     def test_pod_that_is_stopped(self) -> None:
         """a pod that is stopped takes its running containers along"""

@@ -12,7 +12,7 @@ from dataclasses import dataclass, field
 from pathlib import Path
 from typing import Any
 
-from checks.images import Images, Picture
+from checks.images import TOP, Images, Picture
 from checks.machine import Ended, Machine, command, must, until
 
 RUNTIME = "io.containerd.feulgama.v1"
@@ -33,9 +33,8 @@ CRI = """[plugins."io.containerd.grpc.v1.cri"]
   restrict_oom_score_adj = true
 [plugins."io.containerd.grpc.v1.cri".containerd.runtimes.runc]
   runtime_type = "io.containerd.runc.v2"
-[plugins."io.containerd.grpc.v1.cri".containerd.runtimes.feulgama]
-  runtime_type = "io.containerd.feulgama.v1"
 """
+EXAMPLE = TOP / "examples/kubernetes/containerd.toml"
 
 
 @dataclass
@@ -67,6 +66,8 @@ class Daemon:
         text = CONFIG.format(at=self.at, disabled=disabled)
         if cri:
             text += CRI.format(sandbox=setting.images.all["hello"].reference)
+            # The part that users are told to add, without the line of the version.
+            text += EXAMPLE.read_text().partition("version = 2\n")[2]
         (self.at / "config.toml").write_text(text)
 
     def start(self) -> None:
@@ -160,6 +161,20 @@ class Daemon:
         self.must("containers", "delete", name)
         found = re.search(r"exit with non-zero exit code (\d+)", ended.err)
         return int(found[1]) if found else ended.status
+
+    def attach_words(self, *words: str) -> list[str]:
+        """The words that start a debugger on a container."""
+        program = self.setting.folder / "wasm-shim"
+        # The sanitizer of a program that was not proved needs all of the address space.
+        memory = ["--memory=0"] if b"AddressSanitizer" in program.read_bytes() else []
+        return [f"{self.setting.folder}/feulgama", "--shim", str(program), "attach", *memory, "--state", f"{self.at}/state",
+                *words]
+
+    def attach(self, script: str, name: str) -> Ended:
+        """What a debugger writes whose user types some lines."""
+        file = self.at / "script"
+        file.write_text(script)
+        return command(self.attach_words("--commands", str(file), name), self.environment)
 
     def shims(self) -> list[int]:
         """The shims of this containerd."""

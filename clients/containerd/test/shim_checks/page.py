@@ -43,7 +43,7 @@ class Page(Check):
         # The sanitizer of a program that was not proved needs all of the address space.
         memory = "--memory=0" if b"AddressSanitizer" in program.read_bytes() else ""
         debugger = cls.daemon.at / "bin/feulgama"
-        debugger.write_text(f'#!/bin/sh\nshift; exec {TOP}/clients/python/bin/feulgama --shim /usr/local/bin/wasm-shim attach '
+        debugger.write_text(f'#!/bin/sh\nshift; exec {cls.setting.folder}/feulgama --shim /usr/local/bin/wasm-shim attach '
                             f'{memory} --state {cls.daemon.at}/state "$@"\n')
         debugger.chmod(0o755)
         # /usr/local/bin is the tests' own (see `run`).

@@ -2,12 +2,13 @@
 from __future__ import annotations
 
 import os
+import resource
 import shutil
 import sys
-import time
 from pathlib import Path
 
 from checks.images import HEAD, TOP, Images, load_tool
+from checks.lowered import put_command
 from checks.machine import PACKAGES, Machine, command, missing, must
 
 from .daemon import Setting
@@ -18,7 +19,7 @@ PACKAGES[LIBRARY] = "golang-github-containerd-containerd-dev"
 TOOLS = ("go", "gofmt", "gcc", LIBRARY, "containerd", "ctr", "containerd-shim-runc-v2", "runc")
 # Another native program, static and as small as the module `hello`.
 NATIVE = '#include <unistd.h>\nint main(void) { return write(1, "hello, feulgama\\n", 16) != 16; }\n'
-# rounds calls a function for some seconds, and then ends with 7. exit1000 ends with a status that has more than 8 bits; full writes 77,000 bytes; pages begins with 17 pages, as programs
+# exit1000 ends with a status that has more than 8 bits; full writes 77,000 bytes; pages begins with 17 pages, as programs
 # in Rust do, and exits with that number.
 TEXTS = {
     "exit1000": HEAD + "(func $start (type $v) i32.const 1000 call $proc_exit))",
@@ -28,6 +29,7 @@ TEXTS = {
     "pages": HEAD.replace("(memory 1)", "(memory 17)") + "(func $start (type $v) memory.size call $proc_exit))",
 }
 
+# Calls a function for some seconds, and ends with 7.
 ROUNDS = (HEAD + '''(export "add" (func $add))
   (data (offset i32.const 0) "\\08\\00\\00\\00\\06\\00\\00\\00begun\\0a\\00\\00\\18\\00\\00\\00\\06\\00\\00\\00ended\\0a")
   (func $add (type $add) local.get 0 i64.const 1 i64.add)
@@ -40,12 +42,12 @@ ROUND_SECONDS = 4.0
 
 def rounds(images: Images) -> int:
     """How many rounds take some seconds by the program under test."""
-    some, file = 100_000, images.folder / "rounds.wasm"
+    some, file = 10_000, images.folder / "rounds.wasm"
     while True:
         file.write_bytes(images.assemble(ROUNDS.replace("{rounds}", str(some))))
-        began = time.monotonic()
+        before = resource.getrusage(resource.RUSAGE_CHILDREN).ru_utime
         command([images.program, "run", file])
-        seconds = time.monotonic() - began
+        seconds = resource.getrusage(resource.RUSAGE_CHILDREN).ru_utime - before
         if seconds > 0.2:
             return int(some * ROUND_SECONDS / seconds)
         some *= 4
@@ -78,6 +80,7 @@ def prepare(machine: Machine, program: Path, race: bool) -> Setting:
     """Builds the programs, and makes the images."""
     folder = machine.folder / "bin"
     folder.mkdir()
+    put_command(folder)
     shutil.copy(program, folder / "wasm-shim")
     (folder / "wasm-shim").chmod(0o755)
     must([CLIENT / "build", *(["--race"] if race else []), folder / "containerd-shim-feulgama-v1"], seconds=600)
@@ -92,9 +95,11 @@ def prepare(machine: Machine, program: Path, race: bool) -> Setting:
     for name, text in TEXTS.items():
         images.modules[name] = images.assemble(text)
         images.add(name, {f"{name}.wasm": images.modules[name]}, f"/{name}.wasm")
-    images.modules["rounds"] = images.assemble(ROUNDS.replace("{rounds}", str(rounds(images))))
+    some = rounds(images)
+    images.modules["rounds"] = images.assemble(ROUNDS.replace("{rounds}", str(some)))
+    images.modules["many-rounds"] = images.assemble(ROUNDS.replace("{rounds}", str(8 * some)))
     images.modules["words"] = (TOP / "clients/python/examples/words.wasm").read_bytes()
-    for name in ("rounds", "words"):
+    for name in ("rounds", "many-rounds", "words"):
         images.add(name, {f"{name}.wasm": images.modules[name]}, f"/{name}.wasm")
     images.add("static", {"native": (folder / "native").read_bytes()}, "/native")
     lines = command(["/usr/bin/python3", "-c", "import elftools"]).status == 0

@@ -47,7 +47,8 @@ class Containerd(Host):
         limit = [f"--memory-limit={wish.memory}"] if wish.memory else []
         entries = [f"--env={entry}" for entry in wish.entries]
         runtime = [f"--runc-binary={self.setting.runtime}", f"--runc-root={self.folder}/runc"]
-        return [*runtime, f"--cgroup=/{self.cgroup}/{name}", *limit, *entries]
+        annotations = [f"--annotation={wish.annotation}"] if wish.annotation else []
+        return [*runtime, f"--cgroup=/{self.cgroup}/{name}", *limit, *entries, *annotations]
 
     def run(self, wish: Wish) -> Ended:
         name = self.fresh()

@@ -1,6 +1,7 @@
 """What a container of a module does, the same under each host."""
 from __future__ import annotations
 
+import dataclasses
 import os
 import signal
 import time
@@ -11,6 +12,7 @@ from typing import ClassVar
 from .containerd import Containerd
 from .engines import Docker, Engine, Podman
 from .host import Host, Setting, Wish
+from .lowered import ANNOTATION
 from .machine import Ended, command, missing, processor_time, until
 from .runc import Runc
 
@@ -84,6 +86,34 @@ class Containers(unittest.TestCase):
         self.assertEqual((ended.status, ended.out), (125, ""))
         self.assertIn("refused 7 BadModule\n", ended.err)
         self.assertIn("why: byte 0x43 at offset 35, function 0: f32.const", ended.err)
+
+    # modules that have to be lowered
+
+    def lowered(self, name: str, value: str = "true") -> Ended:
+        """What becomes of a container whose annotation asks for it."""
+        return self.host.run(dataclasses.replace(self.wish(name), annotation=f"{ANNOTATION}={value}"))
+
+    def test_lowered(self) -> None:
+        """modules with doubles and with bulk memory are refused, and run if the annotation asks for lowering"""
+        if not self.host.has_annotations():
+            self.skipTest("this version of the host has no annotations")
+        for name, status in (("double", 4), ("bulk", 9)):
+            ended = self.host.run(self.wish(name))
+            self.assertEqual(ended.status, 125)
+            self.assertIn("refused 7 BadModule\n", ended.err)
+            ended = self.lowered(name)
+            self.assertEqual((ended.status, ended.out), (status, ""), ended.err)
+
+    def test_not_lowered(self) -> None:
+        """the reason is told of modules that cannot be lowered, and of a value that the annotation cannot have"""
+        if not self.host.has_annotations():
+            self.skipTest("this version of the host has no annotations")
+        for name, value, word in (("vector", "true", "the module cannot be lowered: .*SIMD"),
+                                  ("roots", "true", "the lowered module has more than 262144 bytes"),
+                                  ("double", "yes", 'dev.shim.lower is "yes", and it can be true or false')):
+            ended = self.lowered(name, value)
+            self.assertNotIn(ended.status, (0, 4), ended.out)
+            self.assertRegex(ended.err.replace("\\", ""), word)
 
     # what a module sees
 

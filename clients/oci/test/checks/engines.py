@@ -35,11 +35,15 @@ class Engine(Host):
         for picture in self.setting.images.all.values():
             self.must("load", "-q", "-i", str(self.archive(picture)))
 
+    def has_annotations(self) -> bool:
+        return "--annotation" in command(self.words("run", "--help"), self.environment).out
+
     def asked(self, wish: Wish) -> list[str]:
         """The words for a container."""
         limit = [f"--memory={wish.memory}"] if wish.memory else []
         entries = [f"--env={entry}" for entry in wish.entries]
-        return [*self.options(), *limit, *entries, *wish.options, wish.picture.reference, *wish.words]
+        annotations = [f"--annotation={wish.annotation}"] if wish.annotation else []
+        return [*self.options(), *limit, *entries, *annotations, *wish.options, wish.picture.reference, *wish.words]
 
     def run(self, wish: Wish) -> Ended:
         return command(self.words("run", "--rm", *self.asked(wish)), self.environment)

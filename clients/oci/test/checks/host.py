@@ -38,6 +38,7 @@ class Wish:
     memory: int | None = None  # the limit, in bytes
     entries: tuple[str, ...] = ()  # of the environment
     options: tuple[str, ...] = ()  # of podman's and docker's run
+    annotation: str = ""  # NAME=VALUE
 
 
 class Host(ABC):
@@ -77,6 +78,10 @@ class Host(ABC):
 
     def stop(self) -> None:
         """Stops the host."""
+
+    def has_annotations(self) -> bool:
+        """Whether a container can be given annotations."""
+        return True
 
     @abstractmethod
     def run(self, wish: Wish) -> Ended:

@@ -11,6 +11,7 @@ from dataclasses import dataclass, field
 from pathlib import Path
 from typing import Any
 
+from .lowered import MODULES
 from .machine import must
 
 TOP = Path(__file__).resolve().parents[4]
@@ -119,7 +120,7 @@ class Images:
         files = {"hello": example / "hello.wat", "echo": example / "echo.wat", "counts": counts}
         texts = self.texts = {**TEXTS, **{name: file.read_text() for name, file in files.items()}}
         texts["environment"] = texts["echo"].replace('"args_', '"environ_')
-        modules = self.modules = {"bad": BAD, **{name: self.assemble(text) for name, text in texts.items()}}
+        modules = self.modules = {"bad": BAD, **MODULES, **{name: self.assemble(text) for name, text in texts.items()}}
         for name, module in modules.items():
             self.add(name, {f"{name}.wasm": module}, f"/{name}.wasm")
         self.add("native", {"feulgama-oci": self.native.read_bytes()}, "/feulgama-oci", "--help")

@@ -40,6 +40,9 @@ class Runc(Host):
         config["process"].update(terminal=False, args=words)
         config["process"]["env"] += [*wish.picture.environment, *wish.entries]
         config["linux"]["cgroupsPath"] = f"/{self.cgroup}/{name}"
+        if wish.annotation:
+            name_of, _, value = wish.annotation.partition("=")
+            config["annotations"] = {name_of: value}
         if wish.memory:
             config["linux"]["resources"]["memory"] = {"limit": wish.memory}
         (bundle / "config.json").write_text(json.dumps(config))

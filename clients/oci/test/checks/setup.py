@@ -8,6 +8,7 @@ from pathlib import Path
 
 from .host import Setting
 from .images import TOP, Images, load_tool
+from .lowered import put_command
 from .machine import Machine, missing, must
 from .source import CLIENT, TOOLS
 
@@ -49,6 +50,7 @@ def prepare(machine: Machine, program: Path, race: bool) -> Setting:
     shim = beside / "wasm-shim"
     shutil.copy(program, shim)
     shim.chmod(0o755)
+    put_command(beside)
     runtime, native = beside / "feulgama-oci", beside / "native"
     must([CLIENT / "build", native], seconds=600)
     must([CLIENT / "build", *(["--race"] if race else []), runtime], seconds=600)

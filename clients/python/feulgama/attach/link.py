@@ -1,6 +1,7 @@
 """A connection to a container's shim, which asks its requests of the container's task."""
 from __future__ import annotations
 
+import contextlib
 import json
 from collections.abc import Mapping, Sequence
 from typing import Any, TypeVar
@@ -102,7 +103,8 @@ class Link(Answering):
         self._asked += len(lines)
         try:
             if not self.is_closed:
-                self._socket.sendall(b"".join(line + b"\n" for line in lines))
+                with contextlib.suppress(BrokenPipeError, ConnectionResetError):  # what was said before can be read
+                    self._socket.sendall(b"".join(line + b"\n" for line in lines))
                 while len(replies) < len(lines):
                     replies.append(self._reply())
         except (OSError, ContainerGoneError):

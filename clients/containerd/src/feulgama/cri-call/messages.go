@@ -22,9 +22,10 @@ type (
 		SecurityContext *securityContext `protobuf:"bytes,2,opt,name=security_context" json:"security_context,omitempty"`
 	}
 	sandboxConfig struct {
-		Metadata     *sandboxMetadata `protobuf:"bytes,1,opt,name=metadata" json:"metadata,omitempty"`
-		LogDirectory string           `protobuf:"bytes,3,opt,name=log_directory" json:"log_directory,omitempty"`
-		Linux        *linuxSandbox    `protobuf:"bytes,8,opt,name=linux" json:"linux,omitempty"`
+		Metadata     *sandboxMetadata  `protobuf:"bytes,1,opt,name=metadata" json:"metadata,omitempty"`
+		LogDirectory string            `protobuf:"bytes,3,opt,name=log_directory" json:"log_directory,omitempty"`
+		Annotations  map[string]string `protobuf:"bytes,7,rep,name=annotations" json:"annotations,omitempty" protobuf_key:"bytes,1,opt,name=key" protobuf_val:"bytes,2,opt,name=value"`
+		Linux        *linuxSandbox     `protobuf:"bytes,8,opt,name=linux" json:"linux,omitempty"`
 	}
 	runPodSandboxRequest struct {
 		Config         *sandboxConfig `protobuf:"bytes,1,opt,name=config" json:"config,omitempty"`
@@ -56,6 +57,7 @@ type (
 	containerConfig struct {
 		Metadata *containerMetadata `protobuf:"bytes,1,opt,name=metadata" json:"metadata,omitempty"`
 		Image    *imageSpec         `protobuf:"bytes,2,opt,name=image" json:"image,omitempty"`
+		Command  []string           `protobuf:"bytes,3,rep,name=command" json:"command,omitempty"`
 		Args     []string           `protobuf:"bytes,4,rep,name=args" json:"args,omitempty"`
 		Envs     []*keyValue        `protobuf:"bytes,6,rep,name=envs" json:"envs,omitempty"`
 		LogPath  string             `protobuf:"bytes,11,opt,name=log_path" json:"log_path,omitempty"`
