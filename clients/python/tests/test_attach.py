@@ -219,6 +219,7 @@ class Going(Attached):
         container = self.container()
         debugger, timeline = self.opened(self.link())
         commands = Commands(debugger)
+        self.assertEqual(list(commands.stopped())[0], "turn 600 at 0:0 <_start>, 1 frame")
         container.kill()
         self.assertEqual(list(commands.answer("stepi")), ["ended after 600 turns: kill, exit 143"])
         self.assertEqual(list(commands.answer("reverse-stepi 2"))[0].split(" <")[0], "turn 598 at 0:4")

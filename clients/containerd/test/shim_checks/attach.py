@@ -63,7 +63,11 @@ class Session:
         before = len(self.text)
         self.process.stdin.write(f"{line}\n".encode())
         self.process.stdin.flush()
-        until(f"an answer to {line}: {answer}", lambda: re.search(answer, self.text[before:]) is not None)
+        try:
+            # A program that was not proved makes its turns slowly.
+            until("an answer", lambda: re.search(answer, self.text[before:]) is not None, 180.0)
+        except TimeoutError as fault:
+            raise AssertionError(f"{line} is answered {self.text[before:]!r}, and not {answer!r}") from fault
 
     def leave(self) -> int:
         """Ends its input, and so the session; its status."""

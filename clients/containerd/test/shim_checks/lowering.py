@@ -57,5 +57,5 @@ class Lowering(WithDaemon):
         name = self.daemon.begin("double", options=[f"--annotation={ANNOTATION}=true"])
         until("it has ended", lambda: self.daemon.status(name) == "stopped")
         ended = self.daemon.attach("reverse-stepi\n", name)
-        self.assertRegex(ended.out, r"ended after \d+ turns: exit, exit 4\n.*\nturn \d+ at 1:3 <_start>", ended.err)
+        self.assertRegex(ended.out, r"ended after \d+ turns: exit, exit 4\n.*\nturn \d+ at 1:4 <_start>", ended.err)
         self.assertEqual(self.daemon.remove(name), 4)

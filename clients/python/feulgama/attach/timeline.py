@@ -54,6 +54,11 @@ class LiveTimeline(Timeline):
             return super()._take(turn, interrupted)
         return found
 
+    def _note_end(self, track: Track) -> None:
+        super()._note_end(track)
+        if track.exit is not None:
+            self._seen.pop(track.turn, None)  # where it was before somebody killed it
+
     def _leave_unusable(self) -> None:
         """Lets a task of the debugger's own take the place of a container that is gone, or answers too few requests."""
         if self._track is self.live and not self.live.is_usable:

@@ -103,13 +103,16 @@ func (c *container) attach(g *guest) (*greeting, error) {
 		g.ran = err == nil && status == lines.Paused
 	}
 	state, _, err := c.process.Relay(lines.Of(lines.State, c.task))
-	if err != nil {
-		return nil, err
-	}
 	if g.ran {
 		c.status = lines.Paused
 		c.copyNow()
 		c.events.Tell(runtime.TaskPausedEventTopic, &events.TaskPaused{ContainerID: c.request.ID})
+	}
+	if err != nil {
+		if g.ran {
+			g.resume()
+		}
+		return nil, err
 	}
 	c.guest = g
 	return &greeting{

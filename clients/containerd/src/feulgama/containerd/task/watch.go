@@ -58,8 +58,8 @@ func (c *container) finish(reply lines.Reply) {
 	}
 	all[lines.Stderr] = append(all[lines.Stderr], remarks(all, reply)...)
 	c.streams.Finish(all)
+	c.tellGuest(reply) // before somebody can remove the container
 	c.tellEnd(reply.Exit)
-	c.tellGuest(reply)
 }
 
 // remarks is what standard error says after the module, as that of `wasm-shim run` does.
