@@ -1,4 +1,4 @@
-//! One worker and several tasks that never end: each gets on, by slices of 10,000 turns.
+//! One worker and tasks that never end: each begins and gets on, by slices of 10,000 turns.
 
 use crate::scripts::side_by_side;
 use crate::stories::{Story, tell};
@@ -48,7 +48,28 @@ const END_LINES: &str = r#"{"op":"kill","id":"a","signal":9}
 {"op":"wait","id":"e"}
 "#;
 
-/// A gate that counts the slices of the five tasks.
+/// Stores that module, creates one task of it and starts it. No line follows.
+const BEGIN_ONE: &str =
+    r#"{"op":"put","hex":"0061736d0100000001040160000003020100070a01065f737461727400000a0901070003400c000b0b"}
+{"op":"create","id":"a","config":"{\"ociVersion\":\"1.0.2\",\"process\":{\"args\":[\"a\"],\"cwd\":\"/\"},\"annotations\":{\"dev.shim.module\":\"sha256:4ed2cef087a79f7abf368e3903d56c80dd716912cb78b7c9df8a9a8046c5f3a9\"}}"}
+{"op":"start","id":"a"}
+"#;
+
+/// Kills the task, and waits for it.
+const END_ONE: &str = r#"{"op":"kill","id":"a","signal":9}
+{"op":"wait","id":"a"}
+"#;
+
+/// Tasks that never end, in what lines they begin and end, and the gate that counts their slices.
+#[derive(Clone, Copy)]
+pub struct Endless<'a> {
+    ids: &'a [&'a str],
+    begin: &'a str,
+    end: &'a str,
+    gate: &'a Counted,
+}
+
+/// A gate that counts the slices of the tasks `a` to `e`.
 #[derive(Drop)]
 pub struct Counted {
     a: AtomicU64,
@@ -87,18 +108,16 @@ impl Counted {
             .saturating_mul(SLICE_TURNS)
     }
 
-    // Whether each task has had a few slices.
-    fn have_all(&self) -> bool {
+    // Whether each of these tasks has had a few slices.
+    fn have_all(&self, ids: &[&str]) -> bool {
         let few = FEW_SLICES * SLICE_TURNS;
-        ["a", "b", "c", "d", "e"]
-            .iter()
-            .all(|id| self.turns(id) >= few)
+        ids.iter().all(|id| self.turns(id) >= few)
     }
 
     // Waits until each has, for at most a million yields. Whether it has.
-    fn is_shared(&self) -> bool {
+    fn is_shared(&self, ids: &[&str]) -> bool {
         for _ in 0..1_000_000 {
-            if self.have_all() {
+            if self.have_all(ids) {
                 return true;
             }
             thread::yield_now();
@@ -116,11 +135,11 @@ impl Gate for Counted {
     fn ended(&self, _id: &str, _turns: u64, _end: ExitRecord) {}
 }
 
-// What the five waits are answered. None if memory runs out.
-fn ends(alloc: Global, gate: &Counted) -> Option<String> {
+// What the waits are answered. None if memory runs out.
+fn ends(alloc: Global, story: Endless<'_>) -> Option<String> {
     let mut text = String::new(alloc);
-    for id in ["a", "b", "c", "d", "e"] {
-        let n = gate.turns(id);
+    for id in story.ids {
+        let n = story.gate.turns(id);
         let line = format!(in alloc;
             "{{\"cause\":\"kill\",\"exit\":137,\"id\":\"{id}\",\"n\":{n},\"ok\":true,\"signal\":9,\"status\":\"stopped\"}}\n"
         ).ok()?;
@@ -129,28 +148,29 @@ fn ends(alloc: Global, gate: &Counted) -> Option<String> {
     Some(text)
 }
 
-/// One worker runs five tasks that never end, until each has had a few slices; then they are killed. None if
-/// one of them does not get on, or lines come to no end.
+/// One worker runs the tasks, until each has had a few slices; then they are killed. None if one of them does
+/// not get on, or lines come to no end.
 pub fn sharing<R: Row + Send + Sync, W: Threads + Wait + Abort + Sync>(
     rt: &W,
     alloc: Global,
     shim: &Shim<R>,
-    gate: &Counted,
+    story: Endless<'_>,
 ) -> Option<()> {
-    let (begin, end) = ([BEGIN_LINES.as_bytes()], [END_LINES.as_bytes()]);
+    let (begin, end) = ([story.begin.as_bytes()], [story.end.as_bytes()]);
     let (begin, end) = (begin.as_slice(), end.as_slice());
     let run = move || {
         side_by_side(rt, alloc, shim, begin)?;
-        if gate.is_shared() {
+        if story.gate.is_shared(story.ids) {
             side_by_side(rt, alloc, shim, end)
         } else {
             None
         }
     };
-    let told = with_gated_workers(rt, alloc, shim, 1, gate, run).ok()??;
-    let replies = told.first()?.replies.as_slice();
+    let told = with_gated_workers(rt, alloc, shim, 1, story.gate, run).ok()??;
+    let wanted = ends(alloc, story)?;
+    let found = told.first()?.replies.as_slice();
     assert!(rt;
-        replies.ends_with(ends(alloc, gate)?.as_bytes()),
+        found.ends_with(wanted.as_bytes()),
         "each slice has 10,000 turns"
     );
     Some(())
@@ -158,5 +178,25 @@ pub fn sharing<R: Row + Send + Sync, W: Threads + Wait + Abort + Sync>(
 
 #[test]
 fn five_endless_tasks_share_one_worker(rt: HostRuntime) -> Result<(), Fail> {
-    tell(&rt, rt.alloc(), Story::Sharing(&Counted::new()))
+    let gate = Counted::new();
+    let story = Endless {
+        ids: &["a", "b", "c", "d", "e"],
+        begin: BEGIN_LINES,
+        end: END_LINES,
+        gate: &gate,
+    };
+    tell(&rt, rt.alloc(), Story::Sharing(story))
+}
+
+// Its start is the last line, so that no later call tells a worker of it.
+#[test]
+fn a_started_task_begins(rt: HostRuntime) -> Result<(), Fail> {
+    let gate = Counted::new();
+    let story = Endless {
+        ids: &["a"],
+        begin: BEGIN_ONE,
+        end: END_ONE,
+        gate: &gate,
+    };
+    tell(&rt, rt.alloc(), Story::Sharing(story))
 }

@@ -5,7 +5,7 @@ ghost use Rattle.call_journal.specs.Desks.{AreIdle, spot_names};
 ghost use Rattle.call_journal.specs.Seats.{most_seats};
 
 use crate::histories::{four_callers, full_journal, two_callers, two_seats};
-use crate::sharing::{Counted, sharing};
+use crate::sharing::{Endless, sharing};
 use crate::storm::storm;
 use crate::waking::{Sleepers, waking};
 use crate::workers::{Meeting, large_output, run_by_two};
@@ -41,8 +41,8 @@ pub enum Story<'a> {
     LargeOutput,
     /// `waking`.
     Waking(Sleepers<'a>),
-    /// `sharing`, whose slices a gate counts.
-    Sharing(&'a Counted),
+    /// `sharing`.
+    Sharing(Endless<'a>),
 }
 
 fn cells(alloc: Global) -> Result<Cells, Refusal> {
@@ -78,7 +78,7 @@ fn told<R: Row + Send + Sync, W: Threads + Wait + Abort + Sync>(
         Story::Meeting(gate) => run_by_two(rt, alloc, shim, gate),
         Story::LargeOutput => large_output(rt, alloc, shim),
         Story::Waking(story) => waking(rt, alloc, shim, story),
-        Story::Sharing(gate) => sharing(rt, alloc, shim, gate),
+        Story::Sharing(story) => sharing(rt, alloc, shim, story),
     }
 }
 
