@@ -81,12 +81,12 @@ TakesLines (Some xs) (Some ys) lines = lines_of xs ≡ lines ++ lines_of ys
 -- how far the lines have been answered; until the reader has answered its end, each of them had its line feed
 pub record Driving (was : Known) (at_end : Bool) (input left before after : Option (List ℕ)) (now : Known) : Type 0
   where
-  pub lines : List (List ℕ)
-  pub texts : List (List ℕ)
-  pub read : TakesLines input left lines
-  pub whole : at_end ≡ false → Consumes input left (fed lines)
-  pub session : Session IsServed was lines texts now
-  pub appended : Appends before after (joined texts)
+    pub lines : List (List ℕ)
+    pub texts : List (List ℕ)
+    pub read : TakesLines input left lines
+    pub whole : at_end ≡ false → Consumes input left (fed lines)
+    pub session : Session IsServed was lines texts now
+    pub appended : Appends before after (joined texts)
 
 takes_none : (known : Option (List ℕ)) → TakesLines known known []
 takes_none None = tt
@@ -113,7 +113,7 @@ driving_none was at_end input before chunk empty = record {
   read =
       subst (λ r. TakesLines input r []) (prepend_none input ∙ ap (λ x. prepend_known x input) (sym empty))
       (takes_none input);
-  whole = λ open.
+  whole = λ live.
       subst (λ r. Consumes input r []) (prepend_none input ∙ ap (λ x. prepend_known x input) (sym empty))
       (consumes_none input);
   session = refl;
@@ -168,15 +168,15 @@ pub driving_more :
     → (at_end ≡ false → TakesWhole left next line) → IsServed mid line text now
     → Appends writes after text
     → Driving was at_end input next before after now
-driving_more was was_end at_end input left next before writes after mid now line text d open takes whole served
+driving_more was was_end at_end input left next before writes after mid now line text d live takes whole served
     appends = record {
-  lines = d.lines ++ line ∷ [];
-  texts = d.texts ++ text ∷ [];
-  read = takes_more input left next d.lines line d.read takes;
-  whole = λ on. whole_more input left next d.lines line (d.whole open) (whole on);
-  session = session_more was d.lines d.texts mid line text now d.session served;
-  appended = appends_more before writes after d.texts text d.appended appends;
-}
+      lines = d.lines ++ line ∷ [];
+      texts = d.texts ++ text ∷ [];
+      read = takes_more input left next d.lines line d.read takes;
+      whole = λ on. whole_more input left next d.lines line (d.whole live) (whole on);
+      session = session_more was d.lines d.texts mid line text now d.session served;
+      appended = appends_more before writes after d.texts text d.appended appends;
+    }
 
 -- ---- ends
 
@@ -228,9 +228,7 @@ drives_read_fault was at_end input left rest before after now d part = record {
   texts = d.texts;
   read = (
     begin_with input left d.lines d.read,
-    part.1.0,
-    part.1.1,
-    consumes_more input left rest (fed d.lines) part.1.0 (d.whole part.0) part.1.2,
+    (part.1.0, part.1.1, consumes_more input left rest (fed d.lines) part.1.0 (d.whole part.0) part.1.2),
   );
   session = d.session;
   written = d.appended;
@@ -258,6 +256,16 @@ begins_joined texts text front begins = (
       ∙ (ap (λ r. joined texts ++ r) begins.1 ∙ sym (joined_more texts text)),
 )
 
+-- the same, by how the lines end
+pub drives_stopped :
+    (was : Known) (at_end : Bool) (input left rest before after : Option (List ℕ)) (now : Known)
+    (e : Stop) (how : Driven)
+    → Driving was at_end input left before after now → (e ≡ stop.Stream → (at_end ≡ false) × TakesPart left rest)
+    → how ≡ of_read e → Drives how was now input rest before after
+drives_stopped was at_end input left rest before after now e how d part is =
+    subst (λ h. Drives h was now input rest before after) (sym is)
+    (drives_unread was at_end input left rest before after now e d part)
+
 -- a line was answered, and then its answer could not be written
 pub drives_unwritten :
     (was : Known) (at_end : Bool) (input left next rest before writes after : Option (List ℕ)) (mid now : Known)
@@ -267,16 +275,16 @@ pub drives_unwritten :
     → Drives (of_write e) was now input rest before after
 drives_unwritten was at_end input left next rest before writes after mid now line text why.Stream d takes served
     wrote = record {
-  lines = d.lines ++ line ∷ [];
-  texts = d.texts ++ text ∷ [];
-  read = begin_with input next (d.lines ++ line ∷ []) (takes_more input left next d.lines line d.read takes);
-  session = session_more was d.lines d.texts mid line text now d.session served;
-  written = (
-    joined d.texts ++ wrote.0,
-    begins_joined d.texts text wrote.0 wrote.1,
-    Appends-trans before writes after (joined d.texts) wrote.0 d.appended wrote.2,
-  );
-}
+      lines = d.lines ++ line ∷ [];
+      texts = d.texts ++ text ∷ [];
+      read = begin_with input next (d.lines ++ line ∷ []) (takes_more input left next d.lines line d.read takes);
+      session = session_more was d.lines d.texts mid line text now d.session served;
+      written = (
+        joined d.texts ++ wrote.0,
+        begins_joined d.texts text wrote.0 wrote.1,
+        Appends-trans before writes after (joined d.texts) wrote.0 d.appended wrote.2,
+      );
+    }
 drives_unwritten was at_end input left next rest before writes after mid now line text why.OutOfMemory d takes
     served wrote = record {
       lines = d.lines ++ line ∷ [];
@@ -329,10 +337,10 @@ pub driving_after :
     → Driving was was_end input left before writes mid → was_end ≡ false → Came at_end kept left next → kept' ≡ kept
     → Served kept' mid now r writes after → r ≡ Ok done
     → Driving was at_end input next before after now
-driving_after was was_end at_end input left next before writes after kept kept' mid now r done d open came same served
+driving_after was was_end at_end input left next before writes after kept kept' mid now r done d live came same served
     is =
     let line = served_line at_end kept kept' left next writes after mid now r came same served in
-    driving_more was was_end at_end input left next before writes after mid now came.0 line.0 d open came.2 came.3
+    driving_more was was_end at_end input left next before writes after mid now came.0 line.0 d live came.2 came.3
     line.1 (subst (λ x. Writes x line.0 writes after) is line.2)
 
 -- ---- faults

@@ -1,6 +1,6 @@
 use Rattle.std.proofs.Common.{Ok, Err, true≢false, ap, sym, ◌∙◌}
 use Rattle.std.specs.Io.KnownBytes.{prepend_known}
-use Rattle.callers.proofs.DriveLemmas.{driving_none, drives_none, drives_after, driving_after, told_unwritten}
+use Rattle.callers.proofs.DriveLemmas.{driving_none, drives_none, drives_stopped, drives_after, driving_after, told_unwritten}
 use Rattle.callers.proofs.caller.drive.Goals as goal
 
 pub returns-in_default-clause-lines : goal.returns-in_default-clause-lines
@@ -15,6 +15,14 @@ loop-spare-init g c = (
       (g.W.Sink.contents c.args.writer.now)
       c.in-Ok.lines.chunk c.in-Ok.ensures.0,
 )
+
+pub returns-in-Err-clause-lines : goal.returns-in-Err-clause-lines
+returns-in-Err-clause-lines g c =
+    drives_stopped c.args.seat c.loop-spare.lines.at_end (g.R.Source.remaining c.args.reader.now)
+    (prepend_known c.loop-spare.lines.chunk (g.R.Source.remaining c.loop-spare.reader))
+    (g.R.Source.remaining c.next.new.reader) (g.W.Sink.contents c.args.writer.now)
+    (g.W.Sink.contents c.loop-spare.writer) c.loop-spare.seat c.in-Err.stop c.from.result c.loop-spare.invariant.1
+    (λ is. c.in-Err.ensures.fault (ap Err is)) c.from.ensures
 
 pub returns-in-Err-written-clause-lines : goal.returns-in-Err-written-clause-lines
 returns-in-Err-written-clause-lines g c =
