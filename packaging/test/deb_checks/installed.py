@@ -13,9 +13,10 @@ from .root import Root, unmount
 HELLO = "hello, feulgama\n"
 DOCS = "/usr/share/doc/feulgama"
 UNITS = ("feulgama.socket", "feulgama@.service", "feulgama-fifo.service")
-PAGES = {"wasm-shim": "1", "feulgama": "1", "feulgama-oci": "8", "containerd-shim-feulgama-v1": "8"}
+PAGES = {"wasm-shim": "1", "wasm-shim-serve": "1", "feulgama": "1", "feulgama-oci": "8", "containerd-shim-feulgama-v1": "8"}
 # What the man page of a program has to say: of its help, and of the page about its commands.
-SAID = {"wasm-shim": ("serve", "replay", "Why a file is refused"), "feulgama": ("debug", "--shim"),
+SAID = {"wasm-shim": ("serve", "replay", "Why a file is refused"), "wasm-shim-serve": ("--caller", "When an end is logged"),
+        "feulgama": ("debug", "--shim"),
         "feulgama-oci": ("FEULGAMA_RUNC", "supervise"),
         "containerd-shim-feulgama-v1": ("-publish-binary", "-namespace")}
 LOADED = """. /usr/share/bash-completion/bash_completion
