@@ -17,7 +17,8 @@ from tests import float_programs as f
 from tests.small_programs import ALL
 from tests.small_programs import PROGRAMS as WITHOUT
 from tests.support import SHIM
-from tests.test_toolchains import HAS_22, HAS_CPP, HAS_RUST, MEMORY, MISSING, NEEDED, NEEDED_22, NEEDED_CPP, NEEDED_RUST
+from tests.test_toolchains import (HAS_22, HAS_CPP, HAS_NODE, HAS_RUST, MEMORY, MISSING, NEEDED, NEEDED_22, NEEDED_CPP,
+                                   NEEDED_RUST)
 
 ARGS, ENV = ["module", "one", "two"], {"KEY": "value"}
 LUA = os.environ.get("LUA", "")
@@ -25,7 +26,6 @@ NEEDED_LUA = "LUA names the folder that `apt-get source lua5.4` makes, with a li
 HAS_EMSCRIPTEN = shutil.which("emcc") is not None
 EMSCRIPTEN = ("emcc", "-O2", "-s", "STANDALONE_WASM", "-s", "INITIAL_MEMORY=1048576", "-s", "TOTAL_STACK=65536")
 NEEDED_EMSCRIPTEN = "apt-get install -y --no-install-recommends emscripten"
-HAS_NODE = shutil.which("node") is not None
 
 
 @pytest.mark.program

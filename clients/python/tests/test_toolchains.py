@@ -9,6 +9,7 @@ from pathlib import Path
 
 import feulgama
 from feulgama.lowering import lower
+from tests.float_programs import in_node
 from tests.small_programs import ALL, CPP, CPP_SAYS, PROGRAMS, RUST, RUST_SAYS, Program
 from tests.support import SHIM, TOP
 
@@ -24,6 +25,7 @@ HAS_CPP = shutil.which("clang++-14") is not None and Path("/usr/include/wasm32-w
 NEEDED_CPP = "apt-get install -y --no-install-recommends clang-14 libc++-14-dev-wasm32"
 HAS_RUST = Path("/usr/bin/rustc").is_file() and any(Path("/usr/lib/rustlib").glob("wasm32-wasi/lib/libstd-*"))
 NEEDED_RUST = "apt-get install -y --no-install-recommends rustc libstd-rust-dev-wasm32"
+HAS_NODE = shutil.which("node") is not None
 MEMORY = 4 * 2**20
 
 
@@ -100,6 +102,8 @@ class Built(unittest.TestCase):
         subprocess.run(["clang++-14", *flags, "-mbulk-memory", "-ftls-model=local-exec", "-o", out, source], check=True)
         lowered = lower(out.read_bytes())
         self.assertIn("fd_seek", lowered.replaced)
+        if HAS_NODE:
+            self.assertEqual(in_node(out.read_bytes(), ["module"], {}), (CPP_SAYS, "", 3))
         with feulgama.Shim(SHIM) as shim:
             for data in (linked, lowered.data):
                 ran = shim.run(data, memory_limit=MEMORY)
@@ -134,3 +138,5 @@ class Rust(unittest.TestCase):
         with feulgama.Shim(SHIM) as shim:
             ran = shim.run(found.data, memory_limit=MEMORY)
         self.assertEqual((ran.stdout.decode(), ran.exit.code), (RUST_SAYS, 5))
+        if HAS_NODE:  # where five seconds are slept
+            self.assertEqual(in_node(out.read_bytes(), ["module"], {}), (RUST_SAYS, "", 5))
