@@ -1,15 +1,18 @@
 """The words of the terminal: commands, places, expressions and formats."""
 from __future__ import annotations
 
+import contextlib
+import io
 import tempfile
 import unittest
 from pathlib import Path
+from unittest import mock
 
 import feulgama
 from feulgama.debug import dwarf
 from feulgama.debug.commands import COMMANDS, Commands, Quit
 from feulgama.debug.memory import BadFormatError, Format, format_of
-from feulgama.debug.terminal import words_for
+from feulgama.debug.terminal import answer, plain, words_for
 from feulgama.errors import FeulgamaError
 from feulgama.opening import open_debugger
 from tests.support import CLIENT, SHIM, TRAPPING_BYTES
@@ -39,6 +42,14 @@ class Terminal(unittest.TestCase):
         self.assertEqual(len(self.answer("help")), len(COMMANDS))
         with self.assertRaises(Quit):
             self.answer("q")
+
+    def test_nothing_commands_the_terminal(self) -> None:
+        """What is shown may come from a module that nobody trusts."""
+        self.assertEqual(plain("\x1b[2J\ta\x07 \x9b1m \x7f ä"), "\\x1b[2J\ta\\x07 \\x9b1m \\x7f ä")
+        shown = io.StringIO()
+        with contextlib.redirect_stdout(shown), mock.patch.object(self.commands, "answer", lambda _line: ["\x1b]0;title\x07"]):
+            answer(self.commands, "info output")
+        self.assertEqual(shown.getvalue(), "\\x1b]0;title\\x07\n")
 
     def test_places(self) -> None:
         self.assertEqual(self.answer("break count:3")[0].split(" <")[0], "breakpoint 1 at 3:3")

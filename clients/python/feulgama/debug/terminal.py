@@ -16,6 +16,8 @@ from feulgama.errors import FeulgamaError, NoShimError, ShimEndedError
 
 PROMPT = "(feulgama) "
 HISTORY = Path("~/.feulgama_history").expanduser()
+# What a module writes, and its names, may have characters that a terminal takes for commands. They are shown by number.
+CONTROLS = {number: f"\\x{number:02x}" for number in (*range(32), *range(127, 160)) if chr(number) not in "\t\n"}
 TAKES_PLACE = {"break", "b", "until", "u", "list", "l", "disassemble", "dis"}
 
 
@@ -91,6 +93,11 @@ class Progress:
             print(f"looking for writes since {now - self._begin:.0f} seconds; Ctrl-C breaks it off", file=sys.stderr)
 
 
+def plain(line: str) -> str:
+    """A line as a terminal can show it."""
+    return line.translate(CONTROLS)
+
+
 def answer(commands: Commands, line: str) -> None:
     """Does what a line asks for and shows what comes of it; what goes wrong is shown too."""
     timeline = commands.timeline
@@ -103,11 +110,11 @@ def answer(commands: Commands, line: str) -> None:
     before = signal.signal(signal.SIGINT, interrupt)
     try:
         for shown in commands.answer(line):
-            print(shown)
+            print(plain(shown))
     except (ShimEndedError, NoShimError):
         raise
     except FeulgamaError as error:
-        print(error)
+        print(plain(str(error)))
     finally:
         signal.signal(signal.SIGINT, before)
 
@@ -117,7 +124,7 @@ def debug(commands: Commands, source: TextIO, first: Iterable[str] = ()) -> int:
     is_user = source.isatty()
     last = ""
     for shown in commands.stopped():
-        print(shown)
+        print(plain(shown))
     sys.stdout.flush()
     for line in itertools.chain(scripted(first), asked(commands) if is_user else scripted(source)):
         last = line.strip() or (last if is_user else "")

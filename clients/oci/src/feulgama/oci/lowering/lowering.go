@@ -11,6 +11,7 @@ import (
 	"strings"
 	"syscall"
 	"time"
+	"unicode"
 
 	"feulgama/oci/apart"
 	"feulgama/oci/modulefile"
@@ -109,8 +110,15 @@ func failure(err error, said string) error {
 	return fmt.Errorf("the module cannot be lowered: %s", strings.TrimPrefix(reasons[len(reasons)-1], "feulgama: -: "))
 }
 
+// lines are the lines of a text, without characters that a terminal would obey: names of the module may be among them.
 func lines(text string) []string {
-	return strings.FieldsFunc(text, func(letter rune) bool { return letter == '\n' })
+	shown := strings.Map(func(letter rune) rune {
+		if letter != '\n' && !unicode.IsPrint(letter) {
+			return '?'
+		}
+		return letter
+	}, text)
+	return strings.FieldsFunc(shown, func(letter rune) bool { return letter == '\n' })
 }
 
 // limited keeps the first bytes that are written to it, and says that it takes all of them.

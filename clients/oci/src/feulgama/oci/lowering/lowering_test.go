@@ -80,6 +80,7 @@ func TestReasons(t *testing.T) {
 	for script, want := range map[string]string{
 		`echo "feulgama: -: no exceptions" >&2; exit 1`:  "the module cannot be lowered: no exceptions",
 		`echo one >&2; echo "feulgama: two" >&2; exit 1`: "the module cannot be lowered: feulgama: two",
+		`printf 'feulgama: -: no \033[2J\n' >&2; exit 1`: "the module cannot be lowered: no ?[2J",
 		`exit 3`:                   "the command feulgama ended with exit status 3",
 		`head -c 300000 /dev/zero`: "the lowered module has more than 262144 bytes",
 		`yes 1234567 | head -c 80000 >&2; exit 1`: "the module cannot be lowered: 1234567",
