@@ -5,12 +5,14 @@ from typing import ClassVar
 
 from checks.containerd import CONFIG
 from checks.engines import PODMAN_CONFIG
-from checks.machine import until
+from checks.images import TOP
+from checks.machine import Ended, until
 
 from .base import Check
 from .root import Root, unmount
 
 HELLO = "hello, feulgama\n"
+COUNTS = TOP / "clients/oci/test/counts.wat"
 DOCS = "/usr/share/doc/feulgama"
 UNITS = ("feulgama.socket", "feulgama@.service", "feulgama-fifo.service")
 PAGES = {"wasm-shim": "1", "wasm-shim-serve": "1", "feulgama": "1", "feulgama-oci": "8", "containerd-shim-feulgama-v1": "8"}
@@ -84,14 +86,24 @@ class Installed(Check):
         wanted = [path for path in self.root.at.glob("etc/systemd/system/**/*") if "feulgama" in path.name]
         self.assertEqual(wanted, [])
 
-    def image(self) -> str:
+    def image(self, name: str = "hello", text: str = f"{DOCS}/examples/hello.wat") -> str:
         """The archive of an image of a module, made by installed programs."""
-        self.root.must("wasm-shim", "asm", "-o", "/trial/hello.wasm", f"{DOCS}/examples/hello.wat")
-        self.root.must("sh", "-c", f"cd /trial && {DOCS}/examples/image hello.wasm hello:1")
-        return "/trial/hello.tar"
+        self.root.must("wasm-shim", "asm", "-o", f"/trial/{name}.wasm", text)
+        self.root.must("sh", "-c", f"cd /trial && {DOCS}/examples/image {name}.wasm {name}:1")
+        return f"/trial/{name}.tar"
+
+    def attached(self, ctr: tuple[str, ...], options: tuple[str, ...]) -> Ended:
+        """What the debugger writes on a container that runs, which is ended then."""
+        self.root.must(*ctr, "images", "import", self.image("counts", self.root.put(COUNTS, "counts.wat")))
+        self.root.must(*ctr, "run", "-d", *options, "--log-uri=file:///trial/counts.log", "localhost/counts:1", "counts")
+        said = self.root.put("stepi 5\nreverse-stepi\nquit\n", "commands")
+        written = self.root.run("feulgama", "attach", "--state", "/trial/containerd/state", "--commands", said, "counts")
+        self.root.must(*ctr, "tasks", "kill", "counts")
+        until("it has ended", lambda: "exit code 143" in self.root.run(*ctr, "tasks", "delete", "counts").err)
+        return written
 
     def test_7_ctr(self) -> None:
-        """ctr run runs a module by the installed shim"""
+        """ctr run runs a module by the installed shim, and the installed debugger is attached to one that runs"""
         config = self.root.put(CONFIG.format(at="/trial/containerd"), "config.toml")
         machine = self.setting.machine
         machine.daemon(self.root.words("containerd", "--config", config), machine.folder / "containerd.log")
@@ -100,8 +112,10 @@ class Installed(Check):
         self.root.must(*ctr, "images", "import", self.image())
         options = ("--rm", "--runtime=io.containerd.feulgama.v1", f"--cgroup=/{machine.name}/ctr")
         ended = self.root.run(*ctr, "run", *options, "localhost/hello:1", "first")
+        attached = self.attached(ctr, options[1:])
         machine.end_daemons()
         self.assertEqual((ended.status, ended.out), (0, HELLO), ended.err)
+        self.assertRegex(attached.out, r"turn \d+ at 1:\d+ <_start>.*\ncounts runs on from turn \d+\n\Z", attached.err)
 
     def test_8_podman(self) -> None:
         """podman run runs a module by the installed runtime"""

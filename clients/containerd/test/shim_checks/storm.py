@@ -5,6 +5,7 @@ import os
 import random
 import re
 import signal
+import subprocess
 import time
 from collections import Counter
 from concurrent.futures import ThreadPoolExecutor
@@ -83,6 +84,31 @@ class Storm(WithDaemon):
         self.assertEqual(self.end(name), 143)
         self.assertEqual(self.daemon.log(name).read_text(), "begun\n")
         self.all_gone()
+
+    def test_5_debuggers(self) -> None:
+        """50 debuggers of five containers are killed at random moments: the containers run on, and end with 143"""
+        chance = random.Random(20261129)
+        names = [self.counting() for _ in range(5)]
+        for _ in range(MOMENTS):
+            words = self.daemon.attach_words(chance.choice(names))
+            with subprocess.Popen(words, stdin=subprocess.PIPE, stdout=subprocess.DEVNULL, stderr=subprocess.DEVNULL,
+                                  env=self.daemon.environment) as process:
+                assert process.stdin is not None
+                process.stdin.write(b"stepi 10\nbreak 1:7\ncontinue\ncontinue\nreverse-stepi\ndelete\ncontinue\n")
+                process.stdin.flush()
+                time.sleep(chance.random() * 1.5)
+                process.kill()
+        for name in names:
+            self.runs_on(name)
+            self.assertEqual(self.end(name), 143)
+            self.assertEqual(self.daemon.log(name).read_text(), "begun\n")
+        self.all_gone()
+
+    def runs_on(self, name: str) -> None:
+        """Checks that a container runs, and makes turns."""
+        until(f"{name} runs on", lambda: self.daemon.status(name) == "running")
+        first, second = (self.daemon.ctr("tasks", "exec", "--exec-id=x", name, "state").out for _ in range(2))
+        self.assertLess(int(first.split()[2]), int(second.split()[2]))
 
     def killed(self, name: str, what: str, chance: random.Random) -> list[Events]:
         """Kills a process of a container at a random moment of its life. A new containerd has new listeners."""
