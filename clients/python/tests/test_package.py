@@ -146,4 +146,4 @@ class Versions(unittest.TestCase):
         with self.assertRaises(SystemExit) as found, mock.patch("sys.stderr", io.StringIO()) as said:
             main([])
         self.assertEqual(found.exception.code, 2)
-        self.assertIn("a command is needed: debug, timeline, dap or lower", said.getvalue())
+        self.assertIn("a command is needed: debug, attach, timeline, dap or lower", said.getvalue())
