@@ -1,10 +1,8 @@
 """Programs as toolchains make them without any word about floats: lowered, they do what they do in node."""
 from __future__ import annotations
 
-import json
 import os
 import shutil
-import subprocess
 import tempfile
 import unittest
 from pathlib import Path
@@ -13,6 +11,7 @@ import pytest
 
 import feulgama
 from feulgama.lowering import lower
+from tests import float_builds as builds
 from tests import float_programs as f
 from tests.small_programs import ALL
 from tests.small_programs import PROGRAMS as WITHOUT
@@ -24,7 +23,6 @@ ARGS, ENV = ["module", "one", "two"], {"KEY": "value"}
 LUA = os.environ.get("LUA", "")
 NEEDED_LUA = "LUA names the folder that `apt-get source lua5.4` makes, with a line deb-src in apt's sources"
 HAS_EMSCRIPTEN = shutil.which("emcc") is not None
-EMSCRIPTEN = ("emcc", "-O2", "-s", "STANDALONE_WASM", "-s", "INITIAL_MEMORY=1048576", "-s", "TOTAL_STACK=65536")
 NEEDED_EMSCRIPTEN = "apt-get install -y --no-install-recommends emscripten"
 
 
@@ -34,12 +32,9 @@ class Compared(unittest.TestCase):
         self.folder = Path(self.enterContext(tempfile.TemporaryDirectory()))
         self.shim = self.enterContext(feulgama.Shim(SHIM))
 
-    def built(self, text: str, suffix: str, *command: str) -> bytes:
-        """The module that a compiler makes of a text."""
-        source, out = self.folder / f"program{suffix}", self.folder / "program.wasm"
-        source.write_text(text)
-        subprocess.run([*command, "-o", out, source], check=True, cwd=self.folder)
-        return out.read_bytes()
+    def built(self, text: str, *command: str) -> bytes:
+        """The module that a compiler makes of a text of C."""
+        return builds.built(self.folder, text, ".c", *command)
 
     def says(self, data: bytes, stdout: str, status: int, stderr: str = "", node_says: bool = True) -> None:
         """Compares what a lowered module does with what is expected, and that with what node does with the original."""
@@ -53,25 +48,25 @@ class Compared(unittest.TestCase):
         for program in (*WITHOUT, *f.PROGRAMS):
             if program.name == "time" and not has_sleep:
                 continue
-            data = self.built(ALL + program.text, ".c", *command)
+            data = self.built(ALL + program.text, *command)
             self.says(data, program.stdout, program.status, program.stderr, program.name != "time")
 
     @unittest.skipIf(MISSING, f"{', '.join(MISSING)} not there: {NEEDED}")
     def test_c(self) -> None:
         """20 programs by the flags of wasi-libc alone."""
         self.assertEqual(len((*WITHOUT, *f.PROGRAMS)), 20)
-        self.all_of_c("clang-14", "--target=wasm32-wasi", "--sysroot=/usr", "-O2", "-lm")
+        self.all_of_c(*builds.C)
 
     @unittest.skipIf(not HAS_22, f"clang-22 or its library not there: {NEEDED_22}")
     def test_c_by_clang_22(self) -> None:
         """The same with its default features."""
-        self.all_of_c("clang-22", "--target=wasm32-wasi", "--sysroot=/usr", "-O2", "-Wno-deprecated", "-lm")
+        self.all_of_c(*builds.C_BY_22)
 
     @unittest.skipIf(not HAS_EMSCRIPTEN, f"emcc not there: {NEEDED_EMSCRIPTEN}")
     def test_c_by_emscripten(self) -> None:
         """The same with its own library, in the memory that a task has without a limit in its config. Its `sleep` looks at
         the processor's time over and over, which for three seconds takes too many turns."""
-        self.all_of_c(*EMSCRIPTEN, has_sleep=False)
+        self.all_of_c(*builds.EMSCRIPTEN, has_sleep=False)
 
     @unittest.skipIf(not HAS_EMSCRIPTEN, f"emcc not there: {NEEDED_EMSCRIPTEN}")
     def test_a_clock_of_32_bits(self) -> None:
@@ -81,38 +76,20 @@ class Compared(unittest.TestCase):
             long first = clock(), slept = usleep(200), then = clock();
             printf("%ld %ld %ld\\n", first, slept, then);
         }"""
-        self.says(self.built(ALL + text, ".c", *EMSCRIPTEN), "0 0 202\n", 0, node_says=False)
+        self.says(self.built(ALL + text, *builds.EMSCRIPTEN), "0 0 202\n", 0, node_says=False)
 
     @unittest.skipIf(not HAS_CPP, f"clang++-14 or its library not there: {NEEDED_CPP}")
     def test_cpp(self) -> None:
         """A map and streams."""
-        sysroot = self.folder / "sysroot"
-        (sysroot / "lib").mkdir(parents=True)
-        (sysroot / "include").symlink_to("/usr/include/wasm32-wasi")
-        (sysroot / "lib/wasm32-wasi").symlink_to("/usr/lib/wasm32-wasi")
-        data = self.built(f.CPP, ".cc", "clang++-14", "--target=wasm32-wasi", f"--sysroot={sysroot}", "-std=c++17", "-Os",
-                          "-stdlib=libc++", "-isystem", f"{sysroot}/include/c++/v1", "-fno-exceptions", "-Wl,--strip-all",
-                          "-Wl,-z,stack-size=65536")
-        self.says(data, f.CPP_SAYS, 2)
+        self.says(builds.cpp(self.folder), f.CPP_SAYS, 2)
 
     @unittest.skipIf(not HAS_RUST, f"Debian's rustc not there: {NEEDED_RUST}")
     def test_rust(self) -> None:
         """A map with random keys, sums, formats, casts and parsing."""
-        data = self.built(f.RUST, ".rs", "/usr/bin/rustc", "--target", "wasm32-wasi", "-C", "opt-level=s", "-C", "panic=abort",
-                          "-C", "lto=fat", "-C", "strip=symbols", "-A", "warnings")
-        self.says(data, f.RUST_SAYS, 0)
+        self.says(builds.rust(self.folder), f.RUST_SAYS, 0)
 
     @unittest.skipIf(MISSING, f"{', '.join(MISSING)} not there: {NEEDED}")
     @unittest.skipIf(not LUA, NEEDED_LUA)
     def test_lua(self) -> None:
         """The interpreter, by a script with closures and doubles."""
-        headers = self.folder / "headers"
-        headers.mkdir()
-        for name, lines in f.LUA_HEADERS.items():
-            (headers / name).write_text(lines)
-        left_out = ("lua", "luac", "linit", "loslib", "liolib", "ldblib", "loadlib", "lcorolib", "lutf8lib")
-        sources = [str(file) for file in sorted(Path(LUA, "src").glob("*.c")) if file.stem not in left_out]
-        text = f.LUA_MAIN.replace("SCRIPT", json.dumps(f.LUA))
-        data = self.built(text, ".c", "clang-14", "--target=wasm32-wasi", "--sysroot=/usr", "-Os", f"-I{headers}",
-                          f"-I{LUA}/src", *f.LUA_FLAGS, *sources, "-lm", "-Wl,--strip-all", "-Wl,-z,stack-size=65536")
-        self.says(data, f.LUA_SAYS, 3)
+        self.says(builds.lua(self.folder, Path(LUA).resolve()), f.LUA_SAYS, 3)
