@@ -8,6 +8,8 @@ binaryen's wasm-opt. The module of Rust has the path of its source in it, so its
 """
 from __future__ import annotations
 
+import os
+import shutil
 import sys
 import tempfile
 from collections.abc import Iterator
@@ -22,11 +24,21 @@ from tests.small_programs import ALL
 ARGS, ENV, MEMORY = ("module", "one", "two"), {"KEY": "value"}, 4 * 2**20
 
 
+def leave_out_wasm_opt(folder: Path) -> None:
+    """Sets a PATH that has clang and its linker only: clang calls binaryen's wasm-opt where it finds it."""
+    folder.mkdir()
+    for name in ("clang-14", "clang++-14", "wasm-ld-14"):
+        found = shutil.which(name)
+        if found is not None:
+            (folder / name).symlink_to(found)
+    os.environ["PATH"] = str(folder)
+
+
 def modules(folder: Path, sources: Path | None) -> Iterator[tuple[str, bytes]]:
     """The programs, each with its name. What needs wasm-opt comes first."""
     yield "Emscripten: formats", builds.built(folder, ALL + f.PROGRAMS[0].text, ".c", *builds.EMSCRIPTEN)
     yield "Rust", builds.rust(folder)
-    builds.leave_out_wasm_opt(folder / "bin")
+    leave_out_wasm_opt(folder / "bin")
     for one in f.PROGRAMS:
         yield f"C: {one.name}", builds.built(folder, ALL + one.text, ".c", *builds.C, "-Wl,--strip-all")
     yield "C++", builds.cpp(folder)

@@ -2,8 +2,6 @@
 from __future__ import annotations
 
 import json
-import os
-import shutil
 import subprocess
 from pathlib import Path
 
@@ -52,13 +50,3 @@ def lua(folder: Path, sources: Path) -> bytes:
     text = f.LUA_MAIN.replace("SCRIPT", json.dumps(f.LUA))
     return built(folder, text, ".c", "clang-14", "--target=wasm32-wasi", "--sysroot=/usr", "-Os", f"-I{headers}",
                  f"-I{sources}/src", *f.LUA_FLAGS, *files, "-lm", *STRIPPED)
-
-
-def leave_out_wasm_opt(folder: Path) -> None:
-    """Sets a PATH that has clang, its linker and node only: clang calls binaryen's wasm-opt where it finds it."""
-    folder.mkdir()
-    for name in ("clang-14", "clang++-14", "wasm-ld-14", "node"):
-        found = shutil.which(name)
-        if found is not None:
-            (folder / name).symlink_to(found)
-    os.environ["PATH"] = str(folder)
