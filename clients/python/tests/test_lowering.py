@@ -11,6 +11,7 @@ import tempfile
 import time
 import unittest
 from pathlib import Path
+from unittest import mock
 
 import pytest
 
@@ -442,3 +443,18 @@ class Command(unittest.TestCase):
     def test_standard_output(self) -> None:
         run = subprocess.run([TOP / "clients/python/bin/feulgama", "lower", self.file], capture_output=True, check=True)
         self.assertEqual(run.stdout, lower(self.file.read_bytes()).data)
+
+    def test_standard_streams(self) -> None:
+        """As the adapters of containers call it: the list is apart from the module, and a reason has no name of a file."""
+        words = [TOP / "clients/python/bin/feulgama", "lower", "--list", "-o", "-", "-"]
+        data = self.file.read_bytes()
+        run = subprocess.run(words, input=data, capture_output=True, check=True)
+        self.assertEqual(run.stdout, lower(data).data)
+        self.assertEqual(run.stderr.splitlines()[:2], [b"1 memory.copy", b"1 random_get"])
+        run = subprocess.run(words, input=b"no module", capture_output=True, check=False)
+        self.assertEqual((run.returncode, run.stdout), (1, b""))
+        self.assertTrue(run.stderr.startswith(b"feulgama: -: "), run.stderr)
+
+    def test_no_memory(self) -> None:
+        with mock.patch("feulgama.lowering.command.lower", side_effect=MemoryError):
+            self.assertEqual(self.call(), (1, "", "feulgama: out of memory\n"))

@@ -192,12 +192,12 @@ class Containers(WithDaemon):
     def test_sockets_and_mounts(self) -> None:
         """the shim's socket is root's alone, and a container has no mount while it lives"""
         name = self.counting()
-        sockets = list(Path("/run/containerd/s").iterdir())
+        sockets = self.daemon.sockets(name)
         self.assertEqual([stat.S_IMODE(path.stat().st_mode) for path in sockets], [0o600] * len(sockets))
         self.assertEqual(len(sockets), 1)
         self.assertNotIn(f"/{name}/rootfs", Path("/proc/self/mountinfo").read_text())
         self.end(name)
-        until("the socket is gone", lambda: not list(Path("/run/containerd/s").iterdir()))
+        until("the socket is gone", lambda: not self.daemon.sockets(name))
 
     def test_long_name(self) -> None:
         """a name of 76 characters works"""

@@ -1,6 +1,7 @@
 """containerd of the run, with the shim in its PATH, and its client ctr."""
 from __future__ import annotations
 
+import hashlib
 import json
 import re
 import shutil
@@ -59,6 +60,7 @@ class Daemon:
         self.cgroup = f"{setting.machine.name}-{name}"
         self.cri = cri
         self.names = 0
+        self.process: subprocess.Popen[bytes]
         self.at.mkdir()
         path = f"{setting.folder}:/usr/sbin:/usr/bin:/sbin:/bin"
         self.environment = {"PATH": path, "HOME": str(self.at), "TMPDIR": str(self.at)}
@@ -73,7 +75,8 @@ class Daemon:
     def start(self) -> None:
         """Starts it, and waits until it answers. Raises RuntimeError with its log otherwise."""
         program = shutil.which("containerd") or "containerd"
-        self.setting.machine.daemon([program, "--config", self.at / "config.toml"], self.at / "log", self.environment)
+        words = [program, "--config", f"{self.at}/config.toml"]
+        self.process = self.setting.machine.daemon(words, self.at / "log", self.environment)
         try:
             until("an answer", lambda: self.ctr("version").status == 0)
         except TimeoutError as fault:
@@ -81,12 +84,12 @@ class Daemon:
 
     def end(self, hard: bool = False) -> None:
         """Ends it, by SIGKILL if that is asked for. Its containers run on."""
-        daemon = self.setting.machine.daemons.pop()
+        self.setting.machine.daemons.remove(self.process)
         if hard:
-            daemon.kill()
+            self.process.kill()
         else:
-            daemon.terminate()
-        daemon.wait(30)
+            self.process.terminate()
+        self.process.wait(30)
 
     def words(self, *words: str) -> list[str]:
         """The words of a ctr command."""
@@ -184,6 +187,11 @@ class Daemon:
                 if entry.name.isdigit() and f"-address\0{self.at}/socket\0".encode() in (entry / "cmdline").read_bytes():
                     found.append(int(entry.name))
         return found
+
+    def sockets(self, *names: str) -> list[Path]:
+        """The sockets of shims of these containers, as containerd's library names them."""
+        sums = [hashlib.sha256(f"{self.at}/socket/default/{name}".encode()).hexdigest() for name in names]
+        return [path for path in (Path(f"/run/containerd/s/feulgama-{one}") for one in sums) if path.exists()]
 
     def call_words(self, method: str, **request: object) -> list[str]:
         """The words of a call of a kubelet."""

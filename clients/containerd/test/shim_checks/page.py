@@ -40,11 +40,10 @@ class Page(Check):
         run = f'if [ "$1" = run ]; then shift; exec {call} run --cgroup=/{cls.daemon.cgroup}/$$ "$@"; fi'
         client.write_text(f'#!/bin/sh\n{run}\nexec {call} "$@"\n')
         client.chmod(0o755)
-        # The sanitizer of a program that was not proved needs all of the address space.
-        memory = "--memory=0" if b"AddressSanitizer" in program.read_bytes() else ""
         debugger = cls.daemon.at / "bin/feulgama"
-        debugger.write_text(f'#!/bin/sh\nshift; exec {cls.setting.folder}/feulgama --shim /usr/local/bin/wasm-shim attach '
-                            f'{memory} --state {cls.daemon.at}/state "$@"\n')
+        attach = " ".join(cls.daemon.attach_words())
+        debugger.write_text(f'#!/bin/sh\nif [ "$1" = attach ]; then shift; exec {attach} "$@"; fi\n'
+                            f'exec {cls.setting.folder}/feulgama "$@"\n')
         debugger.chmod(0o755)
         # /usr/local/bin is the tests' own (see `run`).
         cls.shell = Shell(cls.daemon.at, cls.daemon.environment)

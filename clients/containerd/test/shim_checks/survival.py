@@ -3,7 +3,6 @@ from __future__ import annotations
 
 import os
 import signal
-from pathlib import Path
 
 from checks.machine import until
 
@@ -68,7 +67,7 @@ class Survival(WithDaemon):
         until("its process has ended", lambda: not runs(pid))
         self.daemon.must("containers", "delete", name)
         self.nothing_left(name)
-        self.assertEqual(list(Path("/run/containerd/s").iterdir()), [])
+        self.assertEqual(self.daemon.sockets(name), [])
 
     def test_shim_killed_after_the_exit(self) -> None:
         """the shim is killed after a container has ended: the deletion has the exit status of the module"""

@@ -83,11 +83,14 @@ class Machine:
         """A name that nothing else on the machine has."""
         return self.folder.name
 
-    def daemon(self, words: Sequence[str | Path], log: Path, environment: dict[str, str] | None = None) -> None:
+    def daemon(self, words: Sequence[str | Path], log: Path,
+               environment: dict[str, str] | None = None) -> subprocess.Popen[bytes]:
         """Starts a process that runs until the end."""
         with log.open("wb") as file:
-            self.daemons.append(subprocess.Popen(words, stdin=subprocess.DEVNULL, stdout=file, stderr=file, env=environment,
-                                                 start_new_session=True))
+            started = subprocess.Popen(words, stdin=subprocess.DEVNULL, stdout=file, stderr=file, env=environment,
+                                       start_new_session=True)
+        self.daemons.append(started)
+        return started
 
     def end_daemons(self) -> None:
         """Ends what daemon started, the newest first. Raises subprocess.TimeoutExpired if one does not end."""

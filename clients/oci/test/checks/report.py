@@ -22,6 +22,13 @@ class Report(unittest.TestResult):
         self.began = 0.0
         self.missing: set[str] = set()
 
+    def add(self, other: Report) -> None:
+        """Adds what another report has counted."""
+        self.passed += other.passed
+        self.failed += other.failed
+        self.not_run += other.not_run
+        self.missing |= other.missing
+
     def startTest(self, test: unittest.TestCase) -> None:
         super().startTest(test)
         self.began = time.monotonic()
