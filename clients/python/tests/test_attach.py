@@ -20,7 +20,7 @@ from feulgama.attach.command import goodbye, modules_of, open_container
 from feulgama.attach.config import config_of
 from feulgama.attach.door import NAME, TASKS, NoContainerError, find
 from feulgama.attach.link import ContainerGoneError, Link
-from feulgama.attach.timeline import LiveTimeline
+from feulgama.attach.timeline import BrokenOffError, LiveTimeline
 from feulgama.cli import main
 from feulgama.confinement import NOBODY, confinement
 from feulgama.debug.commands import Commands
@@ -214,6 +214,19 @@ class Going(Attached):
         self.assertEqual(timeline.turn, end)
         self.assertEqual(timeline.memory(1024, 4), b"the ")
         self.assertEqual(list(commands.answer("reverse-stepi"))[0].split(" at ")[0], f"turn {end - 1}")
+
+    def test_a_way_that_is_broken_off(self) -> None:
+        """A container that has run for long cannot be made once more in a moment."""
+        container = self.container()
+        _, timeline = self.opened(self.link())
+        container.close()
+        with self.assertRaises(ContainerGoneError):
+            timeline.seek(601)
+        timeline.interrupted.set()
+        with self.assertRaises(BrokenOffError):
+            timeline.memory_size()
+        timeline.interrupted.clear()
+        self.assertEqual((timeline.turn, timeline.memory_size()), (600, 0))
 
     def test_a_container_that_is_killed_and_removed(self) -> None:
         container = self.container()

@@ -12,11 +12,16 @@ from feulgama.debug.hunt import Search
 from feulgama.debug.timeline import Timeline, Why
 from feulgama.debug.track import Track
 from feulgama.debug.trail import Trail
+from feulgama.errors import FeulgamaError
 from feulgama.model import Stream
 from feulgama.shim import Shim
 from feulgama.wasm.module import Module
 
 LONG_WAY = 50_000_000
+
+
+class BrokenOffError(FeulgamaError):
+    """The user has broken off the way to the turn that is shown."""
 
 
 class LiveTimeline(Timeline):
@@ -53,6 +58,13 @@ class LiveTimeline(Timeline):
             self._say(f"the container could not be stopped at turn {turn}: it is at turn {self.live.turn}")
             return super()._take(turn, interrupted)
         return found
+
+    def _here(self) -> Track:
+        """As always; but the way may be as long as the container has run, so it can be broken off."""
+        while self._track.turn != self.turn:
+            if self._take(self.turn, self.interrupted) is Why.INTERRUPTED:
+                raise BrokenOffError("interrupted; the run is shown where it was")
+        return self._track
 
     def _note_end(self, track: Track) -> None:
         super()._note_end(track)
