@@ -22,13 +22,14 @@ FULL = b'{"error":"JournalFull","number":15,"ok":false}\n'
 
 class StubContainer:
     """A container of a module that is at a turn, in a folder of states of tasks. `left` is how many requests it answers
-    yet; `asked` are the operations that it was asked, in their order."""
+    yet; `asked` are the operations that it was asked, in their order. `other` has what it says first in another way."""
 
     def __init__(self, program: str, state: Path, module: bytes, turns: int = 0, name: str = "one",
                  env: tuple[str, ...] = (), original: bytes | None = None) -> None:
         self.shim = feulgama.Shim(program)
         self.module, self.original, self.name = module, original, name
         self.left, self.asked, self.ran = 10_000, list[str](), True
+        self.other: dict[str, object] = {}
         self.shim.ensure(module)
         config = json.loads(Config(digest_of(module), ("m.wasm",)).text())
         config["process"]["env"], config["hostname"] = list(env), "of the container"
@@ -86,7 +87,7 @@ class StubContainer:
         state = json.loads(self.shim.raw(requests.state(self.name).line, 1))
         first = {"ok": True, "protocol": 1, "container": self.name, "ran": self.ran, "state": state, "left": self.left,
                  "module": self.module.hex(), "config": self.config,
-                 **({} if self.original is None else {"original": self.original.hex()})}
+                 **({} if self.original is None else {"original": self.original.hex()}), **self.other}
         with contextlib.suppress(OSError, FeulgamaError), guest, guest.makefile("rb") as lines:
             guest.sendall(json.dumps(first).encode() + b"\n")
             for line in lines:

@@ -290,16 +290,16 @@ class Containers(Attached):
 
     def test_what_this_version_does_not_understand(self) -> None:
         container = self.container()
-        for first in ({"protocol": 2}, {"state": {}}, {"module": "x"}):
-            with mock.patch.object(json, "dumps", lambda given, *_, first=first, dumps=json.dumps, **keys:
-                                   dumps({**given, **first} if "protocol" in given else given, **keys)):
-                self.assertRegex(self.fault(self.link), "version 2|does not understand")
+        others: list[dict[str, object]] = [{"protocol": 2}, {"state": {}}, {"module": "x"}]
+        for container.other in others:
+            self.assertRegex(self.fault(self.link), "version 2|does not understand")
             self.until(lambda: container.guest is None)
 
     def test_what_may_not_be_asked(self) -> None:
         container = self.container()
         link = self.link()
-        for ask in (lambda: link.kill("one"), lambda: link.delete("one"), lambda: link.put(b"")):
+        asked: list[Callable[[], object]] = [lambda: link.kill("one"), lambda: link.delete("one"), lambda: link.put(b"")]
+        for ask in asked:
             with self.assertRaises(FeulgamaError):
                 ask()
         self.assertEqual(container.shim.state("one").turns, 600)
@@ -348,9 +348,9 @@ class Command(Attached):
 
     def test_a_session(self) -> None:
         container = self.container()
-        confined = mock.patch("feulgama.attach.command.confinement", lambda _memory: None) if os.geteuid() == 0 else \
-            contextlib.nullcontext()  # the folder of the tests is nothing to nobody
-        with confined:
+        with contextlib.ExitStack() as stack:
+            if os.geteuid() == 0:  # the folder of the tests is nothing to nobody
+                stack.enter_context(mock.patch("feulgama.attach.command.confinement", lambda _memory: None))
             status, out, err = self.attach("stepi 3\nreverse-stepi 603\nbacktrace\nquit\n", "on")
         self.assertEqual((status, err), (0, ""))
         self.assertEqual(out.splitlines()[0], "one stands still; quit leaves it")

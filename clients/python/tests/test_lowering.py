@@ -446,7 +446,7 @@ class Command(unittest.TestCase):
 
     def test_standard_streams(self) -> None:
         """As the adapters of containers call it: the list is apart from the module, and a reason has no name of a file."""
-        words = [TOP / "clients/python/bin/feulgama", "lower", "--list", "-o", "-", "-"]
+        words = [str(TOP / "clients/python/bin/feulgama"), "lower", "--list", "-o", "-", "-"]
         data = self.file.read_bytes()
         run = subprocess.run(words, input=data, capture_output=True, check=True)
         self.assertEqual(run.stdout, lower(data).data)
