@@ -113,7 +113,9 @@ def test_replies_that_nobody_reads_end_their_caller_alone(over: str, tmp_path: P
         live.others[0].close_replies()
         live.others[0].send("gc")
         assert live.others[1].ask("gc") == live.owner.ask("gc") == {"ok": True, "removed": []}
-        status, told = live.end()
+        told = live.tells()
+        status, rest = live.end()
+        told += rest
         assert (status, told.count(b"\n")) == (1, 1) and b": Broken pipe" in told
         assert over == "pipes" or b"/out1: " in told
 

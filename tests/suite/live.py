@@ -129,6 +129,15 @@ class Live:
             found += data
         return found
 
+    def tells(self) -> bytes:
+        """What standard error has once it has a line."""
+        assert self.process.stderr is not None
+        found = b""
+        while not found.endswith(b"\n"):
+            assert select.select([self.process.stderr], [], [], END_SECONDS)[0], "nothing is told"
+            found += os.read(self.process.stderr.fileno(), 65_536)
+        return found
+
     def end(self) -> tuple[int, bytes]:
         """Closes the owner's lines; the status, and what is on standard error."""
         self.owner.close_lines()
