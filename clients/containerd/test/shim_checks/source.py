@@ -4,11 +4,13 @@ from __future__ import annotations
 import hashlib
 import shutil
 import subprocess
+from xml.etree import ElementTree
 
 from checks.images import TOP
 from checks.machine import command, must
 
 from .base import Check
+from .picture import PICTURES, SPACE
 from .setup import CLIENT, go_environment
 
 SOURCES = ("feulgama/lines", "feulgama/containerd/...", "feulgama/containerd-shim-feulgama-v1", "feulgama/cri-call")
@@ -47,6 +49,18 @@ class Source(Check):
         shim = must([self.setting.folder / "wasm-shim", "--version"]).split()
         own = must([self.setting.folder / "containerd-shim-feulgama-v1", "--version"])
         self.assertEqual(own, f"containerd-shim-feulgama-v1 version {shim[1]}\n")
+
+    def test_pictures(self) -> None:
+        """the pictures of the page show what their commands are now, and what these wrote"""
+        for name, (_, typed) in PICTURES.items():
+            shown = ElementTree.parse(TOP / f"docs/{name}.svg").iter()
+            text = [element.text.replace(SPACE, " ") for element in shown if element.text]
+            for command_typed, lines in typed:
+                self.assertIn(f"$ {command_typed}", text)
+                for line in lines.splitlines():
+                    self.assertIn(f"(feulgama) {line}", text)
+            self.assertFalse([line for line in text if "Traceback" in line])
+            self.assertIn(f"({name}.svg)", (TOP / "docs/CONTAINERS.md").read_text())
 
     def test_build_help(self) -> None:
         """the build says how it is used, and refuses options that it does not know"""
