@@ -12,6 +12,14 @@ import (
 	"feulgama/oci/programs"
 )
 
+// byTheClock passes over a test that a busy machine may fail, if the tests are to be short.
+func byTheClock(t *testing.T) {
+	t.Helper()
+	if testing.Short() {
+		t.Skip("goes by the clock")
+	}
+}
+
 // command makes a script the command feulgama, in a folder into which every user can look.
 func command(t *testing.T, script string) string {
 	t.Helper()
@@ -99,6 +107,7 @@ func TestReasons(t *testing.T) {
 
 // A module that would take for ever ends by one limit or the other, and no process of the command is left.
 func TestLimits(t *testing.T) {
+	byTheClock(t)
 	seconds, whole := processorTime, wholeTime
 	defer func() { processorTime, wholeTime = seconds, whole }()
 	for script, change := range map[string]func(){
