@@ -46,7 +46,7 @@ def open_container(shim: Shim, link: Link) -> tuple[Debugger, LiveTimeline]:
     """A debugger over the run of a container, at the turn that it is at."""
     module, source = modules_of(link)
     config = config_of(link.config, shim.ensure(module.sent))
-    timeline = LiveTimeline(shim, config, module, link, lambda text: print(text, file=sys.stderr))
+    timeline = LiveTimeline(shim, config, module, link, lambda text: print(text, flush=True))
     timeline.new_output()  # what it has written before is in its log
     return Debugger(timeline, Symbols(source, [Path.cwd()])), timeline
 

@@ -17,7 +17,7 @@ from feulgama.model import Stream
 from feulgama.shim import Shim
 from feulgama.wasm.module import Module
 
-LONG_WAY = 50_000_000
+LONG_WAY = 1_000_000_000  # turns that take some seconds
 
 
 class BrokenOffError(FeulgamaError):
