@@ -15,6 +15,9 @@ import pytest
 from tests.support import CLIENT, TOP
 from tests.test_float_rounds import COMPILER, FEW, FLOATS, NEEDED, built
 
+# The seconds after which what a fault has made hangs, on a machine that is as busy as it may be.
+HANGS = 1800
+
 # The file of sdk/c/floats, a text that is there once, and what takes its place.
 IN_FUNCTIONS = (
     ("floats.h", "+ (m >> GUARD & 1)) >> GUARD", "+ 1) >> GUARD"),
@@ -95,7 +98,7 @@ class Planted(unittest.TestCase):
 
         def ends() -> int:
             words = [str(built(self.folder, sources)), "rounds", str(FEW), "3"]
-            return subprocess.run(words, capture_output=True, check=False, timeout=300).returncode
+            return subprocess.run(words, capture_output=True, check=False, timeout=HANGS).returncode
 
         self.assertEqual(ends(), 0)
         for name, before, after in IN_FUNCTIONS:
@@ -114,7 +117,7 @@ class Planted(unittest.TestCase):
 
         def ends(test: str) -> int:
             words = [sys.executable, "-B", "-m", "pytest", "-qx", "-p", "no:cacheprovider", f"tests/{test}"]
-            return subprocess.run(words, cwd=client, capture_output=True, check=False, timeout=300).returncode
+            return subprocess.run(words, cwd=client, capture_output=True, check=False, timeout=HANGS).returncode
 
         for test in {test for *_, test in IN_TOOL}:
             self.assertEqual(ends(test), 0, test)
