@@ -177,7 +177,8 @@ class Daemon:
         """What a debugger writes whose user types some lines."""
         file = self.at / "script"
         file.write_text(script)
-        return command(self.attach_words("--commands", str(file), name), self.environment)
+        # On a busy machine a task that goes back may be paused too late, and is made anew then.
+        return command(self.attach_words("--commands", str(file), name), self.environment, 600.0)
 
     def shims(self) -> list[int]:
         """The shims of this containerd."""
