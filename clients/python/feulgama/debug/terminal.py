@@ -90,7 +90,7 @@ class Progress:
         now = time.monotonic()
         if now - self._told > 2:
             self._told = now
-            print(f"looking for writes since {now - self._begin:.0f} seconds; Ctrl-C breaks it off", file=sys.stderr)
+            print(f"still looking for writes after {now - self._begin:.0f} seconds; Ctrl-C breaks it off", file=sys.stderr)
 
 
 def plain(line: str) -> str:
