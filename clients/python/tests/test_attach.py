@@ -395,7 +395,8 @@ class Confined(unittest.TestCase):
                 for kind in ("net", "ipc", "uts"):
                     self.assertNotEqual(os.readlink(f"/proc/{shim.pid}/ns/{kind}"), os.readlink(f"/proc/self/ns/{kind}"))
                 with shim.another() as other:
-                    self.assertEqual(os.stat(f"/proc/{other.pid}").st_uid, NOBODY)
+                    self.assertEqual(other.run(EXIT_7).exit.code, 7)  # so it is the program now
+                    self.assertIn(f"Uid:\t{NOBODY}\t", (Path("/proc") / str(other.pid) / "status").read_text())
         for line in (f"Uid:\t{NOBODY}\t{NOBODY}\t{NOBODY}\t{NOBODY}\n", f"Gid:\t{NOBODY}\t{NOBODY}\t{NOBODY}\t{NOBODY}\n",
                      "Groups:\t \n", "NoNewPrivs:\t1\n", "CapEff:\t0000000000000000\n", "CapBnd:\t0000000000000000\n"):
             self.assertIn(line, about)
