@@ -96,7 +96,7 @@ class Installed(Check):
         """What the debugger writes on a container that runs, which is ended then."""
         self.root.must(*ctr, "images", "import", self.image("counts", self.root.put(COUNTS, "counts.wat")))
         self.root.must(*ctr, "run", "-d", *options, "--log-uri=file:///trial/counts.log", "localhost/counts:1", "counts")
-        said = self.root.put("stepi 5\nreverse-stepi\nquit\n", "commands")
+        said = self.root.put("stepi 5\nbacktrace\nquit\n", "commands")
         written = self.root.run("feulgama", "attach", "--state", "/trial/containerd/state", "--commands", said, "counts")
         self.root.must(*ctr, "tasks", "kill", "counts")
         until("it has ended", lambda: "exit code 143" in self.root.run(*ctr, "tasks", "delete", "counts").err)
@@ -115,7 +115,8 @@ class Installed(Check):
         attached = self.attached(ctr, options[1:])
         machine.end_daemons()
         self.assertEqual((ended.status, ended.out), (0, HELLO), ended.err)
-        self.assertRegex(attached.out, r"turn \d+ at 1:\d+ <_start>.*\ncounts runs on from turn \d+\n\Z", attached.err)
+        shown = r"(?s)stepi 5\nturn \d+ at 1:\d+ <_start>.*#0 1:\d+ <_start>.*\ncounts runs on from turn \d+\n\Z"
+        self.assertRegex(attached.out, shown, attached.err)
 
     def test_8_podman(self) -> None:
         """podman run runs a module by the installed runtime"""
