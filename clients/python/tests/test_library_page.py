@@ -10,10 +10,10 @@ import unittest
 from unittest import mock
 
 import feulgama
-from feulgama import requests
+from feulgama import requests, said
 from feulgama.calls import Calls
 from feulgama.operation import Operation
-from tests.support import CLIENT, FOREVER_BYTES, SHIM
+from tests.support import CLIENT, FOREVER_BYTES, IS_REFERENCE, SHIM
 
 PAGE = CLIENT / "docs/library.md"
 BLOCK = re.compile(r"```python\n(.*?)```", re.DOTALL)
@@ -29,6 +29,8 @@ class Page(unittest.TestCase):
         told: list[str] = []
         test = doctest.DocTestParser().get_doctest(examples(), {"endless": FOREVER_BYTES}, PAGE.name, str(PAGE), 0)
         runner = doctest.DocTestRunner()
+        for module in () if IS_REFERENCE else (said, feulgama.aio):  # reasons come, however slow the machine is
+            self.enterContext(mock.patch.object(module, "PATIENCE", 60))
         with mock.patch.dict(os.environ, FEULGAMA_SHIM=SHIM), contextlib.chdir(CLIENT):
             runner.run(test, out=told.append)
         self.assertEqual("".join(told), "")
