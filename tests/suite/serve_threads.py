@@ -51,7 +51,10 @@ KINDS: dict[str, tuple[Callable[[int], list[bytes]], int, tuple[int, ...]]] = {
     "a storm": (storms.life, 500, (3, 4, 11)), "a storm with looks": (storms.looks, 300, (3, 4, 11, 12)),
     "a storm of contents": (storms.stores, 500, (3, 4, 5, 6, 11))}
 # A line of standard error with --explain --log: the script, the line, and what it says of it.
-SAID = re.compile(rb"(?:why: |log: [\d.]+ )(\S+) line (\d+),? (\w+)")
+SAID = re.compile(rb"(?:why: |log: \S+ [\d.]+ )(\S+) line (\d+),? (\w+)")
+# One of an end, which a worker may have brought about or a line; and one of a caller's end.
+ENDED = re.compile(rb"log: \S+ [\d.]+ (?:worker|\S+ line \d+) (ended) id=(\w+) ()turns=2 cause=exit exit=7")
+CALLER = re.compile(rb"log: \S+ [\d.]+ (\S+) (caller-ended) (lines=\d+)")
 # Of requests that are refused after the first run: their numbers.
 REFUSED = (1, 4, 11)
 failures: list[str] = []
@@ -245,15 +248,17 @@ def watched_script(path: Path, id: str) -> list[tuple[bytes, bytes, bytes]]:
     """Writes the first run for a task of this name, and requests that are refused so. What has to be said of them."""
     refused = [b"nothing\n", line_of({"op": "state", "id": "none"}), line_of({"op": "start", "id": id})]
     path.write_bytes(first_run_of_its_own(id) + b"".join(refused))
-    said = [(2, "created"), (4, "ended")]
+    said = [(2, "created"), (3, "started")]
     for line, number in enumerate(REFUSED, len(FIRST_RUN) + 1):
         said += [(line, "refused"), (line, str(number))]
-    return [(str(path).encode(), str(line).encode(), what.encode()) for line, what in said]
+    lines = len(FIRST_RUN) + len(refused)
+    return [(b"ended", id.encode(), b""), (str(path).encode(), b"caller-ended", f"lines={lines}".encode()),
+            *((str(path).encode(), str(line).encode(), what.encode()) for line, what in said)]
 
 
 def said_in(errors: bytes) -> list[tuple[bytes, ...]] | None:
     """What the lines of standard error say; None for a line that is none of these."""
-    found = [SAID.match(line) for line in errors.splitlines()]
+    found = [ENDED.fullmatch(line) or CALLER.fullmatch(line) or SAID.match(line) for line in errors.splitlines()]
     return None if None in found else sorted(each.groups() for each in found if each is not None)
 
 
