@@ -5,23 +5,17 @@ In the files of a row `<COUNT*TEXT>` is the text repeated that number of times.
 """
 from __future__ import annotations
 
-import re
 import subprocess
 from pathlib import Path
 
 import pytest
 
 from suite.places import TOP, built
+from suite.rows import spelled
 
 pytestmark = pytest.mark.program
 ROWS = TOP / "crates/test_rows"
 SERVED = TOP / "crates/wasm_shim"
-RUN = re.compile(rb"<(\d+)\*([^>]*)>")
-
-
-def spelled(data: bytes) -> bytes:
-    """The lines that a file spells."""
-    return RUN.sub(lambda match: int(match[1]) * match[2], data)
 
 
 @pytest.mark.parametrize("name", (ROWS / "stdin").read_text().splitlines())

@@ -22,6 +22,7 @@ from typing import Any
 
 from suite.places import EXAMPLES, TOP, built, need
 from suite.reference import wasm
+from suite.rows import spelled
 from suite.summary import Summary
 
 ROWS = TOP / "crates/test_rows/data"
@@ -64,16 +65,14 @@ def first_line(told: bytes) -> str:
 
 def row_texts(path: Path) -> Iterator[tuple[str, str]]:
     """The texts of a script of the worked rows, but for those that denote no module."""
-    with path.with_suffix(".expected").open("rb") as file:
-        replies = file.readlines()
-    with path.open("rb") as file:
-        lines = file.readlines()
+    replies = spelled(path.with_suffix(".expected").read_bytes()).split(b"\n")
+    lines = spelled(path.read_bytes()).removesuffix(b"\n").split(b"\n")
     for number, line in enumerate(lines, 1):
         if b'"BadText"' in replies[number - 1]:
             continue
         try:
             request = json.loads(line)
-        except ValueError:
+        except (ValueError, RecursionError):
             continue
         if isinstance(request, dict) and request.get("op") == "put_text" and isinstance(request.get("text"), str):
             yield f"{path.relative_to(TOP)}:{number}", request["text"]
