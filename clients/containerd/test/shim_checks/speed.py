@@ -3,6 +3,8 @@ from __future__ import annotations
 
 import statistics
 import time
+from collections.abc import Iterator
+from pathlib import Path
 
 from checks.machine import must
 
@@ -10,13 +12,29 @@ from .base import WithDaemon
 from .daemon import RUNTIME
 
 ROUNDS = 30
+# What a container that is paused takes at most, with its shim.
+IDLE_MIB = 40
 RUNC = "io.containerd.runc.v2"
 
 
-class Speed(WithDaemon):
-    """`ctr run --rm` of hello."""
+def family(pid: int) -> Iterator[int]:
+    """A process, its children and theirs."""
+    yield pid
+    for thread in Path(f"/proc/{pid}/task").iterdir():
+        for child in (thread / "children").read_text().split():
+            yield from family(int(child))
 
-    images = ("hello", "static")
+
+def own_mib(pid: int) -> float:
+    """The resident memory of a process, in MiB, with its part of what it shares."""
+    lines = Path(f"/proc/{pid}/smaps_rollup").read_text().splitlines()
+    return next(int(line.split()[1]) for line in lines if line.startswith("Pss:")) / 1024
+
+
+class Speed(WithDaemon):
+    """`ctr run --rm` of hello, and what an idle container takes."""
+
+    images = ("hello", "static", "counts")
 
     def test_one_container(self) -> None:
         """hello by the shim takes at most 0.75 of a static native program by runc, and less than by feulgama-oci"""
@@ -43,3 +61,15 @@ class Speed(WithDaemon):
         print(f"        shim / runc: {means['shim'] / means['runc']:.2f}")
         self.assertLess(means["shim"], means["feulgama-oci"])
         self.assertLessEqual(means["shim"], 0.75 * means["runc"])
+
+    def test_idle_container(self) -> None:
+        """a paused container takes at most 40 MiB, with its shim"""
+        name = self.counting()
+        self.daemon.must("tasks", "pause", name)
+        (shim,) = self.daemon.shims()
+        parts = [own_mib(pid) for pid in family(shim)]
+        print(f"        shim {parts[0]:.1f} MiB, wasm-shim {sum(parts[1:]):.1f} MiB")
+        self.daemon.must("tasks", "resume", name)
+        self.end(name)
+        self.assertEqual(len(parts), 2)
+        self.assertLessEqual(sum(parts), IDLE_MIB)

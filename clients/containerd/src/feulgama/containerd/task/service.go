@@ -43,6 +43,9 @@ type Service struct {
 // idleTime is how long a shim stays without a container. containerd ends it before, unless it was killed meanwhile.
 var idleTime = 20 * time.Second
 
+// answerTime is how long a shim that is to end has for the answers to other requests.
+var answerTime = 100 * time.Millisecond
+
 // New makes the service of a shim.
 func New(namespace string, events Teller, program func() (string, error), down shutdown.Service) *Service {
 	s := &Service{namespace: namespace, events: events, program: program, newGroup: group.New, shutdown: down,
@@ -55,13 +58,11 @@ func New(namespace string, events Teller, program func() (string, error), down s
 func (s *Service) endWhenIdle(between time.Duration) {
 	for empty := 0; empty < 2; {
 		time.Sleep(between)
-		s.mu.Lock()
-		if len(s.units) == 0 {
+		if s.isEmpty() {
 			empty++
 		} else {
 			empty = 0
 		}
-		s.mu.Unlock()
 	}
 	s.shutdown.Shutdown()
 }
@@ -113,14 +114,24 @@ func (s *Service) Connect(_ context.Context, r *api.ConnectRequest) (*api.Connec
 	return answer, nil
 }
 
-// Shutdown ends the shim, unless it has containers.
+// Shutdown ends the shim, unless it has containers. containerd may ask for it as soon as it has heard of an exit, so a
+// request that made the container exit may not be answered yet.
 func (s *Service) Shutdown(context.Context, *api.ShutdownRequest) (*types.Empty, error) {
-	s.mu.Lock()
-	defer s.mu.Unlock()
-	if len(s.units) == 0 {
-		s.shutdown.Shutdown()
+	if s.isEmpty() {
+		time.AfterFunc(answerTime, func() {
+			if s.isEmpty() {
+				s.shutdown.Shutdown()
+			}
+		})
 	}
 	return empty, nil
+}
+
+// isEmpty tells whether the shim has no container.
+func (s *Service) isEmpty() bool {
+	s.mu.Lock()
+	defer s.mu.Unlock()
+	return len(s.units) == 0
 }
 
 // Checkpoint is not there.

@@ -294,8 +294,20 @@ func TestTheShimEndsWithItsLastContainer(t *testing.T) {
 	if _, err := s.delete("one"); err != nil {
 		t.Error(err)
 	}
-	if _, err := s.Shutdown(background, &api.ShutdownRequest{}); err != nil || !s.down.called() {
-		t.Errorf("it is not shut down: %v", err)
+	if _, err := s.Shutdown(background, &api.ShutdownRequest{}); err != nil {
+		t.Error(err)
+	}
+	until(t, "the shim is shut down", s.down.called)
+}
+
+// The answer to the request that made the last container exit may still be on its way.
+func TestAShimThatEndsAnswersFirst(t *testing.T) {
+	before := answerTime
+	answerTime = time.Hour
+	defer func() { answerTime = before }()
+	s := newShim(t)
+	if _, err := s.Shutdown(background, &api.ShutdownRequest{}); err != nil || s.down.called() {
+		t.Errorf("it is shut down at once: %v", err)
 	}
 }
 
