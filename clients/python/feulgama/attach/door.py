@@ -24,7 +24,7 @@ class Door:
     folder: Path
 
     def knock(self, seconds: float) -> socket.socket:
-        """A connection, which may take so many seconds for each answer. It is made by the folder's descriptor, since the
+        """A connection, which may take this many seconds for each answer. It is made by the folder's descriptor, since the
         path of a folder may be longer than a socket's name can be. Raises NoContainerError."""
         connection = socket.socket(socket.AF_UNIX, socket.SOCK_STREAM)
         try:
