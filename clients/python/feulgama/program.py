@@ -84,7 +84,7 @@ def refusal_by_check(data: bytes, memory_limit: int | None, words: list[str]) ->
 
 
 def version_of(words: list[str]) -> str:
-    """What the program says of its version, as `wasm-shim 0.1.0`."""
+    """What the program says of its version, as `wasm-shim 0.2.0`."""
     run = ran([*words, "--version"], timeout=PATIENCE)
     return run.stdout.decode(errors="replace").strip() if run.returncode == 0 else f"{words[-1]}: no version"
 

@@ -46,7 +46,7 @@ class Wheel(unittest.TestCase):
         cls.pip(Path(sys.executable), "wheel", "--no-build-isolation", "--no-deps", "-w", str(cls.folder), str(sources))
         ran(sys.executable, "-m", "venv", cls.folder / "fresh")
         cls.bin = cls.folder / "fresh/bin"
-        wheel, = cls.folder.glob("feulgama-0.1.0-*.whl")
+        wheel, = cls.folder.glob("feulgama-0.2.0-*.whl")
         cls.pip(cls.bin / "python", "install", str(wheel))
 
     @classmethod
@@ -54,7 +54,7 @@ class Wheel(unittest.TestCase):
         ran(python, "-m", "pip", "--disable-pip-version-check", command, "--no-index", "-q", *words)
 
     def test_command(self) -> None:
-        self.assertEqual(ran(self.bin / "feulgama", "--shim", SHIM, "--version").splitlines()[0], "feulgama 0.1.0")
+        self.assertEqual(ran(self.bin / "feulgama", "--shim", SHIM, "--version").splitlines()[0], "feulgama 0.2.0")
         self.assertIn("usage: feulgama", ran(self.bin / "feulgama", "--help"))
 
     def test_lowering(self) -> None:
@@ -69,7 +69,7 @@ class Wheel(unittest.TestCase):
                  "print(Path(feulgama.__file__).with_name('py.typed').is_file()); " \
                  "print(feulgama.Shim(sys.argv[1]).run(Path(sys.argv[2]).read_bytes()).stdout)"
         told = ran(self.bin / "python", "-I", "-c", script, SHIM, EXAMPLES / "words.wasm").splitlines()
-        self.assertTrue(told[0].startswith(str(self.folder)) and told[0].endswith(" 0.1.0"), told[0])
+        self.assertTrue(told[0].startswith(str(self.folder)) and told[0].endswith(" 0.2.0"), told[0])
         self.assertEqual(told[1:], ["True", r"b'35\n'"])
 
     def test_debugger_with_the_program_on_path(self) -> None:
@@ -140,7 +140,7 @@ class Versions(unittest.TestCase):
 
     def test_without_a_program(self) -> None:
         first, second = self.told("--shim", "/none", "--version")
-        self.assertEqual((first, second[:11]), ("feulgama 0.1.0", "wasm-shim: "))
+        self.assertEqual((first, second[:11]), ("feulgama 0.2.0", "wasm-shim: "))
 
     def test_a_command_is_needed(self) -> None:
         with self.assertRaises(SystemExit) as found, mock.patch("sys.stderr", io.StringIO()) as said:

@@ -78,7 +78,7 @@ pub enum CommandError {
     Arguments { text: String },
 }
 
-const VERSION: &str = "0.1.0 (protocol 1)";
+const VERSION: &str = "0.2.0 (protocol 1)";
 
 /// How many workers there are at most.
 const MOST_WORKERS: u64 = 16;

@@ -217,7 +217,7 @@ const ROWS: &[Row] = &[
     Row {
         arguments: "--version",
         does: "shows",
-        text: "wasm-shim 0.1.0 (protocol 1)\n",
+        text: "wasm-shim 0.2.0 (protocol 1)\n",
     },
     Row {
         arguments: "--help",

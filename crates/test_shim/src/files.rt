@@ -298,7 +298,7 @@ const FILES: &[Row] = &[
     Row {
         command: "--version",
         file: "",
-        out: "wasm-shim 0.1.0 (protocol 1)\n",
+        out: "wasm-shim 0.2.0 (protocol 1)\n",
         err: "",
         status: 0,
     },

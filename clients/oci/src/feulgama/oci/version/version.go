@@ -2,4 +2,4 @@
 package version
 
 // Number is what --version prints.
-const Number = "0.1.0"
+const Number = "0.2.0"
