@@ -3,15 +3,18 @@
 //! What is refused for memory is tried again at once, and only the answers without those refusals are
 //! printed: a refusal for memory changes nothing, so they are the same however often memory was refused.
 //! How often that was goes to standard error. Requests that take no memory are made only once.
+//!
+//! Then a shorter script goes through a shim, and the number of the entries in its journal is printed: a call
+//! that is refused for memory has none.
 #![tactic(auto)]
 
-use shim_service::{line_of, request_of};
-use std::process::ExitCode;
-use task_board::{Board, Reply};
-use wasm_ast::Refusal;
+mod journal;
+mod session;
 
-/// How often a call is made at most.
-const TRIES: u64 = 100;
+use crate::journal::ask_shim;
+use crate::session::{Session, TRIES};
+use std::process::ExitCode;
+use task_board::Board;
 
 /// Stores a module whose entry calls `proc_exit` with 7.
 const PUT_EXIT_SEVEN: &str =
@@ -207,72 +210,24 @@ const FRAMES: [&str; 7] = [
     INSPECT_C,
 ];
 
-/// The board, and how often memory was refused so far.
-#[derive(Drop)]
-struct Session<'a> {
-    rt: &'a HostRuntime,
-    board: Board,
-    refused: u64,
-}
-
 // A board, and how often memory was refused for it.
-fn open(rt: &HostRuntime) -> Option<Session<'_>> {
+fn open(rt: &HostRuntime) -> Option<Session<'_, Board>> {
     for refused in 0..TRIES {
         if let Ok(board) = Board::new(rt.alloc()) {
-            return Some(Session { rt, board, refused });
+            return Some(Session {
+                rt,
+                asked: board,
+                refused,
+            });
         }
     }
     None
 }
 
-impl Session<'_> {
-    // What the line is answered. None where it was refused for memory, and takes some.
-    fn try_line(&mut self, line: &str) -> Option<Result<Reply, Refusal>> {
-        let request = match request_of(self.rt.alloc(), line.as_bytes()) {
-            Ok(request) => request,
-            Err(Refusal::NoMemory) => return None,
-            Err(refusal) => return Some(Err(refusal)),
-        };
-        let takes_memory = request.takes_memory();
-        match self.board.call(request) {
-            Err(Refusal::NoMemory) if takes_memory => None,
-            answer => Some(answer),
-        }
-    }
-
-    // What the line is answered once memory is not refused.
-    fn answer(&mut self, line: &str) -> Result<Reply, Refusal> {
-        for _ in 0..TRIES {
-            if let Some(answer) = self.try_line(line) {
-                return answer;
-            }
-            self.refused = self.refused.saturating_add(1);
-        }
-        Err(Refusal::NoMemory)
-    }
-
-    // Prints the line of an answer.
-    fn print(&mut self, answer: &Result<Reply, Refusal>) {
-        for _ in 0..TRIES {
-            if let Ok(line) = line_of(self.rt.alloc(), answer) {
-                let _printed = print!(self.rt; "{line}");
-                return;
-            }
-            self.refused = self.refused.saturating_add(1);
-        }
-    }
-
-    // Makes requests, and prints what they are answered.
-    fn ask(&mut self, lines: &[&str]) {
-        for line in lines {
-            let answer = self.answer(line);
-            self.print(&answer);
-        }
-    }
-
+impl Session<'_, Board> {
     // Prints which create made the task with an id.
     fn tell(&self, id: &str) {
-        let _printed = match self.board.ticket(id) {
+        let _printed = match self.asked.ticket(id) {
             Some(ticket) => {
                 let incarnation = ticket.incarnation;
                 println!(self.rt; "{id}: incarnation {incarnation}")
@@ -283,10 +238,10 @@ impl Session<'_> {
 
     // Prints which task has waited longest for a worker, and lets it wait again.
     fn tell_waiting(&mut self) {
-        let _printed = match self.board.next_waiting() {
+        let _printed = match self.asked.next_waiting() {
             Some(ticket) => {
                 let incarnation = ticket.incarnation;
-                self.board.wait_again(ticket);
+                self.asked.wait_again(ticket);
                 println!(self.rt; "waiting: incarnation {incarnation}")
             }
             None => println!(self.rt; "waiting: no task"),
@@ -295,15 +250,15 @@ impl Session<'_> {
 
     // Runs a slice of one turn, makes requests while it is out, and prints whether the task goes on.
     fn slice(&mut self, id: &str, lines: &[&str]) {
-        let Some(ticket) = self.board.ticket(id) else {
+        let Some(ticket) = self.asked.ticket(id) else {
             return;
         };
-        let Some(mut loan) = self.board.take(ticket, 1) else {
+        let Some(mut loan) = self.asked.take(ticket, 1) else {
             return;
         };
         self.ask(lines);
         loan.run();
-        let again = self.board.give_back(loan);
+        let again = self.asked.give_back(loan);
         let _printed = if again == Some(ticket) {
             println!(self.rt; "{id}: one turn, and it goes on")
         } else {
@@ -333,7 +288,10 @@ fn main(rt: HostRuntime) -> ExitCode {
     session.ask(&TEXTS);
     session.tell_waiting();
     session.ask(&FRAMES);
-    let refused = session.refused;
+    let Some(of_shim) = ask_shim(&rt, &rt) else {
+        return ExitCode::FAILURE;
+    };
+    let refused = session.refused.saturating_add(of_shim);
     let _told = eprintln!(rt; "refused for memory: {refused}");
     ExitCode::SUCCESS
 }
