@@ -13,6 +13,7 @@ use std::process::Abort;
 use std::sync::Wait;
 use std::test::Fail;
 use std::thread::Threads;
+use task_requests::Request;
 use wasm_ast::Refusal;
 
 /// Stores three bytes.
@@ -43,6 +44,24 @@ fn check_order<R: Row, A: Abort>(rt: &A, shim: &Shim<R>, first: &Seat<R>, second
     assert!(rt; shim.meet(second, first) == Ordering::Greater);
 }
 
+// Whether a request puts these bytes.
+fn is_put_of(request: &Request, wanted: &[u8]) -> bool {
+    match request {
+        Request::Put { bytes } => bytes.as_bytes().as_slice() == wanted,
+        _ => false,
+    }
+}
+
+// Asserts that a seat has seen a put of those three bytes first, and so many entries.
+fn check_put<R: Row, A: Abort>(rt: &A, shim: &Shim<R>, seat: &Seat<R>, count: usize) {
+    let is_put = match shim.entry(seat, 0) {
+        Some(entry) => is_put_of(&entry.request, &[1, 2, 3]),
+        None => false,
+    };
+    assert!(rt; is_put, "the first entry is the put");
+    assert!(rt; shim.entry(seat, count).is_none(), "no entry after those");
+}
+
 /// A put by one seat, and then a call by another, which sees both. None if one is answered otherwise.
 pub fn two_seats<R: Row, W: Wait + Abort>(rt: &W, alloc: Global, shim: &Shim<R>) -> Option<()> {
     let first = shim.seat(rt)?;
@@ -55,6 +74,8 @@ pub fn two_seats<R: Row, W: Wait + Abort>(rt: &W, alloc: Global, shim: &Shim<R>)
     check_count(rt, "entries that the second has seen", second.len(), 2);
     check_seen(rt, shim, &second, first.number(), 1);
     check_seen(rt, shim, &second, second.number(), 1);
+    check_put(rt, shim, &first, 1);
+    check_put(rt, shim, &second, 2);
     Some(())
 }
 

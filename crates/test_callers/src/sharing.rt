@@ -1,7 +1,10 @@
-//! One worker and tasks that never end: each begins and gets on, by slices of 10,000 turns.
+//! One worker and tasks that never end: each begins and gets on, by slices of 10,000 turns; and a
+//! call is answered while a slice runs.
 
+use crate::checks::check_bytes;
 use crate::scripts::side_by_side;
 use crate::stories::{Story, tell};
+use crate::workers::is_met;
 use call_journal::{Row, Shim};
 use shim_threads::with_gated_workers;
 use slice_workers::Gate;
@@ -59,6 +62,12 @@ const BEGIN_ONE: &str =
 const END_ONE: &str = r#"{"op":"kill","id":"a","signal":9}
 {"op":"wait","id":"a"}
 "#;
+
+/// Asks for the state of the task.
+const STATE_ONE: &str = "{\"op\":\"state\",\"id\":\"a\"}\n";
+
+/// What that is answered before the task's first slice has come back.
+const STATE_ANSWER: &str = "{\"id\":\"a\",\"n\":0,\"ok\":true,\"status\":\"running\"}\n";
 
 /// Tasks that never end, in what lines they begin and end, and the gate that counts their slices.
 #[derive(Clone, Copy)]
@@ -199,4 +208,62 @@ fn a_started_task_begins(rt: HostRuntime) -> Result<(), Fail> {
         gate: &gate,
     };
     tell(&rt, rt.alloc(), Story::Sharing(story))
+}
+
+/// A gate that holds each slice until a call was answered.
+#[derive(Drop)]
+pub struct Holding {
+    begun: AtomicU64,
+    answered: AtomicU64,
+    missed: AtomicU64,
+}
+
+impl Gate for Holding {
+    fn slice(&self, _id: &str, loan: &mut Loan) {
+        self.begun.fetch_add(1, Ordering::SeqCst);
+        if !is_met(&self.answered) {
+            self.missed.fetch_add(1, Ordering::SeqCst);
+        }
+        loan.run();
+    }
+
+    fn ended(&self, _id: &str, _turns: u64, _end: ExitRecord) {}
+}
+
+/// The state of a task is asked for while its slice is held at a gate. None if the slice does not begin, or
+/// lines come to no end.
+pub fn asking<R: Row + Send + Sync, W: Threads + Wait + Abort + Sync>(
+    rt: &W,
+    alloc: Global,
+    shim: &Shim<R>,
+    gate: &Holding,
+) -> Option<()> {
+    let (begin, end) = ([BEGIN_ONE.as_bytes()], [END_ONE.as_bytes()]);
+    let (begin, end) = (begin.as_slice(), end.as_slice());
+    let state = [STATE_ONE.as_bytes()];
+    let state = state.as_slice();
+    let run = move || {
+        side_by_side(rt, alloc, shim, begin)?;
+        let begins = is_met(&gate.begun);
+        let told = side_by_side(rt, alloc, shim, state)?;
+        gate.answered.fetch_add(1, Ordering::SeqCst);
+        side_by_side(rt, alloc, shim, end)?;
+        if begins { Some(told) } else { None }
+    };
+    let told = with_gated_workers(rt, alloc, shim, 1, gate, run).ok()??;
+    let found = told.first()?.replies.as_slice();
+    check_bytes(rt, 0, found, STATE_ANSWER.as_bytes());
+    Some(())
+}
+
+#[test]
+fn a_call_is_answered_while_a_slice_runs(rt: HostRuntime) -> Result<(), Fail> {
+    let gate = Holding {
+        begun: AtomicU64::new(0),
+        answered: AtomicU64::new(0),
+        missed: AtomicU64::new(0),
+    };
+    tell(&rt, rt.alloc(), Story::Holding(&gate))?;
+    assert_eq!(rt; gate.missed.load(Ordering::SeqCst), 0);
+    Ok(())
 }

@@ -5,7 +5,7 @@ ghost use Rattle.call_journal.specs.Desks.{AreIdle, spot_names};
 ghost use Rattle.call_journal.specs.Seats.{most_seats};
 
 use crate::histories::{four_callers, full_journal, two_callers, two_seats};
-use crate::sharing::{Endless, sharing};
+use crate::sharing::{Endless, Holding, asking, sharing};
 use crate::storm::storm;
 use crate::waking::{Sleepers, waking};
 use crate::workers::{Meeting, large_output, run_by_two};
@@ -43,6 +43,8 @@ pub enum Story<'a> {
     Waking(Sleepers<'a>),
     /// `sharing`.
     Sharing(Endless<'a>),
+    /// `asking` of `sharing`.
+    Holding(&'a Holding),
 }
 
 fn cells(alloc: Global) -> Result<Cells, Refusal> {
@@ -79,6 +81,7 @@ fn told<R: Row + Send + Sync, W: Threads + Wait + Abort + Sync>(
         Story::LargeOutput => large_output(rt, alloc, shim),
         Story::Waking(story) => waking(rt, alloc, shim, story),
         Story::Sharing(story) => sharing(rt, alloc, shim, story),
+        Story::Holding(gate) => asking(rt, alloc, shim, gate),
     }
 }
 

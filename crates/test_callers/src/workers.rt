@@ -101,8 +101,8 @@ pub struct Meeting {
     missed: AtomicU64,
 }
 
-// Waits until a count is not 0, for at most a million yields. Whether it is.
-fn is_met(count: &AtomicU64) -> bool {
+/// Waits until a count is not 0, for at most a million yields. Whether it is.
+pub fn is_met(count: &AtomicU64) -> bool {
     for _ in 0..1_000_000 {
         if count.load(Ordering::SeqCst) > 0 {
             return true;
