@@ -23,3 +23,4 @@ pub mod PlaceLemmas
 pub mod HeldLemmas
 pub mod LoanStays
 pub mod ClaimLemmas
+pub mod ClaimParts

@@ -17,6 +17,7 @@ mod tables;
 mod task;
 mod ticket;
 mod waiting;
+pub mod worked_claims;
 
 pub use board::Board;
 pub use content_leases::digest_of;
