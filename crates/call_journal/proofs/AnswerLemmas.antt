@@ -1,5 +1,5 @@
 -- A board refuses for reasons of its own.
-use Rattle.std.proofs.Common.{◌≡◌, ℕ, List, [], ◌∷◌, length, map, Bool, true, false, Option, Some, None, Ok, Err, refl, arith}
+use Rattle.std.proofs.Common.{◌≡◌, ℕ, List, [], ◌∷◌, length, Bool, true, false, Option, Some, None, Ok, Err, refl, arith}
 use Rattle.std.specs.Prelude.{◌&&◌, not, if◌then◌else◌}
 use Rattle.wasm_ast.specs.declared.module.Module.{Module}
 use Rattle.wasm_ast.specs.declared.refusal.Refusal.{Refusal}
@@ -11,14 +11,15 @@ use Rattle.oci_config.specs.declared.process.ProcessConfig.{ProcessConfig}
 use Rattle.step_machine.specs.HostCalls.{all_known}
 use Rattle.step_machine.specs.Instantiation.{instantiation_refusal, can_enter, are_pages_within, are_elements_inside, empty_table, are_segments_inside, zero_memory}
 use Rattle.wasm_ast.specs.Limits.{is_within}
-use Rattle.task_lifecycle.specs.declared.lifecycle.TaskCall.TheVariants as call
+use Rattle.task_requests.specs.declared.request.Ask.{Ask}
 use Rattle.task_requests.specs.declared.request.Request.{Request}
 use Rattle.task_requests.specs.declared.request.Request.TheVariants as request
+use Rattle.task_requests.specs.declared.request.Ask.TheVariants as ask
 use Rattle.task_requests.specs.declared.request.Reply.{Reply}
 use Rattle.task_requests.specs.declared.request.Reply.TheVariants as reply
 use Rattle.task_board.specs.BoardState.{Task, BoardState, used_by, with_store, task_of}
-use Rattle.task_board.specs.Refusals.{create_refusals, CannotOpen, no_module, too_much, invalid, refused as unopened, unless_allowed, kill_refusals, state_refusals, output_refusals, break_refusals, unbreak_refusals, step_refusals, inspect_refusals, peek_refusals, task_refusals}
-use Rattle.task_board.specs.Step.{DecidedBy, Puts, PutsText, refused, stored, Done, with_left, OnFound, Creates, on_start, on_pause, on_resume, on_kill, on_delete, on_state, on_wait, on_output, on_break, on_unbreak, on_step, on_inspect, on_peek, Answers}
+use Rattle.task_board.specs.Refusals.{create_refusals, CannotOpen, no_module, too_much, invalid, refused as unopened, own_refusals, task_refusals}
+use Rattle.task_board.specs.Step.{DecidedBy, Puts, PutsText, refused, stored, Done, with_left, OnFound, Creates, does, Answers}
 use Rattle.task_board.specs.Texts.{CannotAssemble, bad_text, too_much as text_too_much, too_deep}
 use Rattle.call_journal.specs.Books.{is_refused}
 
@@ -65,6 +66,21 @@ not_assembled : (text : List ℕ) (e : Refusal) → CannotAssemble text e → is
 not_assembled text _ (bad_text line column none) = refl
 not_assembled text _ (text_too_much m denotes over) = refl
 not_assembled text _ (too_deep deep) = refl
+
+own_told : (k : Ask) (t : Task) → are_told (own_refusals k t) ≡ true
+own_told ask.Start t = refl
+own_told ask.Pause t = refl
+own_told ask.Resume t = refl
+own_told (ask.Kill signal) t = refl
+own_told ask.Delete t = refl
+own_told ask.State t = refl
+own_told ask.Wait t = refl
+own_told (ask.Output stream) t = refl
+own_told (ask.Break func place) t = refl
+own_told (ask.Unbreak func place) t = refl
+own_told (ask.Step count) t = refl
+own_told ask.Inspect t = refl
+own_told (ask.Peek address length) t = refl
 
 module _ (s : BoardState) (e : Refusal) (s' : BoardState) where
   decided_by : (o : Option Refusal) (E : Type 0) → ((x : Refusal) → o ≡ Some x → is_refused x ≡ false)
@@ -120,31 +136,7 @@ module _ (s : BoardState) (e : Refusal) (s' : BoardState) where
   by_request (request.Create config id) d =
       decided (create_refusals s config id) (Creates s config id (Err e) s') refl
       (λ made. not_opened made.1 made.0 e made.4.0) d
-  by_request (request.Start id) d =
-      on_found id (unless_allowed call.Start refusal.WrongStatus) on_start (task_of id s.tasks) (λ t. refl) d
-  by_request (request.Pause id) d =
-      on_found id (unless_allowed call.Pause refusal.WrongStatus) on_pause (task_of id s.tasks) (λ t. refl) d
-  by_request (request.Resume id) d =
-      on_found id (unless_allowed call.Resume refusal.WrongStatus) on_resume (task_of id s.tasks) (λ t. refl) d
-  by_request (request.Kill id number) d =
-      on_found id (kill_refusals number) (on_kill number) (task_of id s.tasks) (λ t. refl) d
-  by_request (request.Delete id) d =
-      on_found id (unless_allowed call.Delete refusal.WrongStatus) on_delete (task_of id s.tasks) (λ t. refl) d
-  by_request (request.State id) d = on_found id state_refusals on_state (task_of id s.tasks) (λ t. refl) d
-  by_request (request.Wait id) d =
-      on_found id (unless_allowed call.Wait refusal.Busy) on_wait (task_of id s.tasks) (λ t. refl) d
-  by_request (request.Output id number) d =
-      on_found id (output_refusals number) (on_output number) (task_of id s.tasks) (λ t. refl) d
-  by_request (request.Break func id place) d =
-      on_found id (break_refusals func place) (on_break func place) (task_of id s.tasks) (λ t. refl) d
-  by_request (request.Unbreak func id place) d =
-      on_found id (unbreak_refusals func place) (on_unbreak func place) (task_of id s.tasks) (λ t. refl) d
-  by_request (request.Step count id) d =
-      on_found id (step_refusals count) (on_step count) (task_of id s.tasks) (λ t. refl) d
-  by_request (request.Inspect id) d =
-      on_found id inspect_refusals on_inspect (task_of id s.tasks) (λ t. refl) d
-  by_request (request.Peek address id length) d =
-      on_found id (peek_refusals address length) (on_peek address length) (task_of id s.tasks) (λ t. refl) d
+  by_request (request.Task id k) d = on_found id (own_refusals k) (does k) (task_of id s.tasks) (own_told k) d
 
 pub told : (s : BoardState) (r : Request) (e : Refusal) (s' : BoardState) → Answers s r (Err e) s'
     → is_refused e ≡ false

@@ -9,15 +9,14 @@ use Rattle.oci_config.specs.Config.{process_read}
 use Rattle.content_leases.specs.Digests.{digest_of}
 use Rattle.content_leases.specs.StoreState.{StoreState, with_content, without_content, with_lease, with_member, without_lease, unheld, collected}
 use Rattle.content_leases.specs.Refusals.{Refusals, first_refusal, put_refusals, remove_refusals, lease_create_refusals, lease_add_refusals, lease_delete_refusals}
-use Rattle.task_lifecycle.specs.declared.lifecycle.TaskCall.TheVariants as call
 use Rattle.task_requests.specs.declared.request.Request.{Request}
 use Rattle.task_requests.specs.declared.request.Request.TheVariants as request
 use Rattle.task_requests.specs.declared.request.Reply.{Reply}
 use Rattle.task_requests.specs.declared.request.Reply.TheVariants as reply
 use Rattle.task_board.specs.Limits.{max_tasks, max_creates}
 use Rattle.task_board.specs.BoardState.{Task, Entries, BoardState, created_task, used_by, with_store, task_in, task_of, put_task, change_task, remove_task, with_task, without_task, with_new_task}
-use Rattle.task_board.specs.Refusals.{named_bytes, create_refusals, unless_allowed, kill_refusals, state_refusals, output_refusals, break_refusals, unbreak_refusals, step_refusals, inspect_refusals, peek_refusals, task_refusals}
-use Rattle.task_board.specs.Step.{Answer, DecidedBy, Puts, PutsText, refused, stored, Done, with_left, OnFound, Opens, Creates, on_start, on_pause, on_resume, on_kill, on_delete, on_state, on_wait, on_output, on_break, on_unbreak, on_step, on_inspect, on_peek, Answers}
+use Rattle.task_board.specs.Refusals.{named_bytes, create_refusals, own_refusals, task_refusals}
+use Rattle.task_board.specs.Step.{Answer, DecidedBy, Puts, PutsText, refused, stored, Done, with_left, OnFound, Opens, Creates, does, Answers}
 use Rattle.call_journal.specs.Finding.{named}
 use Rattle.call_journal.specs.Replay.{HaveCome, IsSince}
 use Rattle.call_journal.proofs.SinceLemmas.{same_used, same_length, same_free, still_free, both_put, both_change, both_remove}
@@ -189,30 +188,7 @@ module _ (R : Entries → Entries → Type 0) (b : BoardState) (es : Entries) (h
       on_store (lease_delete_refusals b.store id) (reply.LeaseDelete id) (without_lease b.store id) a b' d
   calls request.Gc a b' same d = collects a b' d
   calls (request.Create config id) a b' same d = creates config id a b' (same id refl) d
-  calls (request.Start id) a b' same d =
-      on_task id (unless_allowed call.Start refusal.WrongStatus) on_start a b' (same id refl) d
-  calls (request.Pause id) a b' same d =
-      on_task id (unless_allowed call.Pause refusal.WrongStatus) on_pause a b' (same id refl) d
-  calls (request.Resume id) a b' same d =
-      on_task id (unless_allowed call.Resume refusal.WrongStatus) on_resume a b' (same id refl) d
-  calls (request.Kill id number) a b' same d =
-      on_task id (kill_refusals number) (on_kill number) a b' (same id refl) d
-  calls (request.Delete id) a b' same d =
-      on_task id (unless_allowed call.Delete refusal.WrongStatus) on_delete a b' (same id refl) d
-  calls (request.State id) a b' same d = on_task id state_refusals on_state a b' (same id refl) d
-  calls (request.Wait id) a b' same d =
-      on_task id (unless_allowed call.Wait refusal.Busy) on_wait a b' (same id refl) d
-  calls (request.Output id number) a b' same d =
-      on_task id (output_refusals number) (on_output number) a b' (same id refl) d
-  calls (request.Break func id place) a b' same d =
-      on_task id (break_refusals func place) (on_break func place) a b' (same id refl) d
-  calls (request.Unbreak func id place) a b' same d =
-      on_task id (unbreak_refusals func place) (on_unbreak func place) a b' (same id refl) d
-  calls (request.Step count id) a b' same d =
-      on_task id (step_refusals count) (on_step count) a b' (same id refl) d
-  calls (request.Inspect id) a b' same d = on_task id inspect_refusals on_inspect a b' (same id refl) d
-  calls (request.Peek address id length) a b' same d =
-      on_task id (peek_refusals address length) (on_peek address length) a b' (same id refl) d
+  calls (request.Task id k) a b' same d = on_task id (own_refusals k) (does k) a b' (same id refl) d
 
 -- ---- before slices, and after them
 

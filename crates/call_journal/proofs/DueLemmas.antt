@@ -1,12 +1,13 @@
 -- A wait that is due is not answered Busy.
 use Rattle.std.proofs.lemmas.Bool.{eqb-true}
-use Rattle.std.proofs.Common.{◌≡◌, ℕ, List, length, Bool, true, false, Option, Some, None, Ok, Err, sym, ap, subst, refl, ◌∙◌}
+use Rattle.std.proofs.Common.{◌≡◌, ℕ, List, length, Bool, true, false, Option, Some, None, Err, ap, refl}
 use Rattle.std.specs.Prelude.{◌↔◌, ◌||◌, not, if◌then◌else◌}
 use Rattle.wasm_ast.specs.Identifiers.{is_id}
 use Rattle.wasm_ast.specs.declared.refusal.Refusal.TheVariants as refusal
 use Rattle.task_lifecycle.specs.declared.lifecycle.TaskCall.TheVariants as call
 use Rattle.task_lifecycle.specs.Lifecycle.{allowed}
 use Rattle.task_requests.specs.declared.request.Request.TheVariants as request
+use Rattle.task_requests.specs.declared.request.Ask.TheVariants as ask
 use Rattle.task_board.specs.BoardState.{Task, BoardState, task_of}
 use Rattle.task_board.specs.Refusals.{unless_allowed}
 use Rattle.task_board.specs.Settled.{is_settled}
@@ -34,7 +35,7 @@ module _ (s s' : BoardState) (a : Answer) (busy : a ≡ Err refusal.Busy) where
 due_or_full :
     (old new : BookValue) (was now : Known) (id : List ℕ) (a : Answer) (b : Bool)
     → (b || is_settled (task_of id old.journalled.board.tasks)) ≡ true → (b ≡ true → a ≡ Err refusal.JournalFull)
-    → HasCalled old new was now (request.Wait id) a → a ≡ Err refusal.Busy → ⊥
+    → HasCalled old new was now (request.Task id ask.Wait) a → a ≡ Err refusal.Busy → ⊥
 due_or_full old new was now id a true due full called busy = let none = full refl in cc
 due_or_full old new was now id a false due full called busy =
     settled old.journalled.board new.journalled.board a busy id (task_of id old.journalled.board.tasks) due
@@ -45,7 +46,7 @@ due_or_closed :
     → (b || (is_full old.journalled || is_settled (task_of id old.journalled.board.tasks))) ≡ true
     → (b ≡ true → a ≡ Err refusal.Closed)
     → (b ≡ false → is_full old.journalled ≡ true → a ≡ Err refusal.JournalFull)
-    → HasCalled old new was now (request.Wait id) a → a ≡ Err refusal.Busy → ⊥
+    → HasCalled old new was now (request.Task id ask.Wait) a → a ≡ Err refusal.Busy → ⊥
 due_or_closed old new was now id a true due closed full called busy = let shut = closed refl in cc
 due_or_closed old new was now id a false due closed full called busy =
     due_or_full old new was now id a (is_full old.journalled) due (full refl) called busy
@@ -55,7 +56,7 @@ pub never_busy :
     → ((a ≡ Err refusal.Closed) ↔ (old.journalled.closed ≡ true))
     → ((a ≡ Err refusal.JournalFull) ↔ ((old.journalled.closed ≡ false)
     × (length old.journalled.journal ≡ most_entries)))
-    → (is_journalled a ≡ true → HasCalled old new was now (request.Wait id) a) → a ≡ Err refusal.Busy → ⊥
+    → (is_journalled a ≡ true → HasCalled old new was now (request.Task id ask.Wait) a) → a ≡ Err refusal.Busy → ⊥
 never_busy old new was now id a due closed full called busy =
     due_or_closed old new was now id a old.journalled.closed due closed.1
     (λ shut most. full.1 (shut, eqb-true (length old.journalled.journal) most_entries most))

@@ -1,22 +1,22 @@
 -- A call changes no task but the one that it names.
 use Rattle.std.proofs.Common.{◌≡◌, ◌≢◌, ℕ, List, [], length, Option, Some, None, Ok, Err, refl, sym, ap, ◌∙◌}
 use Rattle.wasm_ast.specs.declared.refusal.Refusal.{Refusal}
-use Rattle.wasm_ast.specs.declared.refusal.Refusal.TheVariants as refusal
 use Rattle.content_leases.specs.Digests.{digest_of}
 use Rattle.content_leases.specs.StoreState.{StoreState, with_content, without_content, with_lease, with_member, without_lease, unheld, collected}
 use Rattle.content_leases.specs.Refusals.{Refusals, first_refusal, put_refusals, remove_refusals, lease_create_refusals, lease_add_refusals, lease_delete_refusals}
-use Rattle.task_lifecycle.specs.declared.lifecycle.TaskCall.TheVariants as call
 use Rattle.task_lifecycle.specs.declared.status.Signal.{Signal}
 use Rattle.task_lifecycle.specs.Names.{signal_of}
 use Rattle.task_board.specs.declared.change.Change.TheVariants as change
+use Rattle.task_requests.specs.declared.request.Ask.{Ask}
 use Rattle.task_requests.specs.declared.request.Request.{Request}
 use Rattle.task_requests.specs.declared.request.Request.TheVariants as request
+use Rattle.task_requests.specs.declared.request.Ask.TheVariants as ask
 use Rattle.task_requests.specs.declared.request.Reply.{Reply}
 use Rattle.task_requests.specs.declared.request.Reply.TheVariants as reply
 use Rattle.task_board.specs.BoardState.{Task, BoardState, created_task, used_by, with_store, task_of}
 use Rattle.task_board.specs.Tasks.{killed_by}
-use Rattle.task_board.specs.Refusals.{create_refusals, unless_allowed, kill_refusals, state_refusals, output_refusals, break_refusals, unbreak_refusals, step_refusals, inspect_refusals, peek_refusals, task_refusals}
-use Rattle.task_board.specs.Step.{Answer, DecidedBy, Puts, PutsText, refused, stored, Done, with_left, OnFound, Creates, on_start, on_pause, on_resume, on_kill, on_delete, on_state, on_wait, on_output, on_break, on_unbreak, on_step, on_inspect, on_peek, Answers}
+use Rattle.task_board.specs.Refusals.{create_refusals, own_refusals, task_refusals}
+use Rattle.task_board.specs.Step.{Answer, DecidedBy, Puts, PutsText, refused, stored, Done, with_left, OnFound, Creates, does, Answers}
 use Rattle.task_board.proofs.EntryLemmas.{none_is_not, some_is}
 use Rattle.task_board.proofs.StepLemmas.{task_named}
 use Rattle.task_board.proofs.EffectLemmas.{change_id}
@@ -86,6 +86,21 @@ makes s config new (Ok r) s' id away d =
     ap (λ (x : BoardState). task_of id x.tasks) d.4.3.2
     ∙ put_beside d.4.3.0 (created_task new s.creates d.1 d.4.0 d.0) id s.tasks away
 
+keeps_id : (k : Ask) → KeepsId (does k)
+keeps_id ask.Start t u is = id_of t _ u refl is
+keeps_id ask.Pause t u is = id_of t _ u refl is
+keeps_id ask.Resume t u is = id_of t _ u refl is
+keeps_id (ask.Kill number) t u is = id_of t _ u (killed_id (signal_of number) t) is
+keeps_id ask.Delete t u is = absurd (none_is_not u is)
+keeps_id ask.State t u is = id_of t _ u refl is
+keeps_id ask.Wait t u is = id_of t _ u refl is
+keeps_id (ask.Output number) t u is = id_of t _ u refl is
+keeps_id (ask.Break func place) t u is = id_of t _ u refl is
+keeps_id (ask.Unbreak func place) t u is = id_of t _ u refl is
+keeps_id (ask.Step count) t u is = id_of t _ u refl is
+keeps_id ask.Inspect t u is = id_of t _ u refl is
+keeps_id (ask.Peek address length) t u is = id_of t _ u refl is
+
 pub only_named : (s : BoardState) (r : Request) (a : Answer) (s' : BoardState) (id : List ℕ) → Answers s r a s'
     → (named r ≡ Some id → ⊥) → task_of id s'.tasks ≡ task_of id s.tasks
 only_named s (request.Put bytes) a s' id d other = puts s a s' id bytes d
@@ -104,32 +119,5 @@ only_named s request.Gc a s' id d other =
 only_named s (request.Create config x) a s' id d other =
     decided s a s' id (first_refusal (create_refusals s config x)) (Creates s config x a s')
     (λ made. makes s config x a s' id (λ same. other (ap Some same)) made) d
-only_named s (request.Start x) a s' id d other =
-    on_task s a s' id x (unless_allowed call.Start refusal.WrongStatus) on_start (λ t u is. id_of t _ u refl is) other d
-only_named s (request.Pause x) a s' id d other =
-    on_task s a s' id x (unless_allowed call.Pause refusal.WrongStatus) on_pause (λ t u is. id_of t _ u refl is) other d
-only_named s (request.Resume x) a s' id d other =
-    on_task s a s' id x (unless_allowed call.Resume refusal.WrongStatus) on_resume (λ t u is. id_of t _ u refl is)
-    other d
-only_named s (request.Kill x number) a s' id d other =
-    on_task s a s' id x (kill_refusals number) (on_kill number)
-    (λ t u is. id_of t _ u (killed_id (signal_of number) t) is) other d
-only_named s (request.Delete x) a s' id d other =
-    on_task s a s' id x (unless_allowed call.Delete refusal.WrongStatus) on_delete
-    (λ t u is. absurd (none_is_not u is)) other d
-only_named s (request.State x) a s' id d other =
-    on_task s a s' id x state_refusals on_state (λ t u is. id_of t _ u refl is) other d
-only_named s (request.Wait x) a s' id d other =
-    on_task s a s' id x (unless_allowed call.Wait refusal.Busy) on_wait (λ t u is. id_of t _ u refl is) other d
-only_named s (request.Output x number) a s' id d other =
-    on_task s a s' id x (output_refusals number) (on_output number) (λ t u is. id_of t _ u refl is) other d
-only_named s (request.Break func x place) a s' id d other =
-    on_task s a s' id x (break_refusals func place) (on_break func place) (λ t u is. id_of t _ u refl is) other d
-only_named s (request.Unbreak func x place) a s' id d other =
-    on_task s a s' id x (unbreak_refusals func place) (on_unbreak func place) (λ t u is. id_of t _ u refl is) other d
-only_named s (request.Step count x) a s' id d other =
-    on_task s a s' id x (step_refusals count) (on_step count) (λ t u is. id_of t _ u refl is) other d
-only_named s (request.Inspect x) a s' id d other =
-    on_task s a s' id x inspect_refusals on_inspect (λ t u is. id_of t _ u refl is) other d
-only_named s (request.Peek address x length) a s' id d other =
-    on_task s a s' id x (peek_refusals address length) (on_peek address length) (λ t u is. id_of t _ u refl is) other d
+only_named s (request.Task x k) a s' id d other =
+    on_task s a s' id x (own_refusals k) (does k) (keeps_id k) other d

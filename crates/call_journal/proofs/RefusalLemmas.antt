@@ -1,18 +1,16 @@
 -- A refusal leaves the board.
 use Rattle.std.proofs.Common.{◌≡◌, ℕ, List, [], length, Option, Some, None, Ok, Err}
 use Rattle.wasm_ast.specs.declared.refusal.Refusal.{Refusal}
-use Rattle.wasm_ast.specs.declared.refusal.Refusal.TheVariants as refusal
 use Rattle.content_leases.specs.Digests.{digest_of}
 use Rattle.content_leases.specs.StoreState.{StoreState, with_content, without_content, with_lease, with_member, without_lease, unheld, collected}
 use Rattle.content_leases.specs.Refusals.{Refusals, first_refusal, put_refusals, remove_refusals, lease_create_refusals, lease_add_refusals, lease_delete_refusals}
-use Rattle.task_lifecycle.specs.declared.lifecycle.TaskCall.TheVariants as call
 use Rattle.task_requests.specs.declared.request.Request.{Request}
 use Rattle.task_requests.specs.declared.request.Request.TheVariants as request
 use Rattle.task_requests.specs.declared.request.Reply.{Reply}
 use Rattle.task_requests.specs.declared.request.Reply.TheVariants as reply
 use Rattle.task_board.specs.BoardState.{Task, BoardState, used_by, with_store, task_of}
-use Rattle.task_board.specs.Refusals.{create_refusals, unless_allowed, kill_refusals, state_refusals, output_refusals, break_refusals, unbreak_refusals, step_refusals, inspect_refusals, peek_refusals, task_refusals}
-use Rattle.task_board.specs.Step.{DecidedBy, Puts, PutsText, refused, stored, Done, with_left, OnFound, Creates, on_start, on_pause, on_resume, on_kill, on_delete, on_state, on_wait, on_output, on_break, on_unbreak, on_step, on_inspect, on_peek, Answers}
+use Rattle.task_board.specs.Refusals.{create_refusals, own_refusals, task_refusals}
+use Rattle.task_board.specs.Step.{DecidedBy, Puts, PutsText, refused, stored, Done, with_left, OnFound, Creates, does, Answers}
 
 module _ (s : BoardState) (e : Refusal) (s' : BoardState) where
   decided : (o : Option Refusal) (E : Type 0) → (E → s' ≡ s) → DecidedBy o E s (Err e) s' → s' ≡ s
@@ -60,27 +58,7 @@ module _ (s : BoardState) (e : Refusal) (s' : BoardState) where
       on_store [] (reply.Gc (unheld (used_by s.tasks) s.store)) (collected (used_by s.tasks) s.store) d
   stays (request.Create config id) d =
       decided (first_refusal (create_refusals s config id)) (Creates s config id (Err e) s') (λ made. made.4.1) d
-  stays (request.Start id) d =
-      on_found id (unless_allowed call.Start refusal.WrongStatus) on_start (task_of id s.tasks) d
-  stays (request.Pause id) d =
-      on_found id (unless_allowed call.Pause refusal.WrongStatus) on_pause (task_of id s.tasks) d
-  stays (request.Resume id) d =
-      on_found id (unless_allowed call.Resume refusal.WrongStatus) on_resume (task_of id s.tasks) d
-  stays (request.Kill id number) d = on_found id (kill_refusals number) (on_kill number) (task_of id s.tasks) d
-  stays (request.Delete id) d =
-      on_found id (unless_allowed call.Delete refusal.WrongStatus) on_delete (task_of id s.tasks) d
-  stays (request.State id) d = on_found id state_refusals on_state (task_of id s.tasks) d
-  stays (request.Wait id) d = on_found id (unless_allowed call.Wait refusal.Busy) on_wait (task_of id s.tasks) d
-  stays (request.Output id number) d =
-      on_found id (output_refusals number) (on_output number) (task_of id s.tasks) d
-  stays (request.Break func id place) d =
-      on_found id (break_refusals func place) (on_break func place) (task_of id s.tasks) d
-  stays (request.Unbreak func id place) d =
-      on_found id (unbreak_refusals func place) (on_unbreak func place) (task_of id s.tasks) d
-  stays (request.Step count id) d = on_found id (step_refusals count) (on_step count) (task_of id s.tasks) d
-  stays (request.Inspect id) d = on_found id inspect_refusals on_inspect (task_of id s.tasks) d
-  stays (request.Peek address id length) d =
-      on_found id (peek_refusals address length) (on_peek address length) (task_of id s.tasks) d
+  stays (request.Task id k) d = on_found id (own_refusals k) (does k) (task_of id s.tasks) d
 
 pub refusal_stays : (s : BoardState) (r : Request) (e : Refusal) (s' : BoardState) → Answers s r (Err e) s' → s' ≡ s
 refusal_stays s r e s' answers = stays s e s' r answers

@@ -11,7 +11,6 @@ use Rattle.validator.specs.Typing.{ValidModule}
 use Rattle.content_leases.specs.Digests.{digest_of}
 use Rattle.content_leases.specs.StoreState.{Content, Lease, StoreState, content_in, is_leased, is_held, with_content, without_content, with_lease, with_member, without_lease, collected}
 use Rattle.content_leases.specs.Refusals.{Refusals, first_refusal, put_refusals, remove_refusals, lease_create_refusals, lease_add_refusals, lease_delete_refusals}
-use Rattle.task_lifecycle.specs.declared.lifecycle.TaskCall.TheVariants as call
 use Rattle.task_requests.specs.declared.request.Request.{Request}
 use Rattle.task_requests.specs.declared.request.Request.TheVariants as request
 use Rattle.task_requests.specs.declared.request.Reply.{Reply}
@@ -19,8 +18,8 @@ use Rattle.task_requests.specs.declared.request.Reply.TheVariants as reply
 use Rattle.task_board.specs.Limits.{max_tasks, max_creates}
 use Rattle.task_board.specs.BoardState.{Task, Entries, BoardState, created_task, used_by, with_store, task_of, put_task, change_task, remove_task, with_task, without_task, with_new_task}
 use Rattle.task_board.specs.Choices.{AgreeOnText}
-use Rattle.task_board.specs.Refusals.{named_bytes, create_refusals, unless_allowed, kill_refusals, state_refusals, output_refusals, break_refusals, unbreak_refusals, step_refusals, inspect_refusals, peek_refusals, task_refusals, Openable, CannotOpen, no_module, too_much, invalid, refused as unopened}
-use Rattle.task_board.specs.Step.{Answer, DecidedBy, Puts, PutsText, refused, stored, Done, with_left, OnFound, Opens, Creates, on_start, on_pause, on_resume, on_kill, on_delete, on_state, on_wait, on_output, on_break, on_unbreak, on_step, on_inspect, on_peek, Answers}
+use Rattle.task_board.specs.Refusals.{named_bytes, create_refusals, own_refusals, task_refusals, Openable, CannotOpen, no_module, too_much, invalid, refused as unopened}
+use Rattle.task_board.specs.Step.{Answer, DecidedBy, Puts, PutsText, refused, stored, Done, with_left, OnFound, Opens, Creates, does, Answers}
 use Rattle.task_board.proofs.EntryLemmas.{none_is_not, some_is}
 use Rattle.task_board.proofs.StepLemmas.{none_first}
 use Rattle.task_board.proofs.LawLemmas.{One, Faulty}
@@ -204,19 +203,7 @@ module _ (one : One) (faulty : Faulty) (texts : TextsAgree) (b : BoardState) (es
       (without_lease b.store id) x y
   calls request.Gc x y = collects x y
   calls (request.Create config id) x y = creates config id x y
-  calls (request.Start id) x y = on_task id (unless_allowed call.Start refusal.WrongStatus) on_start x y
-  calls (request.Pause id) x y = on_task id (unless_allowed call.Pause refusal.WrongStatus) on_pause x y
-  calls (request.Resume id) x y = on_task id (unless_allowed call.Resume refusal.WrongStatus) on_resume x y
-  calls (request.Kill id number) x y = on_task id (kill_refusals number) (on_kill number) x y
-  calls (request.Delete id) x y = on_task id (unless_allowed call.Delete refusal.WrongStatus) on_delete x y
-  calls (request.State id) x y = on_task id state_refusals on_state x y
-  calls (request.Wait id) x y = on_task id (unless_allowed call.Wait refusal.Busy) on_wait x y
-  calls (request.Output id number) x y = on_task id (output_refusals number) (on_output number) x y
-  calls (request.Break func id place) x y = on_task id (break_refusals func place) (on_break func place) x y
-  calls (request.Unbreak func id place) x y = on_task id (unbreak_refusals func place) (on_unbreak func place) x y
-  calls (request.Step count id) x y = on_task id (step_refusals count) (on_step count) x y
-  calls (request.Inspect id) x y = on_task id inspect_refusals on_inspect x y
-  calls (request.Peek address id length) x y = on_task id (peek_refusals address length) (on_peek address length) x y
+  calls (request.Task id k) x y = on_task id (own_refusals k) (does k) x y
 
 pub calls_alike : One → Faulty → TextsAgree → (s s' : BoardState) (r : Request) (a a' : Answer) (n n' : BoardState)
     → Distinct s.tasks → Distinct s'.tasks → IsAlike s s' → Answers s r a n → Answers s' r a' n' → IsAlike n n'

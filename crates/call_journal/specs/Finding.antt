@@ -9,19 +9,7 @@ use Rattle.call_journal.specs.declared.entry.Found.{Found}
 -- the store name none
 abbrev pub named : Request → Option (List ℕ)
 named (request.Create config id) = Some id
-named (request.Start id) = Some id
-named (request.Pause id) = Some id
-named (request.Resume id) = Some id
-named (request.Kill id signal) = Some id
-named (request.Delete id) = Some id
-named (request.State id) = Some id
-named (request.Wait id) = Some id
-named (request.Output id stream) = Some id
-named (request.Break func id place) = Some id
-named (request.Unbreak func id place) = Some id
-named (request.Step count id) = Some id
-named (request.Inspect id) = Some id
-named (request.Peek address id length) = Some id
+named (request.Task id a) = Some id
 named other = None
 
 -- the count of a task, and its out mark

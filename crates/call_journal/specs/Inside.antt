@@ -1,6 +1,5 @@
 -- What only private clauses and invariants name.
 pub mod Known
-pub mod Requests
 pub mod Calls
 pub mod Code
 pub mod Desks

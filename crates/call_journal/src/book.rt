@@ -3,6 +3,7 @@ ghost use Rattle.std.specs.Prelude.{◌≡◌, ◌↔◌, ◌≢◌, ◌⊎◌, 
 ghost use Rattle.call_journal.specs.Books.{is_due, is_full, is_idle, is_refused, is_journalled, HasCalled, IsUnchanged};
 ghost use Rattle.call_journal.specs.Replay.{IsReplay};
 ghost use Rattle.task_requests.specs.declared.request.Request.TheVariants as request;
+ghost use Rattle.task_requests.specs.declared.request.Ask.TheVariants as ask;
 ghost use Rattle.task_requests.specs.declared.event.Event.TheVariants as event;
 ghost use Rattle.task_requests.specs.declared.event.EventReply.TheVariants as answer;
 ghost use Rattle.task_board.specs.BoardState.{Task as TaskValue, empty, task_of};
@@ -31,7 +32,7 @@ use std::alloc::Global;
 use std::marker::Model;
 use std::sync::ledger;
 use std::sync::ledger::{Blank, Share};
-use task_board::{ExitRecord, Loan, Reply, Request, Ticket};
+use task_board::{Ask, ExitRecord, Loan, Reply, Request, Ticket};
 use wasm_ast::{Refusal, Text};
 
 /// How many seats there are at most.
@@ -124,12 +125,12 @@ impl<R: Row> Book<R> {
         requires row { cells.now ≡ R.cells }
         requires due { is_due self.old.journalled id ≡ true }
         ensures called { is_journalled result ≡ true
-            → HasCalled self.old self.new seat.old seat.new (request.Wait id) result }
+            → HasCalled self.old self.new seat.old seat.new (request.Task id ask.Wait) result }
         ensures same { is_journalled result ≡ false
             → IsUnchanged self.old self.new × (seat.new ≡ seat.old) }
         ensures answered { result ≢ Err Refusal.Busy }
     {
-        self.call(cells, seat, Request::Wait { id })
+        self.call(cells, seat, Request::Task { id, ask: Ask::Wait })
     }
 
     // Takes all memory that a seat's call needs, and puts its entry into the next cell.

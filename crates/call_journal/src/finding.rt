@@ -1,13 +1,12 @@
 //! What the entry of a request needs: a copy of the request, and the task that it names.
 
-ghost use Rattle.std.specs.Prelude.{◌≡◌, Some, None, false, IfOk, option_map};
+ghost use Rattle.std.specs.Prelude.{◌≡◌, None, IfOk, option_map};
 ghost use Rattle.task_requests.specs.declared.request.Request.TheVariants as request;
 ghost use Rattle.call_journal.specs.Finding.{named, found_of};
-ghost use Rattle.call_journal.specs.Inside.Requests.{is_create};
 
 use crate::entry::Found;
 use std::alloc::{AllocError, Global};
-use task_board::{Board, Request};
+use task_board::{Ask, Board, Request};
 use wasm_ast::Text;
 
 /// The id of the task that a request names.
@@ -15,39 +14,14 @@ pub fn named(request: &Request) -> Option<&Text>
     ensures { option_map (λ t. t.now) result ≡ named request.now }
 {
     match request {
-        Request::Create { config: _, id } => Some(id),
-        Request::Start { id } => Some(id),
-        Request::Pause { id } => Some(id),
-        Request::Resume { id } => Some(id),
-        Request::Kill { id, signal: _ } => Some(id),
-        Request::Delete { id } => Some(id),
-        Request::State { id } => Some(id),
-        Request::Wait { id } => Some(id),
-        Request::Output { id, stream: _ } => Some(id),
-        Request::Break {
-            func: _,
-            id,
-            place: _,
-        } => Some(id),
-        Request::Unbreak {
-            func: _,
-            id,
-            place: _,
-        } => Some(id),
-        Request::Step { count: _, id } => Some(id),
-        Request::Inspect { id } => Some(id),
-        Request::Peek {
-            address: _,
-            id,
-            length: _,
-        } => Some(id),
-        Request::Put { bytes: _ } => None,
-        Request::PutText { text: _ } => None,
-        Request::Remove { digest: _ } => None,
-        Request::LeaseCreate { id: _ } => None,
-        Request::LeaseAdd { digest: _, id: _ } => None,
-        Request::LeaseDelete { id: _ } => None,
-        Request::Gc => None,
+        Request::Create { config: _, id } | Request::Task { id, ask: _ } => Some(id),
+        Request::Put { bytes: _ }
+        | Request::PutText { text: _ }
+        | Request::Remove { digest: _ }
+        | Request::LeaseCreate { id: _ }
+        | Request::LeaseAdd { digest: _, id: _ }
+        | Request::LeaseDelete { id: _ }
+        | Request::Gc => None,
     }
 }
 
@@ -64,73 +38,26 @@ pub fn found(board: &Board, request: &Request) -> Option<Found>
 pub fn copy(alloc: Global, request: &Request) -> Result<Request, AllocError>
     ensures { IfOk result (λ r. r ≡ request.now) }
 {
-    match named(request) {
-        Some(id) => {
-            let id = id.copy(alloc)?;
-            copy_with(alloc, request, id)
-        }
-        None => copy_store(alloc, request),
+    match request {
+        Request::Create { config, id } => copy_create(alloc, config, id),
+        Request::Task { id, ask } => copy_task(alloc, id, *ask),
+        other => copy_store(alloc, other),
     }
 }
 
-// The same request to a task, of which the id is copied already.
-fn copy_with(alloc: Global, request: &Request, id: Text) -> Result<Request, AllocError>
-    requires { Some id ≡ named request.now }
-    ensures { IfOk result (λ r. r ≡ request.now) }
+fn copy_create(alloc: Global, config: &Text, id: &Text) -> Result<Request, AllocError>
+    ensures { IfOk result (λ r. r ≡ request.Create config.now id.now) }
 {
-    match request {
-        Request::Create { config, id: _ } => {
-            let config = config.copy(alloc)?;
-            Ok(Request::Create { config, id })
-        }
-        other => Ok(call_with(other, id)),
-    }
+    let config = config.copy(alloc)?;
+    let id = id.copy(alloc)?;
+    Ok(Request::Create { config, id })
 }
 
-// The same request to a task that is there, with an id that is its own.
-fn call_with(request: &Request, id: Text) -> Request
-    requires id { Some id ≡ named request.now }
-    requires call { is_create request.now ≡ false }
-    ensures { result ≡ request.now }
+fn copy_task(alloc: Global, id: &Text, ask: Ask) -> Result<Request, AllocError>
+    ensures { IfOk result (λ r. r ≡ request.Task id.now ask) }
 {
-    match request {
-        Request::Start { id: _ } => Request::Start { id },
-        Request::Pause { id: _ } => Request::Pause { id },
-        Request::Resume { id: _ } => Request::Resume { id },
-        Request::Kill { id: _, signal } => Request::Kill {
-            id,
-            signal: *signal,
-        },
-        Request::Delete { id: _ } => Request::Delete { id },
-        Request::State { id: _ } => Request::State { id },
-        Request::Wait { id: _ } => Request::Wait { id },
-        Request::Output { id: _, stream } => Request::Output {
-            id,
-            stream: *stream,
-        },
-        Request::Break { func, id: _, place } => Request::Break {
-            func: *func,
-            id,
-            place: *place,
-        },
-        Request::Unbreak { func, id: _, place } => Request::Unbreak {
-            func: *func,
-            id,
-            place: *place,
-        },
-        Request::Step { count, id: _ } => Request::Step { count: *count, id },
-        Request::Inspect { id: _ } => Request::Inspect { id },
-        Request::Peek {
-            address,
-            id: _,
-            length,
-        } => Request::Peek {
-            address: *address,
-            id,
-            length: *length,
-        },
-        _ => unreachable!(),
-    }
+    let id = id.copy(alloc)?;
+    Ok(Request::Task { id, ask })
 }
 
 // The same request to the store.

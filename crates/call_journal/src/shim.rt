@@ -2,6 +2,7 @@
 ghost use Rattle.std.specs.Prelude.{◌≡◌, ◌≢◌, ◌≤◌, ◌+◌, [], length, option_map, slice_get, true, false, Err, IfSome, IfOk, OnErr};
 ghost use Rattle.std.specs.Ordering.{nat_cmp};
 ghost use Rattle.task_requests.specs.declared.request.Request.TheVariants as request;
+ghost use Rattle.task_requests.specs.declared.request.Ask.TheVariants as ask;
 ghost use Rattle.task_requests.specs.Limits.{max_budget};
 ghost use Rattle.call_journal.specs.Books.{is_journalled};
 ghost use Rattle.call_journal.specs.Desks.{AreIdle, spot_names};
@@ -152,7 +153,7 @@ impl<R: Row> Shim<R> {
         id: Text,
     ) -> (Seat<R>, Result<Reply, Refusal>)
         ensures called { is_journalled result.1 ≡ true
-            → Extends seat result.0 (request.Wait id) result.1 }
+            → Extends seat result.0 (request.Task id ask.Wait) result.1 }
         ensures same { is_journalled result.1 ≡ false → result.0 ≡ seat }
         ensures answered { result.1 ≢ Err Refusal.Busy }
     {

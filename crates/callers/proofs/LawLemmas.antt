@@ -3,7 +3,8 @@ use Rattle.std.proofs.Common.{◌≡◌, ◌≢◌, ◌↔◌, ◌<◌, ◌≤�
 use Rattle.std.proofs.lemmas.List.{append-nil}
 use Rattle.wasm_ast.specs.declared.refusal.Refusal.TheVariants as refusal
 use Rattle.task_requests.specs.declared.request.Request.{Request}
-use Rattle.task_requests.specs.declared.request.Request.TheVariants.{Wait}
+use Rattle.task_requests.specs.declared.request.Request.TheVariants.{Task}
+use Rattle.task_requests.specs.declared.request.Ask.TheVariants.{Wait}
 use Rattle.task_requests.specs.declared.event.Event.{Event}
 use Rattle.task_requests.specs.declared.event.Event.TheVariants.{Call}
 use Rattle.task_board.specs.Step.{Answer}
@@ -31,13 +32,13 @@ pub never_busy :
     ((line : List ℕ) (x y : Event) → IsEvent line x → IsEvent line y → x ≡ y)
     → ((line : List ℕ) (r : Request) → IsRequest line r ↔ IsEvent line (Call r))
     → (was : Known) (line : List ℕ) (a : Answer) (now : Known) (id : List ℕ)
-    → IsAnswered was line a now → IsRequest line (Wait id) → a ≢ Err refusal.Busy
+    → IsAnswered was line a now → IsRequest line (Task id Wait) → a ≢ Err refusal.Busy
 never_busy one same was line a now id (inl p) waits busy =
-    let events = one line (Call p.request) (Call (Wait id)) ((same line p.request).0 p.is)
-    ((same line (Wait id)).0 waits) in
-    let is : p.request ≡ Wait id = ap (request_of (Wait id)) events in
+    let events = one line (Call p.request) (Call (Task id Wait)) ((same line p.request).0 p.is)
+    ((same line (Task id Wait)).0 waits) in
+    let is : p.request ≡ Task id Wait = ap (request_of (Task id Wait)) events in
     subst (λ r. IsDue r a) is p.due busy
-never_busy one same was line a now id (inr (inl p)) waits busy = absurd (p.none (Wait id) waits)
+never_busy one same was line a now id (inr (inl p)) waits busy = absurd (p.none (Task id Wait) waits)
 never_busy one same was line a now id (inr (inr p)) waits busy = let refused = p.refused in cc
 
 pub no_lines : (was : Known) (texts : List (List ℕ)) (now : Known)

@@ -2,7 +2,8 @@
 use Rattle.std.specs.Prelude.{◌≡◌, ◌≢◌, ◌≤◌, ◌⊎◌, ℕ, List, length, Err, MatchBool}
 use Rattle.wasm_ast.specs.declared.refusal.Refusal.TheVariants.{BadRequest, Busy, NoMemory}
 use Rattle.task_requests.specs.declared.request.Request.{Request}
-use Rattle.task_requests.specs.declared.request.Request.TheVariants.{Wait}
+use Rattle.task_requests.specs.declared.request.Request.TheVariants.{Task}
+use Rattle.task_requests.specs.declared.request.Ask.TheVariants.{Wait}
 use Rattle.task_board.specs.Step.{Answer}
 use Rattle.request_lines.specs.Shape.{max_line_bytes}
 use Rattle.request_lines.specs.Request.{IsRequest}
@@ -16,7 +17,7 @@ IsCall was now r a = MatchBool (is_journalled a) (Extends was now r a) (now ≡ 
 
 -- a wait is made once it is due, so it is never answered that its task is busy
 abbrev pub IsDue : Request → Answer → Type 0
-IsDue (Wait id) a = a ≢ Err Busy
+IsDue (Task id Wait) a = a ≢ Err Busy
 IsDue other a = Unit {0}
 
 -- the line is this request, which is answered so

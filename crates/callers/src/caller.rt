@@ -16,7 +16,7 @@ use request_lines::{
 use std::alloc::{AllocError, Global};
 use std::sync::Wait;
 use task_board::Status;
-use task_requests::{Reply, Request};
+use task_requests::{Ask, Reply, Request};
 use wasm_ast::Refusal;
 
 /// How many bytes are kept for the line of an answer: twice what the longest output and its making
@@ -88,7 +88,7 @@ fn call<J: Row, H: Wait, N: Notes>(
     ensures due { IsDue request result.1 }
 {
     match request {
-        Request::Wait { id } => {
+        Request::Task { id, ask: Ask::Wait } => {
             if let Some((turns, end)) = shim.run_waiting(rt, &id, SLICE_TURNS) {
                 notes.ended(&id, turns, end);
             }

@@ -3,6 +3,7 @@
 ghost use Rattle.std.specs.Prelude.{◌≡◌, ◌≢◌, ◌<◌, ◌⊎◌, ◌++◌, [], ◌∷◌, ⊤, List, ℕ, length, Option, Some, Err};
 ghost use Rattle.wasm_ast.specs.declared.refusal.Refusal.TheVariants as refusal;
 ghost use Rattle.task_requests.specs.declared.request.Request.TheVariants as request;
+ghost use Rattle.task_requests.specs.declared.request.Ask.TheVariants as ask;
 ghost use Rattle.task_board.specs.Step.{Answer};
 ghost use Rattle.request_lines.specs.Request.{IsRequest};
 ghost use Rattle.request_lines.specs.Input.{HasNoFeed};
@@ -28,7 +29,7 @@ pub fn long_lines_are_no_requests()
 /// is never answered that its task is busy.
 pub fn waits_are_never_busy()
     ensures { (was : Known) (line : List ℕ) (a : Answer) (now : Known) (id : List ℕ)
-        → IsAnswered was line a now → IsRequest line (request.Wait id) → a ≢ Err refusal.Busy }
+        → IsAnswered was line a now → IsRequest line (request.Task id ask.Wait) → a ≢ Err refusal.Busy }
 {
     one_event_to_a_line();
     requests_are_events();

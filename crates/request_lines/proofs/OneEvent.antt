@@ -6,7 +6,8 @@ use Rattle.serde_json.specs.Data.{Data, number, string, object, Members, unsigne
 use Rattle.serde_json.specs.Find.{get_member}
 use Rattle.task_requests.specs.declared.event.Event.{Event}
 use Rattle.task_requests.specs.declared.event.Event.TheVariants.{Call, Take, Return}
-use Rattle.task_requests.specs.declared.request.Request.TheVariants.{Put, PutText, Remove, LeaseCreate, LeaseAdd, LeaseDelete, Gc, Create, Start, Pause, Resume, Kill, Delete, State, Wait, Output, Break, Unbreak, Step, Inspect, Peek}
+use Rattle.task_requests.specs.declared.request.Request.TheVariants.{Put, PutText, Remove, LeaseCreate, LeaseAdd, LeaseDelete, Gc, Create, Task}
+use Rattle.task_requests.specs.declared.request.Ask.TheVariants.{Start, Pause, Resume, Kill, Delete, State, Wait, Output, Break, Unbreak, Step, Inspect, Peek}
 use Rattle.request_lines.specs.Request.{AsksEvent, IsEvent}
 
 abbrev put_read : Result (List ℕ) FromHexError → Option Event
@@ -40,34 +41,34 @@ of_op ms op =
     (cond (bytes_eq op (codes "create"))
     (text_of (get_member (codes "config") ms)
     (λ config. text_of (get_member (codes "id") ms) (λ id. Some (Call (Create config id)))))
-    (cond (bytes_eq op (codes "start")) (text_of (get_member (codes "id") ms) (λ id. Some (Call (Start id))))
-    (cond (bytes_eq op (codes "pause")) (text_of (get_member (codes "id") ms) (λ id. Some (Call (Pause id))))
-    (cond (bytes_eq op (codes "resume")) (text_of (get_member (codes "id") ms) (λ id. Some (Call (Resume id))))
+    (cond (bytes_eq op (codes "start")) (text_of (get_member (codes "id") ms) (λ id. Some (Call (Task id Start))))
+    (cond (bytes_eq op (codes "pause")) (text_of (get_member (codes "id") ms) (λ id. Some (Call (Task id Pause))))
+    (cond (bytes_eq op (codes "resume")) (text_of (get_member (codes "id") ms) (λ id. Some (Call (Task id Resume))))
     (cond (bytes_eq op (codes "kill"))
     (text_of (get_member (codes "id") ms)
-    (λ id. number_of (get_member (codes "signal") ms) (λ signal. Some (Call (Kill id signal)))))
-    (cond (bytes_eq op (codes "delete")) (text_of (get_member (codes "id") ms) (λ id. Some (Call (Delete id))))
-    (cond (bytes_eq op (codes "state")) (text_of (get_member (codes "id") ms) (λ id. Some (Call (State id))))
-    (cond (bytes_eq op (codes "wait")) (text_of (get_member (codes "id") ms) (λ id. Some (Call (Wait id))))
+    (λ id. number_of (get_member (codes "signal") ms) (λ signal. Some (Call (Task id (Kill signal))))))
+    (cond (bytes_eq op (codes "delete")) (text_of (get_member (codes "id") ms) (λ id. Some (Call (Task id Delete))))
+    (cond (bytes_eq op (codes "state")) (text_of (get_member (codes "id") ms) (λ id. Some (Call (Task id State))))
+    (cond (bytes_eq op (codes "wait")) (text_of (get_member (codes "id") ms) (λ id. Some (Call (Task id Wait))))
     (cond (bytes_eq op (codes "output"))
     (text_of (get_member (codes "id") ms)
-    (λ id. number_of (get_member (codes "stream") ms) (λ stream. Some (Call (Output id stream)))))
+    (λ id. number_of (get_member (codes "stream") ms) (λ stream. Some (Call (Task id (Output stream))))))
     (cond (bytes_eq op (codes "break"))
     (number_of (get_member (codes "func") ms)
     (λ func. text_of (get_member (codes "id") ms)
-    (λ id. number_of (get_member (codes "place") ms) (λ place. Some (Call (Break func id place))))))
+    (λ id. number_of (get_member (codes "place") ms) (λ place. Some (Call (Task id (Break func place)))))))
     (cond (bytes_eq op (codes "unbreak"))
     (number_of (get_member (codes "func") ms)
     (λ func. text_of (get_member (codes "id") ms)
-    (λ id. number_of (get_member (codes "place") ms) (λ place. Some (Call (Unbreak func id place))))))
+    (λ id. number_of (get_member (codes "place") ms) (λ place. Some (Call (Task id (Unbreak func place)))))))
     (cond (bytes_eq op (codes "peek"))
     (number_of (get_member (codes "address") ms)
     (λ address. text_of (get_member (codes "id") ms)
-    (λ id. number_of (get_member (codes "length") ms) (λ length. Some (Call (Peek address id length))))))
+    (λ id. number_of (get_member (codes "length") ms) (λ length. Some (Call (Task id (Peek address length)))))))
     (cond (bytes_eq op (codes "step"))
     (number_of (get_member (codes "count") ms)
-    (λ count. text_of (get_member (codes "id") ms) (λ id. Some (Call (Step count id)))))
-    (cond (bytes_eq op (codes "inspect")) (text_of (get_member (codes "id") ms) (λ id. Some (Call (Inspect id))))
+    (λ count. text_of (get_member (codes "id") ms) (λ id. Some (Call (Task id (Step count))))))
+    (cond (bytes_eq op (codes "inspect")) (text_of (get_member (codes "id") ms) (λ id. Some (Call (Task id Inspect))))
     (cond (bytes_eq op (codes "return")) (text_of (get_member (codes "id") ms) (λ id. Some (Return id)))
     (text_of (get_member (codes "id") ms)
     (λ id. number_of (get_member (codes "budget") ms) (λ budget. Some (Take id budget)))))))))))))))))))))))))
@@ -86,19 +87,19 @@ recovered d (Call (LeaseAdd digest id)) (ms, whole, keys) = rw (whole, keys) ref
 recovered d (Call (LeaseDelete id)) (ms, whole, keys) = rw (whole, keys) refl
 recovered d (Call Gc) (ms, whole, keys) = rw (whole, keys) refl
 recovered d (Call (Create config id)) (ms, whole, keys) = rw (whole, keys) refl
-recovered d (Call (Start id)) (ms, whole, keys) = rw (whole, keys) refl
-recovered d (Call (Pause id)) (ms, whole, keys) = rw (whole, keys) refl
-recovered d (Call (Resume id)) (ms, whole, keys) = rw (whole, keys) refl
-recovered d (Call (Kill id signal)) (ms, whole, keys) = rw (whole, keys) refl
-recovered d (Call (Delete id)) (ms, whole, keys) = rw (whole, keys) refl
-recovered d (Call (State id)) (ms, whole, keys) = rw (whole, keys) refl
-recovered d (Call (Wait id)) (ms, whole, keys) = rw (whole, keys) refl
-recovered d (Call (Output id stream)) (ms, whole, keys) = rw (whole, keys) refl
-recovered d (Call (Break func id place)) (ms, whole, keys) = rw (whole, keys) refl
-recovered d (Call (Unbreak func id place)) (ms, whole, keys) = rw (whole, keys) refl
-recovered d (Call (Step count id)) (ms, whole, keys) = rw (whole, keys) refl
-recovered d (Call (Inspect id)) (ms, whole, keys) = rw (whole, keys) refl
-recovered d (Call (Peek address id length)) (ms, whole, keys) = rw (whole, keys) refl
+recovered d (Call (Task id Start)) (ms, whole, keys) = rw (whole, keys) refl
+recovered d (Call (Task id Pause)) (ms, whole, keys) = rw (whole, keys) refl
+recovered d (Call (Task id Resume)) (ms, whole, keys) = rw (whole, keys) refl
+recovered d (Call (Task id (Kill signal))) (ms, whole, keys) = rw (whole, keys) refl
+recovered d (Call (Task id Delete)) (ms, whole, keys) = rw (whole, keys) refl
+recovered d (Call (Task id State)) (ms, whole, keys) = rw (whole, keys) refl
+recovered d (Call (Task id Wait)) (ms, whole, keys) = rw (whole, keys) refl
+recovered d (Call (Task id (Output stream))) (ms, whole, keys) = rw (whole, keys) refl
+recovered d (Call (Task id (Break func place))) (ms, whole, keys) = rw (whole, keys) refl
+recovered d (Call (Task id (Unbreak func place))) (ms, whole, keys) = rw (whole, keys) refl
+recovered d (Call (Task id (Step count))) (ms, whole, keys) = rw (whole, keys) refl
+recovered d (Call (Task id Inspect)) (ms, whole, keys) = rw (whole, keys) refl
+recovered d (Call (Task id (Peek address length))) (ms, whole, keys) = rw (whole, keys) refl
 recovered d (Take id budget) (ms, whole, (keys, least, most)) = rw (whole, keys) refl
 recovered d (Return id) (ms, whole, keys) = rw (whole, keys) refl
 

@@ -7,7 +7,8 @@ use Rattle.serde_json.proofs.Views.{get_member-put}
 use Rattle.task_requests.specs.declared.event.Event.{Event}
 use Rattle.task_requests.specs.declared.event.Event.TheVariants.{Call, Take, Return}
 use Rattle.task_requests.specs.declared.request.Request.{Request}
-use Rattle.task_requests.specs.declared.request.Request.TheVariants.{Put, PutText, Remove, LeaseCreate, LeaseAdd, LeaseDelete, Gc, Create, Start, Pause, Resume, Kill, Delete, State, Wait, Output, Break, Unbreak, Step, Inspect, Peek}
+use Rattle.task_requests.specs.declared.request.Request.TheVariants.{Put, PutText, Remove, LeaseCreate, LeaseAdd, LeaseDelete, Gc, Create, Task}
+use Rattle.task_requests.specs.declared.request.Ask.TheVariants.{Start, Pause, Resume, Kill, Delete, State, Wait, Output, Break, Unbreak, Step, Inspect, Peek}
 use Rattle.request_lines.specs.declared.line_error.LineError.{LineError}
 use Rattle.request_lines.specs.Request.{only_id, HasKeys, event_op, HasEventKeys, AsksEvent}
 use Rattle.request_lines.specs.Inside.Parse.{Parses, without, IsAsked, IsEventAsked, HasOnlyId, IsLate, IsSimple}
@@ -24,19 +25,19 @@ only_put op ms is none (LeaseAdd digest id) a = let same = a.same in cc
 only_put op ms is none (LeaseDelete id) a = let same = a.same in cc
 only_put op ms is none Gc a = let same = a.same in cc
 only_put op ms is none (Create config id) a = let same = a.same in cc
-only_put op ms is none (Start id) a = let same = a.same in cc
-only_put op ms is none (Pause id) a = let same = a.same in cc
-only_put op ms is none (Resume id) a = let same = a.same in cc
-only_put op ms is none (Kill id signal) a = let same = a.same in cc
-only_put op ms is none (Delete id) a = let same = a.same in cc
-only_put op ms is none (State id) a = let same = a.same in cc
-only_put op ms is none (Inspect id) a = let same = a.same in cc
-only_put op ms is none (Wait id) a = let same = a.same in cc
-only_put op ms is none (Output id stream) a = let same = a.same in cc
-only_put op ms is none (Break func id place) a = let same = a.same in cc
-only_put op ms is none (Unbreak func id place) a = let same = a.same in cc
-only_put op ms is none (Step count id) a = let same = a.same in cc
-only_put op ms is none (Peek address id length) a = let same = a.same in cc
+only_put op ms is none (Task id Start) a = let same = a.same in cc
+only_put op ms is none (Task id Pause) a = let same = a.same in cc
+only_put op ms is none (Task id Resume) a = let same = a.same in cc
+only_put op ms is none (Task id (Kill signal)) a = let same = a.same in cc
+only_put op ms is none (Task id Delete) a = let same = a.same in cc
+only_put op ms is none (Task id State) a = let same = a.same in cc
+only_put op ms is none (Task id Inspect) a = let same = a.same in cc
+only_put op ms is none (Task id Wait) a = let same = a.same in cc
+only_put op ms is none (Task id (Output stream)) a = let same = a.same in cc
+only_put op ms is none (Task id (Break func place)) a = let same = a.same in cc
+only_put op ms is none (Task id (Unbreak func place)) a = let same = a.same in cc
+only_put op ms is none (Task id (Step count)) a = let same = a.same in cc
+only_put op ms is none (Task id (Peek address length)) a = let same = a.same in cc
 
 -- no request with these keys beside `op`, and none that is simple
 pub none_left :
@@ -46,24 +47,24 @@ pub none_left :
 none_left op ms put create kill none (Put bytes) a = put a.same
 none_left op ms put create kill none (PutText text) a = none (PutText text) tt a
 none_left op ms put create kill none (Create config id) a = create a.same
-none_left op ms put create kill none (Kill id signal) a = kill a.same
+none_left op ms put create kill none (Task id (Kill signal)) a = kill a.same
 none_left op ms put create kill none (Remove digest) a = none (Remove digest) tt a
 none_left op ms put create kill none (LeaseCreate id) a = none (LeaseCreate id) tt a
 none_left op ms put create kill none (LeaseAdd digest id) a = none (LeaseAdd digest id) tt a
 none_left op ms put create kill none (LeaseDelete id) a = none (LeaseDelete id) tt a
 none_left op ms put create kill none Gc a = none Gc tt a
-none_left op ms put create kill none (Start id) a = none (Start id) tt a
-none_left op ms put create kill none (Pause id) a = none (Pause id) tt a
-none_left op ms put create kill none (Resume id) a = none (Resume id) tt a
-none_left op ms put create kill none (Delete id) a = none (Delete id) tt a
-none_left op ms put create kill none (State id) a = none (State id) tt a
-none_left op ms put create kill none (Inspect id) a = none (Inspect id) tt a
-none_left op ms put create kill none (Wait id) a = none (Wait id) tt a
-none_left op ms put create kill none (Output id stream) a = none (Output id stream) tt a
-none_left op ms put create kill none (Break func id place) a = none (Break func id place) tt a
-none_left op ms put create kill none (Unbreak func id place) a = none (Unbreak func id place) tt a
-none_left op ms put create kill none (Step count id) a = none (Step count id) tt a
-none_left op ms put create kill none (Peek address id length) a = none (Peek address id length) tt a
+none_left op ms put create kill none (Task id Start) a = none (Task id Start) tt a
+none_left op ms put create kill none (Task id Pause) a = none (Task id Pause) tt a
+none_left op ms put create kill none (Task id Resume) a = none (Task id Resume) tt a
+none_left op ms put create kill none (Task id Delete) a = none (Task id Delete) tt a
+none_left op ms put create kill none (Task id State) a = none (Task id State) tt a
+none_left op ms put create kill none (Task id Inspect) a = none (Task id Inspect) tt a
+none_left op ms put create kill none (Task id Wait) a = none (Task id Wait) tt a
+none_left op ms put create kill none (Task id (Output stream)) a = none (Task id (Output stream)) tt a
+none_left op ms put create kill none (Task id (Break func place)) a = none (Task id (Break func place)) tt a
+none_left op ms put create kill none (Task id (Unbreak func place)) a = none (Task id (Unbreak func place)) tt a
+none_left op ms put create kill none (Task id (Step count)) a = none (Task id (Step count)) tt a
+none_left op ms put create kill none (Task id (Peek address length)) a = none (Task id (Peek address length)) tt a
 
 -- a word is not another
 differ : (x y op : List ℕ) → bytes_eq x y ≡ false → op ≡ x → op ≡ y → ⊥
@@ -76,25 +77,28 @@ pub only_put_text :
 only_put_text op ms is none (PutText text) own a = none text a.keys
 only_put_text op ms is none (Put bytes) own a = own
 only_put_text op ms is none (Create config id) own a = own
-only_put_text op ms is none (Kill id signal) own a = own
+only_put_text op ms is none (Task id (Kill signal)) own a = own
 only_put_text op ms is none (Remove digest) own a = differ (codes "put_text") (codes "remove") op refl is a.same
 only_put_text op ms is none (LeaseCreate id) own a = differ (codes "put_text") (codes "lease_create") op refl is a.same
 only_put_text op ms is none (LeaseAdd digest id) own a = differ (codes "put_text") (codes "lease_add") op refl is a.same
 only_put_text op ms is none (LeaseDelete id) own a = differ (codes "put_text") (codes "lease_delete") op refl is a.same
 only_put_text op ms is none Gc own a = differ (codes "put_text") (codes "gc") op refl is a.same
-only_put_text op ms is none (Start id) own a = differ (codes "put_text") (codes "start") op refl is a.same
-only_put_text op ms is none (Pause id) own a = differ (codes "put_text") (codes "pause") op refl is a.same
-only_put_text op ms is none (Resume id) own a = differ (codes "put_text") (codes "resume") op refl is a.same
-only_put_text op ms is none (Delete id) own a = differ (codes "put_text") (codes "delete") op refl is a.same
-only_put_text op ms is none (State id) own a = differ (codes "put_text") (codes "state") op refl is a.same
-only_put_text op ms is none (Inspect id) own a = differ (codes "put_text") (codes "inspect") op refl is a.same
-only_put_text op ms is none (Wait id) own a = differ (codes "put_text") (codes "wait") op refl is a.same
-only_put_text op ms is none (Output id stream) own a = differ (codes "put_text") (codes "output") op refl is a.same
-only_put_text op ms is none (Break func id place) own a = differ (codes "put_text") (codes "break") op refl is a.same
-only_put_text op ms is none (Unbreak func id place) own a =
+only_put_text op ms is none (Task id Start) own a = differ (codes "put_text") (codes "start") op refl is a.same
+only_put_text op ms is none (Task id Pause) own a = differ (codes "put_text") (codes "pause") op refl is a.same
+only_put_text op ms is none (Task id Resume) own a = differ (codes "put_text") (codes "resume") op refl is a.same
+only_put_text op ms is none (Task id Delete) own a = differ (codes "put_text") (codes "delete") op refl is a.same
+only_put_text op ms is none (Task id State) own a = differ (codes "put_text") (codes "state") op refl is a.same
+only_put_text op ms is none (Task id Inspect) own a = differ (codes "put_text") (codes "inspect") op refl is a.same
+only_put_text op ms is none (Task id Wait) own a = differ (codes "put_text") (codes "wait") op refl is a.same
+only_put_text op ms is none (Task id (Output stream)) own a =
+    differ (codes "put_text") (codes "output") op refl is a.same
+only_put_text op ms is none (Task id (Break func place)) own a =
+    differ (codes "put_text") (codes "break") op refl is a.same
+only_put_text op ms is none (Task id (Unbreak func place)) own a =
     differ (codes "put_text") (codes "unbreak") op refl is a.same
-only_put_text op ms is none (Step count id) own a = differ (codes "put_text") (codes "step") op refl is a.same
-only_put_text op ms is none (Peek address id length) own a = differ (codes "put_text") (codes "peek") op refl is a.same
+only_put_text op ms is none (Task id (Step count)) own a = differ (codes "put_text") (codes "step") op refl is a.same
+only_put_text op ms is none (Task id (Peek address length)) own a =
+    differ (codes "put_text") (codes "peek") op refl is a.same
 
 -- no removal with these keys, no simple request at all
 pub only_remove :
@@ -104,23 +108,25 @@ only_remove op ms is none (Remove digest) own a = none digest a.keys
 only_remove op ms is none (Put bytes) own a = own
 only_remove op ms is none (PutText text) own a = differ (codes "remove") (codes "put_text") op refl is a.same
 only_remove op ms is none (Create config id) own a = own
-only_remove op ms is none (Kill id signal) own a = own
+only_remove op ms is none (Task id (Kill signal)) own a = own
 only_remove op ms is none (LeaseCreate id) own a = differ (codes "remove") (codes "lease_create") op refl is a.same
 only_remove op ms is none (LeaseAdd digest id) own a = differ (codes "remove") (codes "lease_add") op refl is a.same
 only_remove op ms is none (LeaseDelete id) own a = differ (codes "remove") (codes "lease_delete") op refl is a.same
 only_remove op ms is none Gc own a = differ (codes "remove") (codes "gc") op refl is a.same
-only_remove op ms is none (Start id) own a = differ (codes "remove") (codes "start") op refl is a.same
-only_remove op ms is none (Pause id) own a = differ (codes "remove") (codes "pause") op refl is a.same
-only_remove op ms is none (Resume id) own a = differ (codes "remove") (codes "resume") op refl is a.same
-only_remove op ms is none (Delete id) own a = differ (codes "remove") (codes "delete") op refl is a.same
-only_remove op ms is none (State id) own a = differ (codes "remove") (codes "state") op refl is a.same
-only_remove op ms is none (Inspect id) own a = differ (codes "remove") (codes "inspect") op refl is a.same
-only_remove op ms is none (Wait id) own a = differ (codes "remove") (codes "wait") op refl is a.same
-only_remove op ms is none (Output id stream) own a = differ (codes "remove") (codes "output") op refl is a.same
-only_remove op ms is none (Break func id place) own a = differ (codes "remove") (codes "break") op refl is a.same
-only_remove op ms is none (Unbreak func id place) own a = differ (codes "remove") (codes "unbreak") op refl is a.same
-only_remove op ms is none (Step count id) own a = differ (codes "remove") (codes "step") op refl is a.same
-only_remove op ms is none (Peek address id length) own a = differ (codes "remove") (codes "peek") op refl is a.same
+only_remove op ms is none (Task id Start) own a = differ (codes "remove") (codes "start") op refl is a.same
+only_remove op ms is none (Task id Pause) own a = differ (codes "remove") (codes "pause") op refl is a.same
+only_remove op ms is none (Task id Resume) own a = differ (codes "remove") (codes "resume") op refl is a.same
+only_remove op ms is none (Task id Delete) own a = differ (codes "remove") (codes "delete") op refl is a.same
+only_remove op ms is none (Task id State) own a = differ (codes "remove") (codes "state") op refl is a.same
+only_remove op ms is none (Task id Inspect) own a = differ (codes "remove") (codes "inspect") op refl is a.same
+only_remove op ms is none (Task id Wait) own a = differ (codes "remove") (codes "wait") op refl is a.same
+only_remove op ms is none (Task id (Output stream)) own a = differ (codes "remove") (codes "output") op refl is a.same
+only_remove op ms is none (Task id (Break func place)) own a = differ (codes "remove") (codes "break") op refl is a.same
+only_remove op ms is none (Task id (Unbreak func place)) own a =
+    differ (codes "remove") (codes "unbreak") op refl is a.same
+only_remove op ms is none (Task id (Step count)) own a = differ (codes "remove") (codes "step") op refl is a.same
+only_remove op ms is none (Task id (Peek address length)) own a =
+    differ (codes "remove") (codes "peek") op refl is a.same
 
 pub only_lease_add :
     (op : List ℕ) (ms : Members) → op ≡ codes "lease_add" → ((digest id : List ℕ) → HasKeys ms (LeaseAdd digest id) → ⊥)
@@ -129,53 +135,57 @@ only_lease_add op ms is none (LeaseAdd digest id) own a = none digest id a.keys
 only_lease_add op ms is none (Put bytes) own a = own
 only_lease_add op ms is none (PutText text) own a = differ (codes "lease_add") (codes "put_text") op refl is a.same
 only_lease_add op ms is none (Create config id) own a = own
-only_lease_add op ms is none (Kill id signal) own a = own
+only_lease_add op ms is none (Task id (Kill signal)) own a = own
 only_lease_add op ms is none (Remove digest) own a = differ (codes "lease_add") (codes "remove") op refl is a.same
 only_lease_add op ms is none (LeaseCreate id) own a =
     differ (codes "lease_add") (codes "lease_create") op refl is a.same
 only_lease_add op ms is none (LeaseDelete id) own a =
     differ (codes "lease_add") (codes "lease_delete") op refl is a.same
 only_lease_add op ms is none Gc own a = differ (codes "lease_add") (codes "gc") op refl is a.same
-only_lease_add op ms is none (Start id) own a = differ (codes "lease_add") (codes "start") op refl is a.same
-only_lease_add op ms is none (Pause id) own a = differ (codes "lease_add") (codes "pause") op refl is a.same
-only_lease_add op ms is none (Resume id) own a = differ (codes "lease_add") (codes "resume") op refl is a.same
-only_lease_add op ms is none (Delete id) own a = differ (codes "lease_add") (codes "delete") op refl is a.same
-only_lease_add op ms is none (State id) own a = differ (codes "lease_add") (codes "state") op refl is a.same
-only_lease_add op ms is none (Inspect id) own a = differ (codes "lease_add") (codes "inspect") op refl is a.same
-only_lease_add op ms is none (Wait id) own a = differ (codes "lease_add") (codes "wait") op refl is a.same
-only_lease_add op ms is none (Output id stream) own a = differ (codes "lease_add") (codes "output") op refl is a.same
-only_lease_add op ms is none (Break func id place) own a = differ (codes "lease_add") (codes "break") op refl is a.same
-only_lease_add op ms is none (Unbreak func id place) own a =
+only_lease_add op ms is none (Task id Start) own a = differ (codes "lease_add") (codes "start") op refl is a.same
+only_lease_add op ms is none (Task id Pause) own a = differ (codes "lease_add") (codes "pause") op refl is a.same
+only_lease_add op ms is none (Task id Resume) own a = differ (codes "lease_add") (codes "resume") op refl is a.same
+only_lease_add op ms is none (Task id Delete) own a = differ (codes "lease_add") (codes "delete") op refl is a.same
+only_lease_add op ms is none (Task id State) own a = differ (codes "lease_add") (codes "state") op refl is a.same
+only_lease_add op ms is none (Task id Inspect) own a = differ (codes "lease_add") (codes "inspect") op refl is a.same
+only_lease_add op ms is none (Task id Wait) own a = differ (codes "lease_add") (codes "wait") op refl is a.same
+only_lease_add op ms is none (Task id (Output stream)) own a =
+    differ (codes "lease_add") (codes "output") op refl is a.same
+only_lease_add op ms is none (Task id (Break func place)) own a =
+    differ (codes "lease_add") (codes "break") op refl is a.same
+only_lease_add op ms is none (Task id (Unbreak func place)) own a =
     differ (codes "lease_add") (codes "unbreak") op refl is a.same
-only_lease_add op ms is none (Step count id) own a = differ (codes "lease_add") (codes "step") op refl is a.same
-only_lease_add op ms is none (Peek address id length) own a =
+only_lease_add op ms is none (Task id (Step count)) own a = differ (codes "lease_add") (codes "step") op refl is a.same
+only_lease_add op ms is none (Task id (Peek address length)) own a =
     differ (codes "lease_add") (codes "peek") op refl is a.same
 
 pub only_output :
     (op : List ℕ) (ms : Members) → op ≡ codes "output"
-    → ((id : List ℕ) (stream : ℕ) → HasKeys ms (Output id stream) → ⊥) → (r : Request) → IsSimple r
+    → ((id : List ℕ) (stream : ℕ) → HasKeys ms (Task id (Output stream)) → ⊥) → (r : Request) → IsSimple r
     → IsAsked op ms r → ⊥
-only_output op ms is none (Output id stream) own a = none id stream a.keys
+only_output op ms is none (Task id (Output stream)) own a = none id stream a.keys
 only_output op ms is none (Put bytes) own a = own
 only_output op ms is none (PutText text) own a = differ (codes "output") (codes "put_text") op refl is a.same
 only_output op ms is none (Create config id) own a = own
-only_output op ms is none (Kill id signal) own a = own
+only_output op ms is none (Task id (Kill signal)) own a = own
 only_output op ms is none (Remove digest) own a = differ (codes "output") (codes "remove") op refl is a.same
 only_output op ms is none (LeaseCreate id) own a = differ (codes "output") (codes "lease_create") op refl is a.same
 only_output op ms is none (LeaseAdd digest id) own a = differ (codes "output") (codes "lease_add") op refl is a.same
 only_output op ms is none (LeaseDelete id) own a = differ (codes "output") (codes "lease_delete") op refl is a.same
 only_output op ms is none Gc own a = differ (codes "output") (codes "gc") op refl is a.same
-only_output op ms is none (Start id) own a = differ (codes "output") (codes "start") op refl is a.same
-only_output op ms is none (Pause id) own a = differ (codes "output") (codes "pause") op refl is a.same
-only_output op ms is none (Resume id) own a = differ (codes "output") (codes "resume") op refl is a.same
-only_output op ms is none (Delete id) own a = differ (codes "output") (codes "delete") op refl is a.same
-only_output op ms is none (State id) own a = differ (codes "output") (codes "state") op refl is a.same
-only_output op ms is none (Inspect id) own a = differ (codes "output") (codes "inspect") op refl is a.same
-only_output op ms is none (Wait id) own a = differ (codes "output") (codes "wait") op refl is a.same
-only_output op ms is none (Break func id place) own a = differ (codes "output") (codes "break") op refl is a.same
-only_output op ms is none (Unbreak func id place) own a = differ (codes "output") (codes "unbreak") op refl is a.same
-only_output op ms is none (Step count id) own a = differ (codes "output") (codes "step") op refl is a.same
-only_output op ms is none (Peek address id length) own a = differ (codes "output") (codes "peek") op refl is a.same
+only_output op ms is none (Task id Start) own a = differ (codes "output") (codes "start") op refl is a.same
+only_output op ms is none (Task id Pause) own a = differ (codes "output") (codes "pause") op refl is a.same
+only_output op ms is none (Task id Resume) own a = differ (codes "output") (codes "resume") op refl is a.same
+only_output op ms is none (Task id Delete) own a = differ (codes "output") (codes "delete") op refl is a.same
+only_output op ms is none (Task id State) own a = differ (codes "output") (codes "state") op refl is a.same
+only_output op ms is none (Task id Inspect) own a = differ (codes "output") (codes "inspect") op refl is a.same
+only_output op ms is none (Task id Wait) own a = differ (codes "output") (codes "wait") op refl is a.same
+only_output op ms is none (Task id (Break func place)) own a = differ (codes "output") (codes "break") op refl is a.same
+only_output op ms is none (Task id (Unbreak func place)) own a =
+    differ (codes "output") (codes "unbreak") op refl is a.same
+only_output op ms is none (Task id (Step count)) own a = differ (codes "output") (codes "step") op refl is a.same
+only_output op ms is none (Task id (Peek address length)) own a =
+    differ (codes "output") (codes "peek") op refl is a.same
 
 pub only_gc :
     (op : List ℕ) (ms : Members) → op ≡ codes "gc" → (ms ≡ no_members → ⊥) → (r : Request) → IsSimple r
@@ -184,23 +194,23 @@ only_gc op ms is none Gc own a = none a.keys
 only_gc op ms is none (Put bytes) own a = own
 only_gc op ms is none (PutText text) own a = differ (codes "gc") (codes "put_text") op refl is a.same
 only_gc op ms is none (Create config id) own a = own
-only_gc op ms is none (Kill id signal) own a = own
+only_gc op ms is none (Task id (Kill signal)) own a = own
 only_gc op ms is none (Remove digest) own a = differ (codes "gc") (codes "remove") op refl is a.same
 only_gc op ms is none (LeaseCreate id) own a = differ (codes "gc") (codes "lease_create") op refl is a.same
 only_gc op ms is none (LeaseAdd digest id) own a = differ (codes "gc") (codes "lease_add") op refl is a.same
 only_gc op ms is none (LeaseDelete id) own a = differ (codes "gc") (codes "lease_delete") op refl is a.same
-only_gc op ms is none (Start id) own a = differ (codes "gc") (codes "start") op refl is a.same
-only_gc op ms is none (Pause id) own a = differ (codes "gc") (codes "pause") op refl is a.same
-only_gc op ms is none (Resume id) own a = differ (codes "gc") (codes "resume") op refl is a.same
-only_gc op ms is none (Delete id) own a = differ (codes "gc") (codes "delete") op refl is a.same
-only_gc op ms is none (State id) own a = differ (codes "gc") (codes "state") op refl is a.same
-only_gc op ms is none (Inspect id) own a = differ (codes "gc") (codes "inspect") op refl is a.same
-only_gc op ms is none (Wait id) own a = differ (codes "gc") (codes "wait") op refl is a.same
-only_gc op ms is none (Output id stream) own a = differ (codes "gc") (codes "output") op refl is a.same
-only_gc op ms is none (Break func id place) own a = differ (codes "gc") (codes "break") op refl is a.same
-only_gc op ms is none (Unbreak func id place) own a = differ (codes "gc") (codes "unbreak") op refl is a.same
-only_gc op ms is none (Step count id) own a = differ (codes "gc") (codes "step") op refl is a.same
-only_gc op ms is none (Peek address id length) own a = differ (codes "gc") (codes "peek") op refl is a.same
+only_gc op ms is none (Task id Start) own a = differ (codes "gc") (codes "start") op refl is a.same
+only_gc op ms is none (Task id Pause) own a = differ (codes "gc") (codes "pause") op refl is a.same
+only_gc op ms is none (Task id Resume) own a = differ (codes "gc") (codes "resume") op refl is a.same
+only_gc op ms is none (Task id Delete) own a = differ (codes "gc") (codes "delete") op refl is a.same
+only_gc op ms is none (Task id State) own a = differ (codes "gc") (codes "state") op refl is a.same
+only_gc op ms is none (Task id Inspect) own a = differ (codes "gc") (codes "inspect") op refl is a.same
+only_gc op ms is none (Task id Wait) own a = differ (codes "gc") (codes "wait") op refl is a.same
+only_gc op ms is none (Task id (Output stream)) own a = differ (codes "gc") (codes "output") op refl is a.same
+only_gc op ms is none (Task id (Break func place)) own a = differ (codes "gc") (codes "break") op refl is a.same
+only_gc op ms is none (Task id (Unbreak func place)) own a = differ (codes "gc") (codes "unbreak") op refl is a.same
+only_gc op ms is none (Task id (Step count)) own a = differ (codes "gc") (codes "step") op refl is a.same
+only_gc op ms is none (Task id (Peek address length)) own a = differ (codes "gc") (codes "peek") op refl is a.same
 
 -- no simple request with these keys, and none that is late
 pub none_simple :
@@ -210,184 +220,190 @@ pub none_simple :
 none_simple op ms put_text remove add output gc none (Put bytes) own a = own
 none_simple op ms put_text remove add output gc none (PutText text) own a = put_text a.same
 none_simple op ms put_text remove add output gc none (Create config id) own a = own
-none_simple op ms put_text remove add output gc none (Kill id signal) own a = own
+none_simple op ms put_text remove add output gc none (Task id (Kill signal)) own a = own
 none_simple op ms put_text remove add output gc none (Remove digest) own a = remove a.same
 none_simple op ms put_text remove add output gc none (LeaseAdd digest id) own a = add a.same
 none_simple op ms put_text remove add output gc none Gc own a = gc a.same
 none_simple op ms put_text remove add output gc none (LeaseCreate id) own a = none (LeaseCreate id) tt a
 none_simple op ms put_text remove add output gc none (LeaseDelete id) own a = none (LeaseDelete id) tt a
-none_simple op ms put_text remove add output gc none (Start id) own a = none (Start id) tt a
-none_simple op ms put_text remove add output gc none (Pause id) own a = none (Pause id) tt a
-none_simple op ms put_text remove add output gc none (Resume id) own a = none (Resume id) tt a
-none_simple op ms put_text remove add output gc none (Delete id) own a = none (Delete id) tt a
-none_simple op ms put_text remove add output gc none (State id) own a = none (State id) tt a
-none_simple op ms put_text remove add output gc none (Inspect id) own a = none (Inspect id) tt a
-none_simple op ms put_text remove add output gc none (Wait id) own a = none (Wait id) tt a
-none_simple op ms put_text remove add output gc none (Output id stream) own a = output a.same
-none_simple op ms put_text remove add output gc none (Break func id place) own a = none (Break func id place) tt a
-none_simple op ms put_text remove add output gc none (Unbreak func id place) own a = none (Unbreak func id place) tt a
-none_simple op ms put_text remove add output gc none (Step count id) own a = none (Step count id) tt a
-none_simple op ms put_text remove add output gc none (Peek address id length) own a = none (Peek address id length) tt a
+none_simple op ms put_text remove add output gc none (Task id Start) own a = none (Task id Start) tt a
+none_simple op ms put_text remove add output gc none (Task id Pause) own a = none (Task id Pause) tt a
+none_simple op ms put_text remove add output gc none (Task id Resume) own a = none (Task id Resume) tt a
+none_simple op ms put_text remove add output gc none (Task id Delete) own a = none (Task id Delete) tt a
+none_simple op ms put_text remove add output gc none (Task id State) own a = none (Task id State) tt a
+none_simple op ms put_text remove add output gc none (Task id Inspect) own a = none (Task id Inspect) tt a
+none_simple op ms put_text remove add output gc none (Task id Wait) own a = none (Task id Wait) tt a
+none_simple op ms put_text remove add output gc none (Task id (Output stream)) own a = output a.same
+none_simple op ms put_text remove add output gc none (Task id (Break func place)) own a =
+    none (Task id (Break func place)) tt a
+none_simple op ms put_text remove add output gc none (Task id (Unbreak func place)) own a =
+    none (Task id (Unbreak func place)) tt a
+none_simple op ms put_text remove add output gc none (Task id (Step count)) own a = none (Task id (Step count)) tt a
+none_simple op ms put_text remove add output gc none (Task id (Peek address length)) own a =
+    none (Task id (Peek address length)) tt a
 
 -- no break with these keys, no late request at all
 pub only_break :
     (op : List ℕ) (ms : Members) → op ≡ codes "break"
-    → ((func : ℕ) (id : List ℕ) (place : ℕ) → HasKeys ms (Break func id place) → ⊥)
+    → ((func : ℕ) (id : List ℕ) (place : ℕ) → HasKeys ms (Task id (Break func place)) → ⊥)
     → (r : Request) → IsLate r → IsAsked op ms r → ⊥
-only_break op ms is none (Break func id place) own a = none func id place a.keys
-only_break op ms is none (Unbreak func id place) own a = differ (codes "break") (codes "unbreak") op refl is a.same
-only_break op ms is none (Step count id) own a = differ (codes "break") (codes "step") op refl is a.same
-only_break op ms is none (Peek address id length) own a = differ (codes "break") (codes "peek") op refl is a.same
+only_break op ms is none (Task id (Break func place)) own a = none func id place a.keys
+only_break op ms is none (Task id (Unbreak func place)) own a =
+    differ (codes "break") (codes "unbreak") op refl is a.same
+only_break op ms is none (Task id (Step count)) own a = differ (codes "break") (codes "step") op refl is a.same
+only_break op ms is none (Task id (Peek address length)) own a = differ (codes "break") (codes "peek") op refl is a.same
 only_break op ms is none (LeaseCreate id) own a = differ (codes "break") (codes "lease_create") op refl is a.same
 only_break op ms is none (LeaseDelete id) own a = differ (codes "break") (codes "lease_delete") op refl is a.same
-only_break op ms is none (Start id) own a = differ (codes "break") (codes "start") op refl is a.same
-only_break op ms is none (Pause id) own a = differ (codes "break") (codes "pause") op refl is a.same
-only_break op ms is none (Resume id) own a = differ (codes "break") (codes "resume") op refl is a.same
-only_break op ms is none (Delete id) own a = differ (codes "break") (codes "delete") op refl is a.same
-only_break op ms is none (State id) own a = differ (codes "break") (codes "state") op refl is a.same
-only_break op ms is none (Inspect id) own a = differ (codes "break") (codes "inspect") op refl is a.same
-only_break op ms is none (Wait id) own a = differ (codes "break") (codes "wait") op refl is a.same
+only_break op ms is none (Task id Start) own a = differ (codes "break") (codes "start") op refl is a.same
+only_break op ms is none (Task id Pause) own a = differ (codes "break") (codes "pause") op refl is a.same
+only_break op ms is none (Task id Resume) own a = differ (codes "break") (codes "resume") op refl is a.same
+only_break op ms is none (Task id Delete) own a = differ (codes "break") (codes "delete") op refl is a.same
+only_break op ms is none (Task id State) own a = differ (codes "break") (codes "state") op refl is a.same
+only_break op ms is none (Task id Inspect) own a = differ (codes "break") (codes "inspect") op refl is a.same
+only_break op ms is none (Task id Wait) own a = differ (codes "break") (codes "wait") op refl is a.same
 only_break op ms is none (Put bytes) own a = own
 only_break op ms is none (PutText text) own a = own
 only_break op ms is none (Remove digest) own a = own
 only_break op ms is none (LeaseAdd digest id) own a = own
 only_break op ms is none Gc own a = own
 only_break op ms is none (Create config id) own a = own
-only_break op ms is none (Kill id signal) own a = own
-only_break op ms is none (Output id stream) own a = own
+only_break op ms is none (Task id (Kill signal)) own a = own
+only_break op ms is none (Task id (Output stream)) own a = own
 
 -- no unbreak with these keys, no late request at all
 pub only_unbreak :
     (op : List ℕ) (ms : Members) → op ≡ codes "unbreak"
-    → ((func : ℕ) (id : List ℕ) (place : ℕ) → HasKeys ms (Unbreak func id place) → ⊥)
+    → ((func : ℕ) (id : List ℕ) (place : ℕ) → HasKeys ms (Task id (Unbreak func place)) → ⊥)
     → (r : Request) → IsLate r → IsAsked op ms r → ⊥
-only_unbreak op ms is none (Unbreak func id place) own a = none func id place a.keys
-only_unbreak op ms is none (Break func id place) own a = differ (codes "unbreak") (codes "break") op refl is a.same
-only_unbreak op ms is none (Step count id) own a = differ (codes "unbreak") (codes "step") op refl is a.same
-only_unbreak op ms is none (Peek address id length) own a = differ (codes "unbreak") (codes "peek") op refl is a.same
+only_unbreak op ms is none (Task id (Unbreak func place)) own a = none func id place a.keys
+only_unbreak op ms is none (Task id (Break func place)) own a =
+    differ (codes "unbreak") (codes "break") op refl is a.same
+only_unbreak op ms is none (Task id (Step count)) own a = differ (codes "unbreak") (codes "step") op refl is a.same
+only_unbreak op ms is none (Task id (Peek address length)) own a =
+    differ (codes "unbreak") (codes "peek") op refl is a.same
 only_unbreak op ms is none (LeaseCreate id) own a = differ (codes "unbreak") (codes "lease_create") op refl is a.same
 only_unbreak op ms is none (LeaseDelete id) own a = differ (codes "unbreak") (codes "lease_delete") op refl is a.same
-only_unbreak op ms is none (Start id) own a = differ (codes "unbreak") (codes "start") op refl is a.same
-only_unbreak op ms is none (Pause id) own a = differ (codes "unbreak") (codes "pause") op refl is a.same
-only_unbreak op ms is none (Resume id) own a = differ (codes "unbreak") (codes "resume") op refl is a.same
-only_unbreak op ms is none (Delete id) own a = differ (codes "unbreak") (codes "delete") op refl is a.same
-only_unbreak op ms is none (State id) own a = differ (codes "unbreak") (codes "state") op refl is a.same
-only_unbreak op ms is none (Inspect id) own a = differ (codes "unbreak") (codes "inspect") op refl is a.same
-only_unbreak op ms is none (Wait id) own a = differ (codes "unbreak") (codes "wait") op refl is a.same
+only_unbreak op ms is none (Task id Start) own a = differ (codes "unbreak") (codes "start") op refl is a.same
+only_unbreak op ms is none (Task id Pause) own a = differ (codes "unbreak") (codes "pause") op refl is a.same
+only_unbreak op ms is none (Task id Resume) own a = differ (codes "unbreak") (codes "resume") op refl is a.same
+only_unbreak op ms is none (Task id Delete) own a = differ (codes "unbreak") (codes "delete") op refl is a.same
+only_unbreak op ms is none (Task id State) own a = differ (codes "unbreak") (codes "state") op refl is a.same
+only_unbreak op ms is none (Task id Inspect) own a = differ (codes "unbreak") (codes "inspect") op refl is a.same
+only_unbreak op ms is none (Task id Wait) own a = differ (codes "unbreak") (codes "wait") op refl is a.same
 only_unbreak op ms is none (Put bytes) own a = own
 only_unbreak op ms is none (PutText text) own a = own
 only_unbreak op ms is none (Remove digest) own a = own
 only_unbreak op ms is none (LeaseAdd digest id) own a = own
 only_unbreak op ms is none Gc own a = own
 only_unbreak op ms is none (Create config id) own a = own
-only_unbreak op ms is none (Kill id signal) own a = own
-only_unbreak op ms is none (Output id stream) own a = own
+only_unbreak op ms is none (Task id (Kill signal)) own a = own
+only_unbreak op ms is none (Task id (Output stream)) own a = own
 
 -- no step with these keys, no late request at all
 pub only_step :
     (op : List ℕ) (ms : Members) → op ≡ codes "step"
-    → ((count : ℕ) (id : List ℕ) → HasKeys ms (Step count id) → ⊥)
+    → ((count : ℕ) (id : List ℕ) → HasKeys ms (Task id (Step count)) → ⊥)
     → (r : Request) → IsLate r → IsAsked op ms r → ⊥
-only_step op ms is none (Step count id) own a = none count id a.keys
-only_step op ms is none (Break func id place) own a = differ (codes "step") (codes "break") op refl is a.same
-only_step op ms is none (Unbreak func id place) own a = differ (codes "step") (codes "unbreak") op refl is a.same
-only_step op ms is none (Peek address id length) own a = differ (codes "step") (codes "peek") op refl is a.same
+only_step op ms is none (Task id (Step count)) own a = none count id a.keys
+only_step op ms is none (Task id (Break func place)) own a = differ (codes "step") (codes "break") op refl is a.same
+only_step op ms is none (Task id (Unbreak func place)) own a = differ (codes "step") (codes "unbreak") op refl is a.same
+only_step op ms is none (Task id (Peek address length)) own a = differ (codes "step") (codes "peek") op refl is a.same
 only_step op ms is none (LeaseCreate id) own a = differ (codes "step") (codes "lease_create") op refl is a.same
 only_step op ms is none (LeaseDelete id) own a = differ (codes "step") (codes "lease_delete") op refl is a.same
-only_step op ms is none (Start id) own a = differ (codes "step") (codes "start") op refl is a.same
-only_step op ms is none (Pause id) own a = differ (codes "step") (codes "pause") op refl is a.same
-only_step op ms is none (Resume id) own a = differ (codes "step") (codes "resume") op refl is a.same
-only_step op ms is none (Delete id) own a = differ (codes "step") (codes "delete") op refl is a.same
-only_step op ms is none (State id) own a = differ (codes "step") (codes "state") op refl is a.same
-only_step op ms is none (Inspect id) own a = differ (codes "step") (codes "inspect") op refl is a.same
-only_step op ms is none (Wait id) own a = differ (codes "step") (codes "wait") op refl is a.same
+only_step op ms is none (Task id Start) own a = differ (codes "step") (codes "start") op refl is a.same
+only_step op ms is none (Task id Pause) own a = differ (codes "step") (codes "pause") op refl is a.same
+only_step op ms is none (Task id Resume) own a = differ (codes "step") (codes "resume") op refl is a.same
+only_step op ms is none (Task id Delete) own a = differ (codes "step") (codes "delete") op refl is a.same
+only_step op ms is none (Task id State) own a = differ (codes "step") (codes "state") op refl is a.same
+only_step op ms is none (Task id Inspect) own a = differ (codes "step") (codes "inspect") op refl is a.same
+only_step op ms is none (Task id Wait) own a = differ (codes "step") (codes "wait") op refl is a.same
 only_step op ms is none (Put bytes) own a = own
 only_step op ms is none (PutText text) own a = own
 only_step op ms is none (Remove digest) own a = own
 only_step op ms is none (LeaseAdd digest id) own a = own
 only_step op ms is none Gc own a = own
 only_step op ms is none (Create config id) own a = own
-only_step op ms is none (Kill id signal) own a = own
-only_step op ms is none (Output id stream) own a = own
+only_step op ms is none (Task id (Kill signal)) own a = own
+only_step op ms is none (Task id (Output stream)) own a = own
 
 -- no peek with these keys, no late request at all
 pub only_peek :
     (op : List ℕ) (ms : Members) → op ≡ codes "peek"
-    → ((address : ℕ) (id : List ℕ) (length : ℕ) → HasKeys ms (Peek address id length) → ⊥)
+    → ((address : ℕ) (id : List ℕ) (length : ℕ) → HasKeys ms (Task id (Peek address length)) → ⊥)
     → (r : Request) → IsLate r → IsAsked op ms r → ⊥
-only_peek op ms is none (Peek address id length) own a = none address id length a.keys
-only_peek op ms is none (Break func id place) own a = differ (codes "peek") (codes "break") op refl is a.same
-only_peek op ms is none (Unbreak func id place) own a = differ (codes "peek") (codes "unbreak") op refl is a.same
-only_peek op ms is none (Step count id) own a = differ (codes "peek") (codes "step") op refl is a.same
+only_peek op ms is none (Task id (Peek address length)) own a = none address id length a.keys
+only_peek op ms is none (Task id (Break func place)) own a = differ (codes "peek") (codes "break") op refl is a.same
+only_peek op ms is none (Task id (Unbreak func place)) own a = differ (codes "peek") (codes "unbreak") op refl is a.same
+only_peek op ms is none (Task id (Step count)) own a = differ (codes "peek") (codes "step") op refl is a.same
 only_peek op ms is none (LeaseCreate id) own a = differ (codes "peek") (codes "lease_create") op refl is a.same
 only_peek op ms is none (LeaseDelete id) own a = differ (codes "peek") (codes "lease_delete") op refl is a.same
-only_peek op ms is none (Start id) own a = differ (codes "peek") (codes "start") op refl is a.same
-only_peek op ms is none (Pause id) own a = differ (codes "peek") (codes "pause") op refl is a.same
-only_peek op ms is none (Resume id) own a = differ (codes "peek") (codes "resume") op refl is a.same
-only_peek op ms is none (Delete id) own a = differ (codes "peek") (codes "delete") op refl is a.same
-only_peek op ms is none (State id) own a = differ (codes "peek") (codes "state") op refl is a.same
-only_peek op ms is none (Inspect id) own a = differ (codes "peek") (codes "inspect") op refl is a.same
-only_peek op ms is none (Wait id) own a = differ (codes "peek") (codes "wait") op refl is a.same
+only_peek op ms is none (Task id Start) own a = differ (codes "peek") (codes "start") op refl is a.same
+only_peek op ms is none (Task id Pause) own a = differ (codes "peek") (codes "pause") op refl is a.same
+only_peek op ms is none (Task id Resume) own a = differ (codes "peek") (codes "resume") op refl is a.same
+only_peek op ms is none (Task id Delete) own a = differ (codes "peek") (codes "delete") op refl is a.same
+only_peek op ms is none (Task id State) own a = differ (codes "peek") (codes "state") op refl is a.same
+only_peek op ms is none (Task id Inspect) own a = differ (codes "peek") (codes "inspect") op refl is a.same
+only_peek op ms is none (Task id Wait) own a = differ (codes "peek") (codes "wait") op refl is a.same
 only_peek op ms is none (Put bytes) own a = own
 only_peek op ms is none (PutText text) own a = own
 only_peek op ms is none (Remove digest) own a = own
 only_peek op ms is none (LeaseAdd digest id) own a = own
 only_peek op ms is none Gc own a = own
 only_peek op ms is none (Create config id) own a = own
-only_peek op ms is none (Kill id signal) own a = own
-only_peek op ms is none (Output id stream) own a = own
+only_peek op ms is none (Task id (Kill signal)) own a = own
+only_peek op ms is none (Task id (Output stream)) own a = own
 
 -- no late request with these keys, and none that has the key `id` alone
 pub none_late :
     (op : List ℕ) (ms : Members) → op ≢ codes "break" → op ≢ codes "unbreak" → op ≢ codes "step"
     → op ≢ codes "peek" → ((r : Request) → HasOnlyId r → IsAsked op ms r → ⊥)
     → (r : Request) → IsLate r → IsAsked op ms r → ⊥
-none_late op ms breaks unbreaks steps peeks none (Break func id place) own a = breaks a.same
-none_late op ms breaks unbreaks steps peeks none (Unbreak func id place) own a = unbreaks a.same
-none_late op ms breaks unbreaks steps peeks none (Step count id) own a = steps a.same
-none_late op ms breaks unbreaks steps peeks none (Peek address id length) own a = peeks a.same
+none_late op ms breaks unbreaks steps peeks none (Task id (Break func place)) own a = breaks a.same
+none_late op ms breaks unbreaks steps peeks none (Task id (Unbreak func place)) own a = unbreaks a.same
+none_late op ms breaks unbreaks steps peeks none (Task id (Step count)) own a = steps a.same
+none_late op ms breaks unbreaks steps peeks none (Task id (Peek address length)) own a = peeks a.same
 none_late op ms breaks unbreaks steps peeks none (LeaseCreate id) own a = none (LeaseCreate id) tt a
 none_late op ms breaks unbreaks steps peeks none (LeaseDelete id) own a = none (LeaseDelete id) tt a
-none_late op ms breaks unbreaks steps peeks none (Start id) own a = none (Start id) tt a
-none_late op ms breaks unbreaks steps peeks none (Pause id) own a = none (Pause id) tt a
-none_late op ms breaks unbreaks steps peeks none (Resume id) own a = none (Resume id) tt a
-none_late op ms breaks unbreaks steps peeks none (Delete id) own a = none (Delete id) tt a
-none_late op ms breaks unbreaks steps peeks none (State id) own a = none (State id) tt a
-none_late op ms breaks unbreaks steps peeks none (Inspect id) own a = none (Inspect id) tt a
-none_late op ms breaks unbreaks steps peeks none (Wait id) own a = none (Wait id) tt a
+none_late op ms breaks unbreaks steps peeks none (Task id Start) own a = none (Task id Start) tt a
+none_late op ms breaks unbreaks steps peeks none (Task id Pause) own a = none (Task id Pause) tt a
+none_late op ms breaks unbreaks steps peeks none (Task id Resume) own a = none (Task id Resume) tt a
+none_late op ms breaks unbreaks steps peeks none (Task id Delete) own a = none (Task id Delete) tt a
+none_late op ms breaks unbreaks steps peeks none (Task id State) own a = none (Task id State) tt a
+none_late op ms breaks unbreaks steps peeks none (Task id Inspect) own a = none (Task id Inspect) tt a
+none_late op ms breaks unbreaks steps peeks none (Task id Wait) own a = none (Task id Wait) tt a
 none_late op ms breaks unbreaks steps peeks none (Put bytes) own a = own
 none_late op ms breaks unbreaks steps peeks none (PutText text) own a = own
 none_late op ms breaks unbreaks steps peeks none (Remove digest) own a = own
 none_late op ms breaks unbreaks steps peeks none (LeaseAdd digest id) own a = own
 none_late op ms breaks unbreaks steps peeks none Gc own a = own
 none_late op ms breaks unbreaks steps peeks none (Create config id) own a = own
-none_late op ms breaks unbreaks steps peeks none (Kill id signal) own a = own
-none_late op ms breaks unbreaks steps peeks none (Output id stream) own a = own
+none_late op ms breaks unbreaks steps peeks none (Task id (Kill signal)) own a = own
+none_late op ms breaks unbreaks steps peeks none (Task id (Output stream)) own a = own
 
 -- a request of the key `id` alone has these members
 pub only_its_id :
     (op : List ℕ) (ms : Members) → ((id : List ℕ) → ms ≢ only_id id) → (r : Request) → HasOnlyId r → IsAsked op ms r → ⊥
 only_its_id op ms none (LeaseCreate id) own a = none id a.keys
 only_its_id op ms none (LeaseDelete id) own a = none id a.keys
-only_its_id op ms none (Start id) own a = none id a.keys
-only_its_id op ms none (Pause id) own a = none id a.keys
-only_its_id op ms none (Resume id) own a = none id a.keys
-only_its_id op ms none (Delete id) own a = none id a.keys
-only_its_id op ms none (State id) own a = none id a.keys
-only_its_id op ms none (Inspect id) own a = none id a.keys
-only_its_id op ms none (Wait id) own a = none id a.keys
+only_its_id op ms none (Task id Start) own a = none id a.keys
+only_its_id op ms none (Task id Pause) own a = none id a.keys
+only_its_id op ms none (Task id Resume) own a = none id a.keys
+only_its_id op ms none (Task id Delete) own a = none id a.keys
+only_its_id op ms none (Task id State) own a = none id a.keys
+only_its_id op ms none (Task id Inspect) own a = none id a.keys
+only_its_id op ms none (Task id Wait) own a = none id a.keys
 only_its_id op ms none (Put bytes) own a = own
 only_its_id op ms none (PutText text) own a = own
 only_its_id op ms none (Remove digest) own a = own
 only_its_id op ms none (LeaseAdd digest id) own a = own
 only_its_id op ms none Gc own a = own
 only_its_id op ms none (Create config id) own a = own
-only_its_id op ms none (Kill id signal) own a = own
-only_its_id op ms none (Output id stream) own a = own
-only_its_id op ms none (Break func id place) own a = own
-only_its_id op ms none (Unbreak func id place) own a = own
-only_its_id op ms none (Step count id) own a = own
-only_its_id op ms none (Peek address id length) own a = own
+only_its_id op ms none (Task id (Kill signal)) own a = own
+only_its_id op ms none (Task id (Output stream)) own a = own
+only_its_id op ms none (Task id (Break func place)) own a = own
+only_its_id op ms none (Task id (Unbreak func place)) own a = own
+only_its_id op ms none (Task id (Step count)) own a = own
+only_its_id op ms none (Task id (Peek address length)) own a = own
 
 -- no `op` of such a request
 pub no_such_op :
@@ -397,25 +413,25 @@ pub no_such_op :
     → IsAsked op ms r → ⊥
 no_such_op op ms g h a b c d e i f (LeaseCreate id) own is = g is.same
 no_such_op op ms g h a b c d e i f (LeaseDelete id) own is = h is.same
-no_such_op op ms g h a b c d e i f (Start id) own is = a is.same
-no_such_op op ms g h a b c d e i f (Pause id) own is = b is.same
-no_such_op op ms g h a b c d e i f (Resume id) own is = c is.same
-no_such_op op ms g h a b c d e i f (Delete id) own is = d is.same
-no_such_op op ms g h a b c d e i f (State id) own is = e is.same
-no_such_op op ms g h a b c d e i f (Inspect id) own is = i is.same
-no_such_op op ms g h a b c d e i f (Wait id) own is = f is.same
+no_such_op op ms g h a b c d e i f (Task id Start) own is = a is.same
+no_such_op op ms g h a b c d e i f (Task id Pause) own is = b is.same
+no_such_op op ms g h a b c d e i f (Task id Resume) own is = c is.same
+no_such_op op ms g h a b c d e i f (Task id Delete) own is = d is.same
+no_such_op op ms g h a b c d e i f (Task id State) own is = e is.same
+no_such_op op ms g h a b c d e i f (Task id Inspect) own is = i is.same
+no_such_op op ms g h a b c d e i f (Task id Wait) own is = f is.same
 no_such_op op ms g h a b c d e i f (Put bytes) own is = own
 no_such_op op ms g h a b c d e i f (PutText text) own is = own
 no_such_op op ms g h a b c d e i f (Remove digest) own is = own
 no_such_op op ms g h a b c d e i f (LeaseAdd digest id) own is = own
 no_such_op op ms g h a b c d e i f Gc own is = own
 no_such_op op ms g h a b c d e i f (Create config id) own is = own
-no_such_op op ms g h a b c d e i f (Kill id signal) own is = own
-no_such_op op ms g h a b c d e i f (Output id stream) own is = own
-no_such_op op ms g h a b c d e i f (Break func id place) own is = own
-no_such_op op ms g h a b c d e i f (Unbreak func id place) own is = own
-no_such_op op ms g h a b c d e i f (Step count id) own is = own
-no_such_op op ms g h a b c d e i f (Peek address id length) own is = own
+no_such_op op ms g h a b c d e i f (Task id (Kill signal)) own is = own
+no_such_op op ms g h a b c d e i f (Task id (Output stream)) own is = own
+no_such_op op ms g h a b c d e i f (Task id (Break func place)) own is = own
+no_such_op op ms g h a b c d e i f (Task id (Unbreak func place)) own is = own
+no_such_op op ms g h a b c d e i f (Task id (Step count)) own is = own
+no_such_op op ms g h a b c d e i f (Task id (Peek address length)) own is = own
 
 -- the keys of an event do not have `op` among them
 rest_of : (e : Event) (d : Data) (ms : Members) → HasEventKeys ms e → without (codes "op") (put (codes "op") d ms) ≡ ms
@@ -427,19 +443,19 @@ rest_of (Call (LeaseAdd digest id)) d ms h = rw h refl
 rest_of (Call (LeaseDelete id)) d ms h = rw h refl
 rest_of (Call Gc) d ms h = rw h refl
 rest_of (Call (Create config id)) d ms h = rw h refl
-rest_of (Call (Start id)) d ms h = rw h refl
-rest_of (Call (Pause id)) d ms h = rw h refl
-rest_of (Call (Resume id)) d ms h = rw h refl
-rest_of (Call (Kill id signal)) d ms h = rw h refl
-rest_of (Call (Delete id)) d ms h = rw h refl
-rest_of (Call (State id)) d ms h = rw h refl
-rest_of (Call (Inspect id)) d ms h = rw h refl
-rest_of (Call (Wait id)) d ms h = rw h refl
-rest_of (Call (Output id stream)) d ms h = rw h refl
-rest_of (Call (Break func id place)) d ms h = rw h refl
-rest_of (Call (Unbreak func id place)) d ms h = rw h refl
-rest_of (Call (Step count id)) d ms h = rw h refl
-rest_of (Call (Peek address id length)) d ms h = rw h refl
+rest_of (Call (Task id Start)) d ms h = rw h refl
+rest_of (Call (Task id Pause)) d ms h = rw h refl
+rest_of (Call (Task id Resume)) d ms h = rw h refl
+rest_of (Call (Task id (Kill signal))) d ms h = rw h refl
+rest_of (Call (Task id Delete)) d ms h = rw h refl
+rest_of (Call (Task id State)) d ms h = rw h refl
+rest_of (Call (Task id Inspect)) d ms h = rw h refl
+rest_of (Call (Task id Wait)) d ms h = rw h refl
+rest_of (Call (Task id (Output stream))) d ms h = rw h refl
+rest_of (Call (Task id (Break func place))) d ms h = rw h refl
+rest_of (Call (Task id (Unbreak func place))) d ms h = rw h refl
+rest_of (Call (Task id (Step count))) d ms h = rw h refl
+rest_of (Call (Task id (Peek address length))) d ms h = rw h refl
 rest_of (Take id budget) d ms h = rw (h.0) refl
 rest_of (Return id) d ms h = rw h refl
 

@@ -4,6 +4,7 @@ use Rattle.task_requests.specs.declared.event.Event.TheVariants.{Call, Take}
 use Rattle.wasm_ast.specs.declared.refusal.Refusal.TheVariants as refusal
 use Rattle.wasm_ast.specs.declared.values.Value.TheVariants.{I32, I64}
 use Rattle.task_requests.specs.declared.request.Request.TheVariants as request
+use Rattle.task_requests.specs.declared.request.Ask.TheVariants as ask
 use Rattle.task_requests.specs.declared.request.Reply.TheVariants as reply
 use Rattle.task_lifecycle.specs.declared.status.ExitRecord.TheVariants.{Exit}
 use Rattle.task_lifecycle.specs.declared.status.Status.TheVariants.{Stopped}
@@ -30,7 +31,7 @@ FaultExample =
 abbrev pub TwiceExample : Type 0
 TwiceExample =
     IsEvent (codes "{\"op\":\"start\",\"id\":\"a\",\"op\":\"state\"}")
-    (Call (request.State (codes "a")))
+    (Call (request.Task (codes "a") ask.State))
 
 abbrev pub TakeExample : Type 0
 TakeExample = IsEvent (codes "{\"op\":\"take\",\"id\":\"a\",\"budget\":100}") (Take (codes "a") 100)
@@ -38,7 +39,7 @@ TakeExample = IsEvent (codes "{\"op\":\"take\",\"id\":\"a\",\"budget\":100}") (T
 abbrev pub OutputExample : Type 0
 OutputExample =
     IsEvent (codes "{\"op\":\"output\",\"id\":\"a\",\"stream\":1}")
-    (Call (request.Output (codes "a") 1))
+    (Call (request.Task (codes "a") (ask.Output 1)))
 
 -- in lower-case digits, two for each byte
 abbrev pub WrittenExample : Type 0
@@ -70,17 +71,17 @@ StoppedExample =
 abbrev pub BreakExample : Type 0
 BreakExample =
     IsEvent (codes "{\"op\":\"break\",\"id\":\"a\",\"func\":2,\"place\":0}")
-    (Call (request.Break 2 (codes "a") 0))
+    (Call (request.Task (codes "a") (ask.Break 2 0)))
 
 abbrev pub StepExample : Type 0
 StepExample =
     IsEvent (codes "{\"op\":\"step\",\"id\":\"a\",\"count\":10}")
-    (Call (request.Step 10 (codes "a")))
+    (Call (request.Task (codes "a") (ask.Step 10)))
 
 abbrev pub PeekExample : Type 0
 PeekExample =
     IsEvent (codes "{\"op\":\"peek\",\"id\":\"a\",\"address\":16,\"length\":4}")
-    (Call (request.Peek 16 (codes "a") 4))
+    (Call (request.Task (codes "a") (ask.Peek 16 4)))
 
 abbrev pub ShownExample : Type 0
 ShownExample =
@@ -89,7 +90,8 @@ ShownExample =
 
 abbrev pub InspectExample : Type 0
 InspectExample =
-    IsEvent (codes "{\"op\":\"inspect\",\"id\":\"a\"}") (Call (request.Inspect (codes "a")))
+    IsEvent (codes "{\"op\":\"inspect\",\"id\":\"a\"}")
+    (Call (request.Task (codes "a") ask.Inspect))
 
 -- a function at its end, and the one that called it in a block, with a sign bit and the number below it
 abbrev pub FramesExample : Type 0

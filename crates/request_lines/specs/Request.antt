@@ -3,7 +3,8 @@ use Rattle.std.specs.Prelude.{◌≡◌, ◌≤◌, ℕ, List, [], ◌∷◌, Ok
 use Rattle.hex.specs.Hex.{decode_of}
 use Rattle.serde_json.specs.Data.{Data, string, number, unsigned, object, Members, put}
 use Rattle.task_requests.specs.declared.request.Request.{Request}
-use Rattle.task_requests.specs.declared.request.Request.TheVariants.{Put, PutText, Remove, LeaseCreate, LeaseAdd, LeaseDelete, Gc, Create, Start, Pause, Resume, Kill, Delete, State, Wait, Output, Break, Unbreak, Step, Inspect, Peek}
+use Rattle.task_requests.specs.declared.request.Request.TheVariants.{Put, PutText, Remove, LeaseCreate, LeaseAdd, LeaseDelete, Gc, Create, Task}
+use Rattle.task_requests.specs.declared.request.Ask.TheVariants.{Start, Pause, Resume, Kill, Delete, State, Wait, Output, Break, Unbreak, Step, Inspect, Peek}
 use Rattle.task_requests.specs.Limits.{max_budget}
 use Rattle.task_requests.specs.declared.event.Event.{Event}
 use Rattle.task_requests.specs.declared.event.Event.TheVariants.{Call, Take, Return}
@@ -21,19 +22,19 @@ op_of (LeaseAdd digest id) = codes "lease_add"
 op_of (LeaseDelete id) = codes "lease_delete"
 op_of Gc = codes "gc"
 op_of (Create config id) = codes "create"
-op_of (Start id) = codes "start"
-op_of (Pause id) = codes "pause"
-op_of (Resume id) = codes "resume"
-op_of (Kill id signal) = codes "kill"
-op_of (Delete id) = codes "delete"
-op_of (State id) = codes "state"
-op_of (Wait id) = codes "wait"
-op_of (Output id stream) = codes "output"
-op_of (Break func id place) = codes "break"
-op_of (Unbreak func id place) = codes "unbreak"
-op_of (Step count id) = codes "step"
-op_of (Inspect id) = codes "inspect"
-op_of (Peek address id length) = codes "peek"
+op_of (Task id Start) = codes "start"
+op_of (Task id Pause) = codes "pause"
+op_of (Task id Resume) = codes "resume"
+op_of (Task id (Kill signal)) = codes "kill"
+op_of (Task id Delete) = codes "delete"
+op_of (Task id State) = codes "state"
+op_of (Task id Wait) = codes "wait"
+op_of (Task id (Output stream)) = codes "output"
+op_of (Task id (Break func place)) = codes "break"
+op_of (Task id (Unbreak func place)) = codes "unbreak"
+op_of (Task id (Step count)) = codes "step"
+op_of (Task id Inspect) = codes "inspect"
+op_of (Task id (Peek address length)) = codes "peek"
 
 -- the key `id` and no other
 abbrev pub only_id : List ℕ → Members
@@ -59,22 +60,22 @@ HasKeys ms (LeaseDelete id) = ms ≡ only_id id
 HasKeys ms Gc = ms ≡ members []
 HasKeys ms (Create config id) =
     ms ≡ members ((codes "config", string config) ∷ (codes "id", string id) ∷ [])
-HasKeys ms (Start id) = ms ≡ only_id id
-HasKeys ms (Pause id) = ms ≡ only_id id
-HasKeys ms (Resume id) = ms ≡ only_id id
-HasKeys ms (Kill id signal) =
+HasKeys ms (Task id Start) = ms ≡ only_id id
+HasKeys ms (Task id Pause) = ms ≡ only_id id
+HasKeys ms (Task id Resume) = ms ≡ only_id id
+HasKeys ms (Task id (Kill signal)) =
     ms ≡ members ((codes "id", string id) ∷ (codes "signal", number (unsigned signal)) ∷ [])
-HasKeys ms (Delete id) = ms ≡ only_id id
-HasKeys ms (State id) = ms ≡ only_id id
-HasKeys ms (Wait id) = ms ≡ only_id id
-HasKeys ms (Output id stream) =
+HasKeys ms (Task id Delete) = ms ≡ only_id id
+HasKeys ms (Task id State) = ms ≡ only_id id
+HasKeys ms (Task id Wait) = ms ≡ only_id id
+HasKeys ms (Task id (Output stream)) =
     ms ≡ members ((codes "id", string id) ∷ (codes "stream", number (unsigned stream)) ∷ [])
-HasKeys ms (Break func id place) = ms ≡ place_keys func id place
-HasKeys ms (Unbreak func id place) = ms ≡ place_keys func id place
-HasKeys ms (Step count id) =
+HasKeys ms (Task id (Break func place)) = ms ≡ place_keys func id place
+HasKeys ms (Task id (Unbreak func place)) = ms ≡ place_keys func id place
+HasKeys ms (Task id (Step count)) =
     ms ≡ members ((codes "count", number (unsigned count)) ∷ (codes "id", string id) ∷ [])
-HasKeys ms (Inspect id) = ms ≡ only_id id
-HasKeys ms (Peek address id length) =
+HasKeys ms (Task id Inspect) = ms ≡ only_id id
+HasKeys ms (Task id (Peek address length)) =
     ms
     ≡ members
     ((codes "address", number (unsigned address)) ∷ (codes "id", string id)

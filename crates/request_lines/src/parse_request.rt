@@ -5,6 +5,7 @@ ghost use Rattle.hex.specs.Hex.{decode_of};
 ghost use Rattle.serde_json.specs.View.{view, members_view};
 ghost use Rattle.task_requests.specs.declared.request.Request.{Request};
 ghost use Rattle.task_requests.specs.declared.request.Request.TheVariants as Asked;
+ghost use Rattle.task_requests.specs.declared.request.Ask.TheVariants as ask;
 ghost use Rattle.request_lines.specs.Request.{HasKeys, only_id, AsksFor, IsRequest};
 ghost use Rattle.request_lines.specs.Shape.{max_line_bytes};
 ghost use Rattle.request_lines.specs.Inside.Parse.{Parses, IsAsked, HasOnlyId, IsLate, IsSimple};
@@ -16,7 +17,7 @@ use crate::members::{
 use hex::FromHexError;
 use serde_json::Value;
 use std::alloc::Global;
-use task_requests::{Request, SharedBytes};
+use task_requests::{Ask, Request, SharedBytes};
 use wasm_ast::{Bytes, Refusal, Sequence, Text};
 
 /// Reads hexadecimal digits of either case, two to a byte.
@@ -63,9 +64,9 @@ fn read_create(members: Members) -> Option<(Text, Text)>
 /// Reads the members beside `op` of a kill: the id and the number of the signal.
 fn read_kill(members: Members) -> Option<(Text, u64)>
     ensures some { IfSome result (λ r.
-        HasKeys (members_view members.entries) (Asked.Kill r.0 r.1)) }
+        HasKeys (members_view members.entries) (Asked.Task r.0 (ask.Kill r.1))) }
     ensures none { IfNone result ((id : List ℕ) (signal : ℕ) →
-        HasKeys (members_view members.entries) (Asked.Kill id signal) → ⊥) }
+        HasKeys (members_view members.entries) (Asked.Task id (ask.Kill signal)) → ⊥) }
 {
     let mut left = members;
     let Some(signal) = take_number(&mut left, "signal") else {
@@ -121,9 +122,9 @@ fn read_lease_add(members: Members) -> Option<(Text, Text)>
 /// Reads the members beside `op` of a question for an output: the id and the number of the stream.
 fn read_output(members: Members) -> Option<(Text, u64)>
     ensures some { IfSome result (λ r.
-        HasKeys (members_view members.entries) (Asked.Output r.0 r.1)) }
+        HasKeys (members_view members.entries) (Asked.Task r.0 (ask.Output r.1))) }
     ensures none { IfNone result ((id : List ℕ) (stream : ℕ) →
-        HasKeys (members_view members.entries) (Asked.Output id stream) → ⊥) }
+        HasKeys (members_view members.entries) (Asked.Task id (ask.Output stream)) → ⊥) }
 {
     let mut left = members;
     let Some(stream) = take_number(&mut left, "stream") else {
@@ -141,13 +142,31 @@ fn request_with_id(op: &str, id: Text) -> Option<Request>
     match op {
         "lease_create" => Some(Request::LeaseCreate { id }),
         "lease_delete" => Some(Request::LeaseDelete { id }),
-        "start" => Some(Request::Start { id }),
-        "pause" => Some(Request::Pause { id }),
-        "resume" => Some(Request::Resume { id }),
-        "delete" => Some(Request::Delete { id }),
-        "state" => Some(Request::State { id }),
-        "inspect" => Some(Request::Inspect { id }),
-        "wait" => Some(Request::Wait { id }),
+        "start" => Some(Request::Task {
+            id,
+            ask: Ask::Start,
+        }),
+        "pause" => Some(Request::Task {
+            id,
+            ask: Ask::Pause,
+        }),
+        "resume" => Some(Request::Task {
+            id,
+            ask: Ask::Resume,
+        }),
+        "delete" => Some(Request::Task {
+            id,
+            ask: Ask::Delete,
+        }),
+        "state" => Some(Request::Task {
+            id,
+            ask: Ask::State,
+        }),
+        "inspect" => Some(Request::Task {
+            id,
+            ask: Ask::Inspect,
+        }),
+        "wait" => Some(Request::Task { id, ask: Ask::Wait }),
         _ => None,
     }
 }
@@ -165,9 +184,9 @@ fn read_id_request(op: &str, members: Members) -> Option<Request>
 /// Reads the members beside `op` of a break or an unbreak: the function, the id and the place.
 fn read_break(members: Members) -> Option<(u64, Text, u64)>
     ensures some { IfSome result (λ r.
-        HasKeys (members_view members.entries) (Asked.Break r.0 r.1 r.2)) }
+        HasKeys (members_view members.entries) (Asked.Task r.1 (ask.Break r.0 r.2))) }
     ensures none { IfNone result ((func : ℕ) (id : List ℕ) (place : ℕ) →
-        HasKeys (members_view members.entries) (Asked.Break func id place) → ⊥) }
+        HasKeys (members_view members.entries) (Asked.Task id (ask.Break func place)) → ⊥) }
 {
     let mut left = members;
     let Some(func) = take_number(&mut left, "func") else {
@@ -183,9 +202,9 @@ fn read_break(members: Members) -> Option<(u64, Text, u64)>
 /// Reads the members beside `op` of a step: the count and the id.
 fn read_step(members: Members) -> Option<(u64, Text)>
     ensures some { IfSome result (λ r.
-        HasKeys (members_view members.entries) (Asked.Step r.0 r.1)) }
+        HasKeys (members_view members.entries) (Asked.Task r.1 (ask.Step r.0))) }
     ensures none { IfNone result ((count : ℕ) (id : List ℕ) →
-        HasKeys (members_view members.entries) (Asked.Step count id) → ⊥) }
+        HasKeys (members_view members.entries) (Asked.Task id (ask.Step count)) → ⊥) }
 {
     let mut left = members;
     let Some(count) = take_number(&mut left, "count") else {
@@ -198,9 +217,9 @@ fn read_step(members: Members) -> Option<(u64, Text)>
 /// Reads the members beside `op` of a question for memory: the address, the id and the length.
 fn read_peek(members: Members) -> Option<(u64, Text, u64)>
     ensures some { IfSome result (λ r.
-        HasKeys (members_view members.entries) (Asked.Peek r.0 r.1 r.2)) }
+        HasKeys (members_view members.entries) (Asked.Task r.1 (ask.Peek r.0 r.2))) }
     ensures none { IfNone result ((address : ℕ) (id : List ℕ) (length : ℕ) →
-        HasKeys (members_view members.entries) (Asked.Peek address id length) → ⊥) }
+        HasKeys (members_view members.entries) (Asked.Task id (ask.Peek address length)) → ⊥) }
 {
     let mut left = members;
     let Some(address) = take_number(&mut left, "address") else {
@@ -222,22 +241,30 @@ fn read_late(op: &str, members: Members) -> Option<Request>
     match op {
         "break" => {
             let (func, id, place) = read_break(members)?;
-            Some(Request::Break { func, id, place })
+            Some(Request::Task {
+                id,
+                ask: Ask::Break { func, place },
+            })
         }
         "unbreak" => {
             let (func, id, place) = read_break(members)?;
-            Some(Request::Unbreak { func, id, place })
+            Some(Request::Task {
+                id,
+                ask: Ask::Unbreak { func, place },
+            })
         }
         "step" => {
             let (count, id) = read_step(members)?;
-            Some(Request::Step { count, id })
+            Some(Request::Task {
+                id,
+                ask: Ask::Step { count },
+            })
         }
         "peek" => {
             let (address, id, length) = read_peek(members)?;
-            Some(Request::Peek {
-                address,
+            Some(Request::Task {
                 id,
-                length,
+                ask: Ask::Peek { address, length },
             })
         }
         _ => read_id_request(op, members),
@@ -265,7 +292,10 @@ fn read_simple(op: &str, members: Members) -> Option<Request>
         }
         "output" => {
             let (id, stream) = read_output(members)?;
-            Some(Request::Output { id, stream })
+            Some(Request::Task {
+                id,
+                ask: Ask::Output { stream },
+            })
         }
         "gc" => if is_done(&members) {
             Some(Request::Gc)
@@ -290,7 +320,10 @@ pub(crate) fn read_request(alloc: Global, op: &str, members: Members) -> Result<
         }
         "kill" => {
             let (id, signal) = read_kill(members).ok_or(LineError::NoRequest)?;
-            Request::Kill { id, signal }
+            Request::Task {
+                id,
+                ask: Ask::Kill { signal },
+            }
         }
         _ => read_simple(op, members).ok_or(LineError::NoRequest)?,
     };

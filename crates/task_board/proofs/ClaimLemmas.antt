@@ -10,23 +10,24 @@ use Rattle.task_lifecycle.specs.declared.status.Status.{Status}
 use Rattle.task_lifecycle.specs.declared.status.Status.TheVariants.{Created, Running, Pausing, Paused, Stopped}
 use Rattle.task_lifecycle.specs.declared.status.Signal.{Signal}
 use Rattle.task_lifecycle.specs.declared.status.ExitRecord.{ExitRecord}
-use Rattle.task_lifecycle.specs.declared.lifecycle.TaskCall.TheVariants as call
 use Rattle.task_lifecycle.specs.Lifecycle.{is_stopped, is_going}
 use Rattle.task_lifecycle.specs.Names.{signal_of}
 use Rattle.task_requests.specs.declared.event.Event.{Event}
 use Rattle.task_requests.specs.declared.event.Event.TheVariants as event
 use Rattle.task_requests.specs.declared.event.EventReply.{EventReply}
 use Rattle.task_requests.specs.declared.event.EventReply.TheVariants as answer
+use Rattle.task_requests.specs.declared.request.Ask.{Ask}
 use Rattle.task_requests.specs.declared.request.Request.{Request}
 use Rattle.task_requests.specs.declared.request.Request.TheVariants as request
+use Rattle.task_requests.specs.declared.request.Ask.TheVariants as ask
 use Rattle.task_requests.specs.declared.request.Reply.{Reply}
 use Rattle.task_requests.specs.declared.request.Reply.TheVariants as reply
 use Rattle.task_requests.specs.declared.request.TaskState.{TaskState}
 use Rattle.task_requests.specs.Memory.{takes_memory}
 use Rattle.task_board.specs.BoardState.{Task, Entries, BoardState, empty, created_task, entry_of, task_in, task_of, put_task, change_task, with_task}
 use Rattle.task_board.specs.Tasks.{state_of, output_of, memory_at, shown, started, paused, resumed, killed_while, killed_by, place_of, with_break, without_break, stepped}
-use Rattle.task_board.specs.Refusals.{create_refusals, unless_allowed, kill_refusals, state_refusals, output_refusals, break_refusals, unbreak_refusals, step_refusals, inspect_refusals, peek_refusals, task_refusals}
-use Rattle.task_board.specs.Step.{Answer, DecidedBy, Done, with_left, OnFound, OnTask, Creates, on_start, on_pause, on_resume, on_kill, on_delete, on_state, on_wait, on_output, on_break, on_unbreak, on_step, on_inspect, on_peek, Answers}
+use Rattle.task_board.specs.Refusals.{own_refusals, create_refusals, output_refusals, peek_refusals, task_refusals}
+use Rattle.task_board.specs.Step.{Answer, DecidedBy, Done, with_left, OnFound, OnTask, Creates, does, on_start, on_pause, on_resume, on_kill, on_delete, on_state, on_wait, on_output, on_break, on_unbreak, on_step, on_inspect, on_peek, Answers}
 use Rattle.task_board.specs.Run.{Happens, Run}
 use Rattle.task_board.specs.Sound.{IsSound, IsBoard}
 use Rattle.task_board.specs.Moves.{Moves, stays, starts, pauses, resumes, is_killed, is_taken, returns, has_break, loses_break, steps, Becomes, goes, remains}
@@ -218,20 +219,99 @@ killed_same (Some signal) t = by t.out
 
 output_shows :
     (t : Task) (id : List ℕ) (number : ℕ) → first_refusal (output_refusals number t) ≡ None
-    → ShowsTruly t (request.Output id number) (on_output number t).0
+    → ShowsTruly t (request.Task id (ask.Output number)) (on_output number t).0
 output_shows t id number none =
     let known = some_of (stream_of number) (none_first (is_none (stream_of number)) refusal.OutOfRange _ none).0 in
     (known.0, known.1, ap (λ (o : Option Stream). output_of o t) known.1)
 
 peek_shows :
     (t : Task) (id : List ℕ) (address length : ℕ) → first_refusal (peek_refusals address length t) ≡ None
-    → ShowsTruly t (request.Peek address id length) (on_peek address length t).0
+    → ShowsTruly t (request.Task id (ask.Peek address length)) (on_peek address length t).0
 peek_shows t id address length none =
     let rest = (none_first (is_some t.out) refusal.Busy _ none).1 in
     let known =
     some_of (memory_at t address length)
     (none_first (is_none (memory_at t address length)) refusal.OutOfRange None rest).0 in
     known.1 ∙ ap Some (sym (ap shown known.1))
+
+-- the task of which the reply speaks
+spoken : Ask → Task → Task
+spoken ask.Start t = started t
+spoken ask.Pause t = paused t
+spoken ask.Resume t = resumed t
+spoken (ask.Kill number) t = killed_by (signal_of number) t
+spoken (ask.Break func place) t = with_break t (place_of func place)
+spoken (ask.Unbreak func place) t = without_break t (place_of func place)
+spoken (ask.Step count) t = stepped t count
+spoken other t = t
+
+-- a reply with a status, with a state, and with neither
+module _ (t : Task) (id : List ℕ) (k : Ask) (a : Reply) where
+  status_words : id_told a ≡ Some t.id → turns_told a ≡ None → status_told a ≡ Some t.status → end_told a ≡ None
+      → state_told a ≡ None → ShowsTruly t (request.Task id k) a → Words t (request.Task id k) a
+  status_words name turns status end state shows = record {
+    process = λ config other is. cc;
+    id = name;
+    turns = inl turns;
+    status = inr status;
+    end = inl end;
+    state = inl state;
+    shows = shows;
+  }
+
+  state_words : id_told a ≡ Some t.id → turns_told a ≡ Some t.turns → status_told a ≡ Some t.status
+      → end_told a ≡ t.end → state_told a ≡ Some (state_of t) → ShowsTruly t (request.Task id k) a
+      → Words t (request.Task id k) a
+  state_words name turns status end state shows = record {
+    process = λ config other is. cc;
+    id = name;
+    turns = inr turns;
+    status = inr status;
+    end = inr end;
+    state = inr state;
+    shows = shows;
+  }
+
+  plain_words : id_told a ≡ Some t.id → (turns_told a ≡ None) ⊎ (turns_told a ≡ Some t.turns) → status_told a ≡ None
+      → end_told a ≡ None → state_told a ≡ None → ShowsTruly t (request.Task id k) a → Words t (request.Task id k) a
+  plain_words name turns status end state shows = record {
+    process = λ config other is. cc;
+    id = name;
+    turns = turns;
+    status = inl status;
+    end = inl end;
+    state = inl state;
+    shows = shows;
+  }
+
+words_of :
+    (k : Ask) (t : Task) (id : List ℕ) → first_refusal (own_refusals k t) ≡ None
+    → Words (spoken k t) (request.Task id k) (does k t).0
+words_of ask.Start t id none = status_words (started t) id ask.Start (on_start t).0 refl refl refl refl refl tt
+words_of ask.Pause t id none = status_words (paused t) id ask.Pause (on_pause t).0 refl refl refl refl refl tt
+words_of ask.Resume t id none = status_words (resumed t) id ask.Resume (on_resume t).0 refl refl refl refl refl tt
+words_of (ask.Kill number) t id none =
+    status_words (killed_by (signal_of number) t) id (ask.Kill number) (on_kill number t).0
+    (ap Some (sym (killed_same (signal_of number) t))) refl refl refl refl tt
+words_of ask.Delete t id none = state_words t id ask.Delete (on_delete t).0 refl refl refl refl refl tt
+words_of ask.State t id none = state_words t id ask.State (on_state t).0 refl refl refl refl refl tt
+words_of ask.Wait t id none = state_words t id ask.Wait (on_wait t).0 refl refl refl refl refl tt
+words_of (ask.Output number) t id none =
+    plain_words t id (ask.Output number) (on_output number t).0 refl (inl refl) refl refl refl
+    (output_shows t id number none)
+words_of (ask.Break func place) t id none =
+    plain_words (with_break t (place_of func place)) id (ask.Break func place) (on_break func place t).0
+    refl (inl refl) refl refl refl tt
+words_of (ask.Unbreak func place) t id none =
+    plain_words (without_break t (place_of func place)) id (ask.Unbreak func place) (on_unbreak func place t).0
+    refl (inl refl) refl refl refl tt
+words_of (ask.Step count) t id none =
+    state_words (stepped t count) id (ask.Step count) (on_step count t).0 refl refl refl refl refl tt
+words_of ask.Inspect t id none =
+    plain_words t id ask.Inspect (on_inspect t).0 refl (inr refl) refl refl refl refl
+words_of (ask.Peek address length) t id none =
+    plain_words t id (ask.Peek address length) (on_peek address length t).0 refl (inl refl) refl refl refl
+    (peek_shows t id address length none)
 
 module _ (s s' : BoardState) (a : Reply) (left : AllThere s') where
   -- a request that leaves the task changed
@@ -243,183 +323,46 @@ module _ (s s' : BoardState) (a : Reply) (left : AllThere s') where
       let P : BoardState → Type 0 = λ b. (u : Task) × (task_of id b.tasks ≡ Some u) × SaysTruly b.store u q a in
       subst P (sym on) (t', named, says s' id t' q a left named words)
 
-  start_true : (id : List ℕ) → Answers s (request.Start id) (Ok a) s' → Truly s (request.Start id) a s' id
-  start_true id h =
-      let is = accepted s id (unless_allowed call.Start refusal.WrongStatus) on_start a s' h in
-      changes_it (request.Start id) id is.task (started is.task) refl is.named refl is.leaves
-      (subst (Words (started is.task) (request.Start id)) (sym is.answer) (record {
-        process = λ config name other. cc;
-        id = refl;
-        turns = inl refl;
-        status = inr refl;
-        end = inl refl;
-        state = inl refl;
-        shows = tt;
-      }))
+  leaves_it :
+      (id : List ℕ) (k : Ask) → told_on (request.Task id k) s s' ≡ s'
+      → ((t : Task) → (does k t).1 ≡ Some (spoken k t)) → ((t : Task) → (spoken k t).id ≡ t.id)
+      → Answers s (request.Task id k) (Ok a) s' → Truly s (request.Task id k) a s' id
+  leaves_it id k on leaves same h =
+      let is = accepted s id (own_refusals k) (does k) a s' h in
+      let new = spoken k is.task in
+      changes_it (request.Task id k) id is.task new on is.named (same is.task)
+      (is.leaves ∙ ap (with_left s is.task) (leaves is.task))
+      (subst (Words new (request.Task id k)) (sym is.answer) (words_of k is.task id is.none))
 
-  pause_true : (id : List ℕ) → Answers s (request.Pause id) (Ok a) s' → Truly s (request.Pause id) a s' id
-  pause_true id h =
-      let is = accepted s id (unless_allowed call.Pause refusal.WrongStatus) on_pause a s' h in
-      changes_it (request.Pause id) id is.task (paused is.task) refl is.named refl is.leaves
-      (subst (Words (paused is.task) (request.Pause id)) (sym is.answer) (record {
-        process = λ config name other. cc;
-        id = refl;
-        turns = inl refl;
-        status = inr refl;
-        end = inl refl;
-        state = inl refl;
-        shows = tt;
-      }))
+  -- a delete speaks of the task that it found
+  deletes_it : (id : List ℕ) → AllThere s → Answers s (request.Task id ask.Delete) (Ok a) s'
+      → Truly s (request.Task id ask.Delete) a s' id
+  deletes_it id there h =
+      let is = accepted s id (own_refusals ask.Delete) on_delete a s' h in (
+        is.task,
+        is.named,
+        says s id is.task (request.Task id ask.Delete) a there is.named
+            (subst (Words is.task (request.Task id ask.Delete)) (sym is.answer)
+            (words_of ask.Delete is.task id is.none)),
+      )
 
-  resume_true : (id : List ℕ) → Answers s (request.Resume id) (Ok a) s' → Truly s (request.Resume id) a s' id
-  resume_true id h =
-      let is = accepted s id (unless_allowed call.Resume refusal.WrongStatus) on_resume a s' h in
-      changes_it (request.Resume id) id is.task (resumed is.task) refl is.named refl is.leaves
-      (subst (Words (resumed is.task) (request.Resume id)) (sym is.answer) (record {
-        process = λ config name other. cc;
-        id = refl;
-        turns = inl refl;
-        status = inr refl;
-        end = inl refl;
-        state = inl refl;
-        shows = tt;
-      }))
-
-  kill_true : (id : List ℕ) (number : ℕ) → Answers s (request.Kill id number) (Ok a) s'
-      → Truly s (request.Kill id number) a s' id
-  kill_true id number h =
-      let is = accepted s id (kill_refusals number) (on_kill number) a s' h in
-      let t' = killed_by (signal_of number) is.task in
-      let same = killed_same (signal_of number) is.task in
-      changes_it (request.Kill id number) id is.task t' refl is.named same is.leaves
-      (subst (Words t' (request.Kill id number)) (sym is.answer) (record {
-        process = λ config name other. cc;
-        id = ap Some (sym same);
-        turns = inl refl;
-        status = inr refl;
-        end = inl refl;
-        state = inl refl;
-        shows = tt;
-      }))
-
-  state_true : (id : List ℕ) → Answers s (request.State id) (Ok a) s' → Truly s (request.State id) a s' id
-  state_true id h =
-      let is = accepted s id state_refusals on_state a s' h in
-      changes_it (request.State id) id is.task is.task refl is.named refl is.leaves
-      (subst (Words is.task (request.State id)) (sym is.answer) (record {
-        process = λ config name other. cc;
-        id = refl;
-        turns = inr refl;
-        status = inr refl;
-        end = inr refl;
-        state = inr refl;
-        shows = tt;
-      }))
-
-  wait_true : (id : List ℕ) → Answers s (request.Wait id) (Ok a) s' → Truly s (request.Wait id) a s' id
-  wait_true id h =
-      let is = accepted s id (unless_allowed call.Wait refusal.Busy) on_wait a s' h in
-      changes_it (request.Wait id) id is.task is.task refl is.named refl is.leaves
-      (subst (Words is.task (request.Wait id)) (sym is.answer) (record {
-        process = λ config name other. cc;
-        id = refl;
-        turns = inr refl;
-        status = inr refl;
-        end = inr refl;
-        state = inr refl;
-        shows = tt;
-      }))
-
-  step_true : (id : List ℕ) (count : ℕ) → Answers s (request.Step count id) (Ok a) s'
-      → Truly s (request.Step count id) a s' id
-  step_true id count h =
-      let is = accepted s id (step_refusals count) (on_step count) a s' h in
-      changes_it (request.Step count id) id is.task (stepped is.task count) refl is.named refl is.leaves
-      (subst (Words (stepped is.task count) (request.Step count id)) (sym is.answer) (record {
-        process = λ config name other. cc;
-        id = refl;
-        turns = inr refl;
-        status = inr refl;
-        end = inr refl;
-        state = inr refl;
-        shows = tt;
-      }))
-
-  output_true : (id : List ℕ) (number : ℕ) → Answers s (request.Output id number) (Ok a) s'
-      → Truly s (request.Output id number) a s' id
-  output_true id number h =
-      let is = accepted s id (output_refusals number) (on_output number) a s' h in
-      changes_it (request.Output id number) id is.task is.task refl is.named refl is.leaves
-      (subst (Words is.task (request.Output id number)) (sym is.answer) (record {
-        process = λ config name other. cc;
-        id = refl;
-        turns = inl refl;
-        status = inl refl;
-        end = inl refl;
-        state = inl refl;
-        shows = output_shows is.task id number is.none;
-      }))
-
-  break_true : (id : List ℕ) (func place : ℕ) → Answers s (request.Break func id place) (Ok a) s'
-      → Truly s (request.Break func id place) a s' id
-  break_true id func place h =
-      let is = accepted s id (break_refusals func place) (on_break func place) a s' h in
-      let t' = with_break is.task (place_of func place) in
-      changes_it (request.Break func id place) id is.task t' refl is.named refl is.leaves
-      (subst (Words t' (request.Break func id place)) (sym is.answer) (record {
-        process = λ config name other. cc;
-        id = refl;
-        turns = inl refl;
-        status = inl refl;
-        end = inl refl;
-        state = inl refl;
-        shows = tt;
-      }))
-
-  unbreak_true : (id : List ℕ) (func place : ℕ) → Answers s (request.Unbreak func id place) (Ok a) s'
-      → Truly s (request.Unbreak func id place) a s' id
-  unbreak_true id func place h =
-      let is = accepted s id (unbreak_refusals func place) (on_unbreak func place) a s' h in
-      let t' = without_break is.task (place_of func place) in
-      changes_it (request.Unbreak func id place) id is.task t' refl is.named refl is.leaves
-      (subst (Words t' (request.Unbreak func id place)) (sym is.answer) (record {
-        process = λ config name other. cc;
-        id = refl;
-        turns = inl refl;
-        status = inl refl;
-        end = inl refl;
-        state = inl refl;
-        shows = tt;
-      }))
-
-  inspect_true : (id : List ℕ) → Answers s (request.Inspect id) (Ok a) s' → Truly s (request.Inspect id) a s' id
-  inspect_true id h =
-      let is = accepted s id inspect_refusals on_inspect a s' h in
-      changes_it (request.Inspect id) id is.task is.task refl is.named refl is.leaves
-      (subst (Words is.task (request.Inspect id)) (sym is.answer) (record {
-        process = λ config name other. cc;
-        id = refl;
-        turns = inr refl;
-        status = inl refl;
-        end = inl refl;
-        state = inl refl;
-        shows = refl;
-      }))
-
-  peek_true : (id : List ℕ) (address length : ℕ) → Answers s (request.Peek address id length) (Ok a) s'
-      → Truly s (request.Peek address id length) a s' id
-  peek_true id address length h =
-      let is = accepted s id (peek_refusals address length) (on_peek address length) a s' h in
-      changes_it (request.Peek address id length) id is.task is.task refl is.named refl is.leaves
-      (subst (Words is.task (request.Peek address id length)) (sym is.answer) (record {
-        process = λ config name other. cc;
-        id = refl;
-        turns = inl refl;
-        status = inl refl;
-        end = inl refl;
-        state = inl refl;
-        shows = peek_shows is.task id address length is.none;
-      }))
+  task_true : (id : List ℕ) (k : Ask) → AllThere s → Answers s (request.Task id k) (Ok a) s'
+      → Truly s (request.Task id k) a s' id
+  task_true id ask.Start there h = leaves_it id ask.Start refl (λ t. refl) (λ t. refl) h
+  task_true id ask.Pause there h = leaves_it id ask.Pause refl (λ t. refl) (λ t. refl) h
+  task_true id ask.Resume there h = leaves_it id ask.Resume refl (λ t. refl) (λ t. refl) h
+  task_true id (ask.Kill number) there h =
+      leaves_it id (ask.Kill number) refl (λ t. refl) (killed_same (signal_of number)) h
+  task_true id ask.Delete there h = deletes_it id there h
+  task_true id ask.State there h = leaves_it id ask.State refl (λ t. refl) (λ t. refl) h
+  task_true id ask.Wait there h = leaves_it id ask.Wait refl (λ t. refl) (λ t. refl) h
+  task_true id (ask.Output number) there h = leaves_it id (ask.Output number) refl (λ t. refl) (λ t. refl) h
+  task_true id (ask.Break func place) there h = leaves_it id (ask.Break func place) refl (λ t. refl) (λ t. refl) h
+  task_true id (ask.Unbreak func place) there h = leaves_it id (ask.Unbreak func place) refl (λ t. refl) (λ t. refl) h
+  task_true id (ask.Step count) there h = leaves_it id (ask.Step count) refl (λ t. refl) (λ t. refl) h
+  task_true id ask.Inspect there h = leaves_it id ask.Inspect refl (λ t. refl) (λ t. refl) h
+  task_true id (ask.Peek address length) there h =
+      leaves_it id (ask.Peek address length) refl (λ t. refl) (λ t. refl) h
 
   -- a create's task enters the board
   create_true :
@@ -453,25 +396,6 @@ module _ (s s' : BoardState) (a : Reply) (left : AllThere s') where
             (subst (Words t (request.Create config id)) (sym opened.2) words),
       )
 
-  -- a delete speaks of the task that it found
-  delete_true : (id : List ℕ) → AllThere s → Answers s (request.Delete id) (Ok a) s'
-      → Truly s (request.Delete id) a s' id
-  delete_true id there h =
-      let is = accepted s id (unless_allowed call.Delete refusal.WrongStatus) on_delete a s' h in (
-        is.task,
-        is.named,
-        says s id is.task (request.Delete id) a there is.named
-            (subst (Words is.task (request.Delete id)) (sym is.answer) (record {
-              process = λ config name other. cc;
-              id = refl;
-              turns = inr refl;
-              status = inr refl;
-              end = inr refl;
-              state = inr refl;
-              shows = tt;
-            })),
-      )
-
 -- ---- every reply
 
 replies_by :
@@ -486,35 +410,8 @@ replies_by s (request.LeaseDelete id) a s' there left h name is = absurd (none_i
 replies_by s request.Gc a s' there left h name is = absurd (none_is_not name is)
 replies_by s (request.Create config id) a s' there left h name is =
     subst (Truly s (request.Create config id) a s') (some_is id name is) (create_true s s' a left config id h)
-replies_by s (request.Start id) a s' there left h name is =
-    subst (Truly s (request.Start id) a s') (some_is id name is) (start_true s s' a left id h)
-replies_by s (request.Pause id) a s' there left h name is =
-    subst (Truly s (request.Pause id) a s') (some_is id name is) (pause_true s s' a left id h)
-replies_by s (request.Resume id) a s' there left h name is =
-    subst (Truly s (request.Resume id) a s') (some_is id name is) (resume_true s s' a left id h)
-replies_by s (request.Kill id signal) a s' there left h name is =
-    subst (Truly s (request.Kill id signal) a s') (some_is id name is) (kill_true s s' a left id signal h)
-replies_by s (request.Delete id) a s' there left h name is =
-    subst (Truly s (request.Delete id) a s') (some_is id name is) (delete_true s s' a left id there h)
-replies_by s (request.State id) a s' there left h name is =
-    subst (Truly s (request.State id) a s') (some_is id name is) (state_true s s' a left id h)
-replies_by s (request.Wait id) a s' there left h name is =
-    subst (Truly s (request.Wait id) a s') (some_is id name is) (wait_true s s' a left id h)
-replies_by s (request.Output id stream) a s' there left h name is =
-    subst (Truly s (request.Output id stream) a s') (some_is id name is) (output_true s s' a left id stream h)
-replies_by s (request.Break func id place) a s' there left h name is =
-    subst (Truly s (request.Break func id place) a s') (some_is id name is)
-    (break_true s s' a left id func place h)
-replies_by s (request.Unbreak func id place) a s' there left h name is =
-    subst (Truly s (request.Unbreak func id place) a s') (some_is id name is)
-    (unbreak_true s s' a left id func place h)
-replies_by s (request.Step count id) a s' there left h name is =
-    subst (Truly s (request.Step count id) a s') (some_is id name is) (step_true s s' a left id count h)
-replies_by s (request.Inspect id) a s' there left h name is =
-    subst (Truly s (request.Inspect id) a s') (some_is id name is) (inspect_true s s' a left id h)
-replies_by s (request.Peek address id length) a s' there left h name is =
-    subst (Truly s (request.Peek address id length) a s') (some_is id name is)
-    (peek_true s s' a left id address length h)
+replies_by s (request.Task id k) a s' there left h name is =
+    subst (Truly s (request.Task id k) a s') (some_is id name is) (task_true s s' a left id k there h)
 
 no_and : (b : Bool) → (b && false) ≡ false
 no_and true = refl

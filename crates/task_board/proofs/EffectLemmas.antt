@@ -13,8 +13,10 @@ use Rattle.task_lifecycle.specs.Lifecycle.{allowed, takes_turns}
 use Rattle.task_lifecycle.specs.Names.{signal_number, signal_of}
 use Rattle.task_board.specs.declared.change.Change.{Change}
 use Rattle.task_board.specs.declared.change.Change.TheVariants as change
+use Rattle.task_requests.specs.declared.request.Ask.{Ask}
 use Rattle.task_requests.specs.declared.request.Request.{Request}
 use Rattle.task_requests.specs.declared.request.Request.TheVariants as request
+use Rattle.task_requests.specs.declared.request.Ask.TheVariants as ask
 use Rattle.task_requests.specs.declared.request.Reply.{Reply}
 use Rattle.task_requests.specs.declared.request.Reply.TheVariants as reply
 use Rattle.task_requests.specs.declared.request.TaskState.{TaskState}
@@ -26,8 +28,8 @@ use Rattle.task_board.specs.BoardState.{Task, BoardState, used_by, with_store, e
 use Rattle.task_board.specs.declared.mark.Mark.{Mark}
 use Rattle.task_board.specs.declared.mark.Mark.TheVariants as mark
 use Rattle.task_board.specs.Tasks.{killed_while, killed_by, place_of, stepped, state_of}
-use Rattle.task_board.specs.Refusals.{create_refusals, unless_allowed, kill_refusals, state_refusals, output_refusals, break_refusals, unbreak_refusals, step_refusals, inspect_refusals, peek_refusals, task_refusals}
-use Rattle.task_board.specs.Step.{Answer, DecidedBy, OnStore, Puts, PutsText, refused, stored, Done, with_left, OnFound, OnTask, Creates, on_start, on_pause, on_resume, on_kill, on_delete, on_state, on_wait, on_output, on_break, on_unbreak, on_step, on_inspect, on_peek, Answers}
+use Rattle.task_board.specs.Refusals.{own_refusals, create_refusals, unless_allowed, kill_refusals, state_refusals, break_refusals, unbreak_refusals, step_refusals, task_refusals}
+use Rattle.task_board.specs.Step.{Answer, DecidedBy, OnStore, Puts, PutsText, refused, stored, Done, with_left, OnFound, OnTask, Creates, does, on_start, on_pause, on_resume, on_kill, on_delete, on_state, on_wait, Answers}
 use Rattle.task_board.specs.Sound.{IsSound, IsBoard}
 use Rattle.task_board.specs.Inside.Changes.{change_call, change_request, change_reply, change_refusals, changed}
 use Rattle.task_board.specs.Inside.Marks.{mark_call, mark_refusals, marked}
@@ -189,7 +191,7 @@ change_answers (change.Kill signal.Terminate) s id t s' at none is =
 pub delete_answers : (s : BoardState) (id : List ℕ) (t : Task) (s' : BoardState) → task_of id s.tasks ≡ Some t
     → first_refusal (task_refusals id (unless_allowed call.Delete refusal.WrongStatus) (Some t)) ≡ None
     → s' ≡ without_task s t.id
-    → Answers s (request.Delete id) (Ok (reply.Delete (state_of t))) s'
+    → Answers s (request.Task id ask.Delete) (Ok (reply.Delete (state_of t))) s'
 delete_answers s id t s' at none is =
     accepted_on s id (unless_allowed call.Delete refusal.WrongStatus) on_delete t s' at none is
 
@@ -197,18 +199,18 @@ delete_answers s id t s' at none is =
 
 pub state_answers :
     (s : BoardState) (id name : List ℕ) (e : ℕ × Task) (x : TaskState) → name ≡ id → IsAllowed s name call.State e
-    → x ≡ state_of e.1 → Answers s (request.State id) (Ok (reply.State x)) s
+    → x ≡ state_of e.1 → Answers s (request.Task id ask.State) (Ok (reply.State x)) s
 state_answers s id name e x same is told =
     let at : task_of name s.tasks ≡ Some e.1 = ap (option_map (λ (y : ℕ × Task). y.1)) is.found in
     let named = is.named in
     let done =
     accepted_on s name state_refusals on_state e.1 s at (rw named refl) (sym (unchanged s name e.1 at)) in
-    subst (λ (y : TaskState). Answers s (request.State id) (Ok (reply.State y)) s) (sym told)
-    (subst (λ (y : List ℕ). Answers s (request.State y) (Ok (reply.State (state_of e.1))) s) same done)
+    subst (λ (y : TaskState). Answers s (request.Task id ask.State) (Ok (reply.State y)) s) (sym told)
+    (subst (λ (y : List ℕ). Answers s (request.Task y ask.State) (Ok (reply.State (state_of e.1))) s) same done)
 
 pub wait_answers :
     (s : BoardState) (id name : List ℕ) (e : ℕ × Task) (x : TaskState) → name ≡ id → IsAllowed s name call.Wait e
-    → x ≡ state_of e.1 → Answers s (request.Wait id) (Ok (reply.Wait x)) s
+    → x ≡ state_of e.1 → Answers s (request.Task id ask.Wait) (Ok (reply.Wait x)) s
 wait_answers s id name e x same is told =
     let at : task_of name s.tasks ≡ Some e.1 = ap (option_map (λ (y : ℕ × Task). y.1)) is.found in
     let named = is.named in
@@ -216,8 +218,8 @@ wait_answers s id name e x same is told =
     let done =
     accepted_on s name (unless_allowed call.Wait refusal.Busy) on_wait e.1 s at (rw (named, can) refl)
     (sym (unchanged s name e.1 at)) in
-    subst (λ (y : TaskState). Answers s (request.Wait id) (Ok (reply.Wait y)) s) (sym told)
-    (subst (λ (y : List ℕ). Answers s (request.Wait y) (Ok (reply.Wait (state_of e.1))) s) same done)
+    subst (λ (y : TaskState). Answers s (request.Task id ask.Wait) (Ok (reply.Wait y)) s) (sym told)
+    (subst (λ (y : List ℕ). Answers s (request.Task y ask.Wait) (Ok (reply.Wait (state_of e.1))) s) same done)
 
 -- ---- refusals of requests of one task
 
@@ -277,7 +279,7 @@ refused_change c s id e h = (
 )
 
 pub refused_delete : (s : BoardState) (id : List ℕ) (e : Refusal) → RefusesTask s id call.Delete refusal.WrongStatus e
-    → (e ≢ refusal.NoMemory) × Answers s (request.Delete id) (Err e) s
+    → (e ≢ refusal.NoMemory) × Answers s (request.Task id ask.Delete) (Err e) s
 refused_delete s id e h = (
   task_known id call.Delete (task_of id s.tasks) e h,
   refused_on s id (unless_allowed call.Delete refusal.WrongStatus) on_delete
@@ -334,7 +336,7 @@ kill_known id number (Some t) e h =
 
 pub refused_kill :
     (s : BoardState) (id : List ℕ) (number : ℕ) (e : Refusal) → RefusesKill s id number e
-    → (e ≢ refusal.NoMemory) × Answers s (request.Kill id number) (Err e) s
+    → (e ≢ refusal.NoMemory) × Answers s (request.Task id (ask.Kill number)) (Err e) s
 refused_kill s id number e h = (
   kill_known id number (task_of id s.tasks) e h,
   refused_on s id (kill_refusals number) (on_kill number) (task_of id s.tasks) e h,
@@ -346,7 +348,7 @@ refused_kill s id number e h = (
 pub data Alters (q : Request) (id : List ℕ) (t t' : Task) : Type 0 where
   marks : (m : Mark) → first_refusal (mark_refusals m t) ≡ None → t' ≡ marked m t → Alters q id t t'
   takes_steps :
-      (count : ℕ) → q ≡ request.Step count id → allowed call.Step t.status ≡ true → t' ≡ stepped t count
+      (count : ℕ) → q ≡ request.Task id (ask.Step count) → allowed call.Step t.status ≡ true → t' ≡ stepped t count
       → Alters q id t t'
 
 -- all but its breakpoints, its turns and its standing are as they were
@@ -510,6 +512,31 @@ text_effect :
 text_effect s q text r s' (refused e why is same) = nothing same
 text_effect s q text r s' (stored bytes is put) = put_effect s q bytes r s' put
 
+-- what is asked of a task, and is accepted
+ask_effect :
+    (s s' : BoardState) (id : List ℕ) (k : Ask) (t : Task) → task_of id s.tasks ≡ Some t
+    → first_refusal (task_refusals id (own_refusals k) (Some t)) ≡ None → s' ≡ with_left s t (does k t).1
+    → Effect s (request.Task id k) s'
+ask_effect s s' id ask.Start t at none is = changes change.Start id t at (change_allowed change.Start id t none) is
+ask_effect s s' id ask.Pause t at none is = changes change.Pause id t at (change_allowed change.Pause id t none) is
+ask_effect s s' id ask.Resume t at none is = changes change.Resume id t at (change_allowed change.Resume id t none) is
+ask_effect s s' id (ask.Kill number) t at none is =
+    kill_effect s (request.Task id (ask.Kill number)) s' id t (signal_of number) at none is
+ask_effect s s' id ask.Delete t at none is = deletes id t at (one_accepted id t call.Delete none) is
+ask_effect s s' id ask.State t at none is = nothing (is ∙ unchanged s id t at)
+ask_effect s s' id ask.Wait t at none is = nothing (is ∙ unchanged s id t at)
+ask_effect s s' id (ask.Output number) t at none is = nothing (is ∙ unchanged s id t at)
+ask_effect s s' id (ask.Break func place) t at none is =
+    alters id t (marked (mark.Set (place_of func place)) t) at
+    (marks (mark.Set (place_of func place)) (own_accepted id t (break_refusals func place) none) refl) is
+ask_effect s s' id (ask.Unbreak func place) t at none is =
+    alters id t (marked (mark.Remove (place_of func place)) t) at
+    (marks (mark.Remove (place_of func place)) (own_accepted id t (unbreak_refusals func place) none) refl) is
+ask_effect s s' id (ask.Step count) t at none is =
+    alters id t (stepped t count) at (takes_steps count refl (step_allowed id t count none) refl) is
+ask_effect s s' id ask.Inspect t at none is = nothing (is ∙ unchanged s id t at)
+ask_effect s s' id (ask.Peek address length) t at none is = nothing (is ∙ unchanged s id t at)
+
 pub effect_of : (s : BoardState) (q : Request) (r : Answer) (s' : BoardState) → Answers s q r s' → Effect s q s'
 effect_of s (request.Put bytes) r s' a = put_effect s (request.Put bytes) bytes r s' a
 effect_of s (request.PutText text) r s' a = text_effect s (request.PutText text) text r s' a
@@ -536,55 +563,9 @@ effect_of s (request.Create config id) r s' a =
     effect_by s (request.Create config id) s' (first_refusal (create_refusals s config id)) (Creates s config id r s')
     (λ none e. enters config id r none e)
     (decided (first_refusal (create_refusals s config id)) (Creates s config id r s') s r s' a)
-effect_of s (request.Start id) r s' a =
-    on_task_effect s (request.Start id) id (unless_allowed call.Start refusal.WrongStatus) on_start
-    (task_of id s.tasks) r s' a
-    (λ t at none is. changes change.Start id t at (change_allowed change.Start id t none) is)
-effect_of s (request.Pause id) r s' a =
-    on_task_effect s (request.Pause id) id (unless_allowed call.Pause refusal.WrongStatus) on_pause
-    (task_of id s.tasks) r s' a
-    (λ t at none is. changes change.Pause id t at (change_allowed change.Pause id t none) is)
-effect_of s (request.Resume id) r s' a =
-    on_task_effect s (request.Resume id) id (unless_allowed call.Resume refusal.WrongStatus) on_resume
-    (task_of id s.tasks) r s' a
-    (λ t at none is. changes change.Resume id t at (change_allowed change.Resume id t none) is)
-effect_of s (request.Kill id number) r s' a =
-    on_task_effect s (request.Kill id number) id (kill_refusals number) (on_kill number) (task_of id s.tasks) r s' a
-    (λ t at none is. kill_effect s (request.Kill id number) s' id t (signal_of number) at none is)
-effect_of s (request.Delete id) r s' a =
-    on_task_effect s (request.Delete id) id (unless_allowed call.Delete refusal.WrongStatus) on_delete
-    (task_of id s.tasks) r s' a
-    (λ t at none is. deletes id t at (one_accepted id t call.Delete none) is)
-effect_of s (request.State id) r s' a =
-    on_task_effect s (request.State id) id state_refusals on_state (task_of id s.tasks) r s' a
-    (λ t at none is. nothing (is ∙ unchanged s id t at))
-effect_of s (request.Wait id) r s' a =
-    on_task_effect s (request.Wait id) id (unless_allowed call.Wait refusal.Busy) on_wait (task_of id s.tasks) r s' a
-    (λ t at none is. nothing (is ∙ unchanged s id t at))
-effect_of s (request.Output id number) r s' a =
-    on_task_effect s (request.Output id number) id (output_refusals number) (on_output number)
-    (task_of id s.tasks) r s' a
-    (λ t at none is. nothing (is ∙ unchanged s id t at))
-effect_of s (request.Break func id place) r s' a =
-    on_task_effect s (request.Break func id place) id (break_refusals func place) (on_break func place)
-    (task_of id s.tasks) r s' a
-    (λ t at none is. alters id t (marked (mark.Set (place_of func place)) t) at
-    (marks (mark.Set (place_of func place)) (own_accepted id t (break_refusals func place) none) refl) is)
-effect_of s (request.Unbreak func id place) r s' a =
-    on_task_effect s (request.Unbreak func id place) id (unbreak_refusals func place) (on_unbreak func place)
-    (task_of id s.tasks) r s' a
-    (λ t at none is. alters id t (marked (mark.Remove (place_of func place)) t) at
-    (marks (mark.Remove (place_of func place)) (own_accepted id t (unbreak_refusals func place) none) refl) is)
-effect_of s (request.Step count id) r s' a =
-    on_task_effect s (request.Step count id) id (step_refusals count) (on_step count) (task_of id s.tasks) r s' a
-    (λ t at none is. alters id t (stepped t count) at (takes_steps count refl (step_allowed id t count none) refl) is)
-effect_of s (request.Inspect id) r s' a =
-    on_task_effect s (request.Inspect id) id inspect_refusals on_inspect (task_of id s.tasks) r s' a
-    (λ t at none is. nothing (is ∙ unchanged s id t at))
-effect_of s (request.Peek address id length) r s' a =
-    on_task_effect s (request.Peek address id length) id (peek_refusals address length) (on_peek address length)
-    (task_of id s.tasks) r s' a
-    (λ t at none is. nothing (is ∙ unchanged s id t at))
+effect_of s (request.Task id k) r s' a =
+    on_task_effect s (request.Task id k) id (own_refusals k) (does k) (task_of id s.tasks) r s' a
+    (ask_effect s s' id k)
 
 -- ---- soundness
 

@@ -33,8 +33,8 @@ use Rattle.task_lifecycle.specs.Lifecycle.{allowed, takes_turns, is_going}
 use Rattle.task_board.specs.BoardState.{Task, Entries, BoardState, empty, created_task, used_by, with_store, task_in, entry_of, task_of, put_task, change_task, remove_task, with_task, without_task, with_new_task}
 use Rattle.task_board.specs.Tasks.{execution_at, landing, killed_while, can_lend, lent, advanced, slice_turns}
 use Rattle.wasm_binary.specs.Spelled.{IsSpelled}
-use Rattle.task_board.specs.Refusals.{create_refusals, unless_allowed, kill_refusals, state_refusals, output_refusals, break_refusals, unbreak_refusals, step_refusals, inspect_refusals, peek_refusals, task_refusals, Openable, CannotOpen, no_module, too_much, invalid, refused}
-use Rattle.task_board.specs.Step.{Answer, DecidedBy, OnStore, Done, with_left, OnFound, Opens, Creates, on_start, on_pause, on_resume, on_kill, on_delete, on_state, on_wait, on_output, on_break, on_unbreak, on_step, on_inspect, on_peek, Answers, is_budget, lends, taken, is_out, Returns, Step}
+use Rattle.task_board.specs.Refusals.{create_refusals, own_refusals, task_refusals, Openable, CannotOpen, no_module, too_much, invalid, refused}
+use Rattle.task_board.specs.Step.{Answer, DecidedBy, OnStore, Done, with_left, OnFound, Opens, Creates, does, Answers, is_budget, lends, taken, is_out, Returns, Step}
 use Rattle.task_board.specs.Run.{met_no_memory, Happens, Run}
 use Rattle.task_board.specs.Sound.{AreRising, slots_of, IsSound, IsBoard}
 use Rattle.task_board.specs.declared.change.Change.{Change}
@@ -544,32 +544,8 @@ answers_same s request.Gc r s1 r' s2 d a b =
     on_store_same s [] (reply.Gc (unheld (used_by s.tasks) s.store))
     (collected (used_by s.tasks) s.store) r s1 r' s2 a b
 answers_same s (request.Create config id) r s1 r' s2 d a b = absurd d
-answers_same s (request.Start id) r s1 r' s2 d a b =
-    on_task_same s id (unless_allowed call.Start refusal.WrongStatus) on_start (task_of id s.tasks) r s1 r' s2 a b
-answers_same s (request.Pause id) r s1 r' s2 d a b =
-    on_task_same s id (unless_allowed call.Pause refusal.WrongStatus) on_pause (task_of id s.tasks) r s1 r' s2 a b
-answers_same s (request.Resume id) r s1 r' s2 d a b =
-    on_task_same s id (unless_allowed call.Resume refusal.WrongStatus) on_resume (task_of id s.tasks) r s1 r' s2 a b
-answers_same s (request.Kill id number) r s1 r' s2 d a b =
-    on_task_same s id (kill_refusals number) (on_kill number) (task_of id s.tasks) r s1 r' s2 a b
-answers_same s (request.Delete id) r s1 r' s2 d a b =
-    on_task_same s id (unless_allowed call.Delete refusal.WrongStatus) on_delete (task_of id s.tasks) r s1 r' s2 a b
-answers_same s (request.State id) r s1 r' s2 d a b =
-    on_task_same s id state_refusals on_state (task_of id s.tasks) r s1 r' s2 a b
-answers_same s (request.Wait id) r s1 r' s2 d a b =
-    on_task_same s id (unless_allowed call.Wait refusal.Busy) on_wait (task_of id s.tasks) r s1 r' s2 a b
-answers_same s (request.Output id number) r s1 r' s2 d a b =
-    on_task_same s id (output_refusals number) (on_output number) (task_of id s.tasks) r s1 r' s2 a b
-answers_same s (request.Break func id place) r s1 r' s2 d a b =
-    on_task_same s id (break_refusals func place) (on_break func place) (task_of id s.tasks) r s1 r' s2 a b
-answers_same s (request.Unbreak func id place) r s1 r' s2 d a b =
-    on_task_same s id (unbreak_refusals func place) (on_unbreak func place) (task_of id s.tasks) r s1 r' s2 a b
-answers_same s (request.Step count id) r s1 r' s2 d a b =
-    on_task_same s id (step_refusals count) (on_step count) (task_of id s.tasks) r s1 r' s2 a b
-answers_same s (request.Inspect id) r s1 r' s2 d a b =
-    on_task_same s id inspect_refusals on_inspect (task_of id s.tasks) r s1 r' s2 a b
-answers_same s (request.Peek address id length) r s1 r' s2 d a b =
-    on_task_same s id (peek_refusals address length) (on_peek address length) (task_of id s.tasks) r s1 r' s2 a b
+answers_same s (request.Task id k) r s1 r' s2 d a b =
+    on_task_same s id (own_refusals k) (does k) (task_of id s.tasks) r s1 r' s2 a b
 
 -- a task returns in one way
 return_same : (s : BoardState) (o : Option Task) (s1 s2 : BoardState) → Returns s o s1 → Returns s o s2 → s1 ≡ s2

@@ -8,6 +8,7 @@ use Rattle.oci_config.specs.Streams.{stream_of}
 use Rattle.task_lifecycle.specs.declared.lifecycle.TaskCall.TheVariants as call
 use Rattle.content_leases.specs.Refusals.{first_refusal}
 use Rattle.task_requests.specs.declared.request.Request.TheVariants as request
+use Rattle.task_requests.specs.declared.request.Ask.TheVariants as ask
 use Rattle.task_requests.specs.declared.request.Reply.TheVariants as reply
 use Rattle.task_board.specs.BoardState.{Task, BoardState, task_of}
 use Rattle.task_board.specs.Tasks.{output_of}
@@ -66,11 +67,12 @@ module _ (s : BoardState) (id : List ℕ) (number : ℕ) where
 
   pub output_answers :
       (bytes : List ℕ) → TellsOutput s id number bytes
-      → Answers s (request.Output id number) (Ok (reply.Output bytes id (length bytes))) s
+      → Answers s (request.Task id (ask.Output number)) (Ok (reply.Output bytes id (length bytes))) s
   output_answers bytes t =
-      subst (λ (x : List ℕ). Answers s (request.Output id number) (Ok (output_reply x bytes)) s)
+      subst (λ (x : List ℕ). Answers s (request.Task id (ask.Output number)) (Ok (output_reply x bytes)) s)
       (task_named id s.tasks t.task t.found)
-      (subst (λ (x : List ℕ). Answers s (request.Output id number) (Ok (output_reply t.task.id x)) s) (sym t.is)
+      (subst
+      (λ (x : List ℕ). Answers s (request.Task id (ask.Output number)) (Ok (output_reply t.task.id x)) s) (sym t.is)
       (accepted_on s id (output_refusals number) (on_output number) t.task s t.found t.accepted
       (sym (unchanged s id t.task t.found))))
 
@@ -91,7 +93,7 @@ module _ (s : BoardState) (id : List ℕ) (number : ℕ) where
 
   pub refused_output :
       (e : Refusal) → RefusesOutput s id number e
-      → (e ≢ refusal.NoMemory) × Answers s (request.Output id number) (Err e) s
+      → (e ≢ refusal.NoMemory) × Answers s (request.Task id (ask.Output number)) (Err e) s
   refused_output e h = (
     output_known (task_of id s.tasks) e h,
     refused_on s id (output_refusals number) (on_output number) (task_of id s.tasks) e h,

@@ -21,13 +21,13 @@ use Rattle.task_board.specs.declared.mark.Mark.{Mark}
 use Rattle.task_board.specs.declared.mark.Mark.TheVariants as mark
 use Rattle.task_board.specs.declared.mark.NewBreaks.{NewBreaks}
 use Rattle.task_requests.specs.declared.request.Request.TheVariants as request
+use Rattle.task_requests.specs.declared.request.Ask.TheVariants as ask
 use Rattle.task_requests.specs.declared.request.Reply.TheVariants as reply
 use Rattle.task_board.specs.BoardState.{Task, BoardState, entry_of, task_of, with_task}
 use Rattle.task_board.specs.Limits.{max_step}
 use Rattle.task_board.specs.Tasks.{frames_of, memory_at, shown, place_of, stepped, state_of}
 use Rattle.task_board.specs.Refusals.{unless_allowed, break_refusals, unbreak_refusals, is_step, step_refusals, inspect_refusals, peek_refusals, task_refusals}
 use Rattle.task_board.specs.Step.{Answers, on_break, on_unbreak, on_step, on_inspect, on_peek}
-use Rattle.task_board.specs.Inside.Machines.{IsMachine}
 use Rattle.task_board.specs.Inside.Marks.{mark_request, mark_reply, mark_refusals, marked_places, marked}
 use Rattle.task_board.specs.Inside.Plans.{IsAllowed, RefusesTask, RefusesOwn, place_refusals, HasPlace, MayMark, HasMachine, CallPrepared, MarkPrepared}
 use Rattle.task_board.proofs.MarkLemmas.{few_after, few_without}
@@ -285,7 +285,7 @@ module _ (s : BoardState) (id : List ℕ) where
 
   pub refused_break :
       (func place : ℕ) (e : Refusal) → RefusesOwn s id (break_refusals func place) e
-      → (e ≢ refusal.NoMemory) × Answers s (request.Break func id place) (Err e) s
+      → (e ≢ refusal.NoMemory) × Answers s (request.Task id (ask.Break func place)) (Err e) s
   refused_break func place e h = (
     break_known func place (task_of id s.tasks) e h,
     refused_on s id (break_refusals func place) (on_break func place) (task_of id s.tasks) e h,
@@ -301,7 +301,7 @@ module _ (s : BoardState) (id : List ℕ) where
 
   pub refused_unbreak :
       (func place : ℕ) (e : Refusal) → RefusesOwn s id (unbreak_refusals func place) e
-      → (e ≢ refusal.NoMemory) × Answers s (request.Unbreak func id place) (Err e) s
+      → (e ≢ refusal.NoMemory) × Answers s (request.Task id (ask.Unbreak func place)) (Err e) s
   refused_unbreak func place e h = (
     unbreak_known func place (task_of id s.tasks) e h,
     refused_on s id (unbreak_refusals func place) (on_unbreak func place) (task_of id s.tasks) e h,
@@ -329,7 +329,7 @@ module _ (s : BoardState) (id : List ℕ) where
   -- ---- steps
 
   pub step_refused : (count : ℕ) (e : Refusal) → RefusesTask s id call.Step refusal.WrongStatus e
-      → (e ≢ refusal.NoMemory) × Answers s (request.Step count id) (Err e) s
+      → (e ≢ refusal.NoMemory) × Answers s (request.Task id (ask.Step count)) (Err e) s
   step_refused count e h =
       let own : RefusesOwn s id (step_refusals count) e =
       refused_first (unless_allowed call.Step refusal.WrongStatus)
@@ -346,7 +346,8 @@ module _ (s : BoardState) (id : List ℕ) where
           known_of_three (not (is_id id)) (not (allowed call.Step t.status)) (not (is_step count)) e h
 
   pub no_step : (count : ℕ) (e : ℕ × Task) → IsAllowed s id call.Step e → is_step count ≡ false
-      → (refusal.OutOfRange ≢ refusal.NoMemory) × Answers s (request.Step count id) (Err refusal.OutOfRange) s
+      → (refusal.OutOfRange ≢ refusal.NoMemory)
+      × Answers s (request.Task id (ask.Step count)) (Err refusal.OutOfRange) s
   no_step count e can off = (
     λ h. cc,
     refused_on s id (step_refusals count) (on_step count) (task_of id s.tasks) refusal.OutOfRange
@@ -368,7 +369,7 @@ module _ (s : BoardState) (id : List ℕ) where
   pub step_answers :
       (count : ℕ) (t : Task) (s' : BoardState) → task_of id s.tasks ≡ Some t
       → first_refusal (task_refusals id (step_refusals count) (Some t)) ≡ None → s' ≡ with_task s (stepped t count)
-      → Answers s (request.Step count id) (Ok (reply.Step (state_of (stepped t count)))) s'
+      → Answers s (request.Task id (ask.Step count)) (Ok (reply.Step (state_of (stepped t count)))) s'
   step_answers count t s' at none is = accepted_on s id (step_refusals count) (on_step count) t s' at none is
 
   -- ---- frames
@@ -385,7 +386,7 @@ module _ (s : BoardState) (id : List ℕ) where
 
   pub refused_inspect :
       (e : Refusal) → RefusesOwn s id inspect_refusals e
-      → (e ≢ refusal.NoMemory) × Answers s (request.Inspect id) (Err e) s
+      → (e ≢ refusal.NoMemory) × Answers s (request.Task id ask.Inspect) (Err e) s
   refused_inspect e h = (
     inspect_known (task_of id s.tasks) e h,
     refused_on s id inspect_refusals on_inspect (task_of id s.tasks) e h,
@@ -393,7 +394,7 @@ module _ (s : BoardState) (id : List ℕ) where
 
   pub inspect_answers : (m : MachineView) (frames : List ShownFrame) → HasMachine s id m
       → frames ≡ frames_shown (machine_state m)
-      → Answers s (request.Inspect id) (Ok (reply.Inspect frames id m.turns)) s
+      → Answers s (request.Task id ask.Inspect) (Ok (reply.Inspect frames id m.turns)) s
   inspect_answers m frames h is =
       let here : frames ≡ frames_of h.task =
       is ∙ ap (λ (x : MachineView). frames_shown (machine_state x)) h.is in
@@ -401,12 +402,12 @@ module _ (s : BoardState) (id : List ℕ) where
       accepted_on s id inspect_refusals on_inspect h.task s h.found
       (none_of_inspect (not (is_id id)) (is_some h.task.out) (ap not h.named) (ap is_some h.idle))
       (sym (unchanged s id h.task h.found)) in
-      subst (λ (x : List ℕ). Answers s (request.Inspect id) (Ok (reply.Inspect frames x m.turns)) s)
+      subst (λ (x : List ℕ). Answers s (request.Task id ask.Inspect) (Ok (reply.Inspect frames x m.turns)) s)
       (task_named id s.tasks h.task h.found)
-      (subst (λ (n : ℕ). Answers s (request.Inspect id) (Ok (reply.Inspect frames h.task.id n)) s)
+      (subst (λ (n : ℕ). Answers s (request.Task id ask.Inspect) (Ok (reply.Inspect frames h.task.id n)) s)
       (sym (ap (λ (x : MachineView). x.turns) h.is))
       (subst
-      (λ (x : List ShownFrame). Answers s (request.Inspect id) (Ok (reply.Inspect x h.task.id h.task.turns)) s)
+      (λ (x : List ShownFrame). Answers s (request.Task id ask.Inspect) (Ok (reply.Inspect x h.task.id h.task.turns)) s)
       (sym here) done))
 
   -- ---- bytes of memory
@@ -424,7 +425,7 @@ module _ (s : BoardState) (id : List ℕ) where
 
   pub refused_peek :
       (address length : ℕ) (e : Refusal) → RefusesOwn s id (peek_refusals address length) e
-      → (e ≢ refusal.NoMemory) × Answers s (request.Peek address id length) (Err e) s
+      → (e ≢ refusal.NoMemory) × Answers s (request.Task id (ask.Peek address length)) (Err e) s
   refused_peek address length e h = (
     peek_known address length (task_of id s.tasks) e h,
     refused_on s id (peek_refusals address length) (on_peek address length) (task_of id s.tasks) e h,
@@ -444,14 +445,14 @@ module _ (s : BoardState) (id : List ℕ) where
 
   pub peek_answers : (m : MachineView) (address length : ℕ) (bytes : List ℕ) → HasMachine s id m
       → peeked (memory_of m) address length ≡ Some bytes
-      → Answers s (request.Peek address id length) (Ok (reply.Peek bytes id)) s
+      → Answers s (request.Task id (ask.Peek address length)) (Ok (reply.Peek bytes id)) s
   peek_answers m address length bytes h is =
       let at : memory_at h.task address length ≡ Some bytes = sym (same_memory m h address length) ∙ is in
       let done =
       accepted_on s id (peek_refusals address length) (on_peek address length) h.task s h.found
       (none_of_peek (not (is_id id)) (is_some h.task.out) (is_none (memory_at h.task address length))
       (ap not h.named) (ap is_some h.idle) (ap is_none at)) (sym (unchanged s id h.task h.found)) in
-      subst (λ (x : List ℕ). Answers s (request.Peek address id length) (Ok (reply.Peek bytes x)) s)
+      subst (λ (x : List ℕ). Answers s (request.Task id (ask.Peek address length)) (Ok (reply.Peek bytes x)) s)
       (task_named id s.tasks h.task h.found)
-      (subst (λ (x : List ℕ). Answers s (request.Peek address id length) (Ok (reply.Peek x h.task.id)) s)
+      (subst (λ (x : List ℕ). Answers s (request.Task id (ask.Peek address length)) (Ok (reply.Peek x h.task.id)) s)
       (ap shown at) done)

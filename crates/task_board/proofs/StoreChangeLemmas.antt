@@ -91,19 +91,7 @@ made_for (request.LeaseAdd digest id) c is = own is
 made_for (request.LeaseDelete id) c is = own is
 made_for request.Gc c is = own is
 made_for (request.Create config id) c is = own is
-made_for (request.Start id) c is = own is
-made_for (request.Pause id) c is = own is
-made_for (request.Resume id) c is = own is
-made_for (request.Kill id signal) c is = own is
-made_for (request.Delete id) c is = own is
-made_for (request.State id) c is = own is
-made_for (request.Wait id) c is = own is
-made_for (request.Output id stream) c is = own is
-made_for (request.Break func id place) c is = own is
-made_for (request.Unbreak func id place) c is = own is
-made_for (request.Step count id) c is = own is
-made_for (request.Inspect id) c is = own is
-made_for (request.Peek address id length) c is = own is
+made_for (request.Task id k) c is = own is
 
 answers_made_for :
     (s : BoardState) (r : Request) (c : StoreChange) (a : Answer) (s' : BoardState) → MadeFor r c

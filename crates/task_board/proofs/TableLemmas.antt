@@ -5,6 +5,7 @@ use Rattle.task_board.specs.declared.tables.Tables.TheInside as tables
 use Rattle.task_board.specs.declared.ticket.Ticket.{Ticket}
 use Rattle.task_requests.specs.declared.request.Request.{Request}
 use Rattle.task_requests.specs.declared.request.Request.TheVariants as request
+use Rattle.task_requests.specs.declared.request.Ask.TheVariants as ask
 use Rattle.task_requests.specs.declared.request.Reply.TheVariants as reply
 use Rattle.wasm_ast.specs.declared.refusal.Refusal.TheVariants as refusal
 use Rattle.task_lifecycle.specs.declared.lifecycle.TaskCall.TheVariants as call
@@ -172,7 +173,7 @@ pub removed_there :
     → CallPrepared (board_state_of b) (unless_allowed call.Delete refusal.WrongStatus) slot id
     → get b.tasks slot ≡ Some old
     → new.slots ≡ slice_set b.tasks.slots slot None
-    → Answers (board_state_of b) (request.Delete id) (Ok (reply.Delete (state_of old)))
+    → Answers (board_state_of b) (request.Task id ask.Delete) (Ok (reply.Delete (state_of old)))
     (board_state_of (with_slab b new waiting))
 removed_there b slot id new waiting old sound p here slots =
     let s = board_state_of b in
@@ -190,7 +191,7 @@ removed_there b slot id new waiting old sound p here slots =
     delete_answers s id p.task (board_state_of (with_slab b new waiting)) at p.accepted
     (leaves ∙ ap (λ (u : Task). without_task s u.id) same) in
     subst
-    (λ (u : Task). Answers s (request.Delete id) (Ok (reply.Delete (state_of u)))
+    (λ (u : Task). Answers s (request.Task id ask.Delete) (Ok (reply.Delete (state_of u)))
     (board_state_of (with_slab b new waiting)))
     (sym same) done
 
@@ -368,16 +369,17 @@ pub stepped_there :
     → IsBoard (board_state_of b) → AreWaiting (board_state_of b).tasks b.waiting
     → (p : CallPrepared (board_state_of b) (step_refusals count) slot id) → get b.tasks slot ≡ Some old
     → new ≡ stepped old count
-    → IsAlteredThere b (request.Step count id) (Ok (reply.Step (state_of new))) slot new
+    → IsAlteredThere b (request.Task id (ask.Step count)) (Ok (reply.Step (state_of new))) slot new
 stepped_there b count slot id old new sound waits p here is =
     let s = board_state_of b in
     let at = call_at b (step_refusals count) slot id old sound p here in
     let accepted = call_accepted b (step_refusals count) slot id old sound p here in
-    let alters : Alters (request.Step count id) id old new =
+    let alters : Alters (request.Task id (ask.Step count)) id old new =
     takes_steps count refl (step_allowed id old count accepted) is in
-    altered_there b (request.Step count id) (Ok (reply.Step (state_of new))) slot id old new sound waits at here alters
+    altered_there b (request.Task id (ask.Step count)) (Ok (reply.Step (state_of new))) slot id old new sound
+    waits at here alters
     (λ s' leaves.
-    subst (λ (t : Task). Answers s (request.Step count id) (Ok (reply.Step (state_of t))) s') (sym is)
+    subst (λ (t : Task). Answers s (request.Task id (ask.Step count)) (Ok (reply.Step (state_of t))) s') (sym is)
     (step_answers s id count old s' at accepted (leaves ∙ ap (with_task s) is)))
 
 pub may_step :

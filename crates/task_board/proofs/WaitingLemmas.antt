@@ -7,6 +7,7 @@ use Rattle.task_board.specs.declared.store_change.StoreChange.{StoreChange}
 use Rattle.task_board.specs.declared.store_change.StoreChange.TheVariants as store
 use Rattle.task_requests.specs.declared.request.Request.{Request}
 use Rattle.task_requests.specs.declared.request.Request.TheVariants as request
+use Rattle.task_requests.specs.declared.request.Ask.TheVariants as ask
 use Rattle.task_board.specs.declared.ticket.Ticket.{Ticket}
 use Rattle.task_board.specs.Limits.{max_tasks}
 use Rattle.task_board.specs.BoardState.{Task, Entries, BoardState, task_in, entry_of, put_task, change_task, with_task, with_new_task}
@@ -344,14 +345,14 @@ pub made_waits :
 made_waits r c ts ws is = waits_made_for r c ts ws (made_for r c is)
 
 pub question_waits : (r : Request) (ts : Entries) (ws : List Ticket) → IsQuestion r → waiting_after_call r ts ws ≡ ws
-question_waits (request.State id) ts ws is = refl
-question_waits (request.Wait id) ts ws is = refl
-question_waits (request.Output id stream) ts ws is = refl
-question_waits (request.Inspect id) ts ws is = refl
-question_waits (request.Peek address id length) ts ws is = refl
-question_waits (request.Break func id place) ts ws is = refl
-question_waits (request.Unbreak func id place) ts ws is = refl
-question_waits (request.Step count id) ts ws is = refl
+question_waits (request.Task id ask.State) ts ws is = refl
+question_waits (request.Task id ask.Wait) ts ws is = refl
+question_waits (request.Task id (ask.Output stream)) ts ws is = refl
+question_waits (request.Task id ask.Inspect) ts ws is = refl
+question_waits (request.Task id (ask.Peek address length)) ts ws is = refl
+question_waits (request.Task id (ask.Break func place)) ts ws is = refl
+question_waits (request.Task id (ask.Unbreak func place)) ts ws is = refl
+question_waits (request.Task id (ask.Step count)) ts ws is = refl
 question_waits (request.Put bytes) ts ws is = refl
 question_waits (request.PutText text) ts ws is = refl
 question_waits (request.Remove digest) ts ws is = refl
@@ -360,8 +361,8 @@ question_waits (request.LeaseAdd digest id) ts ws is = refl
 question_waits (request.LeaseDelete id) ts ws is = refl
 question_waits request.Gc ts ws is = refl
 question_waits (request.Create config id) ts ws is = refl
-question_waits (request.Pause id) ts ws is = refl
-question_waits (request.Kill id signal) ts ws is = refl
-question_waits (request.Start id) ts ws is = absurd is
-question_waits (request.Resume id) ts ws is = absurd is
-question_waits (request.Delete id) ts ws is = absurd is
+question_waits (request.Task id ask.Pause) ts ws is = refl
+question_waits (request.Task id (ask.Kill signal)) ts ws is = refl
+question_waits (request.Task id ask.Start) ts ws is = absurd is
+question_waits (request.Task id ask.Resume) ts ws is = absurd is
+question_waits (request.Task id ask.Delete) ts ws is = absurd is

@@ -18,6 +18,7 @@ use Rattle.task_lifecycle.specs.declared.status.ExitRecord.{ExitRecord}
 use Rattle.task_lifecycle.specs.Lifecycle.{is_going}
 use Rattle.task_requests.specs.declared.request.Request.{Request}
 use Rattle.task_requests.specs.declared.request.Request.TheVariants as request
+use Rattle.task_requests.specs.declared.request.Ask.TheVariants as ask
 use Rattle.task_requests.specs.declared.request.Reply.{Reply}
 use Rattle.task_requests.specs.declared.request.Reply.TheVariants as reply
 use Rattle.task_requests.specs.declared.request.TaskState.{TaskState}
@@ -27,24 +28,12 @@ use Rattle.task_board.specs.Tasks.{IsTrueOf}
 -- the id of the task that a request is about
 abbrev pub asked_of : Request → Option (List ℕ)
 asked_of (request.Create config id) = Some id
-asked_of (request.Start id) = Some id
-asked_of (request.Pause id) = Some id
-asked_of (request.Resume id) = Some id
-asked_of (request.Kill id signal) = Some id
-asked_of (request.Delete id) = Some id
-asked_of (request.State id) = Some id
-asked_of (request.Wait id) = Some id
-asked_of (request.Output id stream) = Some id
-asked_of (request.Break func id place) = Some id
-asked_of (request.Unbreak func id place) = Some id
-asked_of (request.Step count id) = Some id
-asked_of (request.Inspect id) = Some id
-asked_of (request.Peek address id length) = Some id
+asked_of (request.Task id a) = Some id
 asked_of other = None
 
 -- the board of which its reply speaks: the one that it leaves; of a delete the one that it found
 abbrev pub told_on : Request → (found left : BoardState) → BoardState
-told_on (request.Delete id) found left = found
+told_on (request.Task id ask.Delete) found left = found
 told_on other found left = left
 
 -- ---- what a reply says
@@ -115,15 +104,16 @@ pub record StatusIsTrue (t : Task) (status : Status) : Type 0 where
 
 -- the frames, the output or the bytes of memory that a request asks for
 abbrev pub ShowsTruly : Task → Request → Reply → Type 0
-ShowsTruly t (request.Inspect id) (reply.Inspect frames name n) = frames ≡ shown (now t).state
-ShowsTruly t (request.Output id number) (reply.Output bytes name size) =
+ShowsTruly t (request.Task id ask.Inspect) (reply.Inspect frames name n) =
+    frames ≡ shown (now t).state
+ShowsTruly t (request.Task id (ask.Output number)) (reply.Output bytes name size) =
     (stream : Stream) × (stream_of number ≡ Some stream)
     × (bytes ≡ written_to stream (now t).store)
-ShowsTruly t (request.Peek address id length) (reply.Peek bytes name) =
+ShowsTruly t (request.Task id (ask.Peek address length)) (reply.Peek bytes name) =
     peeked (now t).store.memory address length ≡ Some bytes
-ShowsTruly t (request.Inspect id) other = ⊥
-ShowsTruly t (request.Output id number) other = ⊥
-ShowsTruly t (request.Peek address id length) other = ⊥
+ShowsTruly t (request.Task id ask.Inspect) other = ⊥
+ShowsTruly t (request.Task id (ask.Output number)) other = ⊥
+ShowsTruly t (request.Task id (ask.Peek address length)) other = ⊥
 ShowsTruly t other a = Unit {0}
 
 -- what a reply to a request says of a task, on a board with this store

@@ -4,6 +4,7 @@ use Rattle.wasm_ast.specs.declared.place.Place.{Place}
 use Rattle.task_requests.specs.declared.event.Event.{Event}
 use Rattle.task_requests.specs.declared.event.Event.TheVariants as event
 use Rattle.task_requests.specs.declared.request.Request.TheVariants as request
+use Rattle.task_requests.specs.declared.request.Ask.TheVariants as ask
 use Rattle.task_lifecycle.specs.declared.lifecycle.TaskCall.TheVariants as call
 use Rattle.task_lifecycle.specs.declared.status.Status.TheVariants.{Running}
 use Rattle.task_lifecycle.specs.declared.status.Signal.{Signal}
@@ -46,5 +47,5 @@ pub data Becomes (t : Task) : Option Task → Type 0 where
 
 -- the event is a step of this task
 abbrev pub IsStepOf : Event → Task → Type 0
-IsStepOf (event.Call (request.Step count id)) t = id ≡ t.id
+IsStepOf (event.Call (request.Task id (ask.Step count))) t = id ≡ t.id
 IsStepOf other t = ⊥

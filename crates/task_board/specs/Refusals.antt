@@ -15,6 +15,8 @@ use Rattle.step_machine.specs.Instantiation.{instantiation_refusal}
 use Rattle.step_machine.specs.Limits.{max_breakpoints}
 use Rattle.step_machine.specs.Places.{has_place}
 use Rattle.step_machine.specs.Slices.{is_among}
+use Rattle.task_requests.specs.declared.request.Ask.{Ask}
+use Rattle.task_requests.specs.declared.request.Ask.TheVariants as ask
 use Rattle.task_lifecycle.specs.declared.lifecycle.TaskCall.{TaskCall}
 use Rattle.task_lifecycle.specs.declared.lifecycle.TaskCall.TheVariants as call
 use Rattle.task_board.specs.Limits.{max_tasks, max_creates, max_step}
@@ -123,6 +125,22 @@ peek_refusals address length t =
     (is_some t.out, refusal.Busy)
     ∷ (is_none (memory_at t address length), refusal.OutOfRange)
     ∷ []
+
+-- those of each kind
+abbrev pub own_refusals : Ask → Task → Refusals
+own_refusals ask.Start = unless_allowed call.Start refusal.WrongStatus
+own_refusals ask.Pause = unless_allowed call.Pause refusal.WrongStatus
+own_refusals ask.Resume = unless_allowed call.Resume refusal.WrongStatus
+own_refusals (ask.Kill signal) = kill_refusals signal
+own_refusals ask.Delete = unless_allowed call.Delete refusal.WrongStatus
+own_refusals ask.State = state_refusals
+own_refusals ask.Wait = unless_allowed call.Wait refusal.Busy
+own_refusals (ask.Output stream) = output_refusals stream
+own_refusals (ask.Break func place) = break_refusals func place
+own_refusals (ask.Unbreak func place) = unbreak_refusals func place
+own_refusals (ask.Step count) = step_refusals count
+own_refusals ask.Inspect = inspect_refusals
+own_refusals (ask.Peek address length) = peek_refusals address length
 
 -- the id is malformed, then no task has it, then the request's own
 abbrev pub task_refusals : (id : List ℕ) → (own : Task → Refusals) → Option Task → Refusals

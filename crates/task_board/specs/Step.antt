@@ -3,17 +3,17 @@
 use Rattle.std.specs.Prelude.{◌≡◌, ℕ, [], ◌&&◌, nat_le, List, length, Bool, true, false, if◌then◌else◌, Option, Some, None, is_some, option_and_then, Result, Ok, Err}
 use Rattle.wasm_ast.specs.declared.module.Module.{Module}
 use Rattle.wasm_ast.specs.declared.refusal.Refusal.{Refusal}
-use Rattle.wasm_ast.specs.declared.refusal.Refusal.TheVariants as refusal
 use Rattle.oci_config.specs.declared.process.ProcessConfig.{ProcessConfig}
 use Rattle.task_requests.specs.declared.event.Event.{Event}
 use Rattle.task_requests.specs.declared.event.Event.TheVariants as event
 use Rattle.task_requests.specs.declared.event.EventReply.{EventReply}
 use Rattle.task_requests.specs.declared.event.EventReply.TheVariants as answer
+use Rattle.task_requests.specs.declared.request.Ask.{Ask}
 use Rattle.task_requests.specs.declared.request.Request.{Request}
 use Rattle.task_requests.specs.declared.request.Request.TheVariants as request
+use Rattle.task_requests.specs.declared.request.Ask.TheVariants as ask
 use Rattle.task_requests.specs.declared.request.Reply.{Reply}
 use Rattle.task_requests.specs.declared.request.Reply.TheVariants as reply
-use Rattle.task_lifecycle.specs.declared.lifecycle.TaskCall.TheVariants as call
 use Rattle.task_lifecycle.specs.declared.status.Status.TheVariants.{Created}
 use Rattle.task_lifecycle.specs.Names.{signal_of}
 use Rattle.task_requests.specs.Limits.{max_budget}
@@ -25,7 +25,7 @@ use Rattle.oci_config.specs.Streams.{stream_of}
 use Rattle.task_board.specs.BoardState.{Task, created_task, BoardState, used_by, with_store, task_in, task_of, with_task, without_task, with_new_task}
 use Rattle.task_board.specs.Tasks.{state_of, output_of, frames_of, memory_at, shown, started, paused, resumed, killed_by, place_of, with_break, without_break, can_lend, lent, HasReturned, stepped}
 use Rattle.task_board.specs.Texts.{IsAssembled, CannotAssemble}
-use Rattle.task_board.specs.Refusals.{create_refusals, CannotOpen, Openable, unless_allowed, kill_refusals, state_refusals, output_refusals, break_refusals, unbreak_refusals, step_refusals, inspect_refusals, peek_refusals, task_refusals}
+use Rattle.task_board.specs.Refusals.{create_refusals, CannotOpen, Openable, own_refusals, task_refusals}
 
 -- ---- requests
 
@@ -143,6 +143,21 @@ on_inspect t = (reply.Inspect (frames_of t) t.id t.turns, Some t)
 abbrev pub on_peek : (address length : ℕ) → Task → Done
 on_peek address length t = (reply.Peek (shown (memory_at t address length)) t.id, Some t)
 
+abbrev pub does : Ask → Task → Done
+does ask.Start = on_start
+does ask.Pause = on_pause
+does ask.Resume = on_resume
+does (ask.Kill signal) = on_kill signal
+does ask.Delete = on_delete
+does ask.State = on_state
+does ask.Wait = on_wait
+does (ask.Output stream) = on_output stream
+does (ask.Break func place) = on_break func place
+does (ask.Unbreak func place) = on_unbreak func place
+does (ask.Step count) = on_step count
+does ask.Inspect = on_inspect
+does (ask.Peek address length) = on_peek address length
+
 -- What a request may be answered on a board, and the board that it leaves. A refusal leaves the board. What
 -- a task names is held until the task is deleted.
 abbrev pub Answers : BoardState → Request → Answer → BoardState → Type 0
@@ -164,27 +179,7 @@ Answers s request.Gc r s' =
     (collected (used_by s.tasks) s.store) r s'
 Answers s (request.Create config id) r s' =
     Decided (create_refusals s config id) (Creates s config id r s') s r s'
-Answers s (request.Start id) r s' =
-    OnTask id (unless_allowed call.Start refusal.WrongStatus) on_start s r s'
-Answers s (request.Pause id) r s' =
-    OnTask id (unless_allowed call.Pause refusal.WrongStatus) on_pause s r s'
-Answers s (request.Resume id) r s' =
-    OnTask id (unless_allowed call.Resume refusal.WrongStatus) on_resume s r s'
-Answers s (request.Kill id signal) r s' = OnTask id (kill_refusals signal) (on_kill signal) s r s'
-Answers s (request.Delete id) r s' =
-    OnTask id (unless_allowed call.Delete refusal.WrongStatus) on_delete s r s'
-Answers s (request.State id) r s' = OnTask id state_refusals on_state s r s'
-Answers s (request.Wait id) r s' = OnTask id (unless_allowed call.Wait refusal.Busy) on_wait s r s'
-Answers s (request.Output id stream) r s' =
-    OnTask id (output_refusals stream) (on_output stream) s r s'
-Answers s (request.Break func id place) r s' =
-    OnTask id (break_refusals func place) (on_break func place) s r s'
-Answers s (request.Unbreak func id place) r s' =
-    OnTask id (unbreak_refusals func place) (on_unbreak func place) s r s'
-Answers s (request.Step count id) r s' = OnTask id (step_refusals count) (on_step count) s r s'
-Answers s (request.Inspect id) r s' = OnTask id inspect_refusals on_inspect s r s'
-Answers s (request.Peek address id length) r s' =
-    OnTask id (peek_refusals address length) (on_peek address length) s r s'
+Answers s (request.Task id a) r s' = OnTask id (own_refusals a) (does a) s r s'
 
 -- ---- slices
 

@@ -3,6 +3,7 @@ use Rattle.std.specs.Prelude.{◌≡◌, ℕ, ◌++◌, ◌&&◌, not, nat_eq, L
 use Rattle.std.specs.List.{list_any}
 use Rattle.task_requests.specs.declared.request.Request.{Request}
 use Rattle.task_requests.specs.declared.request.Request.TheVariants as request
+use Rattle.task_requests.specs.declared.request.Ask.TheVariants as ask
 use Rattle.task_board.specs.declared.ticket.Ticket.{Ticket}
 use Rattle.task_board.specs.BoardState.{Task, Entries, task_in, entry_of}
 use Rattle.task_board.specs.Sound.{Each, AreDistinct}
@@ -56,9 +57,9 @@ without ticket ws = filter (λ (w : Ticket). not (is_ticket w ticket)) ws
 -- those that wait after a request that was accepted and left these tasks: start and resume enter a
 -- task that is running then, and a deleted task leaves
 abbrev pub waiting_after_call : Request → Entries → List Ticket → List Ticket
-waiting_after_call (request.Start id) ts ws = enter_if (running_ticket id ts) ws
-waiting_after_call (request.Resume id) ts ws = enter_if (running_ticket id ts) ws
-waiting_after_call (request.Delete id) ts ws = filter (is_present ts) ws
+waiting_after_call (request.Task id ask.Start) ts ws = enter_if (running_ticket id ts) ws
+waiting_after_call (request.Task id ask.Resume) ts ws = enter_if (running_ticket id ts) ws
+waiting_after_call (request.Task id ask.Delete) ts ws = filter (is_present ts) ws
 waiting_after_call other ts ws = ws
 
 -- those that wait after a request that left these tasks

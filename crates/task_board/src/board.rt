@@ -13,7 +13,7 @@ ghost use Rattle.task_requests.specs.Limits.{max_budget};
 ghost use Rattle.task_board.specs.Loans.{Fits};
 ghost use Rattle.task_board.specs.Prepared.{Prepares, refusal_of, refusal_answered};
 ghost use Rattle.task_board.specs.Refusals.{Openable};
-ghost use Rattle.task_requests.specs.Memory.{takes_memory};
+ghost use Rattle.task_requests.specs.Memory.{asks_for_memory, takes_memory};
 ghost use Rattle.task_board.specs.Sound.{IsBoard};
 ghost use Rattle.task_board.specs.Ended.{end_of};
 ghost use Rattle.task_board.specs.Settled.{is_settled};
@@ -41,7 +41,7 @@ use std::marker::Model;
 use std::sync::Arc;
 use step_machine::{FlatModule, Machine};
 use task_lifecycle::ExitRecord;
-use task_requests::{Reply, Request, SharedBytes};
+use task_requests::{Ask, Reply, Request, SharedBytes};
 use text_assembler::assemble;
 use wasm_ast::{Bytes, Refusal, Sequence, Text};
 
@@ -284,27 +284,32 @@ impl Board {
             Request::LeaseDelete { id } => Ok(self.tables.plan_lease_delete(id)),
             Request::Gc => self.prepare_gc(),
             Request::Create { config, id } => self.prepare_create(config, id),
-            Request::Start { id } => Ok(self.tables.plan_change(id, Change::Start)),
-            Request::Pause { id } => Ok(self.tables.plan_change(id, Change::Pause)),
-            Request::Resume { id } => Ok(self.tables.plan_change(id, Change::Resume)),
-            Request::Kill { id, signal } => Ok(self.tables.plan_kill(id, signal)),
-            Request::Delete { id } => Ok(self.tables.plan_delete(id)),
-            Request::State { id } => Ok(self.tables.plan_state(id)),
-            Request::Wait { id } => Ok(self.tables.plan_wait(id)),
-            Request::Output { id, stream } => self.tables.plan_output(self.alloc, id, stream),
-            Request::Break { func, id, place } => {
-                self.tables.plan_break(self.alloc, id, func, place)
+            Request::Task { id, ask } => self.plan_ask(id, ask),
+        }
+    }
+
+    // What is asked of a task is prepared as this.
+    fn plan_ask(&self, id: Text, ask: Ask) -> Result<Plan, AllocError>
+        ensures ok { IfOk result
+            (λ p. Plans self.now.state self.now.room (request.Task id ask) p) }
+        ensures quiet { asks_for_memory ask ≡ false → IsOk result }
+    {
+        match ask {
+            Ask::Start => Ok(self.tables.plan_change(id, Change::Start)),
+            Ask::Pause => Ok(self.tables.plan_change(id, Change::Pause)),
+            Ask::Resume => Ok(self.tables.plan_change(id, Change::Resume)),
+            Ask::Kill { signal } => Ok(self.tables.plan_kill(id, signal)),
+            Ask::Delete => Ok(self.tables.plan_delete(id)),
+            Ask::State => Ok(self.tables.plan_state(id)),
+            Ask::Wait => Ok(self.tables.plan_wait(id)),
+            Ask::Output { stream } => self.tables.plan_output(self.alloc, id, stream),
+            Ask::Break { func, place } => self.tables.plan_break(self.alloc, id, func, place),
+            Ask::Unbreak { func, place } => self.tables.plan_unbreak(self.alloc, id, func, place),
+            Ask::Step { count } => Ok(self.tables.plan_step(id, count)),
+            Ask::Inspect => self.tables.plan_inspect(self.alloc, id),
+            Ask::Peek { address, length } => {
+                self.tables.plan_peek(self.alloc, id, address, length)
             }
-            Request::Unbreak { func, id, place } => {
-                self.tables.plan_unbreak(self.alloc, id, func, place)
-            }
-            Request::Step { count, id } => Ok(self.tables.plan_step(id, count)),
-            Request::Inspect { id } => self.tables.plan_inspect(self.alloc, id),
-            Request::Peek {
-                address,
-                id,
-                length,
-            } => self.tables.plan_peek(self.alloc, id, address, length),
         }
     }
 

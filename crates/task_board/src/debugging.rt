@@ -3,6 +3,7 @@
 ghost use Rattle.std.specs.Prelude.{ℕ, ◌≡◌, IfOk, IfErr};
 ghost use Rattle.task_board.specs.declared.mark.Mark.TheVariants as mark;
 ghost use Rattle.task_requests.specs.declared.request.Request.TheVariants as request;
+ghost use Rattle.task_requests.specs.declared.request.Ask.TheVariants as ask;
 ghost use Rattle.task_board.specs.Refusals.{break_refusals, unbreak_refusals, is_step, inspect_refusals, peek_refusals};
 ghost use Rattle.task_board.specs.Tasks.{place_of};
 ghost use Rattle.task_board.specs.Inside.Plans.{RefusesOwn, place_refusals, HasPlace, MayMark, HasMachine, Plans};
@@ -105,7 +106,7 @@ impl Tables {
         place: u64,
     ) -> Result<Plan, AllocError>
         ensures { IfOk result
-            (λ p. Plans self.now.state self.now.room (request.Break func id place) p) }
+            (λ p. Plans self.now.state self.now.room (request.Task id (ask.Break func place)) p) }
     {
         let (slot, task, mark) = match self.break_for(id.as_str(), func, place) {
             Ok(found) => found,
@@ -129,7 +130,7 @@ impl Tables {
         place: u64,
     ) -> Result<Plan, AllocError>
         ensures { IfOk result
-            (λ p. Plans self.now.state self.now.room (request.Unbreak func id place) p) }
+            (λ p. Plans self.now.state self.now.room (request.Task id (ask.Unbreak func place)) p) }
     {
         let (slot, task, mark) = match self.unbreak_for(id.as_str(), func, place) {
             Ok(found) => found,
@@ -146,7 +147,7 @@ impl Tables {
 
     /// What a step is prepared as.
     pub fn plan_step(&self, id: Text, count: u64) -> Plan
-        ensures { Plans self.now.state self.now.room (request.Step count id) result }
+        ensures { Plans self.now.state self.now.room (request.Task id (ask.Step count)) result }
     {
         match self.entry_for(id.as_str(), TaskCall::Step, Refusal::WrongStatus) {
             Ok((slot, _task)) => if is_step(count) {
@@ -178,7 +179,8 @@ impl Tables {
 
     /// What a question for the frames of a task is prepared as. An error if they cannot be allocated.
     pub fn plan_inspect(&self, alloc: Global, id: Text) -> Result<Plan, AllocError>
-        ensures { IfOk result (λ p. Plans self.now.state self.now.room (request.Inspect id) p) }
+        ensures { IfOk result
+            (λ p. Plans self.now.state self.now.room (request.Task id ask.Inspect) p) }
     {
         let machine = match self.machine_of(id.as_str()) {
             Ok(machine) => machine,
@@ -203,7 +205,8 @@ impl Tables {
         length: u64,
     ) -> Result<Plan, AllocError>
         ensures { IfOk result
-            (λ p. Plans self.now.state self.now.room (request.Peek address id length) p) }
+            (λ p. Plans self.now.state self.now.room
+            (request.Task id (ask.Peek address length)) p) }
     {
         let machine = match self.machine_of(id.as_str()) {
             Ok(machine) => machine,

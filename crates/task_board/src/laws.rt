@@ -16,6 +16,7 @@ ghost use Rattle.task_requests.specs.declared.event.EventReply.{EventReply};
 ghost use Rattle.task_requests.specs.declared.event.EventReply.TheVariants as answer;
 ghost use Rattle.task_requests.specs.declared.request.Request.{Request as RequestValue};
 ghost use Rattle.task_requests.specs.declared.request.Request.TheVariants as request;
+ghost use Rattle.task_requests.specs.declared.request.Ask.TheVariants as ask;
 ghost use Rattle.task_requests.specs.declared.request.Reply.{Reply as ReplyValue};
 ghost use Rattle.content_leases.specs.StoreState.{content_in, is_leased, is_held};
 ghost use Rattle.task_board.specs.BoardState.{Task, Entries, BoardState, empty, used_by, task_in, task_of};
@@ -314,14 +315,15 @@ pub fn texts_are_determined()
 pub fn few_requests_allocate()
     ensures remove { (digest : List ℕ) → takes_memory (request.Remove digest) ≡ false }
     ensures lease_delete { (id : List ℕ) → takes_memory (request.LeaseDelete id) ≡ false }
-    ensures start { (id : List ℕ) → takes_memory (request.Start id) ≡ false }
-    ensures pause { (id : List ℕ) → takes_memory (request.Pause id) ≡ false }
-    ensures resume { (id : List ℕ) → takes_memory (request.Resume id) ≡ false }
-    ensures kill { (id : List ℕ) (n : ℕ) → takes_memory (request.Kill id n) ≡ false }
-    ensures delete { (id : List ℕ) → takes_memory (request.Delete id) ≡ false }
-    ensures state { (id : List ℕ) → takes_memory (request.State id) ≡ false }
-    ensures wait { (id : List ℕ) → takes_memory (request.Wait id) ≡ false }
-    ensures step { (count : ℕ) (id : List ℕ) → takes_memory (request.Step count id) ≡ false }
+    ensures start { (id : List ℕ) → takes_memory (request.Task id ask.Start) ≡ false }
+    ensures pause { (id : List ℕ) → takes_memory (request.Task id ask.Pause) ≡ false }
+    ensures resume { (id : List ℕ) → takes_memory (request.Task id ask.Resume) ≡ false }
+    ensures kill { (id : List ℕ) (n : ℕ) → takes_memory (request.Task id (ask.Kill n)) ≡ false }
+    ensures delete { (id : List ℕ) → takes_memory (request.Task id ask.Delete) ≡ false }
+    ensures state { (id : List ℕ) → takes_memory (request.Task id ask.State) ≡ false }
+    ensures wait { (id : List ℕ) → takes_memory (request.Task id ask.Wait) ≡ false }
+    ensures step { (count : ℕ) (id : List ℕ)
+        → takes_memory (request.Task id (ask.Step count)) ≡ false }
     ensures take { (id : List ℕ) (n : ℕ) (r : EventReply)
         → met_no_memory (event.Take id n) r ≡ false }
     ensures give_back { (id : List ℕ) (r : EventReply) → met_no_memory (event.Return id) r ≡ false }

@@ -25,6 +25,6 @@ pub use loan::Loan;
 pub use prepared::Prepared;
 pub use run::run_events;
 pub use task_lifecycle::{ExitRecord, Signal, Status, TaskCall};
-pub use task_requests::{Event, EventReply, MAX_BUDGET, Reply, Request, TaskState};
+pub use task_requests::{Ask, Event, EventReply, MAX_BUDGET, Reply, Request, TaskState};
 pub use ticket::Ticket;
 pub use wasm_ast::{is_digest, is_id};

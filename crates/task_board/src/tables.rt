@@ -4,6 +4,7 @@ ghost use Rattle.std.specs.Prelude.{ℕ, ◌≡◌, ◌≢◌, ◌≤◌, ◌<�
 ghost use Rattle.std.specs.Arc.{arc_value};
 ghost use Rattle.task_requests.specs.declared.request.Request.{Request as RequestValue};
 ghost use Rattle.task_requests.specs.declared.request.Request.TheVariants as request;
+ghost use Rattle.task_requests.specs.declared.request.Ask.TheVariants as ask;
 ghost use Rattle.task_requests.specs.declared.event.Event.TheVariants as event;
 ghost use Rattle.task_requests.specs.declared.event.EventReply.TheVariants as answer;
 ghost use Rattle.task_lifecycle.specs.Names.{signal_of};
@@ -306,7 +307,7 @@ impl Tables {
 
     /// What a kill by the signal with a number is prepared as.
     pub fn plan_kill(&self, id: Text, number: u64) -> Plan
-        ensures { Plans self.now.state self.now.room (request.Kill id number) result }
+        ensures { Plans self.now.state self.now.room (request.Task id (ask.Kill number)) result }
     {
         match Signal::from_number(number) {
             Some(signal) => self.plan_change(id, Change::Kill(signal)),
@@ -316,7 +317,7 @@ impl Tables {
 
     /// What a delete is prepared as.
     pub fn plan_delete(&self, id: Text) -> Plan
-        ensures { Plans self.now.state self.now.room (request.Delete id) result }
+        ensures { Plans self.now.state self.now.room (request.Task id ask.Delete) result }
     {
         match self.entry_for(id.as_str(), TaskCall::Delete, Refusal::WrongStatus) {
             Ok((slot, _task)) => Plan::Delete { slot, id },
@@ -326,7 +327,7 @@ impl Tables {
 
     /// What a question for the state of a task is prepared as.
     pub fn plan_state(&self, id: Text) -> Plan
-        ensures { Plans self.now.state self.now.room (request.State id) result }
+        ensures { Plans self.now.state self.now.room (request.Task id ask.State) result }
     {
         match self.entry_for(id.as_str(), TaskCall::State, Refusal::WrongStatus) {
             Ok((_, task)) => Plan::Answered(Reply::State(task.state(id))),
@@ -336,7 +337,7 @@ impl Tables {
 
     /// What a wait is prepared as.
     pub fn plan_wait(&self, id: Text) -> Plan
-        ensures { Plans self.now.state self.now.room (request.Wait id) result }
+        ensures { Plans self.now.state self.now.room (request.Task id ask.Wait) result }
     {
         match self.entry_for(id.as_str(), TaskCall::Wait, Refusal::Busy) {
             Ok((_, task)) => Plan::Answered(Reply::Wait(task.state(id))),
@@ -368,7 +369,7 @@ impl Tables {
     /// allocated.
     pub fn plan_output(&self, alloc: Global, id: Text, number: u64) -> Result<Plan, AllocError>
         ensures { IfOk result
-            (λ p. Plans self.now.state self.now.room (request.Output id number) p) }
+            (λ p. Plans self.now.state self.now.room (request.Task id (ask.Output number)) p) }
     {
         match self.output_of(id.as_str(), number) {
             Ok(written) => {
@@ -462,9 +463,11 @@ impl Tables {
     fn delete(&mut self, slot: usize, id: Text) -> Reply
         requires { CallPrepared self.old.state
             (unless_allowed TaskCall.Delete Refusal.WrongStatus) slot id }
-        ensures answers { Answers self.old.state (request.Delete id) (Ok result) self.new.state }
+        ensures answers { Answers self.old.state (request.Task id ask.Delete) (Ok result)
+            self.new.state }
         ensures waiting { self.new.waiting
-            ≡ waiting_after_call (request.Delete id) self.new.state.tasks self.old.waiting }
+            ≡ waiting_after_call (request.Task id ask.Delete) self.new.state.tasks
+            self.old.waiting }
     {
         let Some(task) = self.tasks.try_remove(slot) else {
             unreachable!();
@@ -492,7 +495,7 @@ impl Tables {
     fn step(&mut self, slot: usize, count: u64, id: Text) -> Reply
         requires { CallPrepared self.old.state (step_refusals count) slot id }
         ensures answers { Answers self.old.state
-            (request.Step count id) (Ok result) self.new.state }
+            (request.Task id (ask.Step count)) (Ok result) self.new.state }
         ensures waiting { self.new.waiting ≡ self.old.waiting }
     {
         let Some(task) = self.tasks.get_mut(slot) else {

@@ -18,6 +18,7 @@ ghost use Rattle.task_lifecycle.specs.declared.status.ExitRecord.{ExitRecord as 
 ghost use Rattle.task_lifecycle.specs.Lifecycle.{is_going};
 ghost use Rattle.task_requests.specs.declared.request.Request.{Request as RequestValue};
 ghost use Rattle.task_requests.specs.declared.request.Request.TheVariants as request;
+ghost use Rattle.task_requests.specs.declared.request.Ask.TheVariants as ask;
 ghost use Rattle.task_requests.specs.declared.request.Reply.{Reply as ReplyValue};
 ghost use Rattle.task_requests.specs.declared.request.Reply.TheVariants as reply;
 ghost use Rattle.task_requests.specs.declared.request.TaskState.{TaskState as StateValue};
@@ -41,52 +42,55 @@ pub fn modules_are_stored()
 /// Which requests are about a task: each names it by its id.
 pub fn requests_name_their_task()
     ensures created { (config id : List ℕ) → asked_of (request.Create config id) ≡ Some id }
-    ensures moved { (id : List ℕ) (signal count : ℕ) → (asked_of (request.Start id) ≡ Some id)
-        × (asked_of (request.Pause id) ≡ Some id) × (asked_of (request.Resume id) ≡ Some id)
-        × (asked_of (request.Kill id signal) ≡ Some id)
-        × (asked_of (request.Step count id) ≡ Some id)
-        × (asked_of (request.Delete id) ≡ Some id) }
+    ensures moved { (id : List ℕ) (signal count : ℕ)
+        → (asked_of (request.Task id ask.Start) ≡ Some id)
+        × (asked_of (request.Task id ask.Pause) ≡ Some id)
+        × (asked_of (request.Task id ask.Resume) ≡ Some id)
+        × (asked_of (request.Task id (ask.Kill signal)) ≡ Some id)
+        × (asked_of (request.Task id (ask.Step count)) ≡ Some id)
+        × (asked_of (request.Task id ask.Delete) ≡ Some id) }
     ensures shown { (id : List ℕ) (stream address length : ℕ)
-        → (asked_of (request.State id) ≡ Some id) × (asked_of (request.Wait id) ≡ Some id)
-        × (asked_of (request.Output id stream) ≡ Some id)
-        × (asked_of (request.Inspect id) ≡ Some id)
-        × (asked_of (request.Peek address id length) ≡ Some id) }
+        → (asked_of (request.Task id ask.State) ≡ Some id)
+        × (asked_of (request.Task id ask.Wait) ≡ Some id)
+        × (asked_of (request.Task id (ask.Output stream)) ≡ Some id)
+        × (asked_of (request.Task id ask.Inspect) ≡ Some id)
+        × (asked_of (request.Task id (ask.Peek address length)) ≡ Some id) }
     ensures breaks { (id : List ℕ) (func place : ℕ)
-        → (asked_of (request.Break func id place) ≡ Some id)
-        × (asked_of (request.Unbreak func id place) ≡ Some id) }
+        → (asked_of (request.Task id (ask.Break func place)) ≡ Some id)
+        × (asked_of (request.Task id (ask.Unbreak func place)) ≡ Some id) }
     ensures deleted { (id : List ℕ) (found left : BoardState)
-        → told_on (request.Delete id) found left ≡ found }
+        → told_on (request.Task id ask.Delete) found left ≡ found }
     ensures left { (id : List ℕ) (found left : BoardState)
-        → (told_on (request.State id) found left ≡ left)
-        × (told_on (request.Step 1 id) found left ≡ left) }
+        → (told_on (request.Task id ask.State) found left ≡ left)
+        × (told_on (request.Task id (ask.Step 1)) found left ≡ left) }
 {}
 
 /// A reply with a state says the task's id, how many turns it has made, its status, and how it has ended: by
 /// the reduction, or by a kill that no turn has forestalled. Exactly a stopped task has an end.
 pub fn states_are_true()
     ensures state { (store : StoreState) (t : Task) (id : List ℕ) (x : StateValue)
-        → SaysTruly store t (request.State id) (reply.State x)
+        → SaysTruly store t (request.Task id ask.State) (reply.State x)
         → (x.id ≡ t.id) × (x.n ≡ t.turns) × (x.status ≡ t.status)
         × ((e : RecordValue) → x.end ≡ Some e
         → IsTrueOf e t.turns (ended (after t.module t.process t.turns).state))
         × (x.status ≡ Status.Stopped → is_some x.end ≡ true)
         × (is_some x.end ≡ true → x.status ≡ Status.Stopped) }
     ensures wait { (store : StoreState) (t : Task) (id : List ℕ) (x : StateValue)
-        → SaysTruly store t (request.Wait id) (reply.Wait x)
+        → SaysTruly store t (request.Task id ask.Wait) (reply.Wait x)
         → (x.id ≡ t.id) × (x.n ≡ t.turns) × (x.status ≡ t.status)
         × ((e : RecordValue) → x.end ≡ Some e
         → IsTrueOf e t.turns (ended (after t.module t.process t.turns).state))
         × (x.status ≡ Status.Stopped → is_some x.end ≡ true)
         × (is_some x.end ≡ true → x.status ≡ Status.Stopped) }
     ensures step { (store : StoreState) (t : Task) (count : ℕ) (id : List ℕ) (x : StateValue)
-        → SaysTruly store t (request.Step count id) (reply.Step x)
+        → SaysTruly store t (request.Task id (ask.Step count)) (reply.Step x)
         → (x.id ≡ t.id) × (x.n ≡ t.turns) × (x.status ≡ t.status)
         × ((e : RecordValue) → x.end ≡ Some e
         → IsTrueOf e t.turns (ended (after t.module t.process t.turns).state))
         × (x.status ≡ Status.Stopped → is_some x.end ≡ true)
         × (is_some x.end ≡ true → x.status ≡ Status.Stopped) }
     ensures delete { (store : StoreState) (t : Task) (id : List ℕ) (x : StateValue)
-        → SaysTruly store t (request.Delete id) (reply.Delete x)
+        → SaysTruly store t (request.Task id ask.Delete) (reply.Delete x)
         → (x.id ≡ t.id) × (x.n ≡ t.turns) × (x.status ≡ t.status)
         × ((e : RecordValue) → x.end ≡ Some e
         → IsTrueOf e t.turns (ended (after t.module t.process t.turns).state))
@@ -104,22 +108,26 @@ pub fn statuses_are_true()
         × (is_going status ≡ true
         → ended (after t.module t.process t.turns).state ≡ None) }
     ensures start { (store : StoreState) (t : Task) (id : List ℕ) (name : List ℕ)
-        (status : StatusValue) → SaysTruly store t (request.Start id) (reply.Start name status)
+        (status : StatusValue)
+        → SaysTruly store t (request.Task id ask.Start) (reply.Start name status)
         → (name ≡ t.id) × (status ≡ t.status) × (status ≡ Status.Created → t.turns ≡ 0)
         × (is_going status ≡ true
         → ended (after t.module t.process t.turns).state ≡ None) }
     ensures pause { (store : StoreState) (t : Task) (id : List ℕ) (name : List ℕ)
-        (status : StatusValue) → SaysTruly store t (request.Pause id) (reply.Pause name status)
+        (status : StatusValue)
+        → SaysTruly store t (request.Task id ask.Pause) (reply.Pause name status)
         → (name ≡ t.id) × (status ≡ t.status) × (status ≡ Status.Created → t.turns ≡ 0)
         × (is_going status ≡ true
         → ended (after t.module t.process t.turns).state ≡ None) }
     ensures resume { (store : StoreState) (t : Task) (id : List ℕ) (name : List ℕ)
-        (status : StatusValue) → SaysTruly store t (request.Resume id) (reply.Resume name status)
+        (status : StatusValue)
+        → SaysTruly store t (request.Task id ask.Resume) (reply.Resume name status)
         → (name ≡ t.id) × (status ≡ t.status) × (status ≡ Status.Created → t.turns ≡ 0)
         × (is_going status ≡ true
         → ended (after t.module t.process t.turns).state ≡ None) }
     ensures kill { (store : StoreState) (t : Task) (id : List ℕ) (signal : ℕ) (name : List ℕ)
-        (status : StatusValue) → SaysTruly store t (request.Kill id signal) (reply.Kill name status)
+        (status : StatusValue)
+        → SaysTruly store t (request.Task id (ask.Kill signal)) (reply.Kill name status)
         → (name ≡ t.id) × (status ≡ t.status) × (status ≡ Status.Created → t.turns ≡ 0)
         × (is_going status ≡ true
         → ended (after t.module t.process t.turns).state ≡ None) }
@@ -130,20 +138,22 @@ pub fn statuses_are_true()
 pub fn shown_parts_are_true()
     ensures inspect { (store : StoreState) (t : Task) (id name : List ℕ)
         (frames : List ShownFrame) (n : ℕ)
-        → SaysTruly store t (request.Inspect id) (reply.Inspect frames name n)
+        → SaysTruly store t (request.Task id ask.Inspect) (reply.Inspect frames name n)
         → (name ≡ t.id) × (n ≡ t.turns)
         × (frames ≡ shown (after t.module t.process t.turns).state) }
     ensures output { (store : StoreState) (t : Task) (id name bytes : List ℕ) (number size : ℕ)
-        → SaysTruly store t (request.Output id number) (reply.Output bytes name size)
+        → SaysTruly store t (request.Task id (ask.Output number)) (reply.Output bytes name size)
         → (name ≡ t.id) × (stream : StreamValue) × (stream_of number ≡ Some stream)
         × (bytes ≡ written_to stream (after t.module t.process t.turns).store) }
     ensures peek { (store : StoreState) (t : Task) (id name bytes : List ℕ)
         (address length : ℕ)
-        → SaysTruly store t (request.Peek address id length) (reply.Peek bytes name)
+        → SaysTruly store t (request.Task id (ask.Peek address length)) (reply.Peek bytes name)
         → (name ≡ t.id) × (peeked (after t.module t.process t.turns).store.memory address length
         ≡ Some bytes) }
     ensures breaks { (store : StoreState) (t : Task) (id name : List ℕ) (func place : ℕ)
-        → SaysTruly store t (request.Break func id place) (reply.Break name) → name ≡ t.id }
+        → SaysTruly store t (request.Task id (ask.Break func place)) (reply.Break name)
+        → name ≡ t.id }
     ensures unbreaks { (store : StoreState) (t : Task) (id name : List ℕ) (func place : ℕ)
-        → SaysTruly store t (request.Unbreak func id place) (reply.Unbreak name) → name ≡ t.id }
+        → SaysTruly store t (request.Task id (ask.Unbreak func place)) (reply.Unbreak name)
+        → name ≡ t.id }
 {}

@@ -7,6 +7,6 @@ mod request;
 mod shared_bytes;
 
 pub use event::{Event, EventReply, MAX_BUDGET};
-pub use request::{Reply, Request, TaskState};
+pub use request::{Ask, Reply, Request, TaskState};
 pub use shared_bytes::SharedBytes;
 pub use task_lifecycle::{ExitRecord, Status};

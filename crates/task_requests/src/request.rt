@@ -1,7 +1,7 @@
 //! What is asked of the board, and what it answers.
 
 ghost use Rattle.std.specs.Prelude.{◌≡◌};
-ghost use Rattle.task_requests.specs.Memory.{takes_memory};
+ghost use Rattle.task_requests.specs.Memory.{takes_memory, asks_for_memory};
 
 use crate::shared_bytes::SharedBytes;
 use step_machine::ShownFrame;
@@ -27,32 +27,39 @@ pub enum Request {
     Gc,
     /// Creates a task with an id from a config, which is the text of a JSON object.
     Create { config: Text, id: Text },
+    /// Asks something of the task with an id.
+    Task { id: Text, ask: Ask },
+}
+
+/// What is asked of a task.
+#[derive(Clone, Copy, PartialEq, Eq, Debug)]
+pub enum Ask {
     /// Starts a created task.
-    Start { id: Text },
+    Start,
     /// Pauses a running task.
-    Pause { id: Text },
+    Pause,
     /// Lets a paused task run on.
-    Resume { id: Text },
+    Resume,
     /// Ends a task by the signal with this number.
-    Kill { id: Text, signal: u64 },
+    Kill { signal: u64 },
     /// Removes a stopped task.
-    Delete { id: Text },
+    Delete,
     /// Asks for the state of a task.
-    State { id: Text },
+    State,
     /// Asks for the state of a task that is not running.
-    Wait { id: Text },
+    Wait,
     /// Asks for what a task has written to the output stream with this number.
-    Output { id: Text, stream: u64 },
+    Output { stream: u64 },
     /// Sets a breakpoint of a task: at an instruction of a function, by its place in the body.
-    Break { func: u64, id: Text, place: u64 },
+    Break { func: u64, place: u64 },
     /// Removes a breakpoint of a task.
-    Unbreak { func: u64, id: Text, place: u64 },
+    Unbreak { func: u64, place: u64 },
     /// Lets a paused task make at most this many turns; its own end or a breakpoint ends them early.
-    Step { count: u64, id: Text },
+    Step { count: u64 },
     /// Asks for the frames of a task.
-    Inspect { id: Text },
+    Inspect,
     /// Asks for bytes of a task's memory at an address.
-    Peek { address: u64, id: Text, length: u64 },
+    Peek { address: u64, length: u64 },
 }
 
 impl Request {
@@ -66,22 +73,32 @@ impl Request {
             | Request::LeaseCreate { .. }
             | Request::LeaseAdd { .. }
             | Request::Gc
-            | Request::Create { .. }
-            | Request::Output { .. }
-            | Request::Break { .. }
-            | Request::Unbreak { .. }
-            | Request::Inspect { .. }
-            | Request::Peek { .. } => true,
-            Request::Remove { .. }
-            | Request::LeaseDelete { .. }
-            | Request::Start { .. }
-            | Request::Pause { .. }
-            | Request::Resume { .. }
-            | Request::Kill { .. }
-            | Request::Delete { .. }
-            | Request::State { .. }
-            | Request::Wait { .. }
-            | Request::Step { .. } => false,
+            | Request::Create { .. } => true,
+            Request::Remove { .. } | Request::LeaseDelete { .. } => false,
+            Request::Task { ask, .. } => ask.takes_memory(),
+        }
+    }
+}
+
+impl Ask {
+    /// Whether a board takes memory for it.
+    pub fn takes_memory(self) -> bool
+        ensures { result ≡ asks_for_memory self }
+    {
+        match self {
+            Ask::Output { .. }
+            | Ask::Break { .. }
+            | Ask::Unbreak { .. }
+            | Ask::Inspect
+            | Ask::Peek { .. } => true,
+            Ask::Start
+            | Ask::Pause
+            | Ask::Resume
+            | Ask::Kill { .. }
+            | Ask::Delete
+            | Ask::State
+            | Ask::Wait
+            | Ask::Step { .. } => false,
         }
     }
 }

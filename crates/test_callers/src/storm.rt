@@ -13,7 +13,7 @@ use std::process::Abort;
 use std::sync::Wait;
 use std::test::Fail;
 use std::thread::Threads;
-use task_requests::Request;
+use task_requests::{Ask, Request};
 use wasm_ast::{Refusal, Text};
 
 /// How often a caller makes the calls of a round of one task and then of the other.
@@ -60,11 +60,19 @@ fn lines_of(alloc: Global, first: &str, second: &str) -> Option<Vec<u8>> {
 fn call_of(request: &Request) -> Option<(usize, &Text)> {
     match request {
         Request::Create { id, .. } => Some((0, id)),
-        Request::Start { id } => Some((1, id)),
-        Request::Pause { id } => Some((2, id)),
-        Request::Kill { id, .. } => Some((3, id)),
-        Request::Resume { id } => Some((4, id)),
-        Request::Delete { id } => Some((5, id)),
+        Request::Task { id, ask } => Some((place_of(*ask)?, id)),
+        _ => None,
+    }
+}
+
+// The place of what is asked of a task in a round.
+fn place_of(ask: Ask) -> Option<usize> {
+    match ask {
+        Ask::Start => Some(1),
+        Ask::Pause => Some(2),
+        Ask::Kill { .. } => Some(3),
+        Ask::Resume => Some(4),
+        Ask::Delete => Some(5),
         _ => None,
     }
 }

@@ -7,6 +7,7 @@ use Rattle.wasm_ast.specs.declared.refusal.Refusal.{Refusal}
 use Rattle.wasm_ast.specs.declared.refusal.Refusal.TheVariants.{BadRequest, NoMemory}
 use Rattle.task_requests.specs.declared.request.Request.{Request}
 use Rattle.task_requests.specs.declared.request.Request.TheVariants as request
+use Rattle.task_requests.specs.declared.request.Ask.TheVariants as ask
 use Rattle.task_requests.specs.declared.event.Event.{Event}
 use Rattle.task_requests.specs.declared.event.Event.TheVariants.{Call}
 use Rattle.request_lines.specs.declared.line_error.LineError.{LineError}
@@ -26,19 +27,19 @@ HasOnlyId (request.Remove digest) = ⊥
 HasOnlyId (request.LeaseAdd digest id) = ⊥
 HasOnlyId request.Gc = ⊥
 HasOnlyId (request.Create config id) = ⊥
-HasOnlyId (request.Kill id signal) = ⊥
-HasOnlyId (request.Output id stream) = ⊥
-HasOnlyId (request.Break func id place) = ⊥
-HasOnlyId (request.Unbreak func id place) = ⊥
-HasOnlyId (request.Step count id) = ⊥
-HasOnlyId (request.Peek address id length) = ⊥
+HasOnlyId (request.Task id (ask.Kill signal)) = ⊥
+HasOnlyId (request.Task id (ask.Output stream)) = ⊥
+HasOnlyId (request.Task id (ask.Break func place)) = ⊥
+HasOnlyId (request.Task id (ask.Unbreak func place)) = ⊥
+HasOnlyId (request.Task id (ask.Step count)) = ⊥
+HasOnlyId (request.Task id (ask.Peek address length)) = ⊥
 HasOnlyId other = Unit {0}
 
 -- a request that is no put, create or kill
 abbrev pub IsSimple : Request → Type 0
 IsSimple (request.Put bytes) = ⊥
 IsSimple (request.Create config id) = ⊥
-IsSimple (request.Kill id signal) = ⊥
+IsSimple (request.Task id (ask.Kill signal)) = ⊥
 IsSimple other = Unit {0}
 
 -- a request that has the key `id` alone, or concerns breakpoints, steps or memory
@@ -49,8 +50,8 @@ IsLate (request.Remove digest) = ⊥
 IsLate (request.LeaseAdd digest id) = ⊥
 IsLate request.Gc = ⊥
 IsLate (request.Create config id) = ⊥
-IsLate (request.Kill id signal) = ⊥
-IsLate (request.Output id stream) = ⊥
+IsLate (request.Task id (ask.Kill signal)) = ⊥
+IsLate (request.Task id (ask.Output stream)) = ⊥
 IsLate other = Unit {0}
 
 -- what a line is answered that could not be read

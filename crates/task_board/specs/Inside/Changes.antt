@@ -9,6 +9,7 @@ use Rattle.task_board.specs.declared.change.Change.{Change}
 use Rattle.task_board.specs.declared.change.Change.TheVariants as change
 use Rattle.task_requests.specs.declared.request.Request.{Request}
 use Rattle.task_requests.specs.declared.request.Request.TheVariants as request
+use Rattle.task_requests.specs.declared.request.Ask.TheVariants as ask
 use Rattle.task_requests.specs.declared.request.Reply.{Reply}
 use Rattle.task_requests.specs.declared.request.Reply.TheVariants as reply
 use Rattle.content_leases.specs.Refusals.{Refusals}
@@ -30,10 +31,10 @@ enters change.Resume = true
 enters (change.Kill signal) = false
 
 abbrev pub change_request : Change → (id : List ℕ) → Request
-change_request change.Start id = request.Start id
-change_request change.Pause id = request.Pause id
-change_request change.Resume id = request.Resume id
-change_request (change.Kill signal) id = request.Kill id (signal_number signal)
+change_request change.Start id = request.Task id ask.Start
+change_request change.Pause id = request.Task id ask.Pause
+change_request change.Resume id = request.Task id ask.Resume
+change_request (change.Kill signal) id = request.Task id (ask.Kill (signal_number signal))
 
 abbrev pub change_reply : Change → (id : List ℕ) → Status → Reply
 change_reply change.Start id status = reply.Start id status

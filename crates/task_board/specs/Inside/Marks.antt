@@ -7,6 +7,7 @@ use Rattle.task_board.specs.declared.mark.Mark.{Mark}
 use Rattle.task_board.specs.declared.mark.Mark.TheVariants as mark
 use Rattle.task_requests.specs.declared.request.Request.{Request}
 use Rattle.task_requests.specs.declared.request.Request.TheVariants as request
+use Rattle.task_requests.specs.declared.request.Ask.TheVariants as ask
 use Rattle.task_requests.specs.declared.request.Reply.{Reply}
 use Rattle.task_requests.specs.declared.request.Reply.TheVariants as reply
 use Rattle.content_leases.specs.Refusals.{Refusals}
@@ -19,8 +20,8 @@ mark_call (mark.Set p) = call.Break
 mark_call (mark.Remove p) = call.Unbreak
 
 abbrev pub mark_request : Mark → (id : List ℕ) → Request
-mark_request (mark.Set p) id = request.Break p.func id p.instr
-mark_request (mark.Remove p) id = request.Unbreak p.func id p.instr
+mark_request (mark.Set p) id = request.Task id (ask.Break p.func p.instr)
+mark_request (mark.Remove p) id = request.Task id (ask.Unbreak p.func p.instr)
 
 abbrev pub mark_reply : Mark → (id : List ℕ) → Reply
 mark_reply (mark.Set p) id = reply.Break id

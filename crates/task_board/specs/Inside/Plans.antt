@@ -15,6 +15,7 @@ use Rattle.task_board.specs.declared.prepared.Plan.{Plan}
 use Rattle.task_board.specs.declared.prepared.Plan.TheVariants as plan
 use Rattle.task_requests.specs.declared.request.Request.{Request}
 use Rattle.task_requests.specs.declared.request.Request.TheVariants as request
+use Rattle.task_requests.specs.declared.request.Ask.TheVariants as ask
 use Rattle.task_lifecycle.specs.declared.lifecycle.TaskCall.{TaskCall}
 use Rattle.task_lifecycle.specs.declared.lifecycle.TaskCall.TheVariants as call
 use Rattle.task_lifecycle.specs.Lifecycle.{allowed}
@@ -138,11 +139,11 @@ PlansTask s id bytes p other = ⊥
 
 -- a request that changes nothing
 abbrev pub IsQuestion : Request → Type 0
-IsQuestion (request.State id) = Unit {0}
-IsQuestion (request.Wait id) = Unit {0}
-IsQuestion (request.Output id stream) = Unit {0}
-IsQuestion (request.Inspect id) = Unit {0}
-IsQuestion (request.Peek address id length) = Unit {0}
+IsQuestion (request.Task id ask.State) = Unit {0}
+IsQuestion (request.Task id ask.Wait) = Unit {0}
+IsQuestion (request.Task id (ask.Output stream)) = Unit {0}
+IsQuestion (request.Task id ask.Inspect) = Unit {0}
+IsQuestion (request.Task id (ask.Peek address length)) = Unit {0}
 IsQuestion other = ⊥
 
 -- the request is prepared so on a board with that state and room
@@ -154,12 +155,12 @@ Plans s room r (plan.Create task id) = CreatePrepared s r task id
 Plans s room r (plan.Change c slot id) =
     (r ≡ change_request c id) × CallPrepared s (change_refusals c) slot id
 Plans s room r (plan.Delete slot id) =
-    (r ≡ request.Delete id)
+    (r ≡ request.Task id ask.Delete)
     × CallPrepared s (unless_allowed call.Delete refusal.WrongStatus) slot id
 Plans s room r (plan.Breaks m slot id breaks) =
     (r ≡ mark_request m id) × MarkPrepared s m slot id breaks
 Plans s room r (plan.Step slot count id) =
-    (r ≡ request.Step count id) × CallPrepared s (step_refusals count) slot id
+    (r ≡ request.Task id (ask.Step count)) × CallPrepared s (step_refusals count) slot id
 
 abbrev pub refusal_in : Plan → Option Refusal
 refusal_in (plan.Refused e) = Some e

@@ -6,6 +6,7 @@ use Rattle.task_board.specs.declared.ticket.Ticket.{Ticket}
 use Rattle.task_board.specs.Waiting.{AreWaiting}
 use Rattle.task_board.proofs.WaitingLemmas.{filtered}
 use Rattle.task_requests.specs.declared.request.Request.TheVariants as request
+use Rattle.task_requests.specs.declared.request.Ask.TheVariants as ask
 use Rattle.task_requests.specs.declared.request.Reply.TheVariants as reply
 use Rattle.task_requests.specs.declared.request.TaskState.{TaskState}
 use Rattle.task_board.specs.BoardState.{Task}
@@ -65,7 +66,7 @@ invariant_of-self c =
       opened = c.drop_idle.ensures.sound c.self.invariant.opened;
       tasks_room = subst (λ (n : ℕ). 64 ≤ n) (sym e.capacity) c.self.invariant.tasks_room;
       sound =
-          answers_sound (board_state_of c.self.inside) (request.Delete c.args.id)
+          answers_sound (board_state_of c.self.inside) (request.Task c.args.id ask.Delete)
           (Ok (reply.Delete (state_of c.in-Some.task)))
           (board_state_of (with_slab c.self.inside new c.keep_present.new.self))
           c.self.invariant.sound done;
@@ -86,7 +87,8 @@ returns-clause-answers c =
     let s' = board_state_of (with_slab c.self.inside new c.keep_present.new.self) in
     let Q :
     BoardValue → Type 0 =
-    λ v. Answers v.state (request.Delete c.args.id) (Ok (reply.Delete (state_of c.in-Some.task))) s' in
+    λ v. Answers v.state (request.Task c.args.id ask.Delete) (Ok (reply.Delete (state_of c.in-Some.task))) s' in
     let R :
-    TaskState → Type 0 = λ x. Answers c.args.self.now.state (request.Delete c.args.id) (Ok (reply.Delete x)) s' in
+    TaskState → Type 0 =
+    λ x. Answers c.args.self.now.state (request.Task c.args.id ask.Delete) (Ok (reply.Delete x)) s' in
     subst R (sym c.state.ensures) (subst Q c.self.view_is done)

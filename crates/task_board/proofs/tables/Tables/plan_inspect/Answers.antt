@@ -1,5 +1,6 @@
-use Rattle.std.proofs.Common.{◌∙◌, ℕ, List, Ok, sym, subst}
+use Rattle.std.proofs.Common.{ℕ, List, Ok, sym, subst}
 use Rattle.task_requests.specs.declared.request.Request.TheVariants as request
+use Rattle.task_requests.specs.declared.request.Ask.TheVariants as ask
 use Rattle.task_requests.specs.declared.request.Reply.TheVariants as reply
 use Rattle.task_board.specs.Refusals.{inspect_refusals}
 use Rattle.task_board.specs.Step.{Answers}
@@ -20,7 +21,7 @@ returns-in-Ok-inspect c =
     let here = subst (λ (x : List ℕ). HasMachine s x m) c.as_str.ensures c.in-Ok.ensures.ok in (
       tt,
       subst
-          (λ (n : ℕ). Answers s (request.Inspect c.args.id)
+          (λ (n : ℕ). Answers s (request.Task c.args.id ask.Inspect)
           (Ok (reply.Inspect c.in-Ok-inspect.shown.frames c.args.id n)) s)
           (sym c.turns-n.ensures)
           (inspect_answers s c.args.id m c.in-Ok-inspect.shown.frames here c.in-Ok-inspect.ensures.frames),

@@ -1,6 +1,7 @@
 use Rattle.std.proofs.Common.{◌≡◌, Some, List, ℕ, subst, rules}
 use Rattle.task_lifecycle.specs.Names.{signal_of}
 use Rattle.task_requests.specs.declared.request.Request.TheVariants as request
+use Rattle.task_requests.specs.declared.request.Ask.TheVariants as ask
 use Rattle.task_board.specs.Inside.Plans.{Plans, RefusesKill}
 use Rattle.task_board.proofs.EffectLemmas.{signal_known, refused_kill}
 use Rattle.task_board.proofs.tables.Tables.plan_kill.Goals as goal
@@ -11,7 +12,9 @@ refusal_of_signal-requires c = search rules
 pub returns-in-Some : goal.returns-in-Some
 returns-in-Some c =
     let is : signal_of c.args.number ≡ Some c.in-Some.signal = search rules in
-    subst (λ (n : ℕ). Plans c.args.self.now.state c.args.self.now.room (request.Kill c.args.id n) c.plan_change.result)
+    subst
+    (λ (n : ℕ). Plans c.args.self.now.state c.args.self.now.room (request.Task c.args.id (ask.Kill n))
+    c.plan_change.result)
     (signal_known c.args.number c.in-Some.signal is) c.plan_change.ensures
 
 pub returns-in-None : goal.returns-in-None

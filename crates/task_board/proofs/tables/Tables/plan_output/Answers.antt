@@ -1,5 +1,6 @@
 use Rattle.std.proofs.Common.{List, ℕ, length, Ok, sym, ◌∙◌, subst}
 use Rattle.task_requests.specs.declared.request.Request.TheVariants as request
+use Rattle.task_requests.specs.declared.request.Ask.TheVariants as ask
 use Rattle.task_requests.specs.declared.request.Reply.TheVariants as reply
 use Rattle.task_board.specs.Step.{Answers}
 use Rattle.task_board.specs.Inside.Plans.{TellsOutput}
@@ -14,7 +15,7 @@ returns-in_ok-from_slice-in-Ok c =
     let copied = c.new-bytes.ensures ∙ c.in_ok-from_slice-in-Ok.ensures.items in (
       tt,
       subst
-          (λ (x : List ℕ). Answers s (request.Output c.args.id c.args.number)
+          (λ (x : List ℕ). Answers s (request.Task c.args.id (ask.Output c.args.number))
           (Ok (reply.Output x c.args.id (length c.in-Ok.written.now))) s) (sym copied)
           (output_answers s c.args.id c.args.number c.in-Ok.written.now told),
     )

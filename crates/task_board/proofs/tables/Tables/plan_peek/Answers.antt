@@ -1,5 +1,6 @@
 use Rattle.std.proofs.Common.{ℕ, List, Ok, sym, subst}
 use Rattle.task_requests.specs.declared.request.Request.TheVariants as request
+use Rattle.task_requests.specs.declared.request.Ask.TheVariants as ask
 use Rattle.task_requests.specs.declared.request.Reply.TheVariants as reply
 use Rattle.task_board.specs.Refusals.{peek_refusals}
 use Rattle.task_board.specs.Step.{Answers}
@@ -21,7 +22,7 @@ returns-in-Ok-peek c =
     let here = subst (λ (x : List ℕ). HasMachine s x m) c.as_str.ensures c.in-Ok.ensures.ok in (
       tt,
       subst
-          (λ (x : List ℕ). Answers s (request.Peek c.args.address c.args.id c.args.length)
+          (λ (x : List ℕ). Answers s (request.Task c.args.id (ask.Peek c.args.address c.args.length))
           (Ok (reply.Peek x c.args.id)) s)
           (sym c.new-bytes.ensures)
           (peek_answers s c.args.id m c.args.address c.args.length c.in-Ok-peek.bytes.items here

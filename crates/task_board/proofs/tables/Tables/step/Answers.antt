@@ -1,6 +1,7 @@
 use Rattle.std.proofs.Common.{◌≡◌, ◌∙◌, Some, None, Ok, sym, ap, subst, rules}
 use Rattle.slab.specs.Slab.{get}
 use Rattle.task_requests.specs.declared.request.Request.TheVariants as request
+use Rattle.task_requests.specs.declared.request.Ask.TheVariants as ask
 use Rattle.task_requests.specs.declared.request.Reply.TheVariants as reply
 use Rattle.task_requests.specs.declared.request.TaskState.{TaskState}
 use Rattle.task_board.specs.BoardState.{Task}
@@ -68,8 +69,9 @@ returns-clause-answers c =
     let s' = board_state_of (with_write c.self.inside c.args.slot c.step.new.self) in
     let Q :
     BoardValue → Type 0 =
-    λ v. Answers v.state (request.Step c.args.count c.args.id) (Ok (reply.Step (state_of c.step.new.self))) s' in
+    λ v. Answers v.state (request.Task c.args.id (ask.Step c.args.count))
+    (Ok (reply.Step (state_of c.step.new.self))) s' in
     let R :
     TaskState → Type 0 =
-    λ x. Answers c.args.self.now.state (request.Step c.args.count c.args.id) (Ok (reply.Step x)) s' in
+    λ x. Answers c.args.self.now.state (request.Task c.args.id (ask.Step c.args.count)) (Ok (reply.Step x)) s' in
     subst R (sym c.state.ensures) (subst Q c.self.view_is done.answers)
