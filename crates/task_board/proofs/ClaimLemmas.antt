@@ -235,7 +235,7 @@ peek_shows t id address length none =
     known.1 ∙ ap Some (sym (ap shown known.1))
 
 -- the task of which the reply speaks
-spoken : Ask → Task → Task
+abbrev spoken : Ask → Task → Task
 spoken ask.Start t = started t
 spoken ask.Pause t = paused t
 spoken ask.Resume t = resumed t

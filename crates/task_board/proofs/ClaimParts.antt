@@ -29,10 +29,12 @@ module _ (store : StoreState) (t : Task) (q : Request) (a : Reply) (says : SaysT
       → end_told a ≡ x.end → state_told a ≡ Some x → (x.id ≡ t.id) × (x.n ≡ t.turns) × (x.status ≡ t.status)
       × ((e : ExitRecord) → x.end ≡ Some e → IsTrueOf e t.turns (ended (after t.module t.process t.turns).state))
       × (x.status ≡ Stopped → is_some x.end ≡ true) × (is_some x.end ≡ true → x.status ≡ Stopped)
-  state_part x named counted standing ending stated = (
-    name_part x.id named,
-    says.turns x.n counted,
-    (says.status x.status standing).own,
-    (λ e is. says.end e (ending ∙ is)),
-    says.stopped x stated,
-  )
+  state_part x named counted standing ending stated =
+      let s = says.stopped x stated in (
+        name_part x.id named,
+        says.turns x.n counted,
+        (says.status x.status standing).own,
+        (λ e is. says.end e (ending ∙ is)),
+        s.0,
+        s.1,
+      )

@@ -14,7 +14,12 @@ returns-clause-inspect c store t id name frames n says = (
 
 pub returns-clause-output : goal.returns-clause-output
 returns-clause-output c store t id name bytes number size says =
-    (name_part store t (request.Task id (ask.Output number)) (reply.Output bytes name size) says name refl, says.shows)
+    let s = says.shows in (
+      name_part store t (request.Task id (ask.Output number)) (reply.Output bytes name size) says name refl,
+      s.0,
+      s.1,
+      s.2,
+    )
 
 pub returns-clause-peek : goal.returns-clause-peek
 returns-clause-peek c store t id name bytes address length says =
