@@ -7,7 +7,8 @@ from pathlib import Path
 
 import pytest
 
-from suite.checks import edits, layout, links, manifest, memory_words, named_code, programs, run, versions
+from suite.checks import (
+    edits, layout, links, listed_calls, manifest, memory_words, named_code, programs, run, versions)
 from suite.checks.tree import Tree
 
 # A repository in which nothing is wrong.
@@ -19,6 +20,12 @@ FILES: dict[str, str] = {
                                               "old: two_more(2)\nnew: two_more(1)\n",
     "tests/memory_words.txt": "# An impossible case is answered so.\n"
                               "crates/file_commands/src/command.rt whole 1 one_more(2).ok_or(AllocError)\n",
+    "crates/callers/src/hands.rt": "const ROOM: usize = 2;\n\nfn end(alloc: Global, task: Runnable) {\n"
+                                   "    let all = Vec::with_capacity(alloc, ROOM)?;\n    all.push(task.into_ticket());\n}\n",
+    "tests/listed_calls.txt": "# A list holds the tasks from here on.\n"
+                              "crates/callers/src/hands.rt end 1 all.push(task.into_ticket());\n"
+                              "crates/callers/src/hands.rt end 1 let all = Vec::with_capacity(alloc, ROOM)?;\n"
+                              "crates/callers/src/hands.rt ROOM 1 const ROOM: usize = 2;\n",
     "tests/manifest.txt": "crates/file_commands/*.edit 2 files  # rt ci\ntests/test_one.py 1 tests  # check-ci\n",
     "tests/test_one.py": "def test_one() -> None:\n    assert True\n",
     "CHANGELOG.md": "# Changelog\n\n## [Unreleased]\n\n## [0.2.0] - 2026-01-01\n\n## 0.1.0\n",
@@ -34,7 +41,8 @@ FILES: dict[str, str] = {
     "clients/oci/main.go": 'package main\n\nconst Version = "0.2.0"\n\nfunc main() {}\n',
     ".ci/packages": "# A comment.\ngit\n",
 }
-CHECKS = [edits.check, memory_words.check, links.check, named_code.check, versions.check, manifest.check, layout.check]
+CHECKS = [edits.check, memory_words.check, listed_calls.check, links.check, named_code.check, versions.check, manifest.check,
+          layout.check]
 Check = Callable[[Tree], tuple[int, list[str]]]
 
 
@@ -62,6 +70,7 @@ def test_the_gate_makes_each_of_these_checks() -> None:
 
 CODE = FILES["crates/file_commands/src/command.rt"]
 MAP = FILES["docs/Map.md"]
+HANDS = FILES["crates/callers/src/hands.rt"]
 WRONG: dict[str, tuple[Check, dict[str, str | None], str]] = {
     "a stale edit": (
         edits.check, {"crates/file_commands/src/command.rt": CODE.replace("one_more(2)", "one_more(3)")}, "is 0 times"),
@@ -137,6 +146,23 @@ WRONG: dict[str, tuple[Check, dict[str, str | None], str]] = {
     "a list without the reason": (
         memory_words.check, {"tests/memory_words.txt": FILES["tests/memory_words.txt"].partition("\n")[2]},
         "no reason is given"),
+    "a task that is let go of by its ticket": (
+        listed_calls.check, {"crates/callers/src/hands.rt": HANDS + "fn b(t: Runnable) {\n    let _t = t.into_ticket();\n}\n"},
+        "crates/callers/src/hands.rt b: let _t = t.into_ticket();: such a call is made here 1 times"),
+    "a seat that nobody asked for": (
+        listed_calls.check, {"crates/callers/src/hands.rt": HANDS + "fn b() {\n    shim.seat(rt);\n}\n"},
+        "b: shim.seat(rt);"),
+    "a shim that is closed early": (
+        listed_calls.check, {"crates/callers/src/hands.rt": HANDS + "fn b() {\n    shim.close(rt);\n}\n"},
+        "b: shim.close(rt);"),
+    "memory that nobody asked for": (
+        listed_calls.check, {
+            "crates/file_commands/src/command.rt": CODE + "fn b() {\n    let more = vec![in alloc; 0; 9]?;\n}\n"},
+        "b: let more = vec![in alloc; 0; 9]?;"),
+    "more memory than was asked for": (
+        listed_calls.check, {"crates/callers/src/hands.rt": HANDS.replace("= 2", "= 3")}, "ROOM: const ROOM: usize = 3;"),
+    "a reason for a call that is gone": (
+        listed_calls.check, {"crates/callers/src/hands.rt": HANDS.replace("task.into_ticket()", "task")}, "remove it"),
     "spaces at the end of a line": (layout.check, {"docs/A.md": "# A \n\n## Two words\n"}, "spaces at the end"),
     "a tab": (layout.check, {"docs/A.md": "# A\n\n\tb\n"}, "has tabs"),
     "carriage returns": (layout.check, {"docs/A.md": "# A\r\n"}, "carriage returns"),
@@ -177,6 +203,25 @@ def test_word_of_memory_is_made(code: str) -> None:
     "fn from(_e: AllocError) -> E {", ") -> Result<(), AllocError>"])
 def test_word_of_memory_is_not_made(code: str) -> None:
     assert made_in(code) == []
+
+
+@pytest.mark.parametrize("code", [
+    "queue.try_push(task.into_ticket());", "Runnable::of(ticket)", "self.book.close();", "shim.seat(&threads)",
+    "IndexSet::with_capacity(alloc, 9)", "list.reserve(1)?;", "vec![in alloc; 0u8; 9]?;", "allocate(&alloc, 9, &0u8)"])
+def test_call_is_listed(code: str) -> None:
+    found = listed_calls.places_in("crates/callers/src/a.rt", f"fn f() {{\n    {code}\n}}\n")
+    assert [place.text for place in found] == [code]
+
+
+@pytest.mark.parametrize("code", [
+    "// task.into_ticket()", "fn with_capacity(room: usize) {}", "use std::vec::with_capacity;", "blocks.is_closed()",
+    "let seat = seat(shim);", '"vec![in alloc; 9]"'])
+def test_call_is_not_listed(code: str) -> None:
+    assert not list(listed_calls.places_in("crates/callers/src/a.rt", f"fn f() {{\n    {code}\n}}\n"))
+
+
+def test_hands_are_those_of_threads() -> None:
+    assert not list(listed_calls.places_in("crates/flat_code/src/a.rt", "fn f() {\n    blocks.close();\n}\n"))
 
 
 def test_packages_that_are_missing_are_named(tmp_path: Path) -> None:

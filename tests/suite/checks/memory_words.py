@@ -74,8 +74,8 @@ def found_in(tree: Tree) -> Counter[Place]:
     return Counter(place for path in tree.matching(SOURCES) for place in places_in(path, tree.text(path)))
 
 
-def listed(text: str) -> tuple[Counter[Place], list[str]]:
-    """The places of a list, and what is wrong with the list itself.
+def listed(text: str, name: str) -> tuple[Counter[Place], list[str]]:
+    """The places of a list, and what is wrong with the list itself, which has this name.
 
     The list is blocks with an empty line between two: lines that begin with `#`, of the reason, and after them a line for each
     place: the path, the function, how often, and the text."""
@@ -88,23 +88,29 @@ def listed(text: str) -> tuple[Counter[Place], list[str]]:
         for row in rows:
             words = row.split(maxsplit=3)
             if len(words) != 4 or not words[2].isdigit():
-                faults.append(f"{LIST}: not a line of the form PATH FUNCTION COUNT TEXT: {row}")
+                faults.append(f"{name}: not a line of the form PATH FUNCTION COUNT TEXT: {row}")
                 continue
             places[Place(words[0], words[1], words[3])] += int(words[2])
         if rows and len(reason.split()) < 4:
-            faults.append(f"{LIST}: no reason is given for: {rows[0]}")
+            faults.append(f"{name}: no reason is given for: {rows[0]}")
     return places, faults
+
+
+def differences(found: Counter[Place], given: Counter[Place], name: str, said: str, advice: str) -> list[str]:
+    """Where what the sources have and the list of this name differ: `said` of a place that the list lacks, and what to do."""
+    faults = []
+    for place in sorted(found.keys() | given.keys()):
+        if found[place] > given[place]:
+            faults.append(f"{place}: {said} {found[place]} times, and {name} gives a reason for {given[place]}: {advice}")
+        elif found[place] < given[place]:
+            faults.append(f"{place}: {name} has this {given[place]} times, and it is there {found[place]} times: remove it "
+                          "from the list")
+    return faults
 
 
 def check(tree: Tree) -> tuple[int, list[str]]:
     """How many places there are, and where the list and the sources differ."""
     found = found_in(tree)
-    given, faults = listed(tree.text(LIST) if tree.has(LIST) else "")
-    for place in sorted(found.keys() | given.keys()):
-        if found[place] > given[place]:
-            faults.append(f"{place}: out of memory is answered by hand here {found[place]} times, and {LIST} gives "
-                          f"a reason for {given[place]}: use `?`, or add a line with the reason")
-        elif found[place] < given[place]:
-            faults.append(f"{place}: {LIST} has this {given[place]} times, and it is there {found[place]} times: remove it "
-                          "from the list")
-    return found.total(), faults
+    given, faults = listed(tree.text(LIST) if tree.has(LIST) else "", LIST)
+    return found.total(), faults + differences(found, given, LIST, "out of memory is answered by hand here",
+                                               "use `?`, or add a line with the reason")

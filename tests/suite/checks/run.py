@@ -14,7 +14,7 @@ import time
 from collections.abc import Callable
 from dataclasses import dataclass
 
-from suite.checks import edits, layout, links, manifest, memory_words, named_code, programs, versions
+from suite.checks import edits, layout, links, listed_calls, manifest, memory_words, named_code, programs, versions
 from suite.checks.tree import TOP, Tree
 
 CHECKS: dict[str, Callable[[Tree], tuple[int, list[str]]]] = {
@@ -29,6 +29,7 @@ CHECKS: dict[str, Callable[[Tree], tuple[int, list[str]]]] = {
     "tools": programs.check_tools,
     "edits": edits.check,
     "memory-words": memory_words.check,
+    "listed-calls": listed_calls.check,
     "links": links.check,
     "named-code": named_code.check,
     "versions": versions.check,

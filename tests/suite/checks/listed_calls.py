@@ -1,0 +1,48 @@
+"""Calls that no clause keeps where they belong, each with its reason.
+
+A task that is turned into a plain ticket can be forgotten, a seat more makes calls that nobody asked for, a shim that is
+closed refuses all that follows, and room that is asked for is memory. No contract says where these calls may be made, and
+the code that makes one more is proved as before. So each place that makes one is in a list, tests/listed_calls.txt, with the
+reason for it, and the check fails where the sources and the list differ.
+"""
+from __future__ import annotations
+
+import re
+from collections import Counter
+from collections.abc import Iterator
+
+from suite.checks.memory_words import NAMED, Place, blanked, differences, listed
+from suite.checks.tree import Tree
+
+LIST = "tests/listed_calls.txt"
+SOURCES = "crates/*/src/*.rt"
+# Calls of any crate but those of tests: what asks for room of a size.
+ROOM = re.compile(r"(?<!fn )\b(?:with_capacity|allocate|try_reserve|reserve|reserve_exact)\(|\bvec!\[in\b")
+# Calls of the crates of threads: what lets go of a task, closes a shim, or hands out a seat.
+HANDS = re.compile(r"\.into_ticket\(|\bRunnable::of\(|\.close\(|\.seat\(")
+WITH_HANDS = re.compile(r"crates/(?:call_journal|callers|slice_workers|shim_threads|wasm_shim)/")
+OF_TESTS = re.compile(r"crates/test_")
+CONSTANT = re.compile(r"\b[A-Z][A-Z_]+\b")
+
+
+def places_in(path: str, text: str) -> Iterator[Place]:
+    """Each place of a file where such a call is made, as often as it is, and each constant of the file that says how much room
+    is asked for."""
+    lines = list(zip(text.split("\n"), blanked(text).split("\n")))
+    sizes = {name for _, code in lines if ROOM.search(code) for name in CONSTANT.findall(code)}
+    function = "none"
+    for line, code in lines:
+        found = NAMED.search(code)
+        function = found[1] or found[2] if found else function
+        calls = ROOM.findall(code) + (HANDS.findall(code) if WITH_HANDS.match(path) else [])
+        yield from [Place(path, function, line.strip())] * len(calls)
+        if found and found[2] in sizes:
+            yield Place(path, found[2], line.strip())
+
+
+def check(tree: Tree) -> tuple[int, list[str]]:
+    """How many places there are, and where the list and the sources differ."""
+    paths = [path for path in tree.matching(SOURCES) if not OF_TESTS.match(path)]
+    found = Counter(place for path in paths for place in places_in(path, tree.text(path)))
+    given, faults = listed(tree.text(LIST) if tree.has(LIST) else "", LIST)
+    return found.total(), faults + differences(found, given, LIST, "such a call is made here", "add a line with the reason")
