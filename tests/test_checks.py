@@ -207,6 +207,7 @@ def test_word_of_memory_is_not_made(code: str) -> None:
 
 @pytest.mark.parametrize("code", [
     "queue.try_push(task.into_ticket());", "Runnable::of(ticket)", "self.book.close();", "shim.seat(&threads)",
+    "worker(rt, self, 1);", "with_workers(rt, 1, run)",
     "IndexSet::with_capacity(alloc, 9)", "list.reserve(1)?;", "vec![in alloc; 0u8; 9]?;", "allocate(&alloc, 9, &0u8)"])
 def test_call_is_listed(code: str) -> None:
     found = listed_calls.places_in("crates/callers/src/a.rt", f"fn f() {{\n    {code}\n}}\n")
@@ -214,7 +215,8 @@ def test_call_is_listed(code: str) -> None:
 
 
 @pytest.mark.parametrize("code", [
-    "// task.into_ticket()", "fn with_capacity(room: usize) {}", "use std::vec::with_capacity;", "blocks.is_closed()",
+    "// task.into_ticket()", "fn with_capacity(room: usize) {}", "pub fn worker(rt: &W) {}", "use std::vec::with_capacity;",
+    "blocks.is_closed()",
     "let seat = seat(shim);", '"vec![in alloc; 9]"'])
 def test_call_is_not_listed(code: str) -> None:
     assert not list(listed_calls.places_in("crates/callers/src/a.rt", f"fn f() {{\n    {code}\n}}\n"))

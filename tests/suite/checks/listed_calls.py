@@ -1,9 +1,10 @@
 """Calls that no clause keeps where they belong, each with its reason.
 
 A task that is turned into a plain ticket can be forgotten, a seat more makes calls that nobody asked for, a shim that is
-closed refuses all that follows, and room that is asked for is memory. No contract says where these calls may be made, and
-the code that makes one more is proved as before. So each place that makes one is in a list, tests/listed_calls.txt, with the
-reason for it, and the check fails where the sources and the list differ.
+closed refuses all that follows, workers may be fewer than were asked for, and room that is asked for is memory. No contract
+says where these calls may be made, and with what, and code that makes another one is proved as before. So each place that
+makes one is in a list, tests/listed_calls.txt, with the reason for it, and the check fails where the sources and the list
+differ.
 """
 from __future__ import annotations
 
@@ -18,8 +19,9 @@ LIST = "tests/listed_calls.txt"
 SOURCES = "crates/*/src/*.rt"
 # Calls of any crate but those of tests: what asks for room of a size.
 ROOM = re.compile(r"(?<!fn )\b(?:with_capacity|allocate|try_reserve|reserve|reserve_exact)\(|\bvec!\[in\b")
-# Calls of the crates of threads: what lets go of a task, closes a shim, or hands out a seat.
-HANDS = re.compile(r"\.into_ticket\(|\bRunnable::of\(|\.close\(|\.seat\(")
+# Calls of the crates of threads: what lets go of a task, closes a shim, hands out a seat, or sets workers to work.
+HANDS = re.compile(r"\.into_ticket\(|\bRunnable::of\(|\.close\(|\.seat\("
+                   r"|(?<!fn )\b(?:worker|with_workers|with_gated_workers|with_workers_of)\(")
 WITH_HANDS = re.compile(r"crates/(?:call_journal|callers|slice_workers|shim_threads|wasm_shim)/")
 OF_TESTS = re.compile(r"crates/test_")
 CONSTANT = re.compile(r"\b[A-Z][A-Z_]+\b")
