@@ -9,8 +9,8 @@ differ.
 from __future__ import annotations
 
 import re
-from collections import Counter
-from collections.abc import Iterator
+from collections import Counter, defaultdict
+from collections.abc import Collection, Iterator
 
 from suite.checks.memory_words import NAMED, Place, blanked, differences, listed
 from suite.checks.tree import Tree
@@ -21,30 +21,44 @@ SOURCES = "crates/*/src/*.rt"
 ROOM = re.compile(r"(?<!fn )\b(?:with_capacity|allocate|try_reserve|reserve|reserve_exact)\(|\bvec!\[in\b")
 # Calls of the crates of threads: what lets go of a task, closes a shim, hands out a seat, or sets workers to work.
 HANDS = re.compile(r"\.into_ticket\(|\bRunnable::of\(|\.close\(|\.seat\("
-                   r"|(?<!fn )\b(?:worker|with_workers|with_gated_workers|with_workers_of)\(")
+                   r"|(?<!fn )\b(?:worker|with_workers|with_gated_workers|with_workers_of|run_waiting)\(")
 WITH_HANDS = re.compile(r"crates/(?:call_journal|callers|slice_workers|shim_threads|wasm_shim)/")
 OF_TESTS = re.compile(r"crates/test_")
 CONSTANT = re.compile(r"\b[A-Z][A-Z_]+\b")
 
 
-def places_in(path: str, text: str) -> Iterator[Place]:
-    """Each place of a file where such a call is made, as often as it is, and each constant of the file that says how much room
-    is asked for."""
-    lines = list(zip(text.split("\n"), blanked(text).split("\n")))
-    sizes = {name for _, code in lines if ROOM.search(code) for name in CONSTANT.findall(code)}
+def calls_in(path: str, code: str) -> list[str]:
+    """The calls of a line of code."""
+    return ROOM.findall(code) + (HANDS.findall(code) if WITH_HANDS.match(path) else [])
+
+
+def constants_in(path: str, text: str) -> set[str]:
+    """The constants that the calls of a file are made with."""
+    return {name for code in blanked(text).split("\n") if calls_in(path, code) for name in CONSTANT.findall(code)}
+
+
+def places_in(path: str, text: str, constants: Collection[str] = ()) -> Iterator[Place]:
+    """Each place of a file where such a call is made, as often as it is, and each of these constants that it has."""
     function = "none"
-    for line, code in lines:
+    for line, code in zip(text.split("\n"), blanked(text).split("\n")):
         found = NAMED.search(code)
         function = found[1] or found[2] if found else function
-        calls = ROOM.findall(code) + (HANDS.findall(code) if WITH_HANDS.match(path) else [])
-        yield from [Place(path, function, line.strip())] * len(calls)
-        if found and found[2] in sizes:
+        yield from [Place(path, function, line.strip())] * len(calls_in(path, code))
+        if found and found[2] in constants:
             yield Place(path, found[2], line.strip())
+
+
+def found_in(tree: Tree) -> Counter[Place]:
+    """All places. A constant counts where a call of its crate is made with it."""
+    texts = {path: tree.text(path) for path in tree.matching(SOURCES) if not OF_TESTS.match(path)}
+    constants: defaultdict[str, set[str]] = defaultdict(set)
+    for path, text in texts.items():
+        constants[path.split("/")[1]] |= constants_in(path, text)
+    return Counter(place for path, text in texts.items() for place in places_in(path, text, constants[path.split("/")[1]]))
 
 
 def check(tree: Tree) -> tuple[int, list[str]]:
     """How many places there are, and where the list and the sources differ."""
-    paths = [path for path in tree.matching(SOURCES) if not OF_TESTS.match(path)]
-    found = Counter(place for path in paths for place in places_in(path, tree.text(path)))
+    found = found_in(tree)
     given, faults = listed(tree.text(LIST) if tree.has(LIST) else "", LIST)
     return found.total(), faults + differences(found, given, LIST, "such a call is made here", "add a line with the reason")
