@@ -7,6 +7,8 @@ mod asking;
 #[cfg(test)]
 mod checks;
 #[cfg(test)]
+mod closing;
+#[cfg(test)]
 mod driving;
 #[cfg(test)]
 mod fixtures;
@@ -14,6 +16,8 @@ mod fixtures;
 mod histories;
 #[cfg(test)]
 mod long_lines;
+#[cfg(test)]
+mod offering;
 #[cfg(test)]
 mod readers;
 #[cfg(test)]

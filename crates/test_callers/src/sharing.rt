@@ -1,5 +1,9 @@
+<<<<<<< HEAD
 //! One worker and tasks that never end: each begins and gets on, by slices of 10,000 turns; and a
 //! call is answered while a slice runs.
+=======
+//! One worker and tasks that never end: each begins and gets on, by slices of 10,000 turns, and in its turn.
+>>>>>>> 80afd15f (test_callers, test_rows: idle tasks, sleeping workers and callers, turns in the queue, all pages)
 
 use crate::checks::check_bytes;
 use crate::scripts::side_by_side;
@@ -76,6 +80,8 @@ pub struct Endless<'a> {
     begin: &'a str,
     end: &'a str,
     gate: &'a Counted,
+    /// They begin before there is a worker.
+    early: bool,
 }
 
 /// A gate that counts the slices of the tasks `a` to `e`.
@@ -86,6 +92,8 @@ pub struct Counted {
     c: AtomicU64,
     d: AtomicU64,
     e: AtomicU64,
+    /// How many slices of `a` had begun when the first of `e` did.
+    before_e: AtomicU64,
 }
 
 impl Counted {
@@ -96,6 +104,16 @@ impl Counted {
             c: AtomicU64::new(0),
             d: AtomicU64::new(0),
             e: AtomicU64::new(0),
+            before_e: AtomicU64::new(0),
+        }
+    }
+
+    // Counts a slice of a task, which begins.
+    fn add(&self, id: &str) {
+        let before = self.count_of(id).fetch_add(1, Ordering::SeqCst);
+        if id == "e" && before == 0 {
+            self.before_e
+                .store(self.a.load(Ordering::SeqCst), Ordering::SeqCst);
         }
     }
 
@@ -137,7 +155,7 @@ impl Counted {
 
 impl Gate for Counted {
     fn slice(&self, id: &str, loan: &mut Loan) {
-        self.count_of(id).fetch_add(1, Ordering::SeqCst);
+        self.add(id);
         loan.run();
     }
 
@@ -167,8 +185,13 @@ pub fn sharing<R: Row + Send + Sync, W: Threads + Wait + Abort + Sync>(
 ) -> Option<()> {
     let (begin, end) = ([story.begin.as_bytes()], [story.end.as_bytes()]);
     let (begin, end) = (begin.as_slice(), end.as_slice());
-    let run = move || {
+    if story.early {
         side_by_side(rt, alloc, shim, begin)?;
+    }
+    let run = move || {
+        if !story.early {
+            side_by_side(rt, alloc, shim, begin)?;
+        }
         if story.gate.is_shared(story.ids) {
             side_by_side(rt, alloc, shim, end)
         } else {
@@ -193,8 +216,26 @@ fn five_endless_tasks_share_one_worker(rt: HostRuntime) -> Result<(), Fail> {
         begin: BEGIN_LINES,
         end: END_LINES,
         gate: &gate,
+        early: false,
     };
     tell(&rt, rt.alloc(), Story::Sharing(story))
+}
+
+// All five wait for the worker from the first. A task that has had a slice is in the queue then, and its next
+// one comes before all that wait have had theirs.
+#[test]
+fn a_task_in_the_queue_has_its_turn(rt: HostRuntime) -> Result<(), Fail> {
+    let gate = Counted::new();
+    let story = Endless {
+        ids: &["a", "b", "c", "d", "e"],
+        begin: BEGIN_LINES,
+        end: END_LINES,
+        gate: &gate,
+        early: true,
+    };
+    tell(&rt, rt.alloc(), Story::Sharing(story))?;
+    assert!(rt; gate.before_e.load(Ordering::SeqCst) > 1);
+    Ok(())
 }
 
 // Its start is the last line, so that no later call tells a worker of it.
@@ -206,6 +247,7 @@ fn a_started_task_begins(rt: HostRuntime) -> Result<(), Fail> {
         begin: BEGIN_ONE,
         end: END_ONE,
         gate: &gate,
+        early: false,
     };
     tell(&rt, rt.alloc(), Story::Sharing(story))
 }

@@ -101,10 +101,15 @@ pub struct Meeting {
     missed: AtomicU64,
 }
 
+<<<<<<< HEAD
 /// Waits until a count is not 0, for at most a million yields. Whether it is.
 pub fn is_met(count: &AtomicU64) -> bool {
+=======
+// Waits until a count has come to a number, for at most a million yields. Whether it has.
+fn comes_to(count: &AtomicU64, wanted: u64) -> bool {
+>>>>>>> 80afd15f (test_callers, test_rows: idle tasks, sleeping workers and callers, turns in the queue, all pages)
     for _ in 0..1_000_000 {
-        if count.load(Ordering::SeqCst) > 0 {
+        if count.load(Ordering::SeqCst) >= wanted {
             return true;
         }
         thread::yield_now();
@@ -120,7 +125,7 @@ impl Gate for Meeting {
             (&self.of_others, &self.of_a)
         };
         mine.fetch_add(1, Ordering::SeqCst);
-        if !is_met(other) {
+        if !comes_to(other, 1) {
             self.missed.fetch_add(1, Ordering::SeqCst);
         }
         loan.run();
@@ -139,5 +144,53 @@ fn slices_of_two_tasks_run_at_the_same_time(rt: HostRuntime) -> Result<(), Fail>
     tell(&rt, rt.alloc(), Story::Meeting(&gate))?;
     assert_eq!(rt; gate.missed.load(Ordering::SeqCst), 0);
     assert!(rt; gate.of_a.load(Ordering::SeqCst) > 0);
+    Ok(())
+}
+
+/// A gate that counts the tasks that have ended in its slices.
+#[derive(Drop)]
+pub struct Ends {
+    ended: AtomicU64,
+}
+
+impl Gate for Ends {
+    fn slice(&self, _id: &str, loan: &mut Loan) {
+        loan.run();
+    }
+
+    fn ended(&self, _id: &str, _turns: u64, _end: ExitRecord) {
+        self.ended.fetch_add(1, Ordering::SeqCst);
+    }
+}
+
+/// A caller starts two tasks and waits for none, so that workers run them to their ends. None if not both
+/// come to it.
+pub fn ends_by_two<R: Row + Send + Sync, W: Threads + Wait + Sync>(
+    rt: &W,
+    alloc: Global,
+    shim: &Shim<R>,
+    gate: &Ends,
+) -> Option<()> {
+    let (begin, _) = RUN_LINES.split_once("{}\n")?;
+    let scripts = [begin.as_bytes()];
+    let scripts = scripts.as_slice();
+    let run = move || {
+        side_by_side(rt, alloc, shim, scripts)?;
+        if comes_to(&gate.ended, 2) {
+            Some(())
+        } else {
+            None
+        }
+    };
+    with_gated_workers(rt, alloc, shim, 2, gate, run).ok()?
+}
+
+#[test]
+fn each_end_is_told_once(rt: HostRuntime) -> Result<(), Fail> {
+    let gate = Ends {
+        ended: AtomicU64::new(0),
+    };
+    tell(&rt, rt.alloc(), Story::Ends(&gate))?;
+    assert_eq!(rt; gate.ended.load(Ordering::SeqCst), 2);
     Ok(())
 }
