@@ -93,6 +93,8 @@ WRONG: dict[str, tuple[Check, dict[str, str | None], str]] = {
     "a lost test file": (manifest.check, {"tests/test_one.py": None}, "tests/test_one.py: tests/manifest.txt says 1 tests"),
     "a lost test": (manifest.check, {"tests/test_one.py": "def no_test() -> None:\n    pass\n"}, "there are 0"),
     "a lost edit": (manifest.check, {"crates/file_commands/attacks/more.edit": None}, "says 2 files, and there are 1"),
+    "a suite that is counted twice": (
+        manifest.check, {"tests/manifest.txt": FILES["tests/manifest.txt"] * 2}, "tests/test_one.py has 2 lines"),
     "a test file of no suite": (manifest.check, {"tests/test_two.py": "def test_two() -> None:\n    pass\n"},
                                 "tests/test_two.py: a file of tests that no line"),
     "a broken link": (links.check, {"docs/A.md": None}, "leads to docs/A.md, which is not there"),

@@ -1,13 +1,14 @@
 """The manifest: how many cases each suite has, so that no test is lost unseen.
 
 tests/manifest.txt has a line for each suite: PATTERN COUNT UNIT, and after `#` what runs it. A unit is `files` (the files that
-fit the pattern), `lines` (those of the files) or `tests` (the test functions in them). Each file of tests has to fit the
-pattern of a line.
+fit the pattern), `lines` (those of the files) or `tests` (the test functions in them). Each pattern has one line. Each file of
+tests has to fit the pattern of a line.
 """
 from __future__ import annotations
 
 import ast
 import re
+from collections import Counter
 from collections.abc import Iterator
 from dataclasses import dataclass
 
@@ -65,6 +66,8 @@ def check(tree: Tree) -> tuple[int, list[str]]:
     rows = list(read(tree.text(LIST))) if tree.has(LIST) else [f"{LIST} is not there"]
     faults = [row for row in rows if isinstance(row, str)]
     suites = [row for row in rows if isinstance(row, Suite)]
+    patterns = Counter(suite.pattern for suite in suites)
+    faults += [f"{LIST}: {pattern} has {lines} lines" for pattern, lines in patterns.items() if lines > 1]
     for suite in suites:
         found = counted(tree, suite.pattern, suite.unit)
         if found != suite.count or not found:
