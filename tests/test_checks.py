@@ -28,7 +28,7 @@ FILES: dict[str, str] = {
                               "crates/callers/src/hands.rt ROOM 1 const ROOM: usize = 2;\n",
     "tests/manifest.txt": "crates/file_commands/*.edit 2 files  # rt ci\ntests/test_one.py 1 tests  # check-ci\n",
     "tests/test_one.py": "def test_one() -> None:\n    assert True\n",
-    "CHANGELOG.md": "# Changelog\n\n## [Unreleased]\n\n## [0.2.0] - 2026-01-01\n\n## 0.1.0\n",
+    "CHANGELOG.md": "# Changelog\n\n## [Unreleased]\n\n## [0.2.0] - 2026-01-01\n\n## 0.1.0\n\nNow `wasm-shim 0.1.0`.\n",
     "README.md": "# A [name](docs/A.md#two-words) and `tests/test_one.py`\n\nSee [this](#a-name-and-teststest_onepy).\n",
     "docs/Map.md": "# Map\n\n| Question | File | Functions |\n|---|---|---|\n"
                    "| what is one more? | `file_commands/src/command.rt` | `whole`, `Command::whole` |\n\n"
@@ -123,6 +123,9 @@ WRONG: dict[str, tuple[Check, dict[str, str | None], str]] = {
     "another version in the changelog": (
         versions.check, {"CHANGELOG.md": "## [Unreleased]\n\n## 0.3.0 - 2026-02-02\n\n## 0.2.0\n"},
         "CHANGELOG.md: says 0.3.0"),
+    "another version before the sections of the changelog": (
+        versions.check, {"CHANGELOG.md": "It prints `wasm-shim 0.1.0`.\n\n## 0.2.0\n\n`wasm-shim 0.1.0` did not.\n"},
+        "CHANGELOG.md: says 0.1.0"),
     "another version of the client": (
         versions.check, {"clients/python/feulgama/__init__.py": '__version__ = "0.1.0"\n'}, "says 0.1.0"),
     "another version of its package": (
@@ -131,6 +134,10 @@ WRONG: dict[str, tuple[Check, dict[str, str | None], str]] = {
         versions.check, {"clients/oci/main.go": 'package main\n\nconst version = "0.1.0"\n'}, "says 0.1.0"),
     "another version in a client's words": (
         versions.check, {"clients/python/feulgama/program.py": '"""It says `wasm-shim 0.1.0`."""\n'}, "says 0.1.0"),
+    "another version in a client's test": (
+        versions.check, {"clients/python/tests/test_it.py": 'IT = "feulgama 0.1.0"\n'}, "says 0.1.0"),
+    "another version on the library's page": (
+        versions.check, {"clients/python/docs/library.md": "```\n>>> feulgama.__version__\n'0.1.0'\n```\n"}, "says 0.1.0"),
     "another version of the runtime": (
         versions.check, {"clients/oci/src/version/version.go": 'package version\n\nconst Number = "0.1.0"\n'}, "says 0.1.0"),
     "a file of the version without one": (

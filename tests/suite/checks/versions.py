@@ -30,12 +30,14 @@ SOURCES = [
     Source("clients/*/version.py", re.compile(rf"^__version__ = \"{NUMBER}\"", re.MULTILINE), says=True),
     Source("clients/*/version/version.go", re.compile(rf"^const Number = \"{NUMBER}\"", re.MULTILINE), says=True),
     Source("clients/*/__init__.py", re.compile(rf"^__version__(?:: [\w\[\].]+)? = \"{NUMBER}\"", re.MULTILINE)),
-    Source("clients/*.py", re.compile(rf"wasm-shim(?:-\w+)? {NUMBER}")),
+    Source("clients/*.py", re.compile(rf"(?:wasm-shim(?:-\w+)?|feulgama)[ -]{NUMBER}")),
     Source("clients/*/package.json", re.compile(rf"\"version\": \"{NUMBER}\"")),
     Source("clients/*.go", re.compile(rf"^\s*(?:const |var )?[vV]ersion(?: string)?\s*=\s*\"{NUMBER}\"", re.MULTILINE)),
     Source("*debian/changelog", re.compile(rf"^[a-z][\w+.-]* \({NUMBER}", re.MULTILINE), is_first=True),
     Source("*.md", re.compile(rf"wasm-shim(?:-\w+)? {NUMBER}")),
     Source("*.md", re.compile(rf"feulgama-oci(?: version)? {NUMBER}")),
+    # What the library's page shows of `__version__`.
+    Source("clients/*/docs/library.md", re.compile(rf"^'{NUMBER}'$", re.MULTILINE)),
     Source("*.expected", re.compile(rf"wasm-shim(?:-\w+)? {NUMBER}")),
     Source("crates/*.rt", re.compile(rf"wasm-shim(?:-\w+)? {NUMBER}")),
 ]
@@ -45,9 +47,10 @@ def said(tree: Tree) -> Iterator[tuple[str, str]]:
     """Each place that says a version: the file and the version."""
     for source in SOURCES:
         for name in tree.matching(source.pattern):
+            text = tree.text(name)
             if name == "CHANGELOG.md" and not source.has_to:
-                continue
-            found = source.said.findall(tree.text(name))
+                text = text.partition("\n## ")[0]  # Its sections speak of older versions.
+            found = source.said.findall(text)
             yield from ((name, version) for version in (found[:1] if source.is_first else found))
 
 
