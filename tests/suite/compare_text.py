@@ -5,8 +5,9 @@
 The texts are those of examples/*.wat, of the requests put_text of the worked rows, and a few more below.
 Prints a line for each text that is not the same or cannot be compared, and the counts; ends with 1 if any
 text is assembled differently. wat2wasm takes a larger language, so a text that only one of the two takes
-is told, and not counted as different. Of a block whose type is written by its index this assembler writes the index, and
-wat2wasm a shorter form where there is one: such bytes are the same if the modules are, but for that.
+is told, and not counted as different. A text that a row answers with Limit has to be refused so by `asm` too.
+Of a block whose type is written by its index this assembler writes the index, and wat2wasm a shorter form
+where there is one: such bytes are the same if the modules are, but for that.
 
 Build the program first (make build); PROGRAM in the environment names another one. Needs Debian's wabt.
 """
@@ -28,8 +29,10 @@ from suite.summary import Summary
 ROWS = TOP / "crates/test_rows/data"
 FRAME = ('(module (type $p (func (param i32))) (type $v (func)) (import "wasi_snapshot_preview1" "proc_exit"'
          ' (func $exit (type $p))) %s (func $s (type $v) %s) (export "_start" (func $s)))')
-# Texts of which wat2wasm is known to write other bytes than the text denotes, and why.
-WRONG = {'(module(start 4294967295))': "wat2wasm takes the index 2^32 - 1 for none, and leaves the section out"}
+# The bytes of texts of which wat2wasm is known to write others: it takes the index 2^32 - 1 for none, and leaves the section
+# out.
+DENOTED = {"(module(start 4294967295))": "0061736d010000000805ffffffff0f"}
+OVER_A_LIMIT = "refused 9 Limit"
 # The fields before the function, and its body.
 BODIES = [
     ("", ""),
@@ -63,8 +66,8 @@ def first_line(told: bytes) -> str:
     return lines[0] if lines else "no message"
 
 
-def row_texts(path: Path) -> Iterator[tuple[str, str]]:
-    """The texts of a script of the worked rows, but for those that denote no module."""
+def row_texts(path: Path) -> Iterator[tuple[str, str, bool]]:
+    """The texts of a script of the worked rows, but for those that denote no module, and whether they are over a limit."""
     replies = spelled(path.with_suffix(".expected").read_bytes()).split(b"\n")
     lines = spelled(path.read_bytes()).removesuffix(b"\n").split(b"\n")
     for number, line in enumerate(lines, 1):
@@ -75,17 +78,17 @@ def row_texts(path: Path) -> Iterator[tuple[str, str]]:
         except (ValueError, RecursionError):
             continue
         if isinstance(request, dict) and request.get("op") == "put_text" and isinstance(request.get("text"), str):
-            yield f"{path.relative_to(TOP)}:{number}", request["text"]
+            yield f"{path.relative_to(TOP)}:{number}", request["text"], b'"Limit"' in replies[number - 1]
 
 
-def texts() -> Iterator[tuple[str, str]]:
-    """Each text that has a module, with where it is from."""
+def texts() -> Iterator[tuple[str, str, bool]]:
+    """Each text that has a module: where it is from, the text, and whether it is over a limit."""
     for path in sorted(EXAMPLES.glob("*.wat")):
-        yield str(path.relative_to(TOP)), path.read_bytes().decode()
+        yield str(path.relative_to(TOP)), path.read_bytes().decode(), False
     for path in sorted(ROWS.glob("*.jsonl")):
         yield from row_texts(path)
     for number, (fields, body) in enumerate(BODIES, 1):
-        yield f"body {number}", FRAME % (fields, body)
+        yield f"body {number}", FRAME % (fields, body), False
 
 
 def shorter(module: Any, sequence: list[Any]) -> list[Any]:
@@ -113,23 +116,29 @@ def is_same(given: str, wanted: str) -> bool:
     return given == wanted or but_for_block_types(bytes.fromhex(given)) == but_for_block_types(bytes.fromhex(wanted))
 
 
-def compared(folder: Path, name: str, text: str) -> str:
+def different(name: str, given: str, other: str) -> str:
+    """Tells of a text that is not assembled as it has to be."""
+    print(f"different: {name}\n  asm      {given}\n  {other}")
+    return "different"
+
+
+def compared(folder: Path, name: str, text: str, is_over: bool) -> str:
     """What comes of a text: `the same`, `different` or `not compared`. Prints why, if it is not the same."""
     source, target = folder / "m.wat", folder / "m.wasm"
     source.write_bytes(text.encode())
     ours = run([built(), "asm", source])
+    given = ours.stdout.decode().strip() if ours.returncode == 0 else first_line(ours.stderr)
+    if is_over or text in DENOTED:
+        wanted = OVER_A_LIMIT if is_over else DENOTED[text]
+        return "the same" if given == wanted else different(name, given, f"wanted   {wanted}")
     theirs = run(["wat2wasm", "--no-check", source, "-o", target])
-    if ours.returncode or theirs.returncode or text in WRONG:
-        why = [WRONG[text]] if text in WRONG else []
-        why += [first_line(ours.stderr)] if ours.returncode else []
+    if ours.returncode or theirs.returncode:
+        why = [given] if ours.returncode else []
         why += ["wat2wasm: " + first_line(theirs.stderr)] if theirs.returncode else []
         print(f"not compared: {name}: {'; '.join(why)}")
         return "not compared"
-    given, wanted = ours.stdout.decode().strip(), target.read_bytes().hex()
-    if is_same(given, wanted):
-        return "the same"
-    print(f"different: {name}\n  asm      {given}\n  wat2wasm {wanted}")
-    return "different"
+    wanted = target.read_bytes().hex()
+    return "the same" if is_same(given, wanted) else different(name, given, f"wat2wasm {wanted}")
 
 
 def main(words: list[str]) -> int:
@@ -137,5 +146,5 @@ def main(words: list[str]) -> int:
                             formatter_class=argparse.RawDescriptionHelpFormatter).parse_args(words)
     need({"wat2wasm": "wabt"})
     with tempfile.TemporaryDirectory() as folder:
-        found = [compared(Path(folder), name, text) for name, text in texts()]
+        found = [compared(Path(folder), *text) for text in texts()]
     return Summary("compare-text", found.count("the same"), found.count("different"), found.count("not compared")).end()
