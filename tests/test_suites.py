@@ -13,6 +13,7 @@ from suite import places, run_all
 from suite.__main__ import COMMANDS
 from suite.checks.tree import TOP, Tree
 from suite.summary import NotRun, Summary, read
+from suite.trials import growth, program
 
 
 def run(*words: str, **more: str) -> subprocess.CompletedProcess[str]:
@@ -177,6 +178,24 @@ def test_checker_of_histories() -> None:
     done = run("check-history", "--self-test", "20", "1")
     assert done.returncode == 0, done.stdout
     assert done.stdout.splitlines()[-1] == "check-history: 92 passed, 0 failed"
+
+
+@pytest.mark.parametrize("later,faults", [(0.9, 0), (1.1, 1)])
+def test_what_is_too_slow_is_timed_again(later: float, faults: int, monkeypatch: pytest.MonkeyPatch) -> None:
+    """It is told only if it is so each time."""
+    asked: list[int] = []
+
+    def timed(_program: Path, trial: growth.Trial, _environment: dict[str, str] | None = None) -> growth.Timing:
+        asked.append(trial.size)
+        part = 2.0 if len(asked) <= 3 else later
+        return growth.Timing(trial.size, growth.MOST_SECONDS * part * trial.size / growth.BYTES, b'{"ok":true}', 1.0)
+
+    monkeypatch.setattr(growth, "timed", timed)
+    monkeypatch.setattr(growth, "PAUSES", (0, 0))
+    report, sizes = program.Report("growth"), growth.sizes(growth.BYTES)
+    growth.try_shape(Path("no-program"), report, "a shape", [growth.of_line(b" " * size) for size in sizes], [0] * 3)
+    assert len(report.faults) == faults
+    assert asked == sizes * (3 if faults else 2)
 
 
 def test_history_that_is_legal_or_not(tmp_path: Path) -> None:

@@ -4,6 +4,7 @@ from __future__ import annotations
 import json
 import math
 import sys
+import time
 from dataclasses import dataclass
 from pathlib import Path
 
@@ -18,6 +19,9 @@ MOST_GROWTH, MOST_SECONDS, BYTES = 2.5, 0.050, 262_144
 LEAST_SECONDS = 0.001
 # A trial is repeated up to this number of times, or until it took so long together; the least time counts.
 REPEATS, ENOUGH_SECONDS, TOO_LONG = 9, 0.5, 5.0
+# What else the machine does may take the processor's caches from the program for a while, which costs it processor time. So
+# a shape that is too slow is timed again after these seconds, and its least times count: one that is slow by itself stays so.
+PAUSES = (5, 20)
 # A block of 32 MiB and more is asked of the system anew each time, page by page. With these the C library keeps what
 # it has had, so that what grows with them too is the program's own work.
 KEEPS_MEMORY = {"MALLOC_MMAP_THRESHOLD_": str(1 << 30), "MALLOC_TRIM_THRESHOLD_": str(1 << 30)}
@@ -109,6 +113,11 @@ def try_shape(program: Path, report: Report, name: str, trials: list[Trial], wan
         timings.append(timing)
         if timing.seconds > TOO_LONG:
             break
+    for pause in PAUSES:
+        if SLOW not in flags_of(timings, growths_of(timings)):
+            break
+        time.sleep(pause)
+        timings = [min(timing, timed(program, trial), key=lambda it: it.seconds) for timing, trial in zip(timings, trials)]
     growths = growths_of(timings)
     told = "  ".join(f"{timing.size:>9,} {timing.seconds * 1e3:>9.2f} {timing.seconds * 1e9 / timing.size:>8.1f}"
                      for timing in timings)
