@@ -17,6 +17,8 @@ mod histories;
 #[cfg(test)]
 mod long_lines;
 #[cfg(test)]
+mod noting;
+#[cfg(test)]
 mod offering;
 #[cfg(test)]
 mod readers;

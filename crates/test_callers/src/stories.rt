@@ -14,9 +14,9 @@ use crate::sharing::{Endless, sharing};
 >>>>>>> 80afd15f (test_callers, test_rows: idle tasks, sleeping workers and callers, turns in the queue, all pages)
 use crate::storm::storm;
 use crate::waking::{Sleepers, waking};
-use crate::workers::{Ends, Meeting, ends_by_two, large_output, run_by_two};
+use crate::workers::{Ends, Meeting, ends_by_workers, large_output, run_by_two};
 use call_journal::{Cells, Desk, MOST_SEATS, Row, Shim};
-use callers::{Driven, NoNotes, drive};
+use callers::{Driven, NoNotes, Notes, drive};
 use request_lines::Watched;
 use slice_workers::OpenGate;
 use std::alloc::Global;
@@ -55,7 +55,7 @@ pub enum Story<'a> {
 =======
     /// `offering`.
     Offering(&'a Offered),
-    /// `ends_by_two` of `workers`.
+    /// `ends_by_workers` of `workers`.
     Ends(&'a Ends),
     /// `close_beside_two` of `closing`.
     Closing,
@@ -100,7 +100,7 @@ fn told<R: Row + Send + Sync, W: Threads + Wait + Abort + Sync>(
         Story::Holding(gate) => asking(rt, alloc, shim, gate),
 =======
         Story::Offering(gate) => offering(rt, alloc, shim, gate),
-        Story::Ends(gate) => ends_by_two(rt, alloc, shim, gate),
+        Story::Ends(gate) => ends_by_workers(rt, alloc, shim, gate),
         Story::Closing => close_beside_two(rt, alloc, shim),
 >>>>>>> 80afd15f (test_callers, test_rows: idle tasks, sleeping workers and callers, turns in the queue, all pages)
     }
@@ -137,7 +137,7 @@ pub fn tell<W: Threads + Wait + Abort + Sync>(
     Ok(())
 }
 
-fn driven<J: Row, R: Read, W: Write, H: Wait>(
+fn driven<J: Row, R: Read, W: Write, H: Wait, N: Notes>(
     rt: &H,
     alloc: Global,
     cells: Cells,
@@ -145,6 +145,7 @@ fn driven<J: Row, R: Read, W: Write, H: Wait>(
     blank: Blank,
     reader: &mut R,
     writer: &mut W,
+    notes: &mut N,
 ) -> Result<Driven, Refusal>
     requires row { cells ≡ J.cells }
     requires places { spot_names desk ≡ J.slots }
@@ -155,7 +156,7 @@ fn driven<J: Row, R: Read, W: Write, H: Wait>(
     let shim: Shim<J> = Shim::new(alloc, cells, desk, blank)?;
     let seat = shim.seat(rt).ok_or(Refusal::NoMemory)?;
     let (mut from, mut to) = (Watched::new(reader), Watched::new(writer));
-    let (_, driven) = drive(rt, alloc, &shim, seat, &mut from, &mut to, &mut NoNotes);
+    let (_, driven) = drive(rt, alloc, &shim, seat, &mut from, &mut to, notes);
     Ok(driven)
 }
 
@@ -166,6 +167,17 @@ pub fn drives<R: Read, W: Write, H: Wait>(
     reader: &mut R,
     writer: &mut W,
 ) -> Result<Driven, Refusal> {
+    drives_noted(rt, alloc, reader, writer, &mut NoNotes)
+}
+
+/// The same, and tells notes of the lines.
+pub fn drives_noted<R: Read, W: Write, H: Wait, N: Notes>(
+    rt: &H,
+    alloc: Global,
+    reader: &mut R,
+    writer: &mut W,
+    notes: &mut N,
+) -> Result<Driven, Refusal> {
     let (cells, desk) = (cells(alloc)?, desk(alloc)?);
-    driven::<Brand, R, W, H>(rt, alloc, cells, desk, blank(), reader, writer)
+    driven::<Brand, R, W, H, N>(rt, alloc, cells, desk, blank(), reader, writer, notes)
 }

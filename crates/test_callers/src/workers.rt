@@ -147,9 +147,10 @@ fn slices_of_two_tasks_run_at_the_same_time(rt: HostRuntime) -> Result<(), Fail>
     Ok(())
 }
 
-/// A gate that counts the tasks that have ended in its slices.
+/// How many workers run two tasks, and a gate that counts those that have ended in its slices.
 #[derive(Drop)]
 pub struct Ends {
+    workers: u64,
     ended: AtomicU64,
 }
 
@@ -165,7 +166,7 @@ impl Gate for Ends {
 
 /// A caller starts two tasks and waits for none, so that workers run them to their ends. None if not both
 /// come to it.
-pub fn ends_by_two<R: Row + Send + Sync, W: Threads + Wait + Sync>(
+pub fn ends_by_workers<R: Row + Send + Sync, W: Threads + Wait + Sync>(
     rt: &W,
     alloc: Global,
     shim: &Shim<R>,
@@ -182,15 +183,30 @@ pub fn ends_by_two<R: Row + Send + Sync, W: Threads + Wait + Sync>(
             None
         }
     };
-    with_gated_workers(rt, alloc, shim, 2, gate, run).ok()?
+    with_gated_workers(rt, alloc, shim, gate.workers, gate, run).ok()?
+}
+
+fn check_ends<W: Threads + Wait + Abort + Sync>(
+    rt: &W,
+    alloc: Global,
+    workers: u64,
+) -> Result<(), Fail> {
+    let gate = Ends {
+        workers,
+        ended: AtomicU64::new(0),
+    };
+    tell(rt, alloc, Story::Ends(&gate))?;
+    assert_eq!(rt; gate.ended.load(Ordering::SeqCst), 2);
+    Ok(())
 }
 
 #[test]
 fn each_end_is_told_once(rt: HostRuntime) -> Result<(), Fail> {
-    let gate = Ends {
-        ended: AtomicU64::new(0),
-    };
-    tell(&rt, rt.alloc(), Story::Ends(&gate))?;
-    assert_eq!(rt; gate.ended.load(Ordering::SeqCst), 2);
-    Ok(())
+    check_ends(&rt, rt.alloc(), 2)
+}
+
+// When the first task has ended, the other one is in the queue.
+#[test]
+fn one_worker_runs_two_tasks_to_their_ends(rt: HostRuntime) -> Result<(), Fail> {
+    check_ends(&rt, rt.alloc(), 1)
 }
