@@ -1,14 +1,10 @@
-<<<<<<< HEAD
-//! One worker and tasks that never end: each begins and gets on, by slices of 10,000 turns; and a
-//! call is answered while a slice runs.
-=======
-//! One worker and tasks that never end: each begins and gets on, by slices of 10,000 turns, and in its turn.
->>>>>>> 80afd15f (test_callers, test_rows: idle tasks, sleeping workers and callers, turns in the queue, all pages)
+//! One worker and tasks that never end: each begins and gets on, by slices of 10,000 turns, and in its turn;
+//! and a call is answered while a slice runs.
 
 use crate::checks::check_bytes;
 use crate::scripts::side_by_side;
 use crate::stories::{Story, tell};
-use crate::workers::is_met;
+use crate::workers::comes_to;
 use call_journal::{Row, Shim};
 use shim_threads::with_gated_workers;
 use slice_workers::Gate;
@@ -263,7 +259,7 @@ pub struct Holding {
 impl Gate for Holding {
     fn slice(&self, _id: &str, loan: &mut Loan) {
         self.begun.fetch_add(1, Ordering::SeqCst);
-        if !is_met(&self.answered) {
+        if !comes_to(&self.answered, 1) {
             self.missed.fetch_add(1, Ordering::SeqCst);
         }
         loan.run();
@@ -286,7 +282,7 @@ pub fn asking<R: Row + Send + Sync, W: Threads + Wait + Abort + Sync>(
     let state = state.as_slice();
     let run = move || {
         side_by_side(rt, alloc, shim, begin)?;
-        let begins = is_met(&gate.begun);
+        let begins = comes_to(&gate.begun, 1);
         let told = side_by_side(rt, alloc, shim, state)?;
         gate.answered.fetch_add(1, Ordering::SeqCst);
         side_by_side(rt, alloc, shim, end)?;

@@ -6,12 +6,8 @@ ghost use Rattle.call_journal.specs.Seats.{most_seats};
 
 use crate::closing::close_beside_two;
 use crate::histories::{four_callers, full_journal, two_callers, two_seats};
-<<<<<<< HEAD
-use crate::sharing::{Endless, Holding, asking, sharing};
-=======
 use crate::offering::{Offered, offering};
-use crate::sharing::{Endless, sharing};
->>>>>>> 80afd15f (test_callers, test_rows: idle tasks, sleeping workers and callers, turns in the queue, all pages)
+use crate::sharing::{Endless, Holding, asking, sharing};
 use crate::storm::storm;
 use crate::waking::{Sleepers, waking};
 use crate::workers::{Ends, Meeting, ends_by_workers, large_output, run_by_two};
@@ -49,17 +45,14 @@ pub enum Story<'a> {
     Waking(Sleepers<'a>),
     /// `sharing`.
     Sharing(Endless<'a>),
-<<<<<<< HEAD
     /// `asking` of `sharing`.
     Holding(&'a Holding),
-=======
     /// `offering`.
     Offering(&'a Offered),
     /// `ends_by_workers` of `workers`.
     Ends(&'a Ends),
     /// `close_beside_two` of `closing`.
     Closing,
->>>>>>> 80afd15f (test_callers, test_rows: idle tasks, sleeping workers and callers, turns in the queue, all pages)
 }
 
 fn cells(alloc: Global) -> Result<Cells, Refusal> {
@@ -96,13 +89,10 @@ fn told<R: Row + Send + Sync, W: Threads + Wait + Abort + Sync>(
         Story::LargeOutput => large_output(rt, alloc, shim),
         Story::Waking(story) => waking(rt, alloc, shim, story),
         Story::Sharing(story) => sharing(rt, alloc, shim, story),
-<<<<<<< HEAD
         Story::Holding(gate) => asking(rt, alloc, shim, gate),
-=======
         Story::Offering(gate) => offering(rt, alloc, shim, gate),
         Story::Ends(gate) => ends_by_workers(rt, alloc, shim, gate),
         Story::Closing => close_beside_two(rt, alloc, shim),
->>>>>>> 80afd15f (test_callers, test_rows: idle tasks, sleeping workers and callers, turns in the queue, all pages)
     }
 }
 

@@ -101,13 +101,8 @@ pub struct Meeting {
     missed: AtomicU64,
 }
 
-<<<<<<< HEAD
-/// Waits until a count is not 0, for at most a million yields. Whether it is.
-pub fn is_met(count: &AtomicU64) -> bool {
-=======
-// Waits until a count has come to a number, for at most a million yields. Whether it has.
-fn comes_to(count: &AtomicU64, wanted: u64) -> bool {
->>>>>>> 80afd15f (test_callers, test_rows: idle tasks, sleeping workers and callers, turns in the queue, all pages)
+/// Waits until a count has come to a number, for at most a million yields. Whether it has.
+pub fn comes_to(count: &AtomicU64, wanted: u64) -> bool {
     for _ in 0..1_000_000 {
         if count.load(Ordering::SeqCst) >= wanted {
             return true;
