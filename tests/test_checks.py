@@ -174,6 +174,7 @@ WRONG: dict[str, tuple[Check, dict[str, str | None], str]] = {
         listed_calls.check, {"crates/callers/src/hands.rt": HANDS.replace("task.into_ticket()", "task")}, "remove it"),
     "spaces at the end of a line": (layout.check, {"docs/A.md": "# A \n\n## Two words\n"}, "spaces at the end"),
     "a tab": (layout.check, {"docs/A.md": "# A\n\n\tb\n"}, "has tabs"),
+    "the mark of a merge": (layout.check, {"docs/A.md": "# A\n\n<<<<<<< HEAD\nb\n"}, "has the mark of a merge"),
     "carriage returns": (layout.check, {"docs/A.md": "# A\r\n"}, "carriage returns"),
     "no line feed at the end": (layout.check, {"docs/A.md": "# A"}, "does not end with a line feed"),
     "a file that is too long": (layout.check, {"tests/test_one.py": "pass\n" * 800}, "has 800 lines"),

@@ -1,4 +1,5 @@
-"""Layout of all files: spaces at a line's end, tabs, line ends, the line feed at the end of a file, and how long a file is."""
+"""Layout of all files: spaces at a line's end, tabs, line ends, the line feed at the end of a file, marks that a merge
+left, and how long a file is."""
 from __future__ import annotations
 
 import re
@@ -19,6 +20,9 @@ def faults_of(name: str, data: bytes) -> Iterator[str]:
     """What is wrong with a file that is no data, a sentence each."""
     lines = data.split(b"\n")
     ends = [n for n, line in enumerate(lines, 1) if line != line.rstrip(b" \t")]
+    marks = [n for n, line in enumerate(lines, 1) if line.startswith((b"<<<<<<< ", b">>>>>>> "))]
+    if marks:
+        yield f"{name}:{marks[0]}: has the mark of a merge"
     if b"\r" in data:
         yield f"{name}: has carriage returns"
     if ends:
