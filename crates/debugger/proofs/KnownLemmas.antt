@@ -8,7 +8,7 @@ use Rattle.debugger.specs.declared.known_places.KnownPlace.{KnownPlace}
 use Rattle.validator.specs.EachPlace.{AtEach}
 use Rattle.validator.specs.PlaceTypes.{Known, Point, ReachesAt, PassesAt, MatchPoint}
 use Rattle.step_machine.specs.Frames.{FrameValue, Tells}
-use Rattle.step_machine.specs.declared.shown.ShownFrame.{ShownFrame}
+use Rattle.wasm_ast.specs.declared.shown.ShownFrame.{ShownFrame}
 use Rattle.debugger.specs.Inside.KnownPlaces.{IsKnown, IsThere, HasFrame}
 use Rattle.debugger.specs.Inside.Typed.{AreTypesAt}
 

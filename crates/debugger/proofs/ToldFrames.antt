@@ -12,7 +12,7 @@ use Rattle.wasm_ast.specs.Ranged.{RangedValue}
 use Rattle.validator.specs.PlaceTypes.{Point, IsOwn, ReachesAt}
 use Rattle.step_machine.specs.Frames.{FrameValue, number, joined, Tells}
 use Rattle.step_machine.specs.Places.{opens_at}
-use Rattle.step_machine.specs.declared.shown.ShownFrame.{ShownFrame}
+use Rattle.wasm_ast.specs.declared.shown.ShownFrame.{ShownFrame}
 use Rattle.debugger.specs.declared.known_places.KnownPlace.{KnownPlace}
 use Rattle.debugger.specs.Inside.KnownPlaces.{IsThere}
 use Rattle.debugger.specs.Inside.Typed.{values_of}

@@ -3,7 +3,7 @@
 ghost use Rattle.std.specs.Prelude.{◌≡◌, IfOk, OnErr, Err};
 ghost use Rattle.wasm_ast.specs.declared.module.Module.{Module as ModuleValue};
 ghost use Rattle.wasm_ast.specs.declared.refusal.Refusal.TheVariants as refusal;
-ghost use Rattle.step_machine.specs.declared.shown.ShownFrame.{ShownFrame as ShownValue};
+ghost use Rattle.wasm_ast.specs.declared.shown.ShownFrame.{ShownFrame as ShownValue};
 ghost use Rattle.step_machine.specs.MachineView.{state_of};
 ghost use Rattle.step_machine.specs.Shown.{shown};
 ghost use Rattle.debugger.specs.Inside.KnownPlaces.{IsThere};
@@ -12,8 +12,8 @@ use crate::known_places::{KnownPlace, known_at, known_of_frames};
 use crate::shown::Shown;
 use crate::values::values_from;
 use std::alloc::{AllocError, Global};
-use step_machine::{FrameWords, Machine, ShownFrame};
-use wasm_ast::{Refusal, Sequence};
+use step_machine::{FrameWords, Machine};
+use wasm_ast::{Refusal, Sequence, ShownFrame};
 
 /// The frames of a machine, the innermost first; none if it has ended. `NoMemory` if memory for them
 /// cannot be allocated. The open blocks and the types of the operands are found by two walks of the

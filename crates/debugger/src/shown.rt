@@ -1,7 +1,6 @@
 //! What is shown of a machine.
 
-use step_machine::ShownFrame;
-use wasm_ast::Sequence;
+use wasm_ast::{Sequence, ShownFrame};
 
 /// The frames of a machine, the innermost first.
 #[derive(Drop)]

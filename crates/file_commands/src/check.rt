@@ -17,9 +17,9 @@ use crate::explain::{file_reason, refused_why};
 use crate::ran::Ran;
 use crate::source::module_of;
 use std::alloc::{AllocError, Global};
-use text_assembler::{instr_text, push_decimal};
+use text_assembler::instr_text;
 use validator::{Valid, validate};
-use wasm_ast::{Body, Func, Instr, Module, Refusal};
+use wasm_ast::{Body, Func, Instr, Module, Refusal, push_decimal};
 
 // One more. No number of instructions or functions comes near 2^64: memory ends first.
 fn next(number: u64) -> Result<u64, AllocError>

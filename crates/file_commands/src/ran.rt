@@ -9,8 +9,7 @@ use crate::run_error::RunError;
 use std::alloc::{AllocError, Global};
 use std::io;
 use std::io::Write;
-use text_assembler::push_decimal;
-use wasm_ast::{Bytes, Place, Refusal, Sequence};
+use wasm_ast::{Bytes, Place, Refusal, Sequence, push_decimal};
 
 /// The status of `asm` and `check` if they are refused.
 const REFUSED: u8 = 3;

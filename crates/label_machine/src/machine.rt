@@ -27,9 +27,9 @@ use crate::store::Store;
 use oci_config::{Process, Stream};
 use std::alloc::{AllocError, Global};
 use std::marker::Model;
-use step_machine::{End, LAST_TURN, ShownFrame, find_entry};
+use step_machine::{End, LAST_TURN, find_entry};
 use validator::Valid;
-use wasm_ast::{Module, Refusal, Trap};
+use wasm_ast::{Module, Refusal, ShownFrame, Trap};
 
 /// How far a machine has come: before an instruction, or at an end.
 #[derive(Drop)]

@@ -13,8 +13,7 @@ use crate::label::{Ahead, Label};
 use crate::pile::Pile;
 use crate::run::Run;
 use std::alloc::{AllocError, Global};
-use step_machine::ShownFrame;
-use wasm_ast::{Sequence, Value};
+use wasm_ast::{Sequence, ShownFrame, Value};
 
 fn push<T>(list: &mut Vec<T>, item: T) -> Result<(), AllocError>
 where

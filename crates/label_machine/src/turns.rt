@@ -9,7 +9,8 @@ use crate::machine::LabelMachine;
 use debugger::inspect;
 use oci_config::Stream;
 use std::alloc::{AllocError, Global};
-use step_machine::{End, Machine, ShownFrame};
+use step_machine::{End, Machine};
+use wasm_ast::ShownFrame;
 
 /// A machine by how it makes turns (4.2.13, 4.4): with targets that are found before it runs, or with
 /// labels that it keeps. The contract of each is the reduction's: its store, its frames, its outputs and its

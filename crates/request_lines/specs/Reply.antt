@@ -10,8 +10,8 @@ use Rattle.wasm_ast.specs.declared.values.Value.TheVariants as values
 use Rattle.wasm_ast.specs.Names.{refusal_name, refusal_number, trap_name}
 use Rattle.wasm_ast.specs.declared.refusal.Refusal.{Refusal}
 use Rattle.wasm_ast.specs.declared.refusal.Refusal.TheVariants.{BadText, Invalid}
-use Rattle.text_assembler.specs.Lines.{signed}
-use Rattle.step_machine.specs.declared.shown.ShownFrame.{ShownFrame}
+use Rattle.wasm_ast.specs.Numerals.{signed}
+use Rattle.wasm_ast.specs.declared.shown.ShownFrame.{ShownFrame}
 use Rattle.task_lifecycle.specs.Names.{status_name, cause_name, signal_number, exit_status}
 use Rattle.task_requests.specs.declared.event.EventReply.{EventReply}
 use Rattle.task_requests.specs.declared.event.EventReply.TheVariants.{Called, Taken, Returned}

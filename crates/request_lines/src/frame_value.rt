@@ -7,9 +7,7 @@ ghost use Rattle.request_lines.specs.Reply.{value_text, values_data, next_data, 
 
 use serde_json::{Map, Value as Json, json, put};
 use std::alloc::{AllocError, Global};
-use step_machine::ShownFrame;
-use text_assembler::{push_signed32, push_signed64};
-use wasm_ast::Value;
+use wasm_ast::{ShownFrame, Value, push_signed32, push_signed64};
 
 // The text of a value of 32 bits.
 fn text_of_32(alloc: Global, number: u32) -> Result<String, AllocError>

@@ -12,7 +12,7 @@ use Rattle.step_machine.specs.Turns.{settled}
 use Rattle.step_machine.specs.Configuration.{Store, Configuration, items_of, Tree, seq, Items, done, more, Item, plain, label, frame, enter, invoke, branch, ret, State, running, exited, trapped, stuck, is_halted, is_settled}
 use Rattle.step_machine.proofs.TreeLimits.{plain_frames, plain_values, within}
 use Rattle.step_machine.specs.Places.{Next, tree_next, items_next, item_next}
-use Rattle.step_machine.specs.declared.shown.ShownFrame.{ShownFrame}
+use Rattle.wasm_ast.specs.declared.shown.ShownFrame.{ShownFrame}
 use Rattle.step_machine.specs.Shown.{bare_frame, next_of, tree_shown, items_shown, item_shown, shown, innermost, items_innermost, item_innermost}
 
 -- these frames begin with that of the instruction, which is next in it

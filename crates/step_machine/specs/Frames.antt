@@ -10,7 +10,7 @@ use Rattle.wasm_ast.specs.Types.{type_of}
 use Rattle.wasm_ast.specs.Ranged.{RangedValue}
 use Rattle.validator.specs.PlaceTypes.{Point, ReachesAt, IsOwn, IsPlace}
 use Rattle.step_machine.specs.Places.{opens_at}
-use Rattle.step_machine.specs.declared.shown.ShownFrame.{ShownFrame}
+use Rattle.wasm_ast.specs.declared.shown.ShownFrame.{ShownFrame}
 
 -- a frame of a machine
 pub record FrameValue : Type 0 where

@@ -1,7 +1,7 @@
 -- What a person is shown of a configuration: its frames, read off the tree (4.2.12, 4.2.13).
 use Rattle.std.specs.Prelude.{ℕ, List, [], ◌∷◌, ◌++◌, reverse, Option, Some, None}
 use Rattle.wasm_ast.specs.declared.values.Value.{Value}
-use Rattle.step_machine.specs.declared.shown.ShownFrame.{ShownFrame}
+use Rattle.wasm_ast.specs.declared.shown.ShownFrame.{ShownFrame}
 use Rattle.step_machine.specs.Configuration.{Tree, seq, Items, done, more, Item, plain, label, frame, State, running}
 
 -- a frame of which nothing but its function and its locals is known yet

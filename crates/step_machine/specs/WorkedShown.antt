@@ -7,7 +7,7 @@ use Rattle.wasm_ast.specs.declared.instr.Simple.TheVariants as instr
 use Rattle.wasm_ast.specs.declared.instr.LocalOp.TheVariants as local
 use Rattle.wasm_ast.specs.declared.module.Module.{Module}
 use Rattle.wasm_ast.specs.Syntax.{Op, simple, block, ops_of}
-use Rattle.step_machine.specs.declared.shown.ShownFrame.{ShownFrame}
+use Rattle.wasm_ast.specs.declared.shown.ShownFrame.{ShownFrame}
 use Rattle.step_machine.specs.Worked.{i32_const, i64_const, drop', call, func, nothing_to_nothing, with_funcs}
 
 -- function 1, the entry, has an i32 and an i64 as locals, and this body; function 2 is a nop

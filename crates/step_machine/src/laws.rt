@@ -20,7 +20,7 @@ ghost use Rattle.step_machine.specs.Reduction.{inside, reduce};
 ghost use Rattle.step_machine.specs.Turns.{from, numbered, turn};
 ghost use Rattle.step_machine.specs.Instantiation.{entry, instantiation_refusal, initial, after, ended};
 ghost use Rattle.step_machine.specs.Slices.{ends_slice, turns_made, slices_made, slice_end};
-ghost use Rattle.step_machine.specs.declared.shown.ShownFrame.{ShownFrame};
+ghost use Rattle.wasm_ast.specs.declared.shown.ShownFrame.{ShownFrame};
 ghost use Rattle.step_machine.specs.Shown.{shown, innermost};
 ghost use Rattle.step_machine.specs.MachineView.{written_to};
 ghost use Rattle.step_machine.specs.Worked.{in_label, in_frame};

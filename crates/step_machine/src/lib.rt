@@ -1,5 +1,32 @@
 //! Execution: what a turn is, and a machine that makes turns.
 //!
+//! # The state
+//!
+//! A `Machine` (machine.rt) is seen as its module, its process and the number of its turns. Everything
+//! else about it is the configuration after these turns, which specs/Turns.antt and specs/Reduction.antt
+//! define. How its fields represent that configuration is its invariant (specs/Inside/Going.antt):
+//!
+//! - `of`: the module and its flat code, shared by all machines of the module (flat_module.rt).
+//! - `at`: the innermost frame: next cell, locals and operands on one stack (current.rt).
+//! - `kept`: the frames that have called, memory, table, globals, process (kept.rt, callers.rt).
+//! - `end`: how it ended, if it has (ends.rt).
+//!
+//! # The way of a slice
+//!
+//! `Machine::run` chooses one of four copies of the loop in run_loop.rt: with or without a test for room
+//! on the stack (room.rt), with or without a look for breakpoints (watch.rt). The loop calls `step` in
+//! turn.rt once for each cell. `step` reads the cell and calls the function of its kind: do_values.rt,
+//! do_variables.rt, do_memory.rt, do_control.rt, do_calls.rt, do_system.rt. Superinstructions are in
+//! groups.rt and parts.rt. The ends of blocks and bodies, which take no turn, are in settle.rt.
+//!
+//! All memory that turns need is allocated when the module is instantiated: instantiate.rt has the
+//! refusals, first_data.rt and store.rt the first store, start_up.rt the first frames.
+//!
+//! # Where to begin
+//!
+//! To believe a contract, read specs/Reduction.antt, then Turns.antt and MachineView.antt. To change the
+//! code, read machine.rt, then run_loop.rt and turn.rt.
+//!
 //! Sections are those of the WebAssembly Core Specification 1.0.
 #![tactic(auto)]
 
@@ -31,7 +58,6 @@ mod process_texts;
 mod room;
 mod run_loop;
 mod settle;
-mod shown;
 mod start_up;
 mod store;
 mod turn;
@@ -52,7 +78,6 @@ pub use frames::FrameWords;
 pub use host_calls::{are_same_types, known};
 pub use instantiate::{constant, find_entry};
 pub use machine::{LAST_TURN, Machine};
-pub use shown::ShownFrame;
 pub use store::{first_memory, first_table};
 pub use validator::{Valid, validate};
 pub use wasi_calls::HostCall;

@@ -9,7 +9,7 @@ use Rattle.wasm_ast.specs.Identifiers.{is_id}
 use Rattle.step_machine.specs.Limits.{max_breakpoints}
 use Rattle.step_machine.specs.MachineView.{MachineView, state_of as machine_state, memory_of}
 use Rattle.step_machine.specs.Places.{has_place}
-use Rattle.step_machine.specs.declared.shown.ShownFrame.{ShownFrame}
+use Rattle.wasm_ast.specs.declared.shown.ShownFrame.{ShownFrame}
 use Rattle.step_machine.specs.Shown.{shown as frames_shown}
 use Rattle.step_machine.specs.Slices.{is_among}
 use Rattle.debugger.specs.Peek.{peeked}

@@ -8,7 +8,7 @@ use Rattle.step_machine.specs.Configuration.{Configuration, State as ExecutionSt
 use Rattle.step_machine.specs.Instantiation.{after, ended}
 use Rattle.step_machine.specs.MachineView.{written_to}
 use Rattle.oci_config.specs.declared.stream.Stream.{Stream}
-use Rattle.step_machine.specs.declared.shown.ShownFrame.{ShownFrame}
+use Rattle.wasm_ast.specs.declared.shown.ShownFrame.{ShownFrame}
 use Rattle.step_machine.specs.Shown.{shown as frames_shown}
 use Rattle.step_machine.specs.Slices.{is_place, at_break, ends_slice, turns_made}
 use Rattle.task_lifecycle.specs.declared.lifecycle.Situation.{Situation}

@@ -11,7 +11,7 @@ ghost use Rattle.content_leases.specs.StoreState.{StoreState, content_in};
 ghost use Rattle.step_machine.specs.Instantiation.{after, ended};
 ghost use Rattle.step_machine.specs.MachineView.{written_to};
 ghost use Rattle.step_machine.specs.Shown.{shown};
-ghost use Rattle.step_machine.specs.declared.shown.ShownFrame.{ShownFrame};
+ghost use Rattle.wasm_ast.specs.declared.shown.ShownFrame.{ShownFrame};
 ghost use Rattle.debugger.specs.Peek.{peeked};
 ghost use Rattle.task_lifecycle.specs.declared.status.Status.{Status as StatusValue};
 ghost use Rattle.task_lifecycle.specs.declared.status.ExitRecord.{ExitRecord as RecordValue};

@@ -4,9 +4,8 @@ ghost use Rattle.std.specs.Prelude.{◌≡◌};
 ghost use Rattle.task_requests.specs.Memory.{takes_memory, asks_for_memory};
 
 use crate::shared_bytes::SharedBytes;
-use step_machine::ShownFrame;
 use task_lifecycle::{ExitRecord, Status};
-use wasm_ast::{Bytes, Sequence, Text};
+use wasm_ast::{Bytes, Sequence, ShownFrame, Text};
 
 /// A request.
 #[derive(Drop)]

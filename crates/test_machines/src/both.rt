@@ -8,10 +8,10 @@ use oci_config::{Process, Stream, process_with};
 use std::alloc::Global;
 use std::process::Abort;
 use std::test::Fail;
-use step_machine::{End, Machine, ShownFrame};
+use step_machine::{End, Machine};
 use text_assembler::assemble;
 use validator::{Valid, validate};
-use wasm_ast::Text;
+use wasm_ast::{ShownFrame, Text};
 use wasm_binary::decode;
 
 /// The module of a program.

@@ -22,7 +22,8 @@ use Rattle.text_assembler.specs.Names.{Ids}
 use Rattle.text_assembler.specs.Tokens.{is_empty, tokens_of}
 use Rattle.text_assembler.specs.Phrases.{Tokens, skip_open, skip_close, take_word, begins_word, skip_word, begins_group, skip_group, begins_index, is_past_indices, read_index, one_index, read_indices, read_results, read_bindings}
 use Rattle.text_assembler.specs.Instructions.{params_of_use, read_type_index, read_use, are_nameless, read_nameless_use, read_call_indirect, read_br_table, exponent_from, digits_after, with_digits, read_option, read_mem_arg, read_const, with_index, read_immediates, read_simple, read_op, Bodies}
-use Rattle.text_assembler.specs.Lines.{keyword_for, signed, line_of, operands, HasAlignment, IsWritten, read_instr_line}
+use Rattle.wasm_ast.specs.Numerals.{signed}
+use Rattle.text_assembler.specs.Lines.{keyword_for, line_of, operands, HasAlignment, IsWritten, read_instr_line}
 use Rattle.text_assembler.proofs.Immediates.{last_is}
 use Rattle.text_assembler.proofs.Scanning.{scans_all, after_word_of, both}
 use Rattle.text_assembler.proofs.Decimals.{are_digits, spelled, number_is, small_is, index_is, digits_index}

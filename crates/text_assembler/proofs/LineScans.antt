@@ -14,7 +14,8 @@ use Rattle.wasm_ast.specs.Ranged.{IsU32, RangedSimple}
 use Rattle.text_assembler.specs.declared.token.Lexeme.{Lexeme}
 use Rattle.text_assembler.specs.declared.token.Lexeme.TheVariants.{Open, Close, Word}
 use Rattle.text_assembler.specs.Tokens.{is_apart, is_empty}
-use Rattle.text_assembler.specs.Lines.{numbered, signed, offset_part, align_part, operands, HasAlignment}
+use Rattle.wasm_ast.specs.Numerals.{signed}
+use Rattle.text_assembler.specs.Lines.{numbered, offset_part, align_part, operands, HasAlignment}
 use Rattle.text_assembler.proofs.Scanning.{Scans, ended, after_space, after_open, after_close, after_word_of, is_wordlike}
 use Rattle.text_assembler.proofs.Decimals.{spelled, digits_wordlike}
 

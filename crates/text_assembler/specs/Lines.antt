@@ -12,6 +12,7 @@ use Rattle.wasm_ast.specs.declared.instr.Simple.{Simple}
 use Rattle.wasm_ast.specs.declared.instr.Simple.TheVariants as instr
 use Rattle.wasm_ast.specs.Syntax.{Op, simple, block, loop, if'}
 use Rattle.wasm_ast.specs.Access.{load_bytes, store_bytes}
+use Rattle.wasm_ast.specs.Numerals.{signed}
 use Rattle.text_assembler.specs.declared.keyword.Keyword.{Keyword}
 use Rattle.text_assembler.specs.declared.keyword.Keyword.TheVariants as keyword
 use Rattle.text_assembler.specs.declared.fault.Fault.{Fault}
@@ -51,10 +52,6 @@ keyword_for (instr.Convert op) = keyword.Convert op
 
 abbrev pub numbered : ℕ → List ℕ
 numbered n = codes " " ++ decimal n
-
--- the constant whose two's complement in this number of bits is n
-abbrev pub signed : (bits n : ℕ) → List ℕ
-signed bits n = if nat_lt n (2 ^ (bits - 1)) then decimal n else codes "-" ++ decimal (2 ^ bits - n)
 
 abbrev pub offset_part : MemArg → List ℕ
 offset_part at = if at.offset == 0 then [] else codes " offset=" ++ decimal at.offset

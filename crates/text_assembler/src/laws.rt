@@ -28,7 +28,7 @@ ghost use Rattle.text_assembler.specs.Characters.{is_word_char};
 ghost use Rattle.text_assembler.specs.Tokens.{read_element, tokens_of};
 ghost use Rattle.text_assembler.specs.Words.{keyword_of};
 ghost use Rattle.text_assembler.specs.Worked.{worked, worked_access, worked_uses};
-ghost use Rattle.text_assembler.specs.Modules.{Denotes, IsTooDeep, read_text};
+ghost use Rattle.text_assembler.specs.Modules.{Denotes, IsPlaceIn, IsTooDeep, read_text};
 
 /// A text denotes at most one module.
 pub fn denotes_one()
@@ -153,6 +153,15 @@ pub fn texts_have_tokens()
     ensures strings { tokens_of (0x22 ∷ 0x22 ∷ 0x22 ∷ 0x22 ∷ []) ≡ Err Malformed }
     ensures line { tokens_of (0x3B ∷ 0x3B ∷ 0x0D ∷ 0x0A ∷ codes "a")
         ≡ Ok (lexeme.Word (codes "a") ∷ []) }
+{}
+
+/// The line and the column of a place in a text: no other numbers are those of a place in it.
+pub fn places_are_in_the_text()
+    ensures first { IsPlaceIn (codes "a") 1 1 }
+    ensures end { IsPlaceIn (codes "a") 1 2 }
+    ensures past_the_end { IsPlaceIn (codes "a") 1 3 → ⊥ }
+    ensures after_a_line_feed { IsPlaceIn (0x0A ∷ []) 2 1 }
+    ensures no_second_column { IsPlaceIn (0x0A ∷ []) 1 2 → ⊥ }
 {}
 
 /// Names are looked up in their space, the first of a name first (6.6.1).

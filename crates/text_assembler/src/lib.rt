@@ -38,7 +38,6 @@ pub mod laws;
 mod lexer;
 mod line;
 mod numbers;
-mod numerals;
 mod parser;
 mod parts;
 mod phrases;
@@ -50,8 +49,6 @@ mod scopes;
 mod strings;
 mod token;
 mod uses;
-
-pub use numerals::{push_decimal, push_signed32, push_signed64};
 
 /// The module that a text denotes, and its canonical encoding.
 #[derive(Drop)]

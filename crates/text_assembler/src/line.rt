@@ -9,10 +9,11 @@ ghost use Rattle.wasm_ast.specs.Syntax as syntax;
 ghost use Rattle.wasm_ast.specs.View.{op_of};
 
 use crate::keyword::Keyword;
-use crate::numerals::{push_decimal, push_signed32, push_signed64};
 use crate::plain::{load_bytes, store_bytes};
 use std::alloc::AllocError;
-use wasm_ast::{BlockType, Instr, MemArg, Simple, ValType, Value};
+use wasm_ast::{
+    BlockType, Instr, MemArg, Simple, ValType, Value, push_decimal, push_signed32, push_signed64,
+};
 
 fn push_number(out: &mut String, number: u32) -> Result<(), AllocError>
     ensures { OnOk result (string_bytes out.new ≡ string_bytes out.old ++ numbered number) }

@@ -5,6 +5,7 @@ pub mod Ranged
 pub mod Limits
 pub mod Names
 pub mod Identifiers
+pub mod Numerals
 pub mod View
 pub mod Worked
 pub mod Inside

@@ -10,10 +10,12 @@ mod identifier;
 mod instr;
 pub mod laws;
 mod module;
+mod numerals;
 mod operators;
 mod place;
 mod refusal;
 mod sequence;
+mod shown;
 mod text;
 mod trap;
 mod values;
@@ -25,10 +27,12 @@ pub use module::{
     MAX_MEMORY_PAGES, MAX_MODULE_BYTES, MAX_NESTING, MAX_RESULTS, MAX_TABLE_ENTRIES, Module,
     Mutability, Segment,
 };
+pub use numerals::{push_decimal, push_signed32, push_signed64};
 pub use operators::{BinaryOp, ConvertOp, LoadOp, RelationOp, StoreOp, TestOp, UnaryOp};
 pub use place::Place;
 pub use refusal::Refusal;
 pub use sequence::{Bytes, Labels, Sequence};
+pub use shown::ShownFrame;
 pub use text::Text;
 pub use trap::Trap;
 pub use values::{FuncType, ValType, Value};

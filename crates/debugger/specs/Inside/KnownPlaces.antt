@@ -6,7 +6,7 @@ use Rattle.wasm_ast.specs.declared.module.Module.{Module}
 use Rattle.validator.specs.PlaceTypes.{Point, ReachesAt, IsOwn, IsPlace}
 use Rattle.step_machine.specs.Frames.{FrameValue, joined, Tells}
 use Rattle.step_machine.specs.Places.{opens_at}
-use Rattle.step_machine.specs.declared.shown.ShownFrame.{ShownFrame}
+use Rattle.wasm_ast.specs.declared.shown.ShownFrame.{ShownFrame}
 use Rattle.debugger.specs.declared.known_places.KnownPlace.{KnownPlace}
 
 -- it is right: by the function's type and declarations, and by the one point that the place is reached with

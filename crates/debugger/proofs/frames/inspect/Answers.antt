@@ -1,7 +1,7 @@
 use Rattle.std.proofs.Common.{List, [], ◌∷◌, ◌++◌, ap, sym, subst, ◌∙◌, arith}
 use Rattle.std.specs.Prelude.{All}
 use Rattle.wasm_ast.specs.declared.module.Module.{Module}
-use Rattle.step_machine.specs.declared.shown.ShownFrame.{ShownFrame}
+use Rattle.wasm_ast.specs.declared.shown.ShownFrame.{ShownFrame}
 use Rattle.step_machine.specs.MachineView.{state_of}
 use Rattle.step_machine.specs.Shown.{shown}
 use Rattle.debugger.specs.Inside.KnownPlaces.{IsKnown}

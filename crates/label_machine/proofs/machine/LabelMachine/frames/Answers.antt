@@ -1,5 +1,5 @@
 use Rattle.std.proofs.Common.{◌≡◌, List, IfOk, sym, ap, subst, ◌∙◌}
-use Rattle.step_machine.specs.declared.shown.ShownFrame.{ShownFrame}
+use Rattle.wasm_ast.specs.declared.shown.ShownFrame.{ShownFrame}
 use Rattle.step_machine.specs.MachineView.{MachineView, state_of}
 use Rattle.step_machine.specs.Shown.{shown}
 use Rattle.label_machine.specs.Inside.Reached.{process_of}

@@ -1,6 +1,7 @@
 //! A frame as a person sees it.
 
-use wasm_ast::{Sequence, Value};
+use crate::sequence::Sequence;
+use crate::values::Value;
 
 /// A frame, with the numbers of its operands and locals as values of their types.
 #[derive(Drop)]

@@ -1,7 +1,7 @@
 //! Numbers in decimal digits, as the text format writes them (6.3.1).
 
 ghost use Rattle.std.specs.Prelude.{◌≡◌, ◌++◌, OnOk, decimal, string_bytes};
-ghost use Rattle.text_assembler.specs.Lines.{signed};
+ghost use Rattle.wasm_ast.specs.Numerals.{signed};
 
 use itoa::Buffer;
 use std::alloc::AllocError;
