@@ -42,11 +42,8 @@ one_of : (a b c d : Bool) (e : Refusal)
     → (if a then Some refusal.NoEntry else if b then Some refusal.BadImport else if c then Some refusal.Limit else if d
     then Some refusal.SegmentOutOfBounds else None) ≡ Some e
     → is_refused e ≡ false
-one_of true b c d e is = grind arith
-one_of false true c d e is = grind arith
-one_of false false true d e is = grind arith
-one_of false false false true e is = grind arith
 one_of false false false false e is = cc
+one_of _ _ _ _ e is = grind arith
 
 uninstantiated : (m : Module) (p : ProcessConfig) (e : Refusal) → instantiation_refusal m p ≡ Some e
     → is_refused e ≡ false
@@ -69,18 +66,7 @@ not_assembled text _ (too_deep deep) = refl
 
 own_told : (k : Ask) (t : Task) → are_told (own_refusals k t) ≡ true
 own_told ask.Start t = refl
-own_told ask.Pause t = refl
-own_told ask.Resume t = refl
-own_told (ask.Kill signal) t = refl
-own_told ask.Delete t = refl
-own_told ask.State t = refl
-own_told ask.Wait t = refl
-own_told (ask.Output stream) t = refl
-own_told (ask.Break func place) t = refl
-own_told (ask.Unbreak func place) t = refl
-own_told (ask.Step count) t = refl
-own_told ask.Inspect t = refl
-own_told (ask.Peek address length) t = refl
+own_told _ t = refl
 
 module _ (s : BoardState) (e : Refusal) (s' : BoardState) where
   decided_by : (o : Option Refusal) (E : Type 0) → ((x : Refusal) → o ≡ Some x → is_refused x ≡ false)

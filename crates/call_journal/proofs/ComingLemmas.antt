@@ -16,7 +16,6 @@ use Rattle.task_board.specs.BoardState.{Task, BoardState, task_of, with_task}
 use Rattle.task_board.specs.Tasks.{execution_at, is_break_at, landing, idle_after, advanced, MayAdvance, can_lend, lent, slice_turns, HasReturned}
 use Rattle.task_board.specs.Step.{is_budget}
 use Rattle.task_board.proofs.EntryLemmas.{none_is_not, some_is}
-use Rattle.task_board.proofs.StepLemmas.{running_only}
 use Rattle.call_journal.specs.declared.entry.Found.{Found}
 use Rattle.call_journal.specs.Finding.{named, found_in}
 use Rattle.call_journal.specs.Replay.{Spans, ComesTo, stays, is_taken, advances, is_retaken, Finds, no_task, task}
@@ -37,9 +36,6 @@ none_of (Some n) h = cc
 
 is_idle : (t : Task) → can_lend t ≡ true → t.out ≡ None
 is_idle t can = none_of t.out (and_true (is_running t.status) (is_none t.out) can).1
-
-is_running_now : (t : Task) → can_lend t ≡ true → t.status ≡ Running
-is_running_now t can = running_only t.status (and_true (is_running t.status) (is_none t.out) can).0
 
 -- what is out is not lent
 not_again : (t : Task) (budget : ℕ) → can_lend (lent t budget) ≡ true → ⊥
@@ -62,11 +58,8 @@ not_pausing None None true h = cc
 not_pausing None None false h = refl
 
 only_running : (status : Status) → takes_turns status ≡ true → is_pausing status ≡ false → status ≡ Running
-only_running Created h off = cc
 only_running Running h off = refl
-only_running Pausing h off = cc
-only_running Paused h off = cc
-only_running Stopped h off = cc
+only_running _ h off = cc
 
 -- what is so of a task that has advanced by k turns and goes on
 record GoesOn (t : Task) (k : ℕ) : Type 0 where

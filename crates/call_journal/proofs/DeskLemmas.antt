@@ -1,20 +1,19 @@
 -- What is checked out at the places of a desk.
-use Rattle.std.proofs.Common.{◌≡◌, ◌≢◌, ℕ, zero, suc, ◌<◌, ◌≤◌, List, [], ◌∷◌, ◌++◌, map, length, ◌⊎◌, ◌&&◌, Bool, true, false, true≢false, is_none, Option, Some, None, is_some, option_and_then, slice_get, slice_set, inl, inr, refl, sym, ap, ◌∙◌, subst, arith}
+use Rattle.std.proofs.Common.{◌≡◌, ◌≢◌, ℕ, zero, suc, List, [], ◌∷◌, ◌⊎◌, ◌&&◌, Bool, true, false, true≢false, is_none, Option, Some, None, is_some, option_and_then, slice_get, slice_set, inl, inr, refl, sym, ap, ◌∙◌, subst}
 use Rattle.std.specs.Prelude.{IfSome, IfNone}
 use Rattle.task_requests.specs.declared.request.Request.{Request}
 use Rattle.task_requests.specs.declared.event.Event.TheVariants as event
 use Rattle.task_requests.specs.declared.event.EventReply.TheVariants as answer
 use Rattle.task_board.specs.declared.ticket.Ticket.{Ticket}
 use Rattle.task_board.specs.BoardState.{Task, BoardState, task_in}
-use Rattle.task_board.specs.Loans.{Lent, FitsTask, Fits}
+use Rattle.task_board.specs.Loans.{Lent, Fits}
 use Rattle.task_board.specs.Sound.{IsBoard}
 use Rattle.task_board.specs.Step.{Answer, Answers, Step}
-use Rattle.task_board.specs.Tasks.{can_lend}
 use Rattle.task_board.specs.Tickets.{Lends}
 use Rattle.task_lifecycle.specs.Lifecycle.{is_running}
 use Rattle.task_board.proofs.EntryLemmas.{by_slot}
 use Rattle.task_board.proofs.LoanStays.{answers_stay, lends_fits, lends_stays, one_slot, steps_stay, run_stays}
-use Rattle.call_journal.specs.Desks.{Spot, spot_names, name_at, lent_at, IsSetAt, AreIdle}
+use Rattle.call_journal.specs.Desks.{Spot, spot_names, name_at, lent_at, IsSetAt}
 use Rattle.call_journal.specs.Inside.Desks.{AllFit}
 
 none_not_some : {X : Type 0} (x : X) → None ≡ Some x → ⊥
@@ -80,12 +79,6 @@ lent_there A None ps i p at is = inr (ap is_some (lent_is ps i p at) ∙ is)
 lent_there A (Some s) ps i p at is = tt
 
 -- ---- a new desk
-
-pub idle_more : (ps : List Spot) (p : Spot) → AreIdle ps → p.lent ≡ None → AreIdle (ps ++ p ∷ [])
-idle_more [] p idle none zero = none
-idle_more [] p idle none (suc i) = refl
-idle_more (x ∷ ps) p idle none zero = idle zero
-idle_more (x ∷ ps) p idle none (suc i) = idle_more ps p (λ j. idle (suc j)) none i
 
 -- ---- what fits
 

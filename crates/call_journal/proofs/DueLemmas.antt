@@ -11,7 +11,7 @@ use Rattle.task_requests.specs.declared.request.Ask.TheVariants as ask
 use Rattle.task_board.specs.BoardState.{Task, BoardState, task_of}
 use Rattle.task_board.specs.Refusals.{unless_allowed}
 use Rattle.task_board.specs.Settled.{is_settled}
-use Rattle.task_board.specs.Step.{Answer, DecidedBy, OnFound, on_wait}
+use Rattle.task_board.specs.Step.{Answer, DecidedBy, OnFound, does}
 use Rattle.call_journal.specs.Books.{BookValue, HasCalled, is_due, is_full, is_journalled}
 use Rattle.call_journal.specs.Seats.{Known, most_entries}
 
@@ -27,37 +27,37 @@ module _ (s s' : BoardState) (a : Answer) (busy : a ≡ Err refusal.Busy) where
   allowed_task true false E may none d = cc
 
   settled : (id : List ℕ) (o : Option Task) → is_settled o ≡ true
-      → OnFound id (unless_allowed call.Wait refusal.Busy) on_wait o s a s' → ⊥
+      → OnFound id (unless_allowed call.Wait refusal.Busy) (does ask.Wait) o s a s' → ⊥
   settled id None due d = no_task (is_id id) d
   settled id (Some t) due d =
       allowed_task (is_id id) (allowed call.Wait t.status) _ due (λ both. let is = both.0 in cc) d
 
 due_or_full :
     (old new : BookValue) (was now : Known) (id : List ℕ) (a : Answer) (b : Bool)
-    → (b || is_settled (task_of id old.journalled.board.tasks)) ≡ true → (b ≡ true → a ≡ Err refusal.JournalFull)
+    → (b || is_settled (task_of id old.board.tasks)) ≡ true → (b ≡ true → a ≡ Err refusal.JournalFull)
     → HasCalled old new was now (request.Task id ask.Wait) a → a ≡ Err refusal.Busy → ⊥
 due_or_full old new was now id a true due full called busy = let none = full refl in cc
 due_or_full old new was now id a false due full called busy =
-    settled old.journalled.board new.journalled.board a busy id (task_of id old.journalled.board.tasks) due
-    called.makes.answers
+    settled old.board new.board a busy id (task_of id old.board.tasks) due
+    called.answers
 
 due_or_closed :
     (old new : BookValue) (was now : Known) (id : List ℕ) (a : Answer) (b : Bool)
-    → (b || (is_full old.journalled || is_settled (task_of id old.journalled.board.tasks))) ≡ true
+    → (b || (is_full old || is_settled (task_of id old.board.tasks))) ≡ true
     → (b ≡ true → a ≡ Err refusal.Closed)
-    → (b ≡ false → is_full old.journalled ≡ true → a ≡ Err refusal.JournalFull)
+    → (b ≡ false → is_full old ≡ true → a ≡ Err refusal.JournalFull)
     → HasCalled old new was now (request.Task id ask.Wait) a → a ≡ Err refusal.Busy → ⊥
 due_or_closed old new was now id a true due closed full called busy = let shut = closed refl in cc
 due_or_closed old new was now id a false due closed full called busy =
-    due_or_full old new was now id a (is_full old.journalled) due (full refl) called busy
+    due_or_full old new was now id a (is_full old) due (full refl) called busy
 
 pub never_busy :
-    (old new : BookValue) (was now : Known) (id : List ℕ) (a : Answer) → is_due old.journalled id ≡ true
-    → ((a ≡ Err refusal.Closed) ↔ (old.journalled.closed ≡ true))
-    → ((a ≡ Err refusal.JournalFull) ↔ ((old.journalled.closed ≡ false)
-    × (length old.journalled.journal ≡ most_entries)))
+    (old new : BookValue) (was now : Known) (id : List ℕ) (a : Answer) → is_due old id ≡ true
+    → ((a ≡ Err refusal.Closed) ↔ (old.closed ≡ true))
+    → ((a ≡ Err refusal.JournalFull) ↔ ((old.closed ≡ false)
+    × (length old.journal ≡ most_entries)))
     → (is_journalled a ≡ true → HasCalled old new was now (request.Task id ask.Wait) a) → a ≡ Err refusal.Busy → ⊥
 never_busy old new was now id a due closed full called busy =
-    due_or_closed old new was now id a old.journalled.closed due closed.1
-    (λ shut most. full.1 (shut, eqb-true (length old.journalled.journal) most_entries most))
+    due_or_closed old new was now id a old.closed due closed.1
+    (λ shut most. full.1 (shut, eqb-true (length old.journal) most_entries most))
     (called (ap is_journalled busy)) busy

@@ -64,13 +64,10 @@ since_slice s b b' (event.Call r) a between is step = absurd is
 since_slice s b b' (event.Take id budget) (answer.Taken true) between is step =
     takes s b b' id budget between (taken_of b id budget b' step)
 since_slice s b b' (event.Take id budget) (answer.Taken false) between is step = subst (IsSince s) (sym step.1) between
-since_slice s b b' (event.Take id budget) (answer.Called x) between is step = absurd step
-since_slice s b b' (event.Take id budget) (answer.Returned x) between is step = absurd step
 since_slice s b b' (event.Return id) (answer.Returned true) between is step =
     returns s b b' id (task_of id b.tasks) between refl step
 since_slice s b b' (event.Return id) (answer.Returned false) between is step = subst (IsSince s) (sym step.1) between
-since_slice s b b' (event.Return id) (answer.Called x) between is step = absurd step
-since_slice s b b' (event.Return id) (answer.Taken x) between is step = absurd step
+since_slice s b b' _ _ between is step = absurd step
 
 pub replay_slice : (h : List Entry) (b b' : BoardState) (e : Event) (a : EventReply) → IsReplay h b → IsOfSlice e
     → Step b e a b' → IsReplay h b'

@@ -22,9 +22,7 @@ use Rattle.call_journal.proofs.SliceLemmas.{HasRun, Leads, SlicesAdvance, Advanc
 
 same_number : (t u : Task) → ComesTo t u → u.incarnation ≡ t.incarnation
 same_number t _ stays = refl
-same_number t _ (is_taken b can ok) = refl
-same_number t _ (advances k may spans) = refl
-same_number t _ (is_retaken k b may spans can ok) = refl
+same_number t _ _ = refl
 
 -- ---- one task among others
 

@@ -15,7 +15,9 @@ pub mod FrontLemmas
 pub mod RowLemmas
 pub mod SeatLemmas
 pub mod Sent
-pub mod JournalledLemmas
+pub mod SentModule
+pub mod SentBoard
+pub mod SentShim
 pub mod BookLemmas
 pub mod DueLemmas
 pub mod DeskLemmas

@@ -87,19 +87,9 @@ makes s config new (Ok r) s' id away d =
     ∙ put_beside d.4.3.0 (created_task new s.creates d.1 d.4.0 d.0) id s.tasks away
 
 keeps_id : (k : Ask) → KeepsId (does k)
-keeps_id ask.Start t u is = id_of t _ u refl is
-keeps_id ask.Pause t u is = id_of t _ u refl is
-keeps_id ask.Resume t u is = id_of t _ u refl is
 keeps_id (ask.Kill number) t u is = id_of t _ u (killed_id (signal_of number) t) is
 keeps_id ask.Delete t u is = absurd (none_is_not u is)
-keeps_id ask.State t u is = id_of t _ u refl is
-keeps_id ask.Wait t u is = id_of t _ u refl is
-keeps_id (ask.Output number) t u is = id_of t _ u refl is
-keeps_id (ask.Break func place) t u is = id_of t _ u refl is
-keeps_id (ask.Unbreak func place) t u is = id_of t _ u refl is
-keeps_id (ask.Step count) t u is = id_of t _ u refl is
-keeps_id ask.Inspect t u is = id_of t _ u refl is
-keeps_id (ask.Peek address length) t u is = id_of t _ u refl is
+keeps_id _ t u is = id_of t _ u refl is
 
 pub only_named : (s : BoardState) (r : Request) (a : Answer) (s' : BoardState) (id : List ℕ) → Answers s r a s'
     → (named r ≡ Some id → ⊥) → task_of id s'.tasks ≡ task_of id s.tasks

@@ -10,15 +10,11 @@ use Rattle.call_journal.proofs.ComingLemmas.{comes_again}
 
 pub same_id_of : (t u : Task) → ComesTo t u → u.id ≡ t.id
 same_id_of t _ stays = refl
-same_id_of t _ (is_taken b can ok) = refl
-same_id_of t _ (advances k may spans) = refl
-same_id_of t _ (is_retaken k b may spans can ok) = refl
+same_id_of t _ _ = refl
 
 same_process : (t u : Task) → ComesTo t u → u.process ≡ t.process
 same_process t _ stays = refl
-same_process t _ (is_taken b can ok) = refl
-same_process t _ (advances k may spans) = refl
-same_process t _ (is_retaken k b may spans can ok) = refl
+same_process t _ _ = refl
 
 -- ---- two tests that are the same
 

@@ -3,7 +3,6 @@ pub mod Replay
 pub mod Records
 pub mod Fronts
 pub mod Seats
-pub mod Journalled
 pub mod Books
 pub mod Desks
 pub mod Inside

@@ -1,5 +1,5 @@
 //! The shim: the book under a lock, and the cells beside it.
-ghost use Rattle.std.specs.Prelude.{◌≡◌, ◌≢◌, ◌≤◌, ◌+◌, [], length, option_map, slice_get, true, false, Err, IfSome, IfOk, OnErr};
+ghost use Rattle.std.specs.Prelude.{◌≡◌, ◌≢◌, ◌≤◌, ◌+◌, [], length, option_map, slice_get, true, false, Err, IfSome, OnErr};
 ghost use Rattle.std.specs.Ordering.{nat_cmp};
 ghost use Rattle.task_requests.specs.declared.request.Request.TheVariants as request;
 ghost use Rattle.task_requests.specs.declared.request.Ask.TheVariants as ask;
@@ -132,7 +132,7 @@ impl<R: Row> Shim<R> {
 
     // Tells a worker that sleeps, if there is one, that a task waits for it, if one does.
     fn tell_worker(&self, shared: &Shared<R>) {
-        if shared.workers > 0 && shared.book.has_waiting() {
+        if shared.workers > 0 && shared.book.board().has_waiting() {
             self.waiting.notify_one();
         }
     }
@@ -248,7 +248,7 @@ impl<R: Row> Shim<R> {
             Some(task) => Returned::Running(task),
             None => {
                 self.tell_callers(&shared);
-                match shared.book.ended(id) {
+                match shared.book.board().ended(id) {
                     Some((turns, end)) => Returned::Ended(turns, end),
                     None => Returned::Paused,
                 }
@@ -259,7 +259,7 @@ impl<R: Row> Shim<R> {
     /// How many turns the task with an id has made, and how it has ended. None if no task has the id, or
     /// that has not ended. It is no call: the journal has no entry of it.
     pub fn ended<W: Wait>(&self, rt: &W, id: &str) -> Option<(u64, ExitRecord)> {
-        self.shared.lock(rt).book.ended(id)
+        self.shared.lock(rt).book.board().ended(id)
     }
 
     /// Lets a task wait for a worker if a worker sleeps, and wakes it; else gives the task back.
@@ -282,7 +282,10 @@ impl<R: Row> Shim<R> {
         shared.workers = shared.workers.wrapping_add(1);
         let mut shared = self.waiting.wait_while(rt, shared, |s| s.book.is_idle());
         shared.workers = shared.workers.wrapping_sub(1);
-        shared.book.next()
+        if shared.book.is_closed() {
+            return None;
+        }
+        shared.book.next_waiting()
     }
 
     /// The task that has waited longest for a worker, which waits no more. None if none waits.

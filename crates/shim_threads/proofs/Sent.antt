@@ -4,25 +4,20 @@ use denote.Param.Send.{IsSend, IsSync, sendable}
 use Rattle.std.proofs.Crossing as std_sent
 use Rattle.std.proofs.sync.ledger.Book.TheSendSync as ledger_book
 use Rattle.std.proofs.sync.ledger.Share.TheSendSync as ledger_share
-use Rattle.call_journal.proofs.entry.Entry.TheSendSync as entry
 use Rattle.call_journal.proofs.cells.Cells.TheSendSync as cells
 use Rattle.call_journal.proofs.desk.Desk.TheSendSync as desk
 use Rattle.call_journal.proofs.seen.Seen.TheSendSync as seen
-use Rattle.call_journal.specs.contracts.journalled.JournalledBoard as journals
 use Rattle.call_journal.specs.contracts.book.Book as books
 use Rattle.call_journal.specs.contracts.shared.Shared as shareds
 use Rattle.call_journal.specs.contracts.shim.Shim as shims
 use Rattle.shim_threads.proofs.SentBoard.{board_send}
-
-journal_send : IsSend journals.the_row
-journal_send = search (sendable, std_sent.crosses, board_send, entry.the_send) depth 40
 
 book_send : (R : RattleType) (a : _) (b : _) → IsSend R → IsSend (books.the_row R a b)
 book_send R a b s =
     search (
       sendable,
       std_sent.crosses,
-      journal_send,
+      board_send,
       desk.the_send,
       seen.the_send,
       ledger_book.the_send,

@@ -25,7 +25,6 @@ use Rattle.task_board.specs.contracts.checkout.Shared as shareds
 use Rattle.task_board.specs.contracts.checkout.Checkout as checkouts
 use Rattle.task_board.specs.contracts.task.Task as tasks
 use Rattle.task_board.specs.contracts.opened.Opened as openeds
-use Rattle.task_board.specs.contracts.tables.Tables as tables
 use Rattle.task_board.specs.contracts.board.Board as boards
 use Rattle.shim_threads.proofs.SentModule.{valid_send, valid_sync}
 
@@ -78,9 +77,6 @@ task_send =
 opened_send : IsSend openeds.the_row
 opened_send = search (sendable, std_sent.crosses, maps_sent.crosses, flat_send) depth 60
 
-tables_send : IsSend tables.the_row
-tables_send =
-    search (sendable, std_sent.crosses, store.the_send, opened_send, task_send, waiting.the_send) depth 60
-
 pub board_send : IsSend boards.the_row
-board_send = search (sendable, std_sent.crosses, tables_send) depth 40
+board_send =
+    search (sendable, std_sent.crosses, store.the_send, opened_send, task_send, waiting.the_send) depth 60

@@ -26,8 +26,8 @@ use Rattle.task_requests.specs.declared.request.TaskState.{TaskState}
 use Rattle.task_requests.specs.Memory.{takes_memory}
 use Rattle.task_board.specs.BoardState.{Task, Entries, BoardState, empty, created_task, entry_of, task_in, task_of, put_task, change_task, with_task}
 use Rattle.task_board.specs.Tasks.{state_of, output_of, memory_at, shown, started, paused, resumed, killed_while, killed_by, place_of, with_break, without_break, stepped}
-use Rattle.task_board.specs.Refusals.{own_refusals, create_refusals, output_refusals, peek_refusals, task_refusals}
-use Rattle.task_board.specs.Step.{Answer, DecidedBy, Done, with_left, OnFound, OnTask, Creates, does, on_start, on_pause, on_resume, on_kill, on_delete, on_state, on_wait, on_output, on_break, on_unbreak, on_step, on_inspect, on_peek, Answers}
+use Rattle.task_board.specs.Refusals.{own_refusals, create_refusals, task_refusals}
+use Rattle.task_board.specs.Step.{Answer, DecidedBy, Done, with_left, OnFound, OnTask, Creates, does, Answers}
 use Rattle.task_board.specs.Run.{Happens, Run}
 use Rattle.task_board.specs.Sound.{IsSound, IsBoard}
 use Rattle.task_board.specs.Moves.{Moves, stays, starts, pauses, resumes, is_killed, is_taken, returns, has_break, loses_break, steps, Becomes, goes, remains}
@@ -112,11 +112,8 @@ if_ended o end (inl none) e is = absurd (none_is_not e (sym none ∙ is))
 if_ended o end (inr same) e is = sym same ∙ is
 
 stopped_is : (status : Status) → is_stopped status ≡ true → status ≡ Stopped
-stopped_is Created h = cc
-stopped_is Running h = cc
-stopped_is Pausing h = cc
-stopped_is Paused h = cc
 stopped_is Stopped h = refl
+stopped_is _ h = cc
 
 status_true : (creates : ℕ) (t : Task) (status : Status) → IsSound creates t → status ≡ t.status → StatusIsTrue t status
 status_true creates t status sound is = record {
@@ -218,15 +215,15 @@ killed_same (Some signal) t = by t.out
     by (Some n) = refl
 
 output_shows :
-    (t : Task) (id : List ℕ) (number : ℕ) → first_refusal (output_refusals number t) ≡ None
-    → ShowsTruly t (request.Task id (ask.Output number)) (on_output number t).0
+    (t : Task) (id : List ℕ) (number : ℕ) → first_refusal (own_refusals (ask.Output number) t) ≡ None
+    → ShowsTruly t (request.Task id (ask.Output number)) (does (ask.Output number) t).0
 output_shows t id number none =
     let known = some_of (stream_of number) (none_first (is_none (stream_of number)) refusal.OutOfRange _ none).0 in
     (known.0, known.1, ap (λ (o : Option Stream). output_of o t) known.1)
 
 peek_shows :
-    (t : Task) (id : List ℕ) (address length : ℕ) → first_refusal (peek_refusals address length t) ≡ None
-    → ShowsTruly t (request.Task id (ask.Peek address length)) (on_peek address length t).0
+    (t : Task) (id : List ℕ) (address length : ℕ) → first_refusal (own_refusals (ask.Peek address length) t) ≡ None
+    → ShowsTruly t (request.Task id (ask.Peek address length)) (does (ask.Peek address length) t).0
 peek_shows t id address length none =
     let rest = (none_first (is_some t.out) refusal.Busy _ none).1 in
     let known =
@@ -287,30 +284,30 @@ module _ (t : Task) (id : List ℕ) (k : Ask) (a : Reply) where
 words_of :
     (k : Ask) (t : Task) (id : List ℕ) → first_refusal (own_refusals k t) ≡ None
     → Words (spoken k t) (request.Task id k) (does k t).0
-words_of ask.Start t id none = status_words (started t) id ask.Start (on_start t).0 refl refl refl refl refl tt
-words_of ask.Pause t id none = status_words (paused t) id ask.Pause (on_pause t).0 refl refl refl refl refl tt
-words_of ask.Resume t id none = status_words (resumed t) id ask.Resume (on_resume t).0 refl refl refl refl refl tt
+words_of ask.Start t id none = status_words (started t) id ask.Start (does ask.Start t).0 refl refl refl refl refl tt
+words_of ask.Pause t id none = status_words (paused t) id ask.Pause (does ask.Pause t).0 refl refl refl refl refl tt
+words_of ask.Resume t id none = status_words (resumed t) id ask.Resume (does ask.Resume t).0 refl refl refl refl refl tt
 words_of (ask.Kill number) t id none =
-    status_words (killed_by (signal_of number) t) id (ask.Kill number) (on_kill number t).0
+    status_words (killed_by (signal_of number) t) id (ask.Kill number) (does (ask.Kill number) t).0
     (ap Some (sym (killed_same (signal_of number) t))) refl refl refl refl tt
-words_of ask.Delete t id none = state_words t id ask.Delete (on_delete t).0 refl refl refl refl refl tt
-words_of ask.State t id none = state_words t id ask.State (on_state t).0 refl refl refl refl refl tt
-words_of ask.Wait t id none = state_words t id ask.Wait (on_wait t).0 refl refl refl refl refl tt
+words_of ask.Delete t id none = state_words t id ask.Delete (does ask.Delete t).0 refl refl refl refl refl tt
+words_of ask.State t id none = state_words t id ask.State (does ask.State t).0 refl refl refl refl refl tt
+words_of ask.Wait t id none = state_words t id ask.Wait (does ask.Wait t).0 refl refl refl refl refl tt
 words_of (ask.Output number) t id none =
-    plain_words t id (ask.Output number) (on_output number t).0 refl (inl refl) refl refl refl
+    plain_words t id (ask.Output number) (does (ask.Output number) t).0 refl (inl refl) refl refl refl
     (output_shows t id number none)
 words_of (ask.Break func place) t id none =
-    plain_words (with_break t (place_of func place)) id (ask.Break func place) (on_break func place t).0
+    plain_words (with_break t (place_of func place)) id (ask.Break func place) (does (ask.Break func place) t).0
     refl (inl refl) refl refl refl tt
 words_of (ask.Unbreak func place) t id none =
-    plain_words (without_break t (place_of func place)) id (ask.Unbreak func place) (on_unbreak func place t).0
+    plain_words (without_break t (place_of func place)) id (ask.Unbreak func place) (does (ask.Unbreak func place) t).0
     refl (inl refl) refl refl refl tt
 words_of (ask.Step count) t id none =
-    state_words (stepped t count) id (ask.Step count) (on_step count t).0 refl refl refl refl refl tt
+    state_words (stepped t count) id (ask.Step count) (does (ask.Step count) t).0 refl refl refl refl refl tt
 words_of ask.Inspect t id none =
-    plain_words t id ask.Inspect (on_inspect t).0 refl (inr refl) refl refl refl refl
+    plain_words t id ask.Inspect (does ask.Inspect t).0 refl (inr refl) refl refl refl refl
 words_of (ask.Peek address length) t id none =
-    plain_words t id (ask.Peek address length) (on_peek address length t).0 refl (inl refl) refl refl refl
+    plain_words t id (ask.Peek address length) (does (ask.Peek address length) t).0 refl (inl refl) refl refl refl
     (peek_shows t id address length none)
 
 module _ (s s' : BoardState) (a : Reply) (left : AllThere s') where
@@ -338,7 +335,7 @@ module _ (s s' : BoardState) (a : Reply) (left : AllThere s') where
   deletes_it : (id : List ℕ) → AllThere s → Answers s (request.Task id ask.Delete) (Ok a) s'
       → Truly s (request.Task id ask.Delete) a s' id
   deletes_it id there h =
-      let is = accepted s id (own_refusals ask.Delete) on_delete a s' h in (
+      let is = accepted s id (own_refusals ask.Delete) (does ask.Delete) a s' h in (
         is.task,
         is.named,
         says s id is.task (request.Task id ask.Delete) a there is.named
@@ -401,17 +398,11 @@ module _ (s s' : BoardState) (a : Reply) (left : AllThere s') where
 replies_by :
     (s : BoardState) (q : Request) (a : Reply) (s' : BoardState) → AllThere s → AllThere s' → Answers s q (Ok a) s'
     → (id : List ℕ) → asked_of q ≡ Some id → Truly s q a s' id
-replies_by s (request.Put bytes) a s' there left h name is = absurd (none_is_not name is)
-replies_by s (request.PutText text) a s' there left h name is = absurd (none_is_not name is)
-replies_by s (request.Remove digest) a s' there left h name is = absurd (none_is_not name is)
-replies_by s (request.LeaseCreate id) a s' there left h name is = absurd (none_is_not name is)
-replies_by s (request.LeaseAdd digest id) a s' there left h name is = absurd (none_is_not name is)
-replies_by s (request.LeaseDelete id) a s' there left h name is = absurd (none_is_not name is)
-replies_by s request.Gc a s' there left h name is = absurd (none_is_not name is)
 replies_by s (request.Create config id) a s' there left h name is =
     subst (Truly s (request.Create config id) a s') (some_is id name is) (create_true s s' a left config id h)
 replies_by s (request.Task id k) a s' there left h name is =
     subst (Truly s (request.Task id k) a s') (some_is id name is) (task_true s s' a left id k there h)
+replies_by s _ a s' there left h name is = absurd (none_is_not name is)
 
 no_and : (b : Bool) → (b && false) ≡ false
 no_and true = refl

@@ -28,8 +28,8 @@ use Rattle.task_board.specs.BoardState.{Task, BoardState, used_by, with_store, e
 use Rattle.task_board.specs.declared.mark.Mark.{Mark}
 use Rattle.task_board.specs.declared.mark.Mark.TheVariants as mark
 use Rattle.task_board.specs.Tasks.{killed_while, killed_by, place_of, stepped, state_of}
-use Rattle.task_board.specs.Refusals.{own_refusals, create_refusals, unless_allowed, kill_refusals, state_refusals, break_refusals, unbreak_refusals, step_refusals, task_refusals}
-use Rattle.task_board.specs.Step.{Answer, DecidedBy, OnStore, Puts, PutsText, refused, stored, Done, with_left, OnFound, OnTask, Creates, does, on_start, on_pause, on_resume, on_kill, on_delete, on_state, on_wait, Answers}
+use Rattle.task_board.specs.Refusals.{own_refusals, create_refusals, unless_allowed, task_refusals}
+use Rattle.task_board.specs.Step.{Answer, DecidedBy, OnStore, Puts, PutsText, refused, stored, Done, with_left, OnFound, OnTask, Creates, does, Answers}
 use Rattle.task_board.specs.Sound.{IsSound, IsBoard}
 use Rattle.task_board.specs.Inside.Changes.{change_call, change_request, change_reply, change_refusals, changed}
 use Rattle.task_board.specs.Inside.Marks.{mark_call, mark_refusals, marked}
@@ -80,31 +80,19 @@ change_incarnation (change.Kill signal) t = by t.out
 
 pub created_only : (status : Status) → allowed call.Start status ≡ true → status ≡ Created
 created_only Created h = refl
-created_only Running h = cc
-created_only Pausing h = cc
-created_only Paused h = cc
-created_only Stopped h = cc
+created_only _ h = cc
 
 running_only : (status : Status) → allowed call.Pause status ≡ true → status ≡ Running
-running_only Created h = cc
 running_only Running h = refl
-running_only Pausing h = cc
-running_only Paused h = cc
-running_only Stopped h = cc
+running_only _ h = cc
 
 pub paused_only : (status : Status) → allowed call.Resume status ≡ true → status ≡ Paused
-paused_only Created h = cc
-paused_only Running h = cc
-paused_only Pausing h = cc
 paused_only Paused h = refl
-paused_only Stopped h = cc
+paused_only _ h = cc
 
 pub stopped_only : (status : Status) → allowed call.Delete status ≡ true → status ≡ Stopped
-stopped_only Created h = cc
-stopped_only Running h = cc
-stopped_only Pausing h = cc
-stopped_only Paused h = cc
 stopped_only Stopped h = refl
+stopped_only _ h = cc
 
 -- a change that its status allows leaves a task sound
 change_sound :
@@ -178,22 +166,22 @@ pub change_answers :
     → first_refusal (task_refusals id (change_refusals c) (Some t)) ≡ None → s' ≡ with_task s (changed c t)
     → Answers s (change_request c id) (Ok (change_reply c t.id (changed c t).status)) s'
 change_answers change.Start s id t s' at none is =
-    accepted_on s id (unless_allowed call.Start refusal.WrongStatus) on_start t s' at none is
+    accepted_on s id (unless_allowed call.Start refusal.WrongStatus) (does ask.Start) t s' at none is
 change_answers change.Pause s id t s' at none is =
-    accepted_on s id (unless_allowed call.Pause refusal.WrongStatus) on_pause t s' at none is
+    accepted_on s id (unless_allowed call.Pause refusal.WrongStatus) (does ask.Pause) t s' at none is
 change_answers change.Resume s id t s' at none is =
-    accepted_on s id (unless_allowed call.Resume refusal.WrongStatus) on_resume t s' at none is
+    accepted_on s id (unless_allowed call.Resume refusal.WrongStatus) (does ask.Resume) t s' at none is
 change_answers (change.Kill signal.Kill) s id t s' at none is =
-    accepted_on s id (kill_refusals 9) (on_kill 9) t s' at none is
+    accepted_on s id (own_refusals (ask.Kill 9)) (does (ask.Kill 9)) t s' at none is
 change_answers (change.Kill signal.Terminate) s id t s' at none is =
-    accepted_on s id (kill_refusals 15) (on_kill 15) t s' at none is
+    accepted_on s id (own_refusals (ask.Kill 15)) (does (ask.Kill 15)) t s' at none is
 
 pub delete_answers : (s : BoardState) (id : List ℕ) (t : Task) (s' : BoardState) → task_of id s.tasks ≡ Some t
     → first_refusal (task_refusals id (unless_allowed call.Delete refusal.WrongStatus) (Some t)) ≡ None
     → s' ≡ without_task s t.id
     → Answers s (request.Task id ask.Delete) (Ok (reply.Delete (state_of t))) s'
 delete_answers s id t s' at none is =
-    accepted_on s id (unless_allowed call.Delete refusal.WrongStatus) on_delete t s' at none is
+    accepted_on s id (unless_allowed call.Delete refusal.WrongStatus) (does ask.Delete) t s' at none is
 
 -- ---- questions for the state of a task
 
@@ -204,7 +192,8 @@ state_answers s id name e x same is told =
     let at : task_of name s.tasks ≡ Some e.1 = ap (option_map (λ (y : ℕ × Task). y.1)) is.found in
     let named = is.named in
     let done =
-    accepted_on s name state_refusals on_state e.1 s at (rw named refl) (sym (unchanged s name e.1 at)) in
+    accepted_on s name (own_refusals ask.State) (does ask.State) e.1 s at (rw named refl)
+    (sym (unchanged s name e.1 at)) in
     subst (λ (y : TaskState). Answers s (request.Task id ask.State) (Ok (reply.State y)) s) (sym told)
     (subst (λ (y : List ℕ). Answers s (request.Task y ask.State) (Ok (reply.State (state_of e.1))) s) same done)
 
@@ -216,7 +205,7 @@ wait_answers s id name e x same is told =
     let named = is.named in
     let can = is.allowed in
     let done =
-    accepted_on s name (unless_allowed call.Wait refusal.Busy) on_wait e.1 s at (rw (named, can) refl)
+    accepted_on s name (unless_allowed call.Wait refusal.Busy) (does ask.Wait) e.1 s at (rw (named, can) refl)
     (sym (unchanged s name e.1 at)) in
     subst (λ (y : TaskState). Answers s (request.Task id ask.Wait) (Ok (reply.Wait y)) s) (sym told)
     (subst (λ (y : List ℕ). Answers s (request.Task y ask.Wait) (Ok (reply.Wait (state_of e.1))) s) same done)
@@ -257,17 +246,17 @@ refused_change_by :
     → first_refusal (task_refusals id (change_refusals c) (task_of id s.tasks)) ≡ Some e
     → Answers s (change_request c id) (Err e) s
 refused_change_by change.Start s id e h =
-    refused_on s id (unless_allowed call.Start refusal.WrongStatus) on_start
+    refused_on s id (unless_allowed call.Start refusal.WrongStatus) (does ask.Start)
     (task_of id s.tasks) e h
 refused_change_by change.Pause s id e h =
-    refused_on s id (unless_allowed call.Pause refusal.WrongStatus) on_pause
+    refused_on s id (unless_allowed call.Pause refusal.WrongStatus) (does ask.Pause)
     (task_of id s.tasks) e h
 refused_change_by change.Resume s id e h =
-    refused_on s id (unless_allowed call.Resume refusal.WrongStatus) on_resume
+    refused_on s id (unless_allowed call.Resume refusal.WrongStatus) (does ask.Resume)
     (task_of id s.tasks) e h
 refused_change_by (change.Kill x) s id e h =
-    refused_on s id (kill_refusals (signal_number x))
-    (on_kill (signal_number x)) (task_of id s.tasks) e h
+    refused_on s id (own_refusals (ask.Kill (signal_number x)))
+    (does (ask.Kill (signal_number x))) (task_of id s.tasks) e h
 
 -- a change that is not allowed, or of no task
 pub refused_change :
@@ -282,7 +271,7 @@ pub refused_delete : (s : BoardState) (id : List ℕ) (e : Refusal) → RefusesT
     → (e ≢ refusal.NoMemory) × Answers s (request.Task id ask.Delete) (Err e) s
 refused_delete s id e h = (
   task_known id call.Delete (task_of id s.tasks) e h,
-  refused_on s id (unless_allowed call.Delete refusal.WrongStatus) on_delete
+  refused_on s id (unless_allowed call.Delete refusal.WrongStatus) (does ask.Delete)
       (task_of id s.tasks) e h,
 )
 
@@ -295,9 +284,9 @@ no_signal s id number e none is =
     let off : is_none (signal_of number) ≡ true = ap is_none none in
     let named = is.named in
     let own :
-    first_refusal (task_refusals id (kill_refusals number) (Some e.1)) ≡ Some refusal.OutOfRange =
+    first_refusal (task_refusals id (own_refusals (ask.Kill number)) (Some e.1)) ≡ Some refusal.OutOfRange =
     rw (named, off) refl in
-    ap (λ (o : Option Task). first_refusal (task_refusals id (kill_refusals number) o)) at ∙ own
+    ap (λ (o : Option Task). first_refusal (task_refusals id (own_refusals (ask.Kill number)) o)) at ∙ own
 
 -- of a call that no status refuses, the refusals before a request's own
 pub no_task_by :
@@ -316,11 +305,11 @@ no_task_by id own (Some t) e h = by (not (is_id id)) h
 pub no_task_to_kill :
     (s : BoardState) (id : List ℕ) (number : ℕ) (e : Refusal) → RefusesTask s id call.State refusal.WrongStatus e
     → RefusesKill s id number e
-no_task_to_kill s id number e h = no_task_by id (kill_refusals number) (task_of id s.tasks) e h
+no_task_to_kill s id number e h = no_task_by id (own_refusals (ask.Kill number)) (task_of id s.tasks) e h
 
 kill_known :
     (id : List ℕ) (number : ℕ) (o : Option Task) (e : Refusal)
-    → first_refusal (task_refusals id (kill_refusals number) o) ≡ Some e → e ≢ refusal.NoMemory
+    → first_refusal (task_refusals id (own_refusals (ask.Kill number)) o) ≡ Some e → e ≢ refusal.NoMemory
 kill_known id number None e h = not_memory (not (is_id id)) true refusal.NotFound e (λ x. cc) h
 kill_known id number (Some t) e h =
     by (not (is_id id)) (is_none (signal_of number)) (not (allowed call.Kill t.status)) h
@@ -339,7 +328,7 @@ pub refused_kill :
     → (e ≢ refusal.NoMemory) × Answers s (request.Task id (ask.Kill number)) (Err e) s
 refused_kill s id number e h = (
   kill_known id number (task_of id s.tasks) e h,
-  refused_on s id (kill_refusals number) (on_kill number) (task_of id s.tasks) e h,
+  refused_on s id (own_refusals (ask.Kill number)) (does (ask.Kill number)) (task_of id s.tasks) e h,
 )
 
 -- ---- breakpoints and steps
@@ -375,15 +364,10 @@ altered_same q id t t' (takes_steps count asked can is) = record {
 -- it is not out then
 marks_idle : (m : Mark) (status : Status) → allowed (mark_call m) status ≡ true → takes_turns status ≡ false
 marks_idle (mark.Set p) Created h = refl
-marks_idle (mark.Set p) Running h = cc
-marks_idle (mark.Set p) Pausing h = cc
 marks_idle (mark.Set p) Paused h = refl
-marks_idle (mark.Set p) Stopped h = cc
 marks_idle (mark.Remove p) Created h = refl
-marks_idle (mark.Remove p) Running h = cc
-marks_idle (mark.Remove p) Pausing h = cc
 marks_idle (mark.Remove p) Paused h = refl
-marks_idle (mark.Remove p) Stopped h = cc
+marks_idle _ _ h = cc
 
 pub not_out : (o : Option ℕ) (b : Bool) → (is_some o ≡ true → b ≡ true) → b ≡ false → o ≡ None
 not_out None b h off = refl
@@ -427,12 +411,13 @@ pub own_accepted :
 own_accepted id t own h = (none_first (not (is_id id)) refusal.BadId (first_refusal (own t)) h).1
 
 pub step_allowed :
-    (id : List ℕ) (t : Task) (count : ℕ) → first_refusal (task_refusals id (step_refusals count) (Some t)) ≡ None
+    (id : List ℕ) (t : Task) (count : ℕ)
+    → first_refusal (task_refusals id (own_refusals (ask.Step count)) (Some t)) ≡ None
     → allowed call.Step t.status ≡ true
 step_allowed id t count h =
     not_true (allowed call.Step t.status)
     (none_first (not (allowed call.Step t.status)) refusal.WrongStatus _
-    (own_accepted id t (step_refusals count) h)).0
+    (own_accepted id t (own_refusals (ask.Step count)) h)).0
 
 -- ---- what requests do
 
@@ -523,19 +508,15 @@ ask_effect s s' id ask.Resume t at none is = changes change.Resume id t at (chan
 ask_effect s s' id (ask.Kill number) t at none is =
     kill_effect s (request.Task id (ask.Kill number)) s' id t (signal_of number) at none is
 ask_effect s s' id ask.Delete t at none is = deletes id t at (one_accepted id t call.Delete none) is
-ask_effect s s' id ask.State t at none is = nothing (is ∙ unchanged s id t at)
-ask_effect s s' id ask.Wait t at none is = nothing (is ∙ unchanged s id t at)
-ask_effect s s' id (ask.Output number) t at none is = nothing (is ∙ unchanged s id t at)
 ask_effect s s' id (ask.Break func place) t at none is =
     alters id t (marked (mark.Set (place_of func place)) t) at
-    (marks (mark.Set (place_of func place)) (own_accepted id t (break_refusals func place) none) refl) is
+    (marks (mark.Set (place_of func place)) (own_accepted id t (own_refusals (ask.Break func place)) none) refl) is
 ask_effect s s' id (ask.Unbreak func place) t at none is =
     alters id t (marked (mark.Remove (place_of func place)) t) at
-    (marks (mark.Remove (place_of func place)) (own_accepted id t (unbreak_refusals func place) none) refl) is
+    (marks (mark.Remove (place_of func place)) (own_accepted id t (own_refusals (ask.Unbreak func place)) none) refl) is
 ask_effect s s' id (ask.Step count) t at none is =
     alters id t (stepped t count) at (takes_steps count refl (step_allowed id t count none) refl) is
-ask_effect s s' id ask.Inspect t at none is = nothing (is ∙ unchanged s id t at)
-ask_effect s s' id (ask.Peek address length) t at none is = nothing (is ∙ unchanged s id t at)
+ask_effect s s' id _ t at none is = nothing (is ∙ unchanged s id t at)
 
 pub effect_of : (s : BoardState) (q : Request) (r : Answer) (s' : BoardState) → Answers s q r s' → Effect s q s'
 effect_of s (request.Put bytes) r s' a = put_effect s (request.Put bytes) bytes r s' a

@@ -59,12 +59,7 @@ step_held s (event.Take id budget) (answer.Taken false) s' step =
 step_held s (event.Return id) (answer.Returned true) s' step = return_held s (task_of id s.tasks) s' step
 step_held s (event.Return id) (answer.Returned false) s' step =
     same_store s s' (ap (λ (x : BoardState). x.store) step.1)
-step_held s (event.Call q) (answer.Taken x) s' step = absurd step
-step_held s (event.Call q) (answer.Returned x) s' step = absurd step
-step_held s (event.Take id budget) (answer.Called a) s' step = absurd step
-step_held s (event.Take id budget) (answer.Returned x) s' step = absurd step
-step_held s (event.Return id) (answer.Called a) s' step = absurd step
-step_held s (event.Return id) (answer.Taken x) s' step = absurd step
+step_held s _ _ s' step = absurd step
 
 held_by : (s : BoardState) (e : Event) (r : EventReply) (s' : BoardState) → (s' ≡ s) ⊎ Step s e r s' → HeldStay s s'
 held_by s e r s' (inl same) = same_store s s' (ap (λ (x : BoardState). x.store) same)
@@ -221,12 +216,7 @@ step_tasks s (event.Return id) (answer.Returned true) s' b step all =
     return_tasks s id (task_of id s.tasks) s' refl step all
 step_tasks s (event.Return id) (answer.Returned false) s' b step all =
     subst (λ (x : BoardState). TasksHave x.store x.tasks) (sym step.1) all
-step_tasks s (event.Call q) (answer.Taken x) s' b step all = absurd step
-step_tasks s (event.Call q) (answer.Returned x) s' b step all = absurd step
-step_tasks s (event.Take id budget) (answer.Called a) s' b step all = absurd step
-step_tasks s (event.Take id budget) (answer.Returned x) s' b step all = absurd step
-step_tasks s (event.Return id) (answer.Called a) s' b step all = absurd step
-step_tasks s (event.Return id) (answer.Taken x) s' b step all = absurd step
+step_tasks s _ _ s' b step all = absurd step
 
 leased_same : (s s' : BoardState) → s'.store ≡ s.store → LeasedAreThere s.store → LeasedAreThere s'.store
 leased_same s s' same all = subst LeasedAreThere (sym same) all
@@ -259,12 +249,7 @@ step_leased s (event.Take id budget) (answer.Taken false) s' step all =
 step_leased s (event.Return id) (answer.Returned true) s' step all = return_leased s (task_of id s.tasks) s' step all
 step_leased s (event.Return id) (answer.Returned false) s' step all =
     leased_same s s' (ap (λ (x : BoardState). x.store) step.1) all
-step_leased s (event.Call q) (answer.Taken x) s' step all = absurd step
-step_leased s (event.Call q) (answer.Returned x) s' step all = absurd step
-step_leased s (event.Take id budget) (answer.Called a) s' step all = absurd step
-step_leased s (event.Take id budget) (answer.Returned x) s' step all = absurd step
-step_leased s (event.Return id) (answer.Called a) s' step all = absurd step
-step_leased s (event.Return id) (answer.Taken x) s' step all = absurd step
+step_leased s _ _ s' step all = absurd step
 
 there_by :
     (s : BoardState) (e : Event) (r : EventReply) (s' : BoardState) → AllThere s → Happens s e r s'

@@ -145,12 +145,7 @@ step_sound s (event.Take id budget) (answer.Taken true) s' b step =
 step_sound s (event.Take id budget) (answer.Taken false) s' b step = subst IsBoard (sym step.1) b
 step_sound s (event.Return id) (answer.Returned true) s' b step = return_sound s id (task_of id s.tasks) s' b refl step
 step_sound s (event.Return id) (answer.Returned false) s' b step = subst IsBoard (sym step.1) b
-step_sound s (event.Call q) (answer.Taken x) s' b step = absurd step
-step_sound s (event.Call q) (answer.Returned x) s' b step = absurd step
-step_sound s (event.Take id budget) (answer.Called a) s' b step = absurd step
-step_sound s (event.Take id budget) (answer.Returned x) s' b step = absurd step
-step_sound s (event.Return id) (answer.Called a) s' b step = absurd step
-step_sound s (event.Return id) (answer.Taken x) s' b step = absurd step
+step_sound s _ _ s' b step = absurd step
 
 happens_by :
     (s : BoardState) (e : Event) (r : EventReply) (s' : BoardState) (b : Bool) → MatchBool b (s' ≡ s) (Step s e r s')
@@ -390,12 +385,7 @@ step_moves s (event.Take id budget) (answer.Taken false) s' b step = stay_same (
 step_moves s (event.Return id) (answer.Returned true) s' b step =
     return_moves (event.Return id) s id (task_of id s.tasks) s' b refl step
 step_moves s (event.Return id) (answer.Returned false) s' b step = stay_same (event.Return id) s s' step.1
-step_moves s (event.Call q) (answer.Taken x) s' b step = absurd step
-step_moves s (event.Call q) (answer.Returned x) s' b step = absurd step
-step_moves s (event.Take id budget) (answer.Called a) s' b step = absurd step
-step_moves s (event.Take id budget) (answer.Returned x) s' b step = absurd step
-step_moves s (event.Return id) (answer.Called a) s' b step = absurd step
-step_moves s (event.Return id) (answer.Taken x) s' b step = absurd step
+step_moves s _ _ s' b step = absurd step
 
 moves_by :
     (s : BoardState) (e : Event) (r : EventReply) (s' : BoardState) → AreRising (slots_of s.tasks)
@@ -435,10 +425,7 @@ killed_goes_on signal t (Some n) on = on
 
 created_only : (status : Status) → allowed call.Start status ≡ true → is_going status ≡ true → ⊥
 created_only Created can going = cc
-created_only Running can going = cc
-created_only Pausing can going = cc
-created_only Paused can going = cc
-created_only Stopped can going = cc
+created_only _ can going = cc
 
 -- no signal ends a task where a step leads
 no_signal : (o : Option End) (signal : Signal) → (landing o None true).1 ≡ Some (exit.Kill signal) → ⊥
@@ -578,18 +565,13 @@ step_same s (event.Return id) (answer.Returned true) s1 (answer.Returned false) 
 step_same s (event.Return id) (answer.Returned false) s1 (answer.Returned true) s2 d a b =
     absurd (true≢false (sym (return_out s (task_of id s.tasks) s2 b) ∙ a.0))
 step_same s (event.Return id) (answer.Returned false) s1 (answer.Returned false) s2 d a b = (refl, a.1 ∙ sym b.1)
-step_same s (event.Call q) (answer.Called x) s1 (answer.Taken y) s2 d a b = absurd b
-step_same s (event.Call q) (answer.Called x) s1 (answer.Returned y) s2 d a b = absurd b
 step_same s (event.Call q) (answer.Taken x) s1 r' s2 d a b = absurd a
 step_same s (event.Call q) (answer.Returned x) s1 r' s2 d a b = absurd a
-step_same s (event.Take id budget) (answer.Taken x) s1 (answer.Called y) s2 d a b = absurd b
-step_same s (event.Take id budget) (answer.Taken x) s1 (answer.Returned y) s2 d a b = absurd b
 step_same s (event.Take id budget) (answer.Called x) s1 r' s2 d a b = absurd a
 step_same s (event.Take id budget) (answer.Returned x) s1 r' s2 d a b = absurd a
-step_same s (event.Return id) (answer.Returned x) s1 (answer.Called y) s2 d a b = absurd b
-step_same s (event.Return id) (answer.Returned x) s1 (answer.Taken y) s2 d a b = absurd b
 step_same s (event.Return id) (answer.Called x) s1 r' s2 d a b = absurd a
 step_same s (event.Return id) (answer.Taken x) s1 r' s2 d a b = absurd a
+step_same s _ _ s1 _ s2 d a b = absurd b
 
 pub is_step :
     (s : BoardState) (e : Event) (r : EventReply) (s' : BoardState) → met_no_memory e r ≡ false

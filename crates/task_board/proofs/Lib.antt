@@ -11,7 +11,7 @@ pub mod OutputLemmas
 pub mod WaitingLemmas
 pub mod StoreChangeLemmas
 pub mod TextLemmas
-pub mod TableLemmas
+pub mod BoardLemmas
 pub mod LoanCover
 pub mod InstantiateLemmas
 pub mod RunLemmas

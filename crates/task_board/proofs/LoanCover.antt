@@ -340,25 +340,6 @@ pub ticket_entry :
     → (e : ℕ × Task) × (entry_of id ts ≡ Some e) × (ticket_to e ≡ ticket)
 ticket_entry id ts ticket h = ticket_by (entry_of id ts) ticket h
 
-no_ticket_by : (o : Option (ℕ × Task)) → option_map ticket_to o ≡ None → option_map (λ (e : ℕ × Task). e.1) o ≡ None
-no_ticket_by None h = refl
-no_ticket_by (Some e) h = absurd (none_is_not (ticket_to e) (sym h))
-
-pub no_ticket : (id : List ℕ) (ts : Entries) → ticket_of id ts ≡ None → task_of id ts ≡ None
-no_ticket id ts h = no_ticket_by (entry_of id ts) h
-
-pub no_ticket_not_taken :
-    (s : BoardState) (id : List ℕ) (budget : ℕ) → ticket_of id s.tasks ≡ None → taken s id budget ≡ None
-no_ticket_not_taken s id budget h =
-    let none = no_ticket id s.tasks h in
-    elim (is_budget budget) as
-    (λ (b : Bool). cond b (option_and_then (lends s budget) (task_of id s.tasks)) None ≡ None)
-    [ true ↦ ap (option_and_then (lends s budget)) none | false ↦ refl ]
-
-pub no_ticket_not_out :
-    (s : BoardState) (id : List ℕ) → ticket_of id s.tasks ≡ None → is_out (task_of id s.tasks) ≡ false
-no_ticket_not_out s id h = ap is_out (no_ticket id s.tasks h)
-
 not_lent_by :
     (s : BoardState) (budget : ℕ) (t : Task) (b : Bool) → can_lend t ≡ b → (can_lend t ≡ true → ⊥)
     → lends s budget t ≡ None

@@ -222,12 +222,7 @@ steps_stay s (event.Take id budget) (answer.Taken false) s' l b step other fit =
 steps_stay s (event.Return id) (answer.Returned true) s' l b step other fit =
     returns_stay l s id (task_of id s.tasks) s' b refl step (λ e. other (ap event.Return (sym e))) fit
 steps_stay s (event.Return id) (answer.Returned false) s' l b step other fit = same_board l s s' step.1 fit
-steps_stay s (event.Call q) (answer.Taken x) s' l b step other fit = absurd step
-steps_stay s (event.Call q) (answer.Returned x) s' l b step other fit = absurd step
-steps_stay s (event.Take id budget) (answer.Called a) s' l b step other fit = absurd step
-steps_stay s (event.Take id budget) (answer.Returned x) s' l b step other fit = absurd step
-steps_stay s (event.Return id) (answer.Called a) s' l b step other fit = absurd step
-steps_stay s (event.Return id) (answer.Taken x) s' l b step other fit = absurd step
+steps_stay s _ _ s' l b step other fit = absurd step
 
 -- ---- its end
 

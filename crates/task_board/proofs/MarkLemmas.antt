@@ -1,5 +1,5 @@
 -- Breakpoints that are set and removed: they stay few, and none is there twice.
-use Rattle.std.proofs.Common.{◌≡◌, ◌≢◌, ℕ, suc, ◌<◌, ◌≤◌, List, [], ◌∷◌, ◌++◌, filter, length, nat_eq, nat_le, Bool, true, false, true≢false, cond, not, ◌&&◌, ◌||◌, None, refl, sym, ap, ap₂, ◌∙◌, arith}
+use Rattle.std.proofs.Common.{◌≡◌, ◌≢◌, ℕ, suc, ◌<◌, ◌≤◌, List, [], ◌∷◌, ◌++◌, filter, length, nat_eq, nat_le, Bool, true, false, true≢false, cond, not, ◌||◌, None, refl, sym, ap, ◌∙◌, arith}
 use Rattle.std.proofs.lemmas.Bool.Decides.{nat_tests}
 use Rattle.wasm_ast.specs.declared.place.Place.{Place}
 use Rattle.wasm_ast.specs.declared.refusal.Refusal.TheVariants as refusal
@@ -19,19 +19,6 @@ use Rattle.task_board.proofs.SoundLemmas.{distinct_append, length_append}
 use Rattle.task_board.proofs.StepLemmas.{none_first, not_true}
 
 -- ---- places by their numbers
-
-and_both : (a b : Bool) → (a && b) ≡ true → (a ≡ true) × (b ≡ true)
-and_both true b h = (refl, h)
-and_both false b h = cc
-
-pub same_place : (a p : Place) → is_place a p.func p.instr ≡ true → a ≡ p
-same_place a p h =
-    let both = and_both (nat_eq a.func p.func) (nat_eq a.instr p.instr) h in
-    let one = both.0 in
-    let two = both.1 in
-    let funcs : a.func ≡ p.func = grind (arith, nat_tests, one) in
-    let instrs : a.instr ≡ p.instr = grind (arith, nat_tests, two) in
-    ap₂ (λ (f i : ℕ). record { func = f; instr = i }) funcs instrs
 
 own_place : (p : Place) → is_place p p.func p.instr ≡ true
 own_place p =

@@ -12,8 +12,8 @@ use Rattle.task_requests.specs.declared.request.Ask.TheVariants as ask
 use Rattle.task_requests.specs.declared.request.Reply.TheVariants as reply
 use Rattle.task_board.specs.BoardState.{Task, BoardState, task_of}
 use Rattle.task_board.specs.Tasks.{output_of}
-use Rattle.task_board.specs.Refusals.{output_refusals, task_refusals}
-use Rattle.task_board.specs.Step.{Answers, output_reply, on_output}
+use Rattle.task_board.specs.Refusals.{task_refusals, own_refusals}
+use Rattle.task_board.specs.Step.{Answers, output_reply, does}
 use Rattle.task_board.specs.Inside.Plans.{IsAllowed, RefusesTask, RefusesOutput, TellsOutput}
 use Rattle.task_board.proofs.StepLemmas.{task_named, unchanged}
 use Rattle.task_board.proofs.EffectLemmas.{accepted_on, refused_on, no_task_by, not_memory}
@@ -21,7 +21,7 @@ use Rattle.task_board.proofs.EffectLemmas.{accepted_on, refused_on, no_task_by, 
 module _ (s : BoardState) (id : List ℕ) (number : ℕ) where
   -- no task has the id
   pub no_task_to_tell : (e : Refusal) → RefusesTask s id call.State refusal.WrongStatus e → RefusesOutput s id number e
-  no_task_to_tell e h = no_task_by id (output_refusals number) (task_of id s.tasks) e h
+  no_task_to_tell e h = no_task_by id (own_refusals (ask.Output number)) (task_of id s.tasks) e h
 
   there : (e : ℕ × Task) → IsAllowed s id call.State e → task_of id s.tasks ≡ Some e.1
   there e is = ap (option_map (λ (x : ℕ × Task). x.1)) is.found
@@ -34,9 +34,9 @@ module _ (s : BoardState) (id : List ℕ) (number : ℕ) where
       let off : is_none (stream_of number) ≡ true = ap is_none none in
       let named = is.named in
       let own :
-      first_refusal (task_refusals id (output_refusals number) (Some e.1)) ≡ Some refusal.OutOfRange =
+      first_refusal (task_refusals id (own_refusals (ask.Output number)) (Some e.1)) ≡ Some refusal.OutOfRange =
       rw (named, off) refl in
-      ap (λ (o : Option Task). first_refusal (task_refusals id (output_refusals number) o)) (there e is) ∙ own
+      ap (λ (o : Option Task). first_refusal (task_refusals id (own_refusals (ask.Output number)) o)) (there e is) ∙ own
 
   -- its slice is out
   pub is_busy :
@@ -46,9 +46,9 @@ module _ (s : BoardState) (id : List ℕ) (number : ℕ) where
       let on : is_none (stream_of number) ≡ false = ap is_none some in
       let named = is.named in
       let own :
-      first_refusal (task_refusals id (output_refusals number) (Some e.1)) ≡ Some refusal.Busy =
+      first_refusal (task_refusals id (own_refusals (ask.Output number)) (Some e.1)) ≡ Some refusal.Busy =
       rw (named, on, out) refl in
-      ap (λ (o : Option Task). first_refusal (task_refusals id (output_refusals number) o)) (there e is) ∙ own
+      ap (λ (o : Option Task). first_refusal (task_refusals id (own_refusals (ask.Output number)) o)) (there e is) ∙ own
 
   -- its machine is on the board
   pub tells :
@@ -73,11 +73,11 @@ module _ (s : BoardState) (id : List ℕ) (number : ℕ) where
       (task_named id s.tasks t.task t.found)
       (subst
       (λ (x : List ℕ). Answers s (request.Task id (ask.Output number)) (Ok (output_reply t.task.id x)) s) (sym t.is)
-      (accepted_on s id (output_refusals number) (on_output number) t.task s t.found t.accepted
+      (accepted_on s id (own_refusals (ask.Output number)) (does (ask.Output number)) t.task s t.found t.accepted
       (sym (unchanged s id t.task t.found))))
 
   output_known :
-      (o : Option Task) (e : Refusal) → first_refusal (task_refusals id (output_refusals number) o) ≡ Some e
+      (o : Option Task) (e : Refusal) → first_refusal (task_refusals id (own_refusals (ask.Output number)) o) ≡ Some e
       → e ≢ refusal.NoMemory
   output_known None e h = not_memory (not (is_id id)) true refusal.NotFound e (λ x. cc) h
   output_known (Some t) e h = by (not (is_id id)) (is_none (stream_of number)) (is_some t.out) h
@@ -96,5 +96,5 @@ module _ (s : BoardState) (id : List ℕ) (number : ℕ) where
       → (e ≢ refusal.NoMemory) × Answers s (request.Task id (ask.Output number)) (Err e) s
   refused_output e h = (
     output_known (task_of id s.tasks) e h,
-    refused_on s id (output_refusals number) (on_output number) (task_of id s.tasks) e h,
+    refused_on s id (own_refusals (ask.Output number)) (does (ask.Output number)) (task_of id s.tasks) e h,
   )

@@ -1,5 +1,5 @@
 -- What requests for a breakpoint, for a step, for frames and for bytes of memory are prepared as and answered.
-use Rattle.std.proofs.Common.{◌≡◌, ◌≢◌, ℕ, ◌<◌, ◌≤◌, List, [], ◌∷◌, ◌++◌, length, nat_le, Bool, true, false, cond, not, ◌&&◌, Option, Some, None, is_none, is_some, option_map, Ok, Err, refl, sym, ap, ◌∙◌, subst, arith}
+use Rattle.std.proofs.Common.{◌≡◌, ◌≢◌, ℕ, ◌<◌, ◌≤◌, List, [], ◌∷◌, ◌++◌, length, nat_le, Bool, true, false, cond, not, Option, Some, None, is_none, is_some, option_map, Ok, Err, refl, sym, ap, ◌∙◌, subst, arith}
 use Rattle.std.proofs.lemmas.Bool.Decides.{nat_tests}
 use Rattle.std.specs.Arc.{arc_value}
 use Rattle.wasm_ast.specs.declared.refusal.Refusal.{Refusal}
@@ -24,10 +24,9 @@ use Rattle.task_requests.specs.declared.request.Request.TheVariants as request
 use Rattle.task_requests.specs.declared.request.Ask.TheVariants as ask
 use Rattle.task_requests.specs.declared.request.Reply.TheVariants as reply
 use Rattle.task_board.specs.BoardState.{Task, BoardState, entry_of, task_of, with_task}
-use Rattle.task_board.specs.Limits.{max_step}
 use Rattle.task_board.specs.Tasks.{frames_of, memory_at, shown, place_of, stepped, state_of}
-use Rattle.task_board.specs.Refusals.{unless_allowed, break_refusals, unbreak_refusals, is_step, step_refusals, inspect_refusals, peek_refusals, task_refusals}
-use Rattle.task_board.specs.Step.{Answers, on_break, on_unbreak, on_step, on_inspect, on_peek}
+use Rattle.task_board.specs.Refusals.{unless_allowed, is_step, task_refusals, own_refusals}
+use Rattle.task_board.specs.Step.{Answers, does}
 use Rattle.task_board.specs.Inside.Marks.{mark_request, mark_reply, mark_refusals, marked_places, marked}
 use Rattle.task_board.specs.Inside.Plans.{IsAllowed, RefusesTask, RefusesOwn, place_refusals, HasPlace, MayMark, HasMachine, CallPrepared, MarkPrepared}
 use Rattle.task_board.proofs.MarkLemmas.{few_after, few_without}
@@ -128,28 +127,6 @@ known_of_none : (a : Bool) (e : Refusal) → cond a (Some refusal.BadId) (Some r
 known_of_none true e h is = cc
 known_of_none false e h is = cc
 
--- a step of 1 to 1,000 turns
-pub step_in_range : (count : ℕ) → 1 ≤ count → count ≤ max_step → is_step count ≡ true
-step_in_range count low high =
-    let a : nat_le 1 count ≡ true = grind (arith, nat_tests, low) in
-    let b : nat_le count max_step ≡ true = grind (arith, nat_tests, high) in
-    rw (a, b) refl
-
-pub step_too_few : (count : ℕ) → count < 1 → is_step count ≡ false
-step_too_few count low =
-    let a : nat_le 1 count ≡ false = grind (arith, nat_tests, low) in
-    rw a refl
-
-pub step_too_many : (count : ℕ) → max_step < count → is_step count ≡ false
-step_too_many count high = by (nat_le 1 count)
-  where
-    off : nat_le count max_step ≡ false
-    off = grind (arith, nat_tests, high)
-
-    by : (b : Bool) → (b && nat_le count max_step) ≡ false
-    by true = off
-    by false = refl
-
 -- ---- the task with an id
 
 module _ (s : BoardState) (id : List ℕ) where
@@ -191,7 +168,7 @@ module _ (s : BoardState) (id : List ℕ) where
   -- ---- breakpoints
 
   pub break_refused : (func place : ℕ) (x : Refusal) → RefusesOwn s id (place_refusals call.Break func place) x
-      → RefusesOwn s id (break_refusals func place) x
+      → RefusesOwn s id (own_refusals (ask.Break func place)) x
   break_refused func place x h =
       refused_first (place_refusals call.Break func place)
       (λ t. (is_among t.breaks func place, refusal.Exists)
@@ -199,25 +176,25 @@ module _ (s : BoardState) (id : List ℕ) where
       ∷ []) x h
 
   pub unbreak_refused : (func place : ℕ) (x : Refusal) → RefusesOwn s id (place_refusals call.Unbreak func place) x
-      → RefusesOwn s id (unbreak_refusals func place) x
+      → RefusesOwn s id (own_refusals (ask.Unbreak func place)) x
   unbreak_refused func place x h =
       refused_first (place_refusals call.Unbreak func place)
       (λ t. (not (is_among t.breaks func place), refusal.NotFound) ∷ []) x h
 
   module _ (func place : ℕ) (e : ℕ × Task) (p : Place) where
     pub is_there : HasPlace s id call.Break func place e p → is_among e.1.breaks func place ≡ true
-        → RefusesOwn s id (break_refusals func place) refusal.Exists
+        → RefusesOwn s id (own_refusals (ask.Break func place)) refusal.Exists
     is_there h on =
-        refuses_of e (break_refusals func place) refusal.Exists h.can.found
+        refuses_of e (own_refusals (ask.Break func place)) refusal.Exists h.can.found
         (fourth (not (is_id id)) (not (allowed call.Break e.1.status)) (not (has_place e.1.module func place))
         (is_among e.1.breaks func place) (nat_le max_breakpoints (length e.1.breaks))
         (ap not h.can.named) (ap not h.can.allowed) (ap not h.written) on)
 
     pub too_many : HasPlace s id call.Break func place e p → is_among e.1.breaks func place ≡ false
-        → max_breakpoints ≤ length e.1.breaks → RefusesOwn s id (break_refusals func place) refusal.TooMany
+        → max_breakpoints ≤ length e.1.breaks → RefusesOwn s id (own_refusals (ask.Break func place)) refusal.TooMany
     too_many h off many =
         let full : nat_le max_breakpoints (length e.1.breaks) ≡ true = grind (arith, nat_tests, many) in
-        refuses_of e (break_refusals func place) refusal.TooMany h.can.found
+        refuses_of e (own_refusals (ask.Break func place)) refusal.TooMany h.can.found
         (fifth (not (is_id id)) (not (allowed call.Break e.1.status)) (not (has_place e.1.module func place))
         (is_among e.1.breaks func place) (nat_le max_breakpoints (length e.1.breaks))
         (ap not h.can.named) (ap not h.can.allowed) (ap not h.written) off full)
@@ -244,17 +221,17 @@ module _ (s : BoardState) (id : List ℕ) where
         own_of :
             of_break (not (is_id id)) (not (allowed call.Break e.1.status)) (not (has_place e.1.module func place))
             (is_among e.1.breaks func place) (nat_le max_breakpoints (length e.1.breaks)) ≡ None
-            → first_refusal (break_refusals func place e.1) ≡ None
-        own_of h = by (not (is_id id)) (first_refusal (break_refusals func place e.1)) h
+            → first_refusal (own_refusals (ask.Break func place) e.1) ≡ None
+        own_of h = by (not (is_id id)) (first_refusal (own_refusals (ask.Break func place) e.1)) h
           where
             by : (b : Bool) (o : Option Refusal) → cond b (Some refusal.BadId) o ≡ None → o ≡ None
             by true o g = cc
             by false o g = g
 
     pub not_there : HasPlace s id call.Unbreak func place e p → is_among e.1.breaks func place ≡ false
-        → RefusesOwn s id (unbreak_refusals func place) refusal.NotFound
+        → RefusesOwn s id (own_refusals (ask.Unbreak func place)) refusal.NotFound
     not_there h off =
-        refuses_of e (unbreak_refusals func place) refusal.NotFound h.can.found
+        refuses_of e (own_refusals (ask.Unbreak func place)) refusal.NotFound h.can.found
         (last_of_unbreak (not (is_id id)) (not (allowed call.Unbreak e.1.status))
         (not (has_place e.1.module func place)) (not (is_among e.1.breaks func place))
         (ap not h.can.named) (ap not h.can.allowed) (ap not h.written) (ap not off))
@@ -277,34 +254,34 @@ module _ (s : BoardState) (id : List ℕ) where
 
   break_known :
       (func place : ℕ) (o : Option Task) (e : Refusal)
-      → first_refusal (task_refusals id (break_refusals func place) o) ≡ Some e → e ≢ refusal.NoMemory
+      → first_refusal (task_refusals id (own_refusals (ask.Break func place)) o) ≡ Some e → e ≢ refusal.NoMemory
   break_known func place None e h = known_of_none (not (is_id id)) e h
   break_known func place (Some t) e h =
       known_of_break (not (is_id id)) (not (allowed call.Break t.status)) (not (has_place t.module func place))
       (is_among t.breaks func place) (nat_le max_breakpoints (length t.breaks)) e h
 
   pub refused_break :
-      (func place : ℕ) (e : Refusal) → RefusesOwn s id (break_refusals func place) e
+      (func place : ℕ) (e : Refusal) → RefusesOwn s id (own_refusals (ask.Break func place)) e
       → (e ≢ refusal.NoMemory) × Answers s (request.Task id (ask.Break func place)) (Err e) s
   refused_break func place e h = (
     break_known func place (task_of id s.tasks) e h,
-    refused_on s id (break_refusals func place) (on_break func place) (task_of id s.tasks) e h,
+    refused_on s id (own_refusals (ask.Break func place)) (does (ask.Break func place)) (task_of id s.tasks) e h,
   )
 
   unbreak_known :
       (func place : ℕ) (o : Option Task) (e : Refusal)
-      → first_refusal (task_refusals id (unbreak_refusals func place) o) ≡ Some e → e ≢ refusal.NoMemory
+      → first_refusal (task_refusals id (own_refusals (ask.Unbreak func place)) o) ≡ Some e → e ≢ refusal.NoMemory
   unbreak_known func place None e h = known_of_none (not (is_id id)) e h
   unbreak_known func place (Some t) e h =
       known_of_unbreak (not (is_id id)) (not (allowed call.Unbreak t.status)) (not (has_place t.module func place))
       (not (is_among t.breaks func place)) e h
 
   pub refused_unbreak :
-      (func place : ℕ) (e : Refusal) → RefusesOwn s id (unbreak_refusals func place) e
+      (func place : ℕ) (e : Refusal) → RefusesOwn s id (own_refusals (ask.Unbreak func place)) e
       → (e ≢ refusal.NoMemory) × Answers s (request.Task id (ask.Unbreak func place)) (Err e) s
   refused_unbreak func place e h = (
     unbreak_known func place (task_of id s.tasks) e h,
-    refused_on s id (unbreak_refusals func place) (on_unbreak func place) (task_of id s.tasks) e h,
+    refused_on s id (own_refusals (ask.Unbreak func place)) (does (ask.Unbreak func place)) (task_of id s.tasks) e h,
   )
 
   pub mark_prepared :
@@ -322,25 +299,25 @@ module _ (s : BoardState) (id : List ℕ) where
       → first_refusal (task_refusals id (mark_refusals m) (Some t)) ≡ None → s' ≡ with_task s (marked m t)
       → Answers s (mark_request m id) (Ok (mark_reply m t.id)) s'
   mark_answers (mark.Set p) t s' at none is =
-      accepted_on s id (break_refusals p.func p.instr) (on_break p.func p.instr) t s' at none is
+      accepted_on s id (own_refusals (ask.Break p.func p.instr)) (does (ask.Break p.func p.instr)) t s' at none is
   mark_answers (mark.Remove p) t s' at none is =
-      accepted_on s id (unbreak_refusals p.func p.instr) (on_unbreak p.func p.instr) t s' at none is
+      accepted_on s id (own_refusals (ask.Unbreak p.func p.instr)) (does (ask.Unbreak p.func p.instr)) t s' at none is
 
   -- ---- steps
 
   pub step_refused : (count : ℕ) (e : Refusal) → RefusesTask s id call.Step refusal.WrongStatus e
       → (e ≢ refusal.NoMemory) × Answers s (request.Task id (ask.Step count)) (Err e) s
   step_refused count e h =
-      let own : RefusesOwn s id (step_refusals count) e =
+      let own : RefusesOwn s id (own_refusals (ask.Step count)) e =
       refused_first (unless_allowed call.Step refusal.WrongStatus)
       (λ t. (not (is_step count), refusal.OutOfRange) ∷ []) e h in (
         step_known count (task_of id s.tasks) e own,
-        refused_on s id (step_refusals count) (on_step count) (task_of id s.tasks) e own,
+        refused_on s id (own_refusals (ask.Step count)) (does (ask.Step count)) (task_of id s.tasks) e own,
       )
     where
       step_known :
           (count : ℕ) (o : Option Task) (e : Refusal)
-          → first_refusal (task_refusals id (step_refusals count) o) ≡ Some e → e ≢ refusal.NoMemory
+          → first_refusal (task_refusals id (own_refusals (ask.Step count)) o) ≡ Some e → e ≢ refusal.NoMemory
       step_known count None e h = known_of_none (not (is_id id)) e h
       step_known count (Some t) e h =
           known_of_three (not (is_id id)) (not (allowed call.Step t.status)) (not (is_step count)) e h
@@ -350,14 +327,14 @@ module _ (s : BoardState) (id : List ℕ) where
       × Answers s (request.Task id (ask.Step count)) (Err refusal.OutOfRange) s
   no_step count e can off = (
     λ h. cc,
-    refused_on s id (step_refusals count) (on_step count) (task_of id s.tasks) refusal.OutOfRange
-        (refuses_of e (step_refusals count) refusal.OutOfRange can.found
+    refused_on s id (own_refusals (ask.Step count)) (does (ask.Step count)) (task_of id s.tasks) refusal.OutOfRange
+        (refuses_of e (own_refusals (ask.Step count)) refusal.OutOfRange can.found
         (third (not (is_id id)) (not (allowed call.Step e.1.status)) (not (is_step count)) (ap not can.named)
         (ap not can.allowed) (ap not off))),
   )
 
   pub step_prepared : (count slot : ℕ) (t : Task) → IsAllowed s id call.Step (slot, t) → is_step count ≡ true
-      → CallPrepared s (step_refusals count) slot id
+      → CallPrepared s (own_refusals (ask.Step count)) slot id
   step_prepared count slot t can on = record {
     task = t;
     found = can.found;
@@ -368,28 +345,30 @@ module _ (s : BoardState) (id : List ℕ) where
 
   pub step_answers :
       (count : ℕ) (t : Task) (s' : BoardState) → task_of id s.tasks ≡ Some t
-      → first_refusal (task_refusals id (step_refusals count) (Some t)) ≡ None → s' ≡ with_task s (stepped t count)
+      → first_refusal (task_refusals id (own_refusals (ask.Step count)) (Some t)) ≡ None
+      → s' ≡ with_task s (stepped t count)
       → Answers s (request.Task id (ask.Step count)) (Ok (reply.Step (state_of (stepped t count)))) s'
-  step_answers count t s' at none is = accepted_on s id (step_refusals count) (on_step count) t s' at none is
+  step_answers count t s' at none is =
+      accepted_on s id (own_refusals (ask.Step count)) (does (ask.Step count)) t s' at none is
 
   -- ---- frames
 
   pub inspect_refused_first :
-      (e : Refusal) → RefusesTask s id call.State refusal.WrongStatus e → RefusesOwn s id inspect_refusals e
-  inspect_refused_first e h = no_task_by id inspect_refusals (task_of id s.tasks) e h
+      (e : Refusal) → RefusesTask s id call.State refusal.WrongStatus e → RefusesOwn s id (own_refusals ask.Inspect) e
+  inspect_refused_first e h = no_task_by id (own_refusals ask.Inspect) (task_of id s.tasks) e h
 
   inspect_known :
-      (o : Option Task) (e : Refusal) → first_refusal (task_refusals id inspect_refusals o) ≡ Some e
+      (o : Option Task) (e : Refusal) → first_refusal (task_refusals id (own_refusals ask.Inspect) o) ≡ Some e
       → e ≢ refusal.NoMemory
   inspect_known None e h = known_of_none (not (is_id id)) e h
   inspect_known (Some t) e h = known_of_inspect (not (is_id id)) (is_some t.out) e h
 
   pub refused_inspect :
-      (e : Refusal) → RefusesOwn s id inspect_refusals e
+      (e : Refusal) → RefusesOwn s id (own_refusals ask.Inspect) e
       → (e ≢ refusal.NoMemory) × Answers s (request.Task id ask.Inspect) (Err e) s
   refused_inspect e h = (
     inspect_known (task_of id s.tasks) e h,
-    refused_on s id inspect_refusals on_inspect (task_of id s.tasks) e h,
+    refused_on s id (own_refusals ask.Inspect) (does ask.Inspect) (task_of id s.tasks) e h,
   )
 
   pub inspect_answers : (m : MachineView) (frames : List ShownFrame) → HasMachine s id m
@@ -399,7 +378,7 @@ module _ (s : BoardState) (id : List ℕ) where
       let here : frames ≡ frames_of h.task =
       is ∙ ap (λ (x : MachineView). frames_shown (machine_state x)) h.is in
       let done =
-      accepted_on s id inspect_refusals on_inspect h.task s h.found
+      accepted_on s id (own_refusals ask.Inspect) (does ask.Inspect) h.task s h.found
       (none_of_inspect (not (is_id id)) (is_some h.task.out) (ap not h.named) (ap is_some h.idle))
       (sym (unchanged s id h.task h.found)) in
       subst (λ (x : List ℕ). Answers s (request.Task id ask.Inspect) (Ok (reply.Inspect frames x m.turns)) s)
@@ -413,22 +392,23 @@ module _ (s : BoardState) (id : List ℕ) where
   -- ---- bytes of memory
 
   pub peek_refused_first : (address length : ℕ) (e : Refusal) → RefusesTask s id call.State refusal.WrongStatus e
-      → RefusesOwn s id (peek_refusals address length) e
-  peek_refused_first address length e h = no_task_by id (peek_refusals address length) (task_of id s.tasks) e h
+      → RefusesOwn s id (own_refusals (ask.Peek address length)) e
+  peek_refused_first address length e h =
+      no_task_by id (own_refusals (ask.Peek address length)) (task_of id s.tasks) e h
 
   peek_known :
       (address length : ℕ) (o : Option Task) (e : Refusal)
-      → first_refusal (task_refusals id (peek_refusals address length) o) ≡ Some e → e ≢ refusal.NoMemory
+      → first_refusal (task_refusals id (own_refusals (ask.Peek address length)) o) ≡ Some e → e ≢ refusal.NoMemory
   peek_known address length None e h = known_of_none (not (is_id id)) e h
   peek_known address length (Some t) e h =
       known_of_peek (not (is_id id)) (is_some t.out) (is_none (memory_at t address length)) e h
 
   pub refused_peek :
-      (address length : ℕ) (e : Refusal) → RefusesOwn s id (peek_refusals address length) e
+      (address length : ℕ) (e : Refusal) → RefusesOwn s id (own_refusals (ask.Peek address length)) e
       → (e ≢ refusal.NoMemory) × Answers s (request.Task id (ask.Peek address length)) (Err e) s
   refused_peek address length e h = (
     peek_known address length (task_of id s.tasks) e h,
-    refused_on s id (peek_refusals address length) (on_peek address length) (task_of id s.tasks) e h,
+    refused_on s id (own_refusals (ask.Peek address length)) (does (ask.Peek address length)) (task_of id s.tasks) e h,
   )
 
   same_memory : (m : MachineView) (h : HasMachine s id m) (address length : ℕ)
@@ -437,9 +417,9 @@ module _ (s : BoardState) (id : List ℕ) where
 
   pub not_shown : (m : MachineView) (address length : ℕ) → HasMachine s id m
       → peeked (memory_of m) address length ≡ None
-      → RefusesOwn s id (peek_refusals address length) refusal.OutOfRange
+      → RefusesOwn s id (own_refusals (ask.Peek address length)) refusal.OutOfRange
   not_shown m address length h none =
-      ap (λ (o : Option Task). first_refusal (task_refusals id (peek_refusals address length) o)) h.found
+      ap (λ (o : Option Task). first_refusal (task_refusals id (own_refusals (ask.Peek address length)) o)) h.found
       ∙ last_of_peek (not (is_id id)) (is_some h.task.out) (is_none (memory_at h.task address length))
       (ap not h.named) (ap is_some h.idle) (ap is_none (sym (same_memory m h address length) ∙ none))
 
@@ -449,7 +429,7 @@ module _ (s : BoardState) (id : List ℕ) where
   peek_answers m address length bytes h is =
       let at : memory_at h.task address length ≡ Some bytes = sym (same_memory m h address length) ∙ is in
       let done =
-      accepted_on s id (peek_refusals address length) (on_peek address length) h.task s h.found
+      accepted_on s id (own_refusals (ask.Peek address length)) (does (ask.Peek address length)) h.task s h.found
       (none_of_peek (not (is_id id)) (is_some h.task.out) (is_none (memory_at h.task address length))
       (ap not h.named) (ap is_some h.idle) (ap is_none at)) (sym (unchanged s id h.task h.found)) in
       subst (λ (x : List ℕ). Answers s (request.Task id (ask.Peek address length)) (Ok (reply.Peek bytes x)) s)

@@ -104,13 +104,10 @@ beside_placed :
     (xs : List (Option Task)) (k j : ℕ) (t : Task) → j ≢ k
     → slice_index_or (placed xs k t) j None ≡ slice_index_or xs j None
 beside_placed [] zero zero t other = absurd (other refl)
-beside_placed [] zero (suc j) t other = refl
-beside_placed [] (suc k) zero t other = refl
 beside_placed [] (suc k) (suc j) t other = beside_placed [] k j t (λ e. other (ap (λ (n : ℕ). suc n) e))
 beside_placed (x ∷ xs) zero zero t other = absurd (other refl)
-beside_placed (x ∷ xs) zero (suc j) t other = refl
-beside_placed (x ∷ xs) (suc k) zero t other = refl
 beside_placed (x ∷ xs) (suc k) (suc j) t other = beside_placed xs k j t (λ e. other (ap (λ (n : ℕ). suc n) e))
+beside_placed _ _ _ t other = refl
 
 -- slots that have the same under each key have the same entries
 same_entries : (key : ℕ) (xs ys : List (Option Task)) → ((j : ℕ) → slice_index_or xs j None ≡ slice_index_or ys j None)

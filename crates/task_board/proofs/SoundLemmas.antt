@@ -26,11 +26,6 @@ use Rattle.task_board.proofs.EntryLemmas.{none_is_not, some_is, cond_true, cond_
 
 -- ---- lists
 
-pub each_map :
-    {X Y : Type 0} (P : Y → Type 0) (f : X → Y) (xs : List X) → Each (λ (x : X). P (f x)) xs → Each P (map f xs)
-each_map {X} {Y} P f [] each = tt
-each_map {X} {Y} P f (x ∷ xs) each = (each.0, each_map P f xs each.1)
-
 pub each_imp : {X : Type 0} (P Q : X → Type 0) (xs : List X) → ((x : X) → P x → Q x) → Each P xs → Each Q xs
 each_imp {X} P Q [] f each = tt
 each_imp {X} P Q (x ∷ xs) f each = (f x each.0, each_imp P Q xs f each.1)

@@ -132,11 +132,8 @@ create_leaves s config id (Ok r) s' b none effect =
 -- ---- slices
 
 pub running_only : (status : Status) → is_running status ≡ true → status ≡ Running
-running_only Created h = cc
 running_only Running h = refl
-running_only Pausing h = cc
-running_only Paused h = cc
-running_only Stopped h = cc
+running_only _ h = cc
 
 both_of : (a b : Bool) → (a && b) ≡ true → (a ≡ true) × (b ≡ true)
 both_of true b h = (refl, h)
@@ -324,23 +321,3 @@ pub id_refusal_known :
 id_refusal_known s id e h = not_memory (not (is_id id)) (is_some (task_of id s.tasks)) (is_full s) e h
 
 -- ---- a create that none of the refusals of its id concerns
-
-rest_of :
-    (a b c : Bool) (o : Option Refusal)
-    → cond a (Some refusal.BadId) (cond b (Some refusal.Exists) (cond c (Some refusal.TooMany) None)) ≡ None
-    → cond a (Some refusal.BadId) (cond b (Some refusal.Exists) (cond c (Some refusal.TooMany) o)) ≡ o
-rest_of true b c o h = cc
-rest_of false true c o h = cc
-rest_of false false true o h = cc
-rest_of false false false o h = refl
-
--- then the config and its content decide
-pub create_rest : (s : BoardState) (config id : List ℕ) → first_refusal (id_refusals s id) ≡ None
-    → first_refusal (create_refusals s config id)
-    ≡ first_refusal
-    ((is_none (process_read config), refusal.BadConfig) ∷ (is_none (named_bytes s config), refusal.NoContent) ∷ [])
-create_rest s config id h =
-    rest_of (not (is_id id)) (is_some (task_of id s.tasks)) (is_full s)
-    (first_refusal
-    ((is_none (process_read config), refusal.BadConfig) ∷ (is_none (named_bytes s config), refusal.NoContent) ∷ []))
-    h

@@ -12,7 +12,7 @@ use Rattle.task_requests.specs.declared.request.Reply.{Reply}
 use Rattle.task_requests.specs.declared.request.Reply.TheVariants as reply
 use Rattle.task_board.specs.declared.store_change.StoreChange.{StoreChange}
 use Rattle.task_board.specs.declared.store_change.StoreChange.TheVariants as change
-use Rattle.task_board.specs.declared.tables.Tables.TheInside as tables
+use Rattle.task_board.specs.declared.board.Board.TheInside as board
 use Rattle.task_board.specs.BoardState.{BoardState, used_by, with_store}
 use Rattle.task_board.specs.BoardValue.{Room}
 use Rattle.task_board.specs.Texts.{IsAssembled}
@@ -76,22 +76,11 @@ pub data MadeFor (r : Request) (c : StoreChange) : Type 0 where
 made_for_text :
     (text : List ℕ) (c : StoreChange) → IsMadeFor (request.PutText text) c → MadeFor (request.PutText text) c
 made_for_text text (change.Put key bytes digest) is = of_text text (arc_value bytes) is refl refl
-made_for_text text (change.Remove digest) is = absurd is
-made_for_text text (change.LeaseCreate key members id) is = absurd is
-made_for_text text (change.LeaseAdd key digest id) is = absurd is
-made_for_text text (change.LeaseDelete id) is = absurd is
-made_for_text text (change.Gc used removed) is = absurd is
+made_for_text text _ is = absurd is
 
 pub made_for : (r : Request) (c : StoreChange) → IsMadeFor r c → MadeFor r c
 made_for (request.PutText text) c is = made_for_text text c is
-made_for (request.Put given) c is = own is
-made_for (request.Remove digest) c is = own is
-made_for (request.LeaseCreate id) c is = own is
-made_for (request.LeaseAdd digest id) c is = own is
-made_for (request.LeaseDelete id) c is = own is
-made_for request.Gc c is = own is
-made_for (request.Create config id) c is = own is
-made_for (request.Task id k) c is = own is
+made_for _ c is = own is
 
 answers_made_for :
     (s : BoardState) (r : Request) (c : StoreChange) (a : Answer) (s' : BoardState) → MadeFor r c
@@ -108,7 +97,7 @@ pub made_answers :
 made_answers s r c a s' is done = answers_made_for s r c a s' (made_for r c is) done
 
 pub can_take :
-    (b : tables.Inside) (c : StoreChange) → StorePrepared (board_state_of b) (board_of b).room c → CanTake b.store c
+    (b : board.Inside) (c : StoreChange) → StorePrepared (board_state_of b) (board_of b).room c → CanTake b.store c
 can_take b (change.Put key bytes digest) p =
     (p.fitted.2, p.fitted.0, put_new b.store.state (arc_value bytes) p.accepted)
 can_take b (change.Remove digest) p = tt

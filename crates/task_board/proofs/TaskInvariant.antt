@@ -53,11 +53,6 @@ loan_kept t c slot budget opens is =
 
 -- ---- which loan fits
 
-pub fits_numbered :
-    (l : Lent) (t : Task) → FitsTask l t
-    → (l.incarnation ≡ t.incarnation) × (l.turns ≡ t.turns) × (t.out ≡ Some l.budget)
-fits_numbered l t f = (ap (λ (x : Lent). x.incarnation) f.0, ap (λ (x : Lent). x.turns) f.0, f.1)
-
 pub fits_parts : (l : Lent) (t : Task) → l.incarnation ≡ t.incarnation → l.turns ≡ t.turns → t.out ≡ Some l.budget
     → l.id ≡ t.id → l.bytes ≡ t.bytes → l.module ≡ t.module → l.process ≡ t.process → l.breaks ≡ t.breaks → FitsTask l t
 fits_parts l t n k out id bytes m p bs = (

@@ -37,17 +37,11 @@ text_change text bytes (store.Put key given digest) is made =
   where
     same_bytes : (a b : List ℕ) → request.Put a ≡ request.Put b → a ≡ b
     same_bytes a b h = cc
-text_change text bytes (store.Remove digest) is made = cc
-text_change text bytes (store.LeaseCreate key members id) is made = cc
-text_change text bytes (store.LeaseAdd key digest id) is made = cc
-text_change text bytes (store.LeaseDelete id) is made = cc
-text_change text bytes (store.Gc used removed) is made = cc
+text_change text bytes _ is made = cc
 
 no_change : (bytes : List ℕ) (c : Change) (id : List ℕ) → request.Put bytes ≡ change_request c id → ⊥
 no_change bytes change.Start id h = cc
-no_change bytes change.Pause id h = cc
-no_change bytes change.Resume id h = cc
-no_change bytes (change.Kill signal) id h = cc
+no_change bytes _ id h = cc
 
 no_mark : (bytes : List ℕ) (m : Mark) (id : List ℕ) → request.Put bytes ≡ mark_request m id → ⊥
 no_mark bytes (mark.Set p) id h = cc
@@ -90,28 +84,7 @@ refused_plan s room text e why = (not_memory e why, refused e why refl refl)
 -- the reason of a refusal as a text that denotes no module
 bad_cause : (text : List ℕ) (e : Refusal) → IsBadText e → DenotesNone text → CannotAssemble text e
 bad_cause text (refusal.BadText line column) bad none = bad_text line column none
-bad_cause text refusal.BadRequest bad none = absurd bad
-bad_cause text refusal.BadId bad none = absurd bad
-bad_cause text refusal.Exists bad none = absurd bad
-bad_cause text refusal.NotFound bad none = absurd bad
-bad_cause text refusal.NoContent bad none = absurd bad
-bad_cause text refusal.InUse bad none = absurd bad
-bad_cause text refusal.BadModule bad none = absurd bad
-bad_cause text (refusal.Invalid at) bad none = absurd bad
-bad_cause text refusal.Limit bad none = absurd bad
-bad_cause text refusal.BadConfig bad none = absurd bad
-bad_cause text refusal.WrongStatus bad none = absurd bad
-bad_cause text refusal.Busy bad none = absurd bad
-bad_cause text refusal.OutOfRange bad none = absurd bad
-bad_cause text refusal.TooMany bad none = absurd bad
-bad_cause text refusal.JournalFull bad none = absurd bad
-bad_cause text refusal.DigestConflict bad none = absurd bad
-bad_cause text refusal.NoMemory bad none = absurd bad
-bad_cause text refusal.Closed bad none = absurd bad
-bad_cause text refusal.JournalFault bad none = absurd bad
-bad_cause text refusal.NoEntry bad none = absurd bad
-bad_cause text refusal.BadImport bad none = absurd bad
-bad_cause text refusal.SegmentOutOfBounds bad none = absurd bad
+bad_cause text _ bad none = absurd bad
 
 -- the reason of a refusal for a limit
 limit_cause :
@@ -220,11 +193,8 @@ reasons_agree text _ _ (bad_text line column none) (bad_text line' column' none'
 reasons_agree text _ _ (bad_text line column none) (too_much m denotes big) = absurd (none m denotes)
 reasons_agree text _ _ (bad_text line column none) (too_deep deep) = inr (none, tt, deep)
 reasons_agree text _ _ (too_much m denotes big) (bad_text line column none) = absurd (none m denotes)
-reasons_agree text _ _ (too_much m denotes big) (too_much m' denotes' big') = inl refl
-reasons_agree text _ _ (too_much m denotes big) (too_deep deep) = inl refl
 reasons_agree text _ _ (too_deep deep) (bad_text line column none) = inr (none, deep, tt)
-reasons_agree text _ _ (too_deep deep) (too_much m denotes big) = inl refl
-reasons_agree text _ _ (too_deep deep) (too_deep deep') = inl refl
+reasons_agree text _ _ _ _ = inl refl
 
 agree_by :
     (s : BoardState) (text : List ℕ) (r : Answer) (s1 : BoardState) (r' : Answer) (s2 : BoardState) → One → DeepHasNone

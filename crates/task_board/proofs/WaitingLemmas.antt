@@ -1,41 +1,19 @@
 -- The tasks that wait: each once, each of them there, and so no more than there are tasks.
-use Rattle.std.proofs.Common.{◌≡◌, ◌≢◌, ℕ, suc, ◌<◌, ◌≤◌, List, [], ◌∷◌, ◌++◌, filter, length, Bool, true, false, true≢false, cond, not, ◌&&◌, ◌||◌, bytes_eq, nat_eq, Option, Some, None, option_and_then, inl, inr, refl, sym, ap, ap₂, ◌∙◌, subst, arith}
+use Rattle.std.proofs.Common.{◌≡◌, ◌≢◌, ℕ, suc, ◌<◌, ◌≤◌, List, [], ◌∷◌, ◌++◌, filter, length, Bool, true, false, true≢false, cond, not, ◌||◌, bytes_eq, nat_eq, Option, Some, None, option_and_then, inl, inr, refl, sym, ap, ap₂, ◌∙◌, subst, arith}
 use Rattle.std.proofs.lemmas.Bool.Decides.{nat_tests}
-use Rattle.task_board.specs.declared.change.Change.{Change}
-use Rattle.task_board.specs.declared.change.Change.TheVariants as change
-use Rattle.task_board.specs.declared.store_change.StoreChange.{StoreChange}
-use Rattle.task_board.specs.declared.store_change.StoreChange.TheVariants as store
-use Rattle.task_requests.specs.declared.request.Request.{Request}
-use Rattle.task_requests.specs.declared.request.Request.TheVariants as request
-use Rattle.task_requests.specs.declared.request.Ask.TheVariants as ask
 use Rattle.task_board.specs.declared.ticket.Ticket.{Ticket}
 use Rattle.task_board.specs.Limits.{max_tasks}
 use Rattle.task_board.specs.BoardState.{Task, Entries, BoardState, task_in, entry_of, put_task, change_task, with_task, with_new_task}
 use Rattle.task_board.specs.Sound.{Each, AreDistinct, IsBoard}
 use Rattle.task_board.specs.Tickets.{ticket_if_running, ticket_in}
-use Rattle.task_board.specs.Waiting.{is_ticket, is_waiting, has_incarnation, is_present, enter, enter_if, running_ticket, without, waiting_after_call, AreWaiting}
-use Rattle.task_board.specs.Inside.Changes.{change_request, enters}
-use Rattle.task_board.specs.Inside.StoreChanges.{store_request, IsMadeFor}
-use Rattle.task_board.specs.Inside.Plans.{IsQuestion}
-use Rattle.task_board.proofs.StoreChangeLemmas.{MadeFor, own, of_text, made_for}
+use Rattle.task_board.specs.Waiting.{is_ticket, is_waiting, has_incarnation, is_present, enter, running_ticket, without, AreWaiting}
 use Rattle.task_board.proofs.EntryLemmas.{none_is_not, some_is, by_slot, by_id, cond_true, cond_false, cond_is_true, cond_is_false, same_slot, other_slot, same_id, other_id, in_slot, changed_from_old, IsChangedFrom, put_in}
 use Rattle.task_board.proofs.SoundLemmas.{each_imp, each_append, distinct_append}
 
 -- ---- tickets
 
-and_both : (a b : Bool) → (a && b) ≡ true → (a ≡ true) × (b ≡ true)
-and_both true b h = (refl, h)
-and_both false b h = cc
-
 same_parts : (a b : Ticket) → a.slot ≡ b.slot → a.incarnation ≡ b.incarnation → a ≡ b
 same_parts a b slots numbers = ap₂ (λ (s n : ℕ). record { slot = s; incarnation = n }) slots numbers
-
-is_of : (a b : Ticket) → is_ticket a b ≡ true → a ≡ b
-is_of a b h =
-    let both = and_both (nat_eq a.slot b.slot) (nat_eq a.incarnation b.incarnation) h in
-    let one = both.0 in
-    let two = both.1 in
-    same_parts a b (grind (arith, nat_tests, one)) (grind (arith, nat_tests, two))
 
 is_own : (a : Ticket) → is_ticket a a ≡ true
 is_own a =
@@ -317,52 +295,3 @@ same_ticket s k id old new b same found =
     let there : task_in k us ≡ Some new = in_slot id (k, new) us b.slots at in
     ap (option_and_then (λ (e : ℕ × Task). ticket_if_running e.0 e.1)) at
     ∙ sym (ap (option_and_then (ticket_if_running k)) there)
-
-pub change_waits :
-    (c : Change) (k : ℕ) (id : List ℕ) (ts : Entries) (ws : List Ticket) → running_ticket id ts ≡ ticket_in k ts
-    → waiting_after_call (change_request c id) ts ws ≡ cond (enters c) (enter_if (ticket_in k ts) ws) ws
-change_waits change.Start k id ts ws same = ap (λ (o : Option Ticket). enter_if o ws) same
-change_waits change.Pause k id ts ws same = refl
-change_waits change.Resume k id ts ws same = ap (λ (o : Option Ticket). enter_if o ws) same
-change_waits (change.Kill signal) k id ts ws same = refl
-
-pub store_waits : (c : StoreChange) (ts : Entries) (ws : List Ticket) → waiting_after_call (store_request c) ts ws ≡ ws
-store_waits (store.Put key bytes digest) ts ws = refl
-store_waits (store.Remove digest) ts ws = refl
-store_waits (store.LeaseCreate key members id) ts ws = refl
-store_waits (store.LeaseAdd key digest id) ts ws = refl
-store_waits (store.LeaseDelete id) ts ws = refl
-store_waits (store.Gc used removed) ts ws = refl
-
-waits_made_for :
-    (r : Request) (c : StoreChange) (ts : Entries) (ws : List Ticket) → MadeFor r c → waiting_after_call r ts ws ≡ ws
-waits_made_for r c ts ws (own is) = ap (λ (q : Request). waiting_after_call q ts ws) is ∙ store_waits c ts ws
-waits_made_for r c ts ws (of_text text bytes is put asked) = ap (λ (q : Request). waiting_after_call q ts ws) asked
-
--- a request for which the store is changed lets no task wait
-pub made_waits :
-    (r : Request) (c : StoreChange) (ts : Entries) (ws : List Ticket) → IsMadeFor r c → waiting_after_call r ts ws ≡ ws
-made_waits r c ts ws is = waits_made_for r c ts ws (made_for r c is)
-
-pub question_waits : (r : Request) (ts : Entries) (ws : List Ticket) → IsQuestion r → waiting_after_call r ts ws ≡ ws
-question_waits (request.Task id ask.State) ts ws is = refl
-question_waits (request.Task id ask.Wait) ts ws is = refl
-question_waits (request.Task id (ask.Output stream)) ts ws is = refl
-question_waits (request.Task id ask.Inspect) ts ws is = refl
-question_waits (request.Task id (ask.Peek address length)) ts ws is = refl
-question_waits (request.Task id (ask.Break func place)) ts ws is = refl
-question_waits (request.Task id (ask.Unbreak func place)) ts ws is = refl
-question_waits (request.Task id (ask.Step count)) ts ws is = refl
-question_waits (request.Put bytes) ts ws is = refl
-question_waits (request.PutText text) ts ws is = refl
-question_waits (request.Remove digest) ts ws is = refl
-question_waits (request.LeaseCreate id) ts ws is = refl
-question_waits (request.LeaseAdd digest id) ts ws is = refl
-question_waits (request.LeaseDelete id) ts ws is = refl
-question_waits request.Gc ts ws is = refl
-question_waits (request.Create config id) ts ws is = refl
-question_waits (request.Task id ask.Pause) ts ws is = refl
-question_waits (request.Task id (ask.Kill signal)) ts ws is = refl
-question_waits (request.Task id ask.Start) ts ws is = absurd is
-question_waits (request.Task id ask.Resume) ts ws is = absurd is
-question_waits (request.Task id ask.Delete) ts ws is = absurd is

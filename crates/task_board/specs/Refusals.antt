@@ -80,67 +80,43 @@ pub record Openable (bytes : List ℕ) (p : ProcessConfig) (m : Module) : Type 0
 abbrev pub unless_allowed : TaskCall → (e : Refusal) → Task → Refusals
 unless_allowed c e t = (not (allowed c t.status), e) ∷ []
 
-abbrev pub kill_refusals : (signal : ℕ) → Task → Refusals
-kill_refusals signal t =
-    (is_none (signal_of signal), refusal.OutOfRange)
-    ∷ unless_allowed call.Kill refusal.WrongStatus t
-
-abbrev pub state_refusals : Task → Refusals
-state_refusals t = []
-
-abbrev pub output_refusals : (stream : ℕ) → Task → Refusals
-output_refusals stream t =
-    (is_none (stream_of stream), refusal.OutOfRange) ∷ (is_some t.out, refusal.Busy) ∷ []
-
-abbrev pub break_refusals : (func place : ℕ) → Task → Refusals
-break_refusals func place t =
-    (not (allowed call.Break t.status), refusal.WrongStatus)
-    ∷ (not (has_place t.module func place), refusal.OutOfRange)
-    ∷ (is_among t.breaks func place, refusal.Exists)
-    ∷ (nat_le max_breakpoints (length t.breaks), refusal.TooMany)
-    ∷ []
-
-abbrev pub unbreak_refusals : (func place : ℕ) → Task → Refusals
-unbreak_refusals func place t =
-    (not (allowed call.Unbreak t.status), refusal.WrongStatus)
-    ∷ (not (has_place t.module func place), refusal.OutOfRange)
-    ∷ (not (is_among t.breaks func place), refusal.NotFound)
-    ∷ []
-
 -- a step is of 1 to 1,000 turns
 abbrev pub is_step : (count : ℕ) → Bool
 is_step count = nat_le 1 count && nat_le count max_step
-
-abbrev pub step_refusals : (count : ℕ) → Task → Refusals
-step_refusals count t =
-    (not (allowed call.Step t.status), refusal.WrongStatus)
-    ∷ (not (is_step count), refusal.OutOfRange)
-    ∷ []
-
-abbrev pub inspect_refusals : Task → Refusals
-inspect_refusals t = (is_some t.out, refusal.Busy) ∷ []
-
-abbrev pub peek_refusals : (address length : ℕ) → Task → Refusals
-peek_refusals address length t =
-    (is_some t.out, refusal.Busy)
-    ∷ (is_none (memory_at t address length), refusal.OutOfRange)
-    ∷ []
 
 -- those of each kind
 abbrev pub own_refusals : Ask → Task → Refusals
 own_refusals ask.Start = unless_allowed call.Start refusal.WrongStatus
 own_refusals ask.Pause = unless_allowed call.Pause refusal.WrongStatus
 own_refusals ask.Resume = unless_allowed call.Resume refusal.WrongStatus
-own_refusals (ask.Kill signal) = kill_refusals signal
+own_refusals (ask.Kill signal) = λ t.
+    (is_none (signal_of signal), refusal.OutOfRange)
+    ∷ unless_allowed call.Kill refusal.WrongStatus t
 own_refusals ask.Delete = unless_allowed call.Delete refusal.WrongStatus
-own_refusals ask.State = state_refusals
+own_refusals ask.State = λ t. []
 own_refusals ask.Wait = unless_allowed call.Wait refusal.Busy
-own_refusals (ask.Output stream) = output_refusals stream
-own_refusals (ask.Break func place) = break_refusals func place
-own_refusals (ask.Unbreak func place) = unbreak_refusals func place
-own_refusals (ask.Step count) = step_refusals count
-own_refusals ask.Inspect = inspect_refusals
-own_refusals (ask.Peek address length) = peek_refusals address length
+own_refusals (ask.Output stream) = λ t.
+    (is_none (stream_of stream), refusal.OutOfRange) ∷ (is_some t.out, refusal.Busy) ∷ []
+own_refusals (ask.Break func place) = λ t.
+    (not (allowed call.Break t.status), refusal.WrongStatus)
+    ∷ (not (has_place t.module func place), refusal.OutOfRange)
+    ∷ (is_among t.breaks func place, refusal.Exists)
+    ∷ (nat_le max_breakpoints (length t.breaks), refusal.TooMany)
+    ∷ []
+own_refusals (ask.Unbreak func place) = λ t.
+    (not (allowed call.Unbreak t.status), refusal.WrongStatus)
+    ∷ (not (has_place t.module func place), refusal.OutOfRange)
+    ∷ (not (is_among t.breaks func place), refusal.NotFound)
+    ∷ []
+own_refusals (ask.Step count) = λ t.
+    (not (allowed call.Step t.status), refusal.WrongStatus)
+    ∷ (not (is_step count), refusal.OutOfRange)
+    ∷ []
+own_refusals ask.Inspect = λ t. (is_some t.out, refusal.Busy) ∷ []
+own_refusals (ask.Peek address length) = λ t.
+    (is_some t.out, refusal.Busy)
+    ∷ (is_none (memory_at t address length), refusal.OutOfRange)
+    ∷ []
 
 -- the id is malformed, then no task has it, then the request's own
 abbrev pub task_refusals : (id : List ℕ) → (own : Task → Refusals) → Option Task → Refusals

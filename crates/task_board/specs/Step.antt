@@ -103,60 +103,21 @@ abbrev pub output_reply : (id bytes : List ℕ) → Reply
 output_reply id bytes = reply.Output bytes id (length bytes)
 
 -- what each request to a task does to it
-abbrev pub on_start : Task → Done
-on_start t = (reply.Start t.id (started t).status, Some (started t))
-
-abbrev pub on_pause : Task → Done
-on_pause t = (reply.Pause t.id (paused t).status, Some (paused t))
-
-abbrev pub on_resume : Task → Done
-on_resume t = (reply.Resume t.id (resumed t).status, Some (resumed t))
-
-abbrev pub on_kill : (signal : ℕ) → Task → Done
-on_kill signal t =
-    (reply.Kill t.id (killed_by (signal_of signal) t).status, Some (killed_by (signal_of signal) t))
-
-abbrev pub on_delete : Task → Done
-on_delete t = (reply.Delete (state_of t), None)
-
-abbrev pub on_state : Task → Done
-on_state t = (reply.State (state_of t), Some t)
-
-abbrev pub on_wait : Task → Done
-on_wait t = (reply.Wait (state_of t), Some t)
-
-abbrev pub on_output : (stream : ℕ) → Task → Done
-on_output stream t = (output_reply t.id (output_of (stream_of stream) t), Some t)
-
-abbrev pub on_break : (func place : ℕ) → Task → Done
-on_break func place t = (reply.Break t.id, Some (with_break t (place_of func place)))
-
-abbrev pub on_unbreak : (func place : ℕ) → Task → Done
-on_unbreak func place t = (reply.Unbreak t.id, Some (without_break t (place_of func place)))
-
-abbrev pub on_step : (count : ℕ) → Task → Done
-on_step count t = (reply.Step (state_of (stepped t count)), Some (stepped t count))
-
-abbrev pub on_inspect : Task → Done
-on_inspect t = (reply.Inspect (frames_of t) t.id t.turns, Some t)
-
-abbrev pub on_peek : (address length : ℕ) → Task → Done
-on_peek address length t = (reply.Peek (shown (memory_at t address length)) t.id, Some t)
-
 abbrev pub does : Ask → Task → Done
-does ask.Start = on_start
-does ask.Pause = on_pause
-does ask.Resume = on_resume
-does (ask.Kill signal) = on_kill signal
-does ask.Delete = on_delete
-does ask.State = on_state
-does ask.Wait = on_wait
-does (ask.Output stream) = on_output stream
-does (ask.Break func place) = on_break func place
-does (ask.Unbreak func place) = on_unbreak func place
-does (ask.Step count) = on_step count
-does ask.Inspect = on_inspect
-does (ask.Peek address length) = on_peek address length
+does ask.Start t = (reply.Start t.id (started t).status, Some (started t))
+does ask.Pause t = (reply.Pause t.id (paused t).status, Some (paused t))
+does ask.Resume t = (reply.Resume t.id (resumed t).status, Some (resumed t))
+does (ask.Kill signal) t =
+    (reply.Kill t.id (killed_by (signal_of signal) t).status, Some (killed_by (signal_of signal) t))
+does ask.Delete t = (reply.Delete (state_of t), None)
+does ask.State t = (reply.State (state_of t), Some t)
+does ask.Wait t = (reply.Wait (state_of t), Some t)
+does (ask.Output stream) t = (output_reply t.id (output_of (stream_of stream) t), Some t)
+does (ask.Break func place) t = (reply.Break t.id, Some (with_break t (place_of func place)))
+does (ask.Unbreak func place) t = (reply.Unbreak t.id, Some (without_break t (place_of func place)))
+does (ask.Step count) t = (reply.Step (state_of (stepped t count)), Some (stepped t count))
+does ask.Inspect t = (reply.Inspect (frames_of t) t.id t.turns, Some t)
+does (ask.Peek address length) t = (reply.Peek (shown (memory_at t address length)) t.id, Some t)
 
 -- What a request may be answered on a board, and the board that it leaves. A refusal leaves the board. What
 -- a task names is held until the task is deleted.

@@ -1,74 +1,78 @@
 //! The board: the store and the tasks, and what each request does to them.
 
 ghost use Rattle.std.specs.Prelude.{◌≡◌, ◌≢◌, ◌≤◌, ◌↔◌, ◌==◌, IsTrue, ◌∷◌, [], Some, None, Ok, Err, IfOk, IsOk, IfSome, IfNone, OnErr, option_map, true, false, not, length};
-ghost use Rattle.std.specs.Arc.{arc_value};
-ghost use Rattle.oci_config.specs.Processes.{config_of};
-ghost use Rattle.oci_config.specs.declared.process.ProcessConfig.{ProcessConfig as ProcessValue};
 ghost use Rattle.task_requests.specs.declared.request.Request.{Request as RequestValue};
-ghost use Rattle.task_requests.specs.declared.request.Request.TheVariants as request;
 ghost use Rattle.task_requests.specs.declared.event.Event.TheVariants as event;
 ghost use Rattle.task_requests.specs.declared.event.EventReply.TheVariants as answer;
 ghost use Rattle.task_board.specs.BoardState.{Task as TaskValue, empty, task_of};
 ghost use Rattle.task_requests.specs.Limits.{max_budget};
 ghost use Rattle.task_board.specs.Loans.{Fits};
 ghost use Rattle.task_board.specs.Prepared.{Prepares, refusal_of, refusal_answered};
-ghost use Rattle.task_board.specs.Refusals.{Openable};
-ghost use Rattle.task_requests.specs.Memory.{asks_for_memory, takes_memory};
+ghost use Rattle.task_requests.specs.Memory.{takes_memory};
 ghost use Rattle.task_board.specs.Sound.{IsBoard};
 ghost use Rattle.task_board.specs.Ended.{end_of};
 ghost use Rattle.task_board.specs.Settled.{is_settled};
 ghost use Rattle.task_board.specs.Step.{Answers, Step};
 ghost use Rattle.task_board.specs.Tickets.{ticket_of, CanLend, Lends, ticket_in};
 ghost use Rattle.task_board.specs.Waiting.{enter_again, waiting_ticket, without, waiting_after, AreWaiting};
-ghost use Rattle.task_board.specs.Inside.Machines.{IsMachine};
-ghost use Rattle.task_board.specs.Inside.Plans.{Plans, PlansTask};
-ghost use Rattle.task_board.specs.Inside.OpenedModules.{IsOpen};
-ghost use Rattle.content_leases.specs.StoreState.{content_in};
 
 use crate::change::Change;
-use crate::checkout::Shared;
 use crate::loan::Loan;
-use crate::open::instantiate;
+use crate::opened::Opened;
 use crate::prepared::{Plan, Prepared};
-use crate::store_change::StoreChange;
-use crate::tables::Tables;
-use crate::task::Task;
+use crate::task::{Task, find_task, is_present};
 use crate::ticket::Ticket;
-use content_leases::{Members, digest_of};
-use oci_config::{Process, ProcessConfig, read_config};
-use std::alloc::{AllocError, Global};
+use crate::waiting::Waiting;
+use content_leases::Store;
+use slab::Slab;
+use std::alloc::Global;
 use std::marker::Model;
-use std::sync::Arc;
-use step_machine::{FlatModule, Machine};
-use task_lifecycle::ExitRecord;
-use task_requests::{Ask, Reply, Request, SharedBytes};
-use text_assembler::assemble;
-use wasm_ast::{Bytes, Refusal, Sequence, Text};
+use step_machine::laws::{slices_go_forward, slices_stop_first};
+use task_lifecycle::{ExitRecord, TaskCall};
+use task_requests::{Reply, Request};
+use wasm_ast::Refusal;
 
-/// The board. Contracts see the abstract board, the tasks that wait for a worker, and how much fits with
-/// no memory taken.
+mod applying;
+mod debugging;
+mod planning;
+
+/// The most tasks of a board.
+const MAX_TASKS: usize = 64;
+
+/// The board: the store, the modules of contents that were opened, tasks by their slots, how many
+/// creates were accepted, and the tasks that wait for a worker. Contracts see the abstract board,
+/// the tasks that wait, and how much fits with no memory taken.
 #[derive(Drop)]
 pub struct Board {
     alloc: Global,
-    tables: Tables,
+    store: Store,
+    opened: Opened,
+    tasks: Slab<Task>,
+    creates: u64,
+    waiting: Waiting,
 }
 
 impl Model for Board {
+    ghost use Rattle.std.specs.Prelude.{◌≤◌};
     ghost use Rattle.task_board.specs.Inside.Code.{board_code};
     ghost use Rattle.task_board.specs.BoardValue.{BoardValue};
+    ghost use Rattle.task_board.specs.Sound.{Each, IsBoard};
+    ghost use Rattle.task_board.specs.Waiting.{AreWaiting};
+    ghost use Rattle.task_board.specs.Inside.OpenedModules.{IsOpened};
+    ghost use Rattle.task_board.specs.Inside.Shown.{board_of, board_state_of};
 
     ghost Value = { BoardValue };
 
     ghost coded = { board_code };
 
-    ghost view = { λ b. b.tables };
-}
+    ghost view = { board_of };
 
-// These bytes, for several owners.
-fn shared(alloc: Global, bytes: Vec<u8>) -> Result<SharedBytes, AllocError>
-    ensures { IfOk result (λ b. b ≡ bytes.items) }
-{
-    SharedBytes::new(alloc, Sequence::new(bytes))
+    ghost invariant = { λ b. record {
+      tasks_room : 64 ≤ b.tasks.capacity;
+      sound : IsBoard (board_state_of b);
+      waiting : AreWaiting (board_state_of b).tasks b.waiting;
+      opened : Each (IsOpened b.store.state.contents) b.opened;
+    } };
 }
 
 impl Board {
@@ -78,239 +82,28 @@ impl Board {
         ensures waiting { IfOk result (λ b. b.waiting ≡ []) }
         ensures err { OnErr result (result ≡ Err Refusal.NoMemory) }
     {
-        let tables = Tables::new(alloc)?;
-        Ok(Board { alloc, tables })
+        Ok(Board {
+            alloc,
+            store: Store::new(alloc)?,
+            opened: Opened::new(alloc)?,
+            tasks: Slab::with_capacity(alloc, MAX_TASKS)?,
+            creates: 0,
+            waiting: Waiting::new(alloc)?,
+        })
     }
 
     /// What holds of every board. It does nothing.
     pub fn sound(&self)
         ensures { IsBoard self.now.state }
     {
-        self.tables.sound();
+        let _creates = self.creates;
     }
 
     /// What holds of the tasks that wait for a worker. It does nothing.
     pub fn waiting_once(&self)
         ensures { AreWaiting self.now.state.tasks self.now.waiting }
     {
-        self.tables.waiting_once();
-    }
-
-    // What a put is prepared as.
-    fn prepare_put(&mut self, bytes: SharedBytes) -> Result<Plan, AllocError>
-        ensures same { (self.new.state ≡ self.old.state) × (self.new.waiting ≡ self.old.waiting) }
-        ensures ok { IfOk result
-            (λ p. Plans self.new.state self.new.room (request.Put bytes) p) }
-    {
-        let digest = digest_of(self.alloc, bytes.as_bytes().as_slice())?;
-        if let Some(refusal) = self.tables.refusal_of_put(&digest, bytes.as_bytes()) {
-            return Ok(Plan::Refused(refusal));
-        }
-        self.tables.reserve_content()?;
-        let key = String::from_str(self.alloc, digest.as_str())?;
-        let bytes = bytes.into_arc();
-        Ok(Plan::Store(StoreChange::Put { key, bytes, digest }))
-    }
-
-    // What a put of a text is prepared as: a put of the bytes that it is assembled to.
-    fn prepare_put_text(&mut self, text: Text) -> Result<Plan, AllocError>
-        ensures same { (self.new.state ≡ self.old.state) × (self.new.waiting ≡ self.old.waiting) }
-        ensures ok { IfOk result
-            (λ p. Plans self.new.state self.new.room (request.PutText text) p) }
-    {
-        match assemble(self.alloc, text.as_str()) {
-            Ok(bytes) => {
-                let bytes = shared(self.alloc, bytes)?;
-                self.prepare_put(bytes)
-            }
-            Err(Refusal::NoMemory) => Err(AllocError),
-            Err(refusal) => Ok(Plan::Refused(refusal)),
-        }
-    }
-
-    // What a lease's creation is prepared as.
-    fn prepare_lease_create(&mut self, id: Text) -> Result<Plan, AllocError>
-        ensures same { (self.new.state ≡ self.old.state) × (self.new.waiting ≡ self.old.waiting) }
-        ensures ok { IfOk result
-            (λ p. Plans self.new.state self.new.room (request.LeaseCreate id) p) }
-    {
-        if let Some(refusal) = self.tables.refusal_of_lease_create(id.as_str()) {
-            return Ok(Plan::Refused(refusal));
-        }
-        self.tables.reserve_lease()?;
-        let key = String::from_str(self.alloc, id.as_str())?;
-        let members = Members::new(self.alloc)?;
-        Ok(Plan::Store(StoreChange::LeaseCreate { key, members, id }))
-    }
-
-    // What an addition to a lease is prepared as.
-    fn prepare_lease_add(&self, digest: Text, id: Text) -> Result<Plan, AllocError>
-        ensures { IfOk result
-            (λ p. Plans self.now.state self.now.room (request.LeaseAdd digest id) p) }
-    {
-        if let Some(refusal) = self
-            .tables
-            .refusal_of_lease_add(digest.as_str(), id.as_str())
-        {
-            return Ok(Plan::Refused(refusal));
-        }
-        let key = String::from_str(self.alloc, digest.as_str())?;
-        Ok(Plan::Store(StoreChange::LeaseAdd { key, digest, id }))
-    }
-
-    // What a removal of all contents that are not held is prepared as.
-    fn prepare_gc(&self) -> Result<Plan, AllocError>
-        ensures { IfOk result (λ p. Plans self.now.state self.now.room request.Gc p) }
-    {
-        let used = self.tables.used(self.alloc)?;
-        let removed = self.tables.unheld(used.as_slice())?;
-        Ok(Plan::Store(StoreChange::Gc { used, removed }))
-    }
-
-    // What a create is prepared as, once there is a machine for its task.
-    fn plan_create(
-        &self,
-        id: Text,
-        process: ProcessConfig,
-        bytes: Arc<Bytes>,
-        machine: Machine,
-    ) -> Result<Plan, AllocError>
-        requires opens { Openable (arc_value bytes) process machine.module }
-        requires fresh { IsMachine machine machine.module process 0 }
-        ensures { IfOk result (λ p. PlansTask self.now.state id (arc_value bytes) process p) }
-    {
-        let answered = id.copy(self.alloc)?;
-        let flat = machine.flat().share()?;
-        let machine = Box::new(self.alloc, machine)?;
-        let shared = Shared {
-            id,
-            bytes,
-            flat,
-            process,
-        };
-        let task = Task::new(self.alloc, shared, self.tables.creates(), machine)?;
-        Ok(Plan::Create { task, id: answered })
-    }
-
-    // What a create is prepared as, from stored bytes and the module that they spell.
-    fn prepare_task(
-        &self,
-        id: Text,
-        process: Process,
-        bytes: Arc<Bytes>,
-        flat: FlatModule,
-    ) -> Result<Plan, AllocError>
-        requires nothing_written { (process.out ≡ []) × (process.err ≡ []) }
-        requires opened { IsOpen (arc_value bytes) flat }
-        ensures { IfOk result
-            (λ p. PlansTask self.now.state id (arc_value bytes) (config_of process) p) }
-    {
-        let config = process.config(self.alloc)?;
-        match instantiate(self.alloc, flat, process) {
-            Ok(machine) => self.plan_create(id, config, bytes, machine),
-            Err(Refusal::NoMemory) => Err(AllocError),
-            Err(refusal) => Ok(Plan::Refused(refusal)),
-        }
-    }
-
-    // What a create is prepared as, from stored bytes.
-    fn prepare_opened(
-        &mut self,
-        id: Text,
-        process: Process,
-        bytes: Arc<Bytes>,
-    ) -> Result<Plan, AllocError>
-        requires nothing_written { (process.out ≡ []) × (process.err ≡ []) }
-        requires stored { content_in self.old.state.store.contents process.module
-            ≡ Some (arc_value bytes) }
-        ensures same { self.new ≡ self.old }
-        ensures ok { IfOk result
-            (λ p. PlansTask self.old.state id (arc_value bytes) (config_of process) p) }
-    {
-        match self
-            .tables
-            .open(self.alloc, process.module.as_str(), &bytes)
-        {
-            Ok(flat) => self.prepare_task(id, process, bytes, flat),
-            Err(Refusal::NoMemory) => Err(AllocError),
-            Err(refusal) => Ok(Plan::Refused(refusal)),
-        }
-    }
-
-    // The stored bytes under a digest, shared.
-    fn shared_content(&self, digest: &str) -> Result<Option<Arc<Bytes>>, AllocError>
-        ensures { IfOk result (λ o. option_map (λ b. arc_value b) o
-            ≡ content_in self.now.state.store.contents digest.now) }
-    {
-        match self.tables.content(digest) {
-            Some(bytes) => Ok(Some(Arc::try_clone(bytes)?)),
-            None => Ok(None),
-        }
-    }
-
-    // What a create is prepared as.
-    fn prepare_create(&mut self, config: Text, id: Text) -> Result<Plan, AllocError>
-        ensures same { self.new ≡ self.old }
-        ensures ok { IfOk result
-            (λ p. Plans self.old.state self.old.room (request.Create config id) p) }
-    {
-        if let Some(refusal) = self.tables.refusal_of_id(id.as_str()) {
-            return Ok(Plan::Refused(refusal));
-        }
-        let process = match read_config(self.alloc, config.as_str().as_bytes()) {
-            Ok(process) => process,
-            Err(Refusal::NoMemory) => return Err(AllocError),
-            Err(refusal) => return Ok(Plan::Refused(refusal)),
-        };
-        match self.shared_content(process.module.as_str())? {
-            Some(bytes) => self.prepare_opened(id, process, bytes),
-            None => Ok(Plan::Refused(Refusal::NoContent)),
-        }
-    }
-
-    // What a request is prepared as. Each arm gives what its function gives: an exit of its own in each would
-    // make the proof many times as long.
-    fn plan(&mut self, request: Request) -> Result<Plan, AllocError>
-        ensures same { (self.new.state ≡ self.old.state) × (self.new.waiting ≡ self.old.waiting) }
-        ensures ok { IfOk result (λ p. Plans self.new.state self.new.room request p) }
-        ensures quiet { takes_memory request ≡ false → IsOk result }
-    {
-        match request {
-            Request::Put { bytes } => self.prepare_put(bytes),
-            Request::PutText { text } => self.prepare_put_text(text),
-            Request::Remove { digest } => Ok(self.tables.plan_remove(digest)),
-            Request::LeaseCreate { id } => self.prepare_lease_create(id),
-            Request::LeaseAdd { digest, id } => self.prepare_lease_add(digest, id),
-            Request::LeaseDelete { id } => Ok(self.tables.plan_lease_delete(id)),
-            Request::Gc => self.prepare_gc(),
-            Request::Create { config, id } => self.prepare_create(config, id),
-            Request::Task { id, ask } => self.plan_ask(id, ask),
-        }
-    }
-
-    // What is asked of a task is prepared as this.
-    fn plan_ask(&self, id: Text, ask: Ask) -> Result<Plan, AllocError>
-        ensures ok { IfOk result
-            (λ p. Plans self.now.state self.now.room (request.Task id ask) p) }
-        ensures quiet { asks_for_memory ask ≡ false → IsOk result }
-    {
-        match ask {
-            Ask::Start => Ok(self.tables.plan_change(id, Change::Start)),
-            Ask::Pause => Ok(self.tables.plan_change(id, Change::Pause)),
-            Ask::Resume => Ok(self.tables.plan_change(id, Change::Resume)),
-            Ask::Kill { signal } => Ok(self.tables.plan_kill(id, signal)),
-            Ask::Delete => Ok(self.tables.plan_delete(id)),
-            Ask::State => Ok(self.tables.plan_state(id)),
-            Ask::Wait => Ok(self.tables.plan_wait(id)),
-            Ask::Output { stream } => self.tables.plan_output(self.alloc, id, stream),
-            Ask::Break { func, place } => self.tables.plan_break(self.alloc, id, func, place),
-            Ask::Unbreak { func, place } => self.tables.plan_unbreak(self.alloc, id, func, place),
-            Ask::Step { count } => Ok(self.tables.plan_step(id, count)),
-            Ask::Inspect => self.tables.plan_inspect(self.alloc, id),
-            Ask::Peek { address, length } => {
-                self.tables.plan_peek(self.alloc, id, address, length)
-            }
-        }
+        let _creates = self.creates;
     }
 
     /// Allocates all that the request and its reply need, and changes nothing that a call can see.
@@ -336,7 +129,21 @@ impl Board {
         ensures waiting { (r : RequestValue) → Prepares self.old r prepared → self.new.waiting
             ≡ waiting_after r result self.new.state.tasks self.old.waiting }
     {
-        self.tables.apply(prepared)
+        match prepared.plan {
+            Plan::Refused(refusal) => Err(refusal),
+            Plan::Answered(reply) => Ok(reply),
+            Plan::Store(change) => Ok(self.change_store(change)),
+            Plan::Create { task, id } => Ok(self.add_task(task, id)),
+            Plan::Change { change, slot, id } => Ok(self.change_and_enter(slot, id, change)),
+            Plan::Delete { slot, id } => Ok(self.delete(slot, id)),
+            Plan::Breaks {
+                mark,
+                slot,
+                id,
+                breaks,
+            } => Ok(self.mark(mark, slot, id, breaks)),
+            Plan::Step { slot, count, id } => Ok(self.step(slot, count, id)),
+        }
     }
 
     /// Answers a request, by preparing and applying it. `NoMemory` if an allocation failed, and then
@@ -354,11 +161,67 @@ impl Board {
         self.apply(prepared)
     }
 
+    /// Whether a task waits for a worker. No memory is taken.
+    pub fn has_waiting(&self) -> bool
+        ensures { result ≡ not (length self.now.waiting == 0) }
+    {
+        !self.waiting.is_empty()
+    }
+
+    /// The task that has waited longest for a worker, which waits no more. None if none waits. No memory is
+    /// taken.
+    pub fn next_waiting(&mut self) -> Option<Ticket>
+        ensures some { IfSome result (λ ticket. self.old.waiting ≡ ticket ∷ self.new.waiting) }
+        ensures none { IfNone result ((self.old.waiting ≡ []) × (self.new.waiting ≡ [])) }
+        ensures rest { self.new ≡ record self.old { waiting = self.new.waiting } }
+    {
+        self.waiting.next()
+    }
+
+    /// Lets the ticket's task wait for a worker, after all that wait, unless it waits already. A ticket of no
+    /// present task is dropped. No memory is taken.
+    pub fn wait_again(&mut self, ticket: Ticket)
+        ensures { self.new ≡ record self.old {
+          waiting = enter_again self.old.state.tasks ticket self.old.waiting;
+        } }
+    {
+        if is_present(&self.tasks, ticket) {
+            self.waiting.enter(ticket);
+        }
+    }
+
     /// A ticket of the task with an id. None if no task has it.
     pub fn ticket(&self, id: &str) -> Option<Ticket>
         ensures { result ≡ ticket_of id.now self.now.state.tasks }
     {
-        self.tables.ticket(id)
+        let (slot, task) = find_task(&self.tasks, id)?;
+        Some(Ticket {
+            slot,
+            incarnation: task.incarnation(),
+        })
+    }
+
+    /// The ticket of the task with an id, which waits for a worker and now no more. None, and
+    /// nothing has changed, if no task has the id or that does not wait. No memory is taken.
+    pub fn leave_waiting(&mut self, id: &str) -> Option<Ticket>
+        ensures ticket { result ≡ waiting_ticket id.now self.old.state.tasks self.old.waiting }
+        ensures some { IfSome result
+            (λ t. self.new ≡ record self.old { waiting = without t self.old.waiting }) }
+        ensures none { IfNone result (self.new ≡ self.old) }
+    {
+        let ticket = self.ticket(id)?;
+        if !self.waiting.has(ticket) {
+            return None;
+        }
+        self.leave(ticket);
+        Some(ticket)
+    }
+
+    // Takes a ticket out of the list.
+    fn leave(&mut self, ticket: Ticket)
+        ensures { self.new ≡ record self.old { waiting = without ticket self.old.waiting } }
+    {
+        self.waiting.leave(ticket);
     }
 
     /// How many turns the task with an id has made; while its slice is out, how many it had made before, and
@@ -367,7 +230,8 @@ impl Board {
         ensures { result
             ≡ option_map (λ t. (t.turns, t.out)) (task_of id.now self.now.state.tasks) }
     {
-        self.tables.found(id)
+        let (_, task) = find_task(&self.tasks, id)?;
+        Some(task.found())
     }
 
     /// Whether a wait for the task with an id is not answered Busy: no task has it, or that is
@@ -375,7 +239,10 @@ impl Board {
     pub fn is_settled(&self, id: &str) -> bool
         ensures { result ≡ is_settled (task_of id.now self.now.state.tasks) }
     {
-        self.tables.is_settled(id)
+        match find_task(&self.tasks, id) {
+            Some((_, task)) => task.status().allows(TaskCall::Wait),
+            None => true,
+        }
     }
 
     /// How many turns the task with an id has made, and how it has ended. None if no task has the id, or
@@ -383,7 +250,8 @@ impl Board {
     pub fn ended(&self, id: &str) -> Option<(u64, ExitRecord)>
         ensures { result ≡ end_of (task_of id.now self.now.state.tasks) }
     {
-        self.tables.ended(id)
+        let (_, task) = find_task(&self.tasks, id)?;
+        task.ended()
     }
 
     /// Lends the machine of the ticket's task for a slice of at most `budget` turns. None, and nothing
@@ -398,7 +266,12 @@ impl Board {
         ensures same { IfNone result (self.new ≡ self.old) }
         ensures waiting { self.new.waiting ≡ self.old.waiting }
     {
-        self.tables.take(ticket, budget)
+        let task = self.tasks.get_mut(ticket.slot)?;
+        if task.incarnation() != ticket.incarnation {
+            return None;
+        }
+        let loan = task.lend(ticket.slot, budget)?;
+        Some(loan)
     }
 
     /// Whether the task of the loan's slot and incarnation is out with the loan: it has the loan's id,
@@ -406,7 +279,10 @@ impl Board {
     pub fn fits(&self, loan: &Loan) -> bool
         ensures { IsTrue result ↔ Fits loan.now self.now.state.tasks }
     {
-        self.tables.fits(loan)
+        match self.tasks.get(loan.slot()) {
+            Some(task) => task.fits(loan),
+            None => false,
+        }
     }
 
     /// Takes back the machine of a loan that has been run. A loan that does not fit is ended, and
@@ -422,7 +298,12 @@ impl Board {
             → (self.new ≡ self.old) × (result ≡ None) }
         ensures waiting { self.new.waiting ≡ self.old.waiting }
     {
-        self.tables.give_back(loan)
+        if self.fits(&loan) {
+            self.receive(loan)
+        } else {
+            loan.end();
+            None
+        }
     }
 
     /// Takes back the machine of a loan that has been run and that fits. Nothing is compared: who calls this
@@ -436,44 +317,14 @@ impl Board {
         ensures ticket { result ≡ ticket_in loan.slot self.new.state.tasks }
         ensures waiting { self.new.waiting ≡ self.old.waiting }
     {
-        self.tables.receive(loan)
-    }
-
-    /// Whether a task waits for a worker. No memory is taken.
-    pub fn has_waiting(&self) -> bool
-        ensures { result ≡ not (length self.now.waiting == 0) }
-    {
-        self.tables.has_waiting()
-    }
-
-    /// The task that has waited longest for a worker, which waits no more. None if none waits. No memory is
-    /// taken.
-    pub fn next_waiting(&mut self) -> Option<Ticket>
-        ensures some { IfSome result (λ ticket. self.old.waiting ≡ ticket ∷ self.new.waiting) }
-        ensures none { IfNone result ((self.old.waiting ≡ []) × (self.new.waiting ≡ [])) }
-        ensures rest { self.new ≡ record self.old { waiting = self.new.waiting } }
-    {
-        self.tables.next_waiting()
-    }
-
-    /// The ticket of the task with an id, which waits for a worker and now no more. None, and
-    /// nothing has changed, if no task has the id or that does not wait. No memory is taken.
-    pub fn leave_waiting(&mut self, id: &str) -> Option<Ticket>
-        ensures ticket { result ≡ waiting_ticket id.now self.old.state.tasks self.old.waiting }
-        ensures some { IfSome result
-            (λ t. self.new ≡ record self.old { waiting = without t self.old.waiting }) }
-        ensures none { IfNone result (self.new ≡ self.old) }
-    {
-        self.tables.leave_waiting(id)
-    }
-
-    /// Lets the ticket's task wait for a worker, after all that wait, unless it waits already. A ticket of no
-    /// present task is dropped. No memory is taken.
-    pub fn wait_again(&mut self, ticket: Ticket)
-        ensures { self.new ≡ record self.old {
-          waiting = enter_again self.old.state.tasks ticket self.old.waiting;
-        } }
-    {
-        self.tables.wait_again(ticket);
+        slices_go_forward();
+        slices_stop_first();
+        let slot = loan.slot();
+        let Some(task) = self.tasks.get_mut(slot) else {
+            loan.end();
+            return None;
+        };
+        task.receive(loan);
+        task.ticket(slot)
     }
 }

@@ -1,10 +1,34 @@
 //! The board of tasks: requests and their replies, and the events that it goes through.
+//!
+//! # The state
+//!
+//! A `Board` (board.rt) is seen as the abstract board of specs/BoardState.antt: contents and leases, tasks
+//! by their slots, and how many creates were accepted. Contracts also see the tasks that wait for a worker,
+//! and how much fits with no memory taken. A task is plain data there; here it also has its machine, or has
+//! lent it (task.rt, checkout.rt). Modules that were opened are kept beside (opened.rt).
+//!
+//! # The way of a request
+//!
+//! 1. `Board::prepare` finds the refusal, or makes a `Plan` (prepared.rt), for which it takes all memory.
+//!    board/planning.rt has a function for each request, board/debugging.rt those of a debugger.
+//! 2. `Board::apply` makes the change of the plan and the reply (board/applying.rt). It cannot fail.
+//!
+//! # The way of a slice
+//!
+//! `Board::next_waiting` gives the ticket of the task that has waited longest. `Board::take` lends the
+//! machine of that task as a `Loan` (loan.rt), which runs away from the board. `Board::give_back` takes it
+//! back if it still fits, and `Board::receive` where that is known. run.rt runs a list of events so.
+//!
+//! # Where to begin
+//!
+//! To believe a contract, read specs/Step.antt: `Answers` says what a request is answered and what it
+//! changes, with the refusals of specs/Refusals.antt and the effects on one task of specs/Tasks.antt. To
+//! change the code, read board.rt and prepared.rt first. laws.rt has the laws of the whole.
 #![tactic(auto)]
 
 mod board;
 mod change;
 mod checkout;
-mod debugging;
 pub mod laws;
 mod loan;
 mod mark;
@@ -13,7 +37,6 @@ mod opened;
 mod prepared;
 mod run;
 mod store_change;
-mod tables;
 mod task;
 mod ticket;
 mod waiting;

@@ -6,6 +6,9 @@ use wasm_ast::{Refusal, Text};
 /// The most turns of a slice.
 pub const MAX_BUDGET: u64 = 1_000_000;
 
+/// How many turns a slice of `serve` has at most, whoever runs it.
+pub const SLICE_TURNS: u64 = 10_000;
+
 /// An event.
 #[derive(Drop)]
 pub enum Event {

@@ -6,7 +6,7 @@ pub mod laws;
 mod request;
 mod shared_bytes;
 
-pub use event::{Event, EventReply, MAX_BUDGET};
+pub use event::{Event, EventReply, MAX_BUDGET, SLICE_TURNS};
 pub use request::{Ask, Reply, Request, TaskState};
 pub use shared_bytes::SharedBytes;
 pub use task_lifecycle::{ExitRecord, Status};

@@ -1,16 +1,12 @@
--- How the logic stores what contracts see of a book and its board, so that two can be told apart.
+-- How the logic stores what contracts see of a book and its desk, so that two can be told apart.
 use Rattle.std.specs.Prelude.{List}
 use Rattle.std.specs.Coded.{Coded, codes, coded_list}
 use Rattle.task_board.specs.Inside.Code.{task_code, lent_code}
 use Rattle.call_journal.specs.Desks.{Spot}
 use Rattle.call_journal.specs.Books.{BookValue}
-use Rattle.call_journal.specs.Journalled.{JournalValue}
-
-pub journal_code : Coded JournalValue
-journal_code = hlevel (codes, task_code)
 
 pub book_code : Coded BookValue
-book_code = hlevel (codes, journal_code)
+book_code = hlevel (codes, task_code)
 
 pub spot_code : Coded Spot
 spot_code = hlevel (codes, lent_code)

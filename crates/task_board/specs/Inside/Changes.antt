@@ -15,7 +15,7 @@ use Rattle.task_requests.specs.declared.request.Reply.TheVariants as reply
 use Rattle.content_leases.specs.Refusals.{Refusals}
 use Rattle.task_board.specs.BoardState.{Task}
 use Rattle.task_board.specs.Tasks.{started, paused, resumed, killed}
-use Rattle.task_board.specs.Refusals.{unless_allowed, kill_refusals}
+use Rattle.task_board.specs.Refusals.{unless_allowed, own_refusals}
 
 abbrev pub change_call : Change → TaskCall
 change_call change.Start = call.Start
@@ -46,7 +46,7 @@ abbrev pub change_refusals : Change → Task → Refusals
 change_refusals change.Start t = unless_allowed call.Start refusal.WrongStatus t
 change_refusals change.Pause t = unless_allowed call.Pause refusal.WrongStatus t
 change_refusals change.Resume t = unless_allowed call.Resume refusal.WrongStatus t
-change_refusals (change.Kill signal) t = kill_refusals (signal_number signal) t
+change_refusals (change.Kill signal) t = own_refusals (ask.Kill (signal_number signal)) t
 
 -- the task after the change
 abbrev pub changed : Change → Task → Task

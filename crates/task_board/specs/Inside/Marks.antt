@@ -13,7 +13,7 @@ use Rattle.task_requests.specs.declared.request.Reply.TheVariants as reply
 use Rattle.content_leases.specs.Refusals.{Refusals}
 use Rattle.task_board.specs.BoardState.{Task}
 use Rattle.task_board.specs.Tasks.{is_other}
-use Rattle.task_board.specs.Refusals.{break_refusals, unbreak_refusals}
+use Rattle.task_board.specs.Refusals.{own_refusals}
 
 abbrev pub mark_call : Mark → TaskCall
 mark_call (mark.Set p) = call.Break
@@ -28,8 +28,8 @@ mark_reply (mark.Set p) id = reply.Break id
 mark_reply (mark.Remove p) id = reply.Unbreak id
 
 abbrev pub mark_refusals : Mark → Task → Refusals
-mark_refusals (mark.Set p) t = break_refusals p.func p.instr t
-mark_refusals (mark.Remove p) t = unbreak_refusals p.func p.instr t
+mark_refusals (mark.Set p) t = own_refusals (ask.Break p.func p.instr) t
+mark_refusals (mark.Remove p) t = own_refusals (ask.Unbreak p.func p.instr) t
 
 -- breakpoints after it
 abbrev pub marked_places : Mark → List Place → List Place

@@ -26,7 +26,7 @@ use Rattle.oci_config.specs.Config.{process_read}
 use Rattle.oci_config.specs.Streams.{stream_of}
 use Rattle.task_board.specs.BoardState.{Task, created_task, BoardState, entry_of, task_of}
 use Rattle.task_board.specs.BoardValue.{Room}
-use Rattle.task_board.specs.Refusals.{is_full, create_refusals, unless_allowed, kill_refusals, output_refusals, step_refusals, task_refusals, Openable, CannotOpen}
+use Rattle.task_board.specs.Refusals.{is_full, create_refusals, unless_allowed, task_refusals, Openable, CannotOpen, own_refusals}
 use Rattle.task_board.specs.Step.{Answers}
 use Rattle.task_board.specs.Tasks.{output_of, place_of}
 use Rattle.task_board.specs.Inside.Changes.{change_request, change_refusals}
@@ -58,18 +58,20 @@ RefusesTask s id c refused e =
 -- why a kill of the task with this id by that number is refused
 abbrev pub RefusesKill : BoardState → (id : List ℕ) → (number : ℕ) → (e : Refusal) → Type 0
 RefusesKill s id number e =
-    first_refusal (task_refusals id (kill_refusals number) (task_of id s.tasks)) ≡ Some e
+    first_refusal (task_refusals id (own_refusals (ask.Kill number)) (task_of id s.tasks)) ≡ Some e
 
 -- why the output of the task with this id to the stream with that number is not told
 abbrev pub RefusesOutput : BoardState → (id : List ℕ) → (number : ℕ) → (e : Refusal) → Type 0
 RefusesOutput s id number e =
-    first_refusal (task_refusals id (output_refusals number) (task_of id s.tasks)) ≡ Some e
+    first_refusal (task_refusals id (own_refusals (ask.Output number)) (task_of id s.tasks))
+    ≡ Some e
 
 -- these bytes are the output of the task with this id to the stream with that number, which may be told
 pub record TellsOutput (s : BoardState) (id : List ℕ) (number : ℕ) (bytes : List ℕ) : Type 0 where
   pub task : Task
   pub found : task_of id s.tasks ≡ Some task
-  pub accepted : first_refusal (task_refusals id (output_refusals number) (Some task)) ≡ None
+  pub accepted :
+      first_refusal (task_refusals id (own_refusals (ask.Output number)) (Some task)) ≡ None
   pub is : bytes ≡ output_of (stream_of number) task
 
 -- why a request with these refusals of its own to the task with this id is refused
@@ -160,7 +162,7 @@ Plans s room r (plan.Delete slot id) =
 Plans s room r (plan.Breaks m slot id breaks) =
     (r ≡ mark_request m id) × MarkPrepared s m slot id breaks
 Plans s room r (plan.Step slot count id) =
-    (r ≡ request.Task id (ask.Step count)) × CallPrepared s (step_refusals count) slot id
+    (r ≡ request.Task id (ask.Step count)) × CallPrepared s (own_refusals (ask.Step count)) slot id
 
 abbrev pub refusal_in : Plan → Option Refusal
 refusal_in (plan.Refused e) = Some e

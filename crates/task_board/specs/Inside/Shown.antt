@@ -1,10 +1,10 @@
--- What contracts see of tables, tasks and loans.
+-- What contracts see of boards, tasks and loans.
 use Rattle.std.specs.Prelude.{ℕ, false}
 use Rattle.std.specs.Arc.{arc_value}
 use Rattle.task_board.specs.declared.checkout.Checkout.{Checkout}
 use Rattle.task_board.specs.declared.loan.Loan.TheInside as loan
 use Rattle.task_board.specs.declared.task.Task.TheInside as task
-use Rattle.task_board.specs.declared.tables.Tables.TheInside as tables
+use Rattle.task_board.specs.declared.board.Board.TheInside as board
 use Rattle.slab.specs.Slab.{entries}
 use Rattle.task_board.specs.BoardState.{Task, BoardState}
 use Rattle.task_board.specs.BoardValue.{BoardValue}
@@ -44,10 +44,10 @@ task_of t = record {
   end = t.end;
 }
 
-abbrev pub board_state_of : tables.Inside → BoardState
+abbrev pub board_state_of : board.Inside → BoardState
 board_state_of b = record { store = b.store.state; tasks = entries b.tasks; creates = b.creates }
 
-abbrev pub board_of : tables.Inside → BoardValue
+abbrev pub board_of : board.Inside → BoardValue
 board_of b = record {
   state = board_state_of b;
   waiting = b.waiting;

@@ -1,49 +1,97 @@
-use Rattle.std.proofs.Common.{◌≡◌, ◌+◌, sym, subst, ap, ◌∙◌}
+use Rattle.std.proofs.Common.{◌≡◌, ◌+◌, ◌<◌, List, length, sym, subst, ap, ◌∙◌, refl}
+use Rattle.call_journal.specs.declared.entry.Entry.{Entry}
 use Rattle.call_journal.specs.Books.{BookValue, HasCalled}
-use Rattle.call_journal.specs.Seats.{Known, GoesOn}
-use Rattle.call_journal.specs.Inside.Calls.{PreparesCall, IsEntered}
-use Rattle.call_journal.proofs.BookLemmas.{counted, has_called}
+use Rattle.call_journal.specs.Records.{entry_on}
+use Rattle.call_journal.specs.Seats.{Known, GoesOn, most_entries}
+use Rattle.call_journal.specs.Inside.Calls.{IsEntered}
+use Rattle.call_journal.proofs.BookLemmas.{counted, ends_call, few_more, goes_on, has_called, is_legal}
 use Rattle.call_journal.proofs.DeskLemmas.{answered_fit}
 use Rattle.call_journal.proofs.book.Book.enter.Goals as goal
+
+pub apply-answer-requires : goal.apply-answer-requires
+apply-answer-requires g c =
+    let was = c.args.seat.now in
+    let r = c.requires.call.0 in
+    let is =
+    subst (λ (b : BookValue). IsEntered b was.number r c.args.prepared c.args.seen) (sym c.self.view_is)
+    c.requires.call.1 in
+    (r, is.prepares)
+
+pub made-requires-clause-call : goal.made-requires-clause-call
+made-requires-clause-call g c =
+    ends_call c.args.self.now c.args.seat.now c.requires.call.0 c.args.prepared c.args.seen c.requires.call.1
+    c.requires.on
+
+pub made-requires-clause-legal : goal.made-requires-clause-legal
+made-requires-clause-legal g c =
+    let was = c.args.seat.now in
+    let r = c.requires.call.0 in
+    let is =
+    subst (λ (b : BookValue). IsEntered b was.number r c.args.prepared c.args.seen) (sym c.self.view_is)
+    c.requires.call.1 in
+    is_legal c.args.seen c.apply-answer.new.self.state
+    (goes_on _ was.number r c.args.prepared c.args.seen c.apply-answer.result c.apply-answer.new.self.state
+    c.replays_go_on.ensures.call is c.self.invariant.replay (c.apply-answer.ensures.answers r is.prepares))
 
 pub invariant_of-self : goal.invariant_of-self
 invariant_of-self g c =
     let was = c.args.seat.now in
+    let r = c.requires.call.0 in
     let is =
-    subst (λ (b : BookValue). IsEntered b.journalled was.number c.args.call c.args.seen) (sym c.self.view_is)
-    c.requires.call in
-    let makes = c.apply-answer.ensures.makes was.number is.request is.prepares in (
-      is.ends ∙ sym makes.journal,
-      counted c.self.inside.board.journal c.apply-answer.new.self.journal _ c.self.inside.count.total
-          c.made.new.count.total makes.journal c.self.invariant.1 c.made.ensures.total,
-      c.self.invariant.2,
-      c.self.invariant.3,
-      c.self.invariant.4,
-      c.self.invariant.5,
-      answered_fit c.self.inside.desk c.self.inside.board.board is.request c.apply-answer.result
-          c.apply-answer.new.self.board c.sound.ensures.board makes.answers c.self.invariant.6,
-    )
+    subst (λ (b : BookValue). IsEntered b was.number r c.args.prepared c.args.seen) (sym c.self.view_is)
+    c.requires.call.1 in
+    let few =
+    subst (λ (b : BookValue). length b.journal < most_entries) (sym c.self.view_is) c.requires.room in
+    let answers = c.apply-answer.ensures.answers r is.prepares in
+    record {
+      replay =
+          goes_on _ was.number r c.args.prepared c.args.seen c.apply-answer.result
+          c.apply-answer.new.self.state c.replays_go_on.ensures.call is c.self.invariant.replay answers;
+      few = few_more c.self.inside.seen c.args.seen _ is.ends few;
+      total =
+          counted c.self.inside.seen c.args.seen _ c.self.inside.count.total c.made.new.count.total is.ends
+          c.self.invariant.total c.made.ensures.total;
+      parts = c.self.invariant.parts;
+      seats = c.self.invariant.seats;
+      unused = c.self.invariant.unused;
+      places = c.self.invariant.places;
+      fit =
+          answered_fit c.self.inside.desk c.self.inside.board.state r c.apply-answer.result
+          c.apply-answer.new.self.state c.sound.ensures answers c.self.invariant.fit;
+    }
 
 pub returns-clause-called : goal.returns-clause-called
-returns-clause-called g c r prepares =
+returns-clause-called g c r entered =
     let was = c.args.seat.now in
-    let call = c.args.call in
     let is =
-    subst (λ (b : BookValue). IsEntered b.journalled was.number call c.args.seen) (sym c.self.view_is)
-    c.requires.call in
-    let q = subst (λ (b : BookValue). PreparesCall b.journalled was.number r call) (sym c.self.view_is) prepares in
+    subst (λ (b : BookValue). IsEntered b was.number r c.args.prepared c.args.seen) (sym c.self.view_is) entered in
     let on =
-    subst (λ (b : BookValue). GoesOn was.number was.history b.journalled.journal) (sym c.self.view_is) c.requires.on
-    in
+    subst (λ (b : BookValue). GoesOn was.number was.history b.journal) (sym c.self.view_is) c.requires.on in
     let made =
     c.made.ensures.seat
     ∙ ap (λ h. record { number = was.number; history = h; share = was.share + 1 }) c.again.ensures in
-    subst
-    (λ (b : BookValue). HasCalled b
-    (record { journalled = c.apply-answer.new.self; seats = c.self.inside.seats; total = c.made.new.count.total })
-    was c.made.new.self r c.apply-answer.result)
-    c.self.view_is
-    (has_called c.self.inside.board c.apply-answer.new.self c.self.inside.seats
-    c.self.inside.count.total c.made.new.count.total was c.made.new.self r
-    c.apply-answer.result call c.args.seen is q (c.apply-answer.ensures.makes was.number r q)
-    (c.apply-answer.ensures.allowed was.number r q) on made c.made.ensures.total)
+    let answers = c.apply-answer.ensures.answers r is.prepares in
+    let new : BookValue = record {
+      board = c.apply-answer.new.self.state;
+      waiting = c.apply-answer.new.self.waiting;
+      room = c.apply-answer.new.self.room;
+      journal = c.args.seen;
+      closed = c.self.inside.closed;
+      seats = c.self.inside.seats;
+      total = c.made.new.count.total;
+    } in
+    subst (λ (b : BookValue). HasCalled b new was c.made.new.self r c.apply-answer.result) c.self.view_is
+    (has_called _ new was c.made.new.self r c.apply-answer.result c.args.prepared c.args.seen is answers
+    (c.apply-answer.ensures.waiting r is.prepares) refl refl refl c.made.ensures.total
+    (c.replays_go_on.ensures.answer c.self.inside.seen c.self.inside.board.state was.number r c.apply-answer.result
+    c.apply-answer.new.self.state c.self.invariant.replay answers) on made)
+
+pub returns-clause-journalled : goal.returns-clause-journalled
+returns-clause-journalled g c =
+    let was = c.args.seat.now in
+    let r = c.requires.call.0 in
+    let is =
+    subst (λ (b : BookValue). IsEntered b was.number r c.args.prepared c.args.seen) (sym c.self.view_is)
+    c.requires.call.1 in
+    c.answers_are_journalled.ensures c.self.inside.board.state r c.apply-answer.result c.apply-answer.new.self.state
+    (c.apply-answer.ensures.answers r is.prepares)
