@@ -272,7 +272,9 @@ impl<R: Row> Book<R> {
         ensures err { OnErr result
             ((result ≡ Err Refusal.NoMemory) ⊎ (result ≡ Err Refusal.JournalFault)) }
     {
-        let entry = Box::new(self.alloc, entry)?;
+        let Ok(entry) = Box::new(self.alloc, entry) else {
+            return Err(Refusal::NoMemory);
+        };
         self.seen.add(cells, entry).ok_or(Refusal::JournalFault)
     }
 

@@ -2,7 +2,8 @@ use Rattle.std.proofs.Common.{◌≡◌, ◌+◌, ◌<◌, List, length, sym, su
 use Rattle.call_journal.specs.declared.entry.Entry.{Entry}
 use Rattle.call_journal.specs.Books.{BookValue, HasCalled}
 use Rattle.call_journal.specs.Records.{entry_on}
-use Rattle.call_journal.specs.Seats.{Known, GoesOn, most_entries}
+use Rattle.call_journal.specs.Replay.{IsLegal}
+use Rattle.call_journal.specs.Seats.{Known, GoesOn, EndsWithCall, most_entries}
 use Rattle.call_journal.specs.Inside.Calls.{IsEntered}
 use Rattle.call_journal.proofs.BookLemmas.{counted, ends_call, few_more, goes_on, has_called, is_legal}
 use Rattle.call_journal.proofs.DeskLemmas.{answered_fit}
@@ -19,8 +20,9 @@ apply-answer-requires g c =
 
 pub made-requires-clause-call : goal.made-requires-clause-call
 made-requires-clause-call g c =
-    ends_call c.args.self.now c.args.seat.now c.requires.call.0 c.args.prepared c.args.seen c.requires.call.1
-    c.requires.on
+    let was = c.args.seat.now in
+    subst (λ (h : List Entry). EndsWithCall was.number was.history h) (sym c.again.ensures)
+    (ends_call c.args.self.now was c.requires.call.0 c.args.prepared c.args.seen c.requires.call.1 c.requires.on)
 
 pub made-requires-clause-legal : goal.made-requires-clause-legal
 made-requires-clause-legal g c =
@@ -29,9 +31,10 @@ made-requires-clause-legal g c =
     let is =
     subst (λ (b : BookValue). IsEntered b was.number r c.args.prepared c.args.seen) (sym c.self.view_is)
     c.requires.call.1 in
-    is_legal c.args.seen c.apply-answer.new.self.state
+    subst IsLegal (sym c.again.ensures)
+    (is_legal c.args.seen c.apply-answer.new.self.state
     (goes_on _ was.number r c.args.prepared c.args.seen c.apply-answer.result c.apply-answer.new.self.state
-    c.replays_go_on.ensures.call is c.self.invariant.replay (c.apply-answer.ensures.answers r is.prepares))
+    c.replays_go_on.ensures.call is c.self.invariant.replay (c.apply-answer.ensures.answers r is.prepares)))
 
 pub invariant_of-self : goal.invariant_of-self
 invariant_of-self g c =

@@ -1,4 +1,5 @@
-use Rattle.std.proofs.Common.{◌∙◌, List, ap, sym, subst, true, refl}
+use Rattle.std.proofs.Common.{◌∙◌, List, ap, sym, subst, true, refl, inl}
+use Rattle.std.specs.Prelude.{IsTrue}
 use Rattle.task_requests.specs.declared.event.Event.TheVariants as event
 use Rattle.task_requests.specs.declared.event.EventReply.TheVariants as answer
 use Rattle.task_board.specs.BoardState.{BoardState}
@@ -46,3 +47,47 @@ returns-then-end-clause-unfit g c not =
     known_fits c.self.inside.desk c.self.inside.board.state c.args.receipt.slot c.args.loan c.args.receipt
     c.self.invariant.fit (c.if-end.ensures.known refl) c.requires.receipt in
     absurd (not (subst (λ (b : BookValue). Fits c.args.loan b.board.tasks) c.self.view_is fit))
+
+-- nothing was checked out there, and it fits all the same
+pub invariant_of-self-then-fits : goal.invariant_of-self-then-fits
+invariant_of-self-then-fits g c =
+    let s = c.self.inside.board.state in
+    let same = c.if-end.ensures.same refl in
+    let fits : Fits c.args.loan s.tasks = c.fits.ensures.0 (subst IsTrue (sym c.if-fits.true) cc) in
+    let step = c.receive-then-fits.ensures.step in
+    let all =
+    other_fit c.self.inside.desk s c.args.loan c.args.receipt c.receive-then-fits.new.self.state c.sound.ensures
+    (λ f. step) (λ no. absurd (no fits)) (inl fits) c.self.invariant.fit c.requires.receipt
+    (c.if-end.ensures.none refl) in
+    record {
+      replay =
+          c.replays_go_on.ensures.slice c.self.inside.seen s (event.Return c.args.loan.id) (answer.Returned true)
+          c.receive-then-fits.new.self.state c.self.invariant.replay tt step;
+      few = c.self.invariant.few;
+      total = c.self.invariant.total;
+      parts = c.self.invariant.parts;
+      seats = c.self.invariant.seats;
+      unused = c.self.invariant.unused;
+      places = ap spot_names same ∙ c.self.invariant.places;
+      fit =
+          subst (λ (ds : List Spot). AllFit ds c.receive-then-fits.new.self.state.tasks) (sym same) all;
+    }
+
+pub invariant_of-self-else-fits : goal.invariant_of-self-else-fits
+invariant_of-self-else-fits g c =
+    let same = c.if-end.ensures.same refl in
+    let no : Fits c.args.loan c.self.inside.board.state.tasks → ⊥ =
+    λ fits. let yes = subst IsTrue c.if-fits.false (c.fits.ensures.1 fits) in cc in
+    let stays = (c.give_back.ensures.unfit no).0 in
+    record {
+      replay = subst (λ (b : BoardValue). IsReplay c.self.inside.seen b.state) (sym stays) c.self.invariant.replay;
+      few = c.self.invariant.few;
+      total = c.self.invariant.total;
+      parts = c.self.invariant.parts;
+      seats = c.self.invariant.seats;
+      unused = c.self.invariant.unused;
+      places = ap spot_names same ∙ c.self.invariant.places;
+      fit =
+          subst (λ (ds : List Spot). AllFit ds c.give_back.new.self.state.tasks) (sym same)
+          (subst (λ (b : BoardValue). AllFit c.self.inside.desk b.state.tasks) (sym stays) c.self.invariant.fit);
+    }

@@ -11,8 +11,8 @@ new-receipt-requires-clause-none g c =
     c.in_ok-loan.loan c.take.new.self.state c.self.invariant.places c.in_ok-loan.ensures.some c.self.invariant.fit
     c.lend-slip.ensures.none
 
-pub invariant_of-self-3 : goal.invariant_of-self-3
-invariant_of-self-3 g c = record {
+pub invariant_of-self-2 : goal.invariant_of-self-2
+invariant_of-self-2 g c = record {
   replay =
       c.replays_go_on.ensures.slice c.self.inside.seen c.self.inside.board.state
       (event.Take c.in_ok-loan.loan.id c.args.budget) (answer.Taken true) c.take.new.self.state
