@@ -1,2 +1,4 @@
 pub mod DriveLemmas
 pub mod LawLemmas
+pub mod PairLemmas
+pub mod EndLemmas

@@ -1,3 +1,5 @@
 pub mod Answered
 pub mod Driving
+pub mod Pairs
+pub mod Ends
 pub mod Inside

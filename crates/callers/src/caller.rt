@@ -16,15 +16,12 @@ use request_lines::{
 use std::alloc::{AllocError, Global};
 use std::sync::Wait;
 use task_board::Status;
-use task_requests::{Ask, Reply, Request};
+use task_requests::{Ask, Reply, Request, SLICE_TURNS};
 use wasm_ast::Refusal;
 
 /// How many bytes are kept for the line of an answer: twice what the longest output and its making
 /// take. They are address space alone until they are needed.
 const SPARE_BYTES: usize = 1 << 20;
-
-/// How many turns a caller runs of a task that it is about to wait for.
-const SLICE_TURNS: u64 = 10_000;
 
 /// How the lines of a caller ended.
 #[derive(Clone, Copy, PartialEq, Eq, Debug)]

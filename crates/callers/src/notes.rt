@@ -1,5 +1,6 @@
-//! What is told the lines of a caller beside its replies.
+//! What is told the lines of a caller, and how they ended, beside its replies.
 
+use crate::caller::Driven;
 use call_journal::{Row, Seat, Shim};
 use task_board::{ExitRecord, Reply};
 use wasm_ast::{Refusal, Text};
@@ -20,6 +21,22 @@ pub trait Notes {
     /// The task with this id has ended so, after this number of turns: in a slice that the caller ran before
     /// it waited, or by its kill. The line of the wait or of the kill is told next. No lock is held.
     fn ended(&mut self, id: &Text, turns: u64, end: ExitRecord);
+}
+
+/// What is told how the lines of a caller ended, whose replies are written to a W.
+pub trait Report<R, W> {
+    /// No line of the caller comes any more.
+    fn lines_ended(&self);
+
+    /// The lines of the caller with this reader and this writer ended so, and its replies are written, if
+    /// they could be.
+    fn report(&self, driven: Driven, reader: &R, writer: &W);
+}
+
+/// What is told of callers that were not answered.
+pub trait Missing {
+    /// No thread could be started for the caller with this number, from 0.
+    fn report(&self, number: usize);
 }
 
 /// Takes no notes.

@@ -13,6 +13,17 @@ pub enum Format {
     Json,
 }
 
+impl Format {
+    /// The format of a log, if one is wanted: JSON by the name `json`, else text.
+    pub fn wanted(is_wanted: bool, name: &Option<String>) -> Option<Format> {
+        match name {
+            _ if !is_wanted => None,
+            Some(name) if name.as_str() == "json" => Some(Format::Json),
+            _ => Some(Format::Text),
+        }
+    }
+}
+
 /// When something happened. None where the clock failed.
 #[derive(Clone, Copy)]
 pub struct Moment {

@@ -6,7 +6,7 @@ use crate::fixtures::{NOT_FOUND_LINE, STATE};
 use crate::scripts::{Told, repeated, side_by_side};
 use crate::stories::{Story, tell};
 use call_journal::{Row, Seat, Shim};
-use shim_threads::{Answered, Caller};
+use callers::{Answered, Caller};
 use std::alloc::Global;
 use std::cmp::Ordering;
 use std::process::Abort;

@@ -2,9 +2,8 @@
 
 use crate::readers::ChunkedReader;
 use call_journal::{Row, Shim};
-use callers::{Driven, NoNotes};
+use callers::{Answered, Caller, Driven, NoNotes, answer_all};
 use request_lines::Watched;
-use shim_threads::{Answered, Caller, answer_all};
 use std::alloc::Global;
 use std::sync::Wait;
 use std::thread::Threads;

@@ -7,7 +7,7 @@ use crate::fixtures::STATE;
 use crate::scripts::{Told, side_by_side};
 use crate::stories::{Story, tell};
 use call_journal::{Entry, Row, Seat, Shim};
-use shim_threads::with_workers;
+use slice_workers::with_workers;
 use std::alloc::Global;
 use std::process::Abort;
 use std::sync::Wait;

@@ -4,7 +4,7 @@ use crate::fixtures::STATE;
 use crate::scripts::{Told, repeated, side_by_side};
 use crate::stories::{Story, tell};
 use call_journal::{Row, Shim};
-use shim_threads::with_workers;
+use slice_workers::with_workers;
 use std::alloc::Global;
 use std::process::Abort;
 use std::sync::Wait;

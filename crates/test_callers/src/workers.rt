@@ -5,8 +5,7 @@ use crate::fixtures::{RUN_ANSWERS, RUN_LINES};
 use crate::scripts::side_by_side;
 use crate::stories::{Story, tell};
 use call_journal::{Row, Shim};
-use shim_threads::{with_gated_workers, with_workers};
-use slice_workers::Gate;
+use slice_workers::{Gate, with_gated_workers, with_workers};
 use std::alloc::Global;
 use std::process::Abort;
 use std::sync::Wait;
@@ -14,6 +13,7 @@ use std::sync::atomic::{AtomicU64, Ordering};
 use std::test::Fail;
 use std::thread;
 use std::thread::Threads;
+use std::time::Clock;
 use task_board::{ExitRecord, Loan};
 
 /// A caller starts two tasks and waits for both, while two workers run them by a gate. None if its
@@ -181,7 +181,7 @@ pub fn ends_by_workers<R: Row + Send + Sync, W: Threads + Wait + Sync>(
     with_gated_workers(rt, alloc, shim, gate.workers, gate, run).ok()?
 }
 
-fn check_ends<W: Threads + Wait + Abort + Sync>(
+fn check_ends<W: Threads + Wait + Clock + Abort + Copy + Send + Sync + 'static>(
     rt: &W,
     alloc: Global,
     workers: u64,

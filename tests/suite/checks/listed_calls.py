@@ -22,7 +22,7 @@ ROOM = re.compile(r"(?<!fn )\b(?:with_capacity|allocate|try_reserve|reserve|rese
 # Calls of the crates of threads: what lets go of a task, closes a shim, hands out a seat, or sets workers to work.
 HANDS = re.compile(r"\.into_ticket\(|\bRunnable::of\(|\.close\(|\.seat\("
                    r"|(?<!fn )\b(?:worker|with_workers|with_gated_workers|with_workers_of|run_waiting)\(")
-WITH_HANDS = re.compile(r"crates/(?:call_journal|callers|slice_workers|shim_threads|wasm_shim)/")
+WITH_HANDS = re.compile(r"crates/(?:call_journal|callers|slice_workers|serve_command|wasm_shim)/")
 OF_TESTS = re.compile(r"crates/test_")
 CONSTANT = re.compile(r"\b[A-Z][A-Z_]+\b")
 

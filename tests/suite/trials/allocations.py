@@ -28,7 +28,7 @@ PHASES = {
     "the line of a reply is written": ("request_lines::reply_line", "request_lines::reply_value",
                                        "shim_service::replay::write"),
     "a line is read as JSON": ("request_lines::members", "request_lines::parse_request", "request_lines::parse_event"),
-    "lines are stored": ("request_lines::line_reader", "shim_service::replay::Script", "wasm_shim::read"),
+    "lines are stored": ("request_lines::line_reader", "shim_service::replay::Script", "wasm_shim::files::read"),
     "the command line is taken": ("wasm_shim::arguments",),
     "the command line is understood": ("file_commands::command",),
     "the cells of the journal are made": ("call_journal::cells",),
@@ -36,7 +36,7 @@ PHASES = {
     "a slice is taken": ("task_board::run::take",),
     "the tables of the board are made": ("task_board::board::Board::new", "task_board::tables::Tables::new",
                                          "task_board::waiting", "task_board::run::run_all"),
-    "a thread is started": ("shim_threads::working", "the C library"),
+    "a thread is started": ("slice_workers::working", "callers::living", "the C library"),
 }
 # The crates of this repository, of which the innermost function is told.
 OWN = frozenset(folder.name for folder in (TOP / "crates").iterdir() if folder.is_dir())

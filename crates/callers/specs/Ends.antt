@@ -1,0 +1,16 @@
+-- How the lines of several callers ended, and the replies to all of them.
+use Rattle.std.specs.Prelude.{◌≡◌, ◌++◌, ℕ, List, [], ◌∷◌, Option, None, Some}
+use Rattle.callers.specs.declared.caller.Driven.{Driven}
+use Rattle.callers.specs.declared.caller.Driven.TheVariants.{End}
+
+-- each caller was answered, and its lines came to their end
+abbrev pub AllEnded : {A : Type 0} → (how : A → Driven) → List (Option A) → Type 0
+AllEnded how [] = Unit {0}
+AllEnded how (None ∷ callers) = ⊥
+AllEnded how (Some c ∷ callers) = (how c ≡ End) × AllEnded how callers
+
+-- the replies of each caller that was answered, in the order of the callers
+abbrev pub all_replies : {A : Type 0} → (replies : A → List ℕ) → List (Option A) → List ℕ
+all_replies replies [] = []
+all_replies replies (None ∷ callers) = all_replies replies callers
+all_replies replies (Some c ∷ callers) = replies c ++ all_replies replies callers

@@ -1,4 +1,0 @@
-pub mod PairLemmas
-pub mod SentModule
-pub mod SentBoard
-pub mod Sent

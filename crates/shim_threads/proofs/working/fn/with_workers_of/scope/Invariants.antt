@@ -1,5 +1,0 @@
-use Rattle.crossbeam_queue.specs.Passes.{IsPassOf}
-use Rattle.shim_threads.proofs.working.fn.with_workers_of.scope.Given as goal
-
-abbrev pub invariant-loop : goal.invariant-loop
-invariant-loop g l = IsPassOf l.queue l.pass

@@ -1,6 +1,0 @@
-use denote.Param.Send.{sendable}
-use Rattle.shim_threads.proofs.Sent.{shim_sync}
-use Rattle.shim_threads.proofs.working.with_gated_workers.Goals as goal
-
-pub with_workers_of-requires-sync-L : goal.with_workers_of-requires-sync-L
-with_workers_of-requires-sync-L g c = search (sendable, shim_sync) depth 20
