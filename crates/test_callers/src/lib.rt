@@ -15,6 +15,8 @@ mod fixtures;
 #[cfg(test)]
 mod histories;
 #[cfg(test)]
+mod living;
+#[cfg(test)]
 mod long_lines;
 #[cfg(test)]
 mod noting;
@@ -24,6 +26,8 @@ mod offering;
 mod readers;
 #[cfg(test)]
 mod scripts;
+#[cfg(test)]
+mod serving;
 #[cfg(test)]
 mod sharing;
 #[cfg(test)]

@@ -6,6 +6,7 @@ ghost use Rattle.call_journal.specs.Seats.{most_seats};
 
 use crate::closing::close_beside_two;
 use crate::histories::{four_callers, full_journal, two_callers, two_seats};
+use crate::living::live;
 use crate::offering::{Offered, offering};
 use crate::sharing::{Endless, Holding, asking, sharing};
 use crate::storm::storm;
@@ -19,10 +20,11 @@ use std::alloc::Global;
 use std::io::{Read, Write};
 use std::marker::Brand;
 use std::process::Abort;
-use std::sync::Wait;
 use std::sync::ledger::Blank;
+use std::sync::{Arc, Wait};
 use std::test::Fail;
 use std::thread::Threads;
+use std::time::Clock;
 use wasm_ast::Refusal;
 
 /// What happens to a new shim, by one caller or several.
@@ -53,6 +55,8 @@ pub enum Story<'a> {
     Ends(&'a Ends),
     /// `close_beside_two` of `closing`.
     Closing,
+    /// `live` of `living`.
+    Live(&'a [Driven]),
 }
 
 fn cells(alloc: Global) -> Result<Cells, Refusal> {
@@ -72,12 +76,10 @@ fn blank() -> Blank
 }
 
 // Tells a story. None if a call is answered otherwise than it should be.
-fn told<R: Row + Send + Sync, W: Threads + Wait + Abort + Sync>(
-    rt: &W,
-    alloc: Global,
-    shim: &Shim<R>,
-    story: Story<'_>,
-) -> Option<()> {
+fn told<
+    R: Row + Send + Sync + 'static,
+    W: Threads + Wait + Clock + Abort + Copy + Send + Sync + 'static,
+>(rt: &W, alloc: Global, shim: &Arc<Shim<R>, Global>, story: Story<'_>) -> Option<()> {
     match story {
         Story::TwoSeats => two_seats(rt, alloc, shim),
         Story::FullJournal => full_journal(rt, alloc, shim),
@@ -93,11 +95,15 @@ fn told<R: Row + Send + Sync, W: Threads + Wait + Abort + Sync>(
         Story::Offering(gate) => offering(rt, alloc, shim, gate),
         Story::Ends(gate) => ends_by_workers(rt, alloc, shim, gate),
         Story::Closing => close_beside_two(rt, alloc, shim),
+        Story::Live(ends) => live(*rt, alloc, shim, ends),
     }
 }
 
 // Tells a story of a shim over these cells. Whether it goes on to its end.
-fn told_of<R: Row + Send + Sync, W: Threads + Wait + Abort + Sync>(
+fn told_of<
+    R: Row + Send + Sync + 'static,
+    W: Threads + Wait + Clock + Abort + Copy + Send + Sync + 'static,
+>(
     rt: &W,
     alloc: Global,
     cells: Cells,
@@ -112,11 +118,14 @@ fn told_of<R: Row + Send + Sync, W: Threads + Wait + Abort + Sync>(
     requires parts { (blank.parts ≡ R.parts) × (blank.parts ≡ most_seats + 1) }
 {
     let shim: Shim<R> = Shim::new(alloc, cells, desk, blank)?;
+    let Ok(shim) = Arc::new(alloc, shim) else {
+        return Err(Refusal::NoMemory);
+    };
     Ok(told(rt, alloc, &shim, story).is_some())
 }
 
 /// Tells a story of a shim of its own, and asserts that it goes on to its end.
-pub fn tell<W: Threads + Wait + Abort + Sync>(
+pub fn tell<W: Threads + Wait + Clock + Abort + Copy + Send + Sync + 'static>(
     rt: &W,
     alloc: Global,
     story: Story<'_>,
