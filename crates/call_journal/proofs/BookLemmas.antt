@@ -9,8 +9,8 @@ use Rattle.call_journal.specs.declared.entry.Entry.{Entry}
 use Rattle.call_journal.specs.Books.{BookValue, HasCalled}
 use Rattle.call_journal.specs.Records.{entry_on}
 use Rattle.call_journal.specs.Replay.{IsReplay, IsLegal, MayAnswer}
-use Rattle.call_journal.specs.Seats.{Known, GoesOn, EndsWithCall, most_entries}
-use Rattle.call_journal.specs.Inside.Calls.{IsEntered}
+use Rattle.call_journal.specs.Seats.{Known, GoesOn, most_entries}
+use Rattle.call_journal.specs.Inside.Calls.{EndsWithCall, IsEntered}
 
 -- calls keep the replay
 abbrev pub KeptByCalls : Type 0

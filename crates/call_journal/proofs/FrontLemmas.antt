@@ -15,8 +15,8 @@ use denote.Struct.Struct.{Struct}
 use denote.Struct.Owning.{shape}
 use Rattle.once_cell.specs.Once.{noted}
 use Rattle.once_cell.proofs.Notes.{noted_twice, noted_agree}
-use Rattle.call_journal.specs.Fronts.{Begins, names_of}
-use Rattle.call_journal.specs.Inside.Known.{known}
+use Rattle.call_journal.specs.Fronts.{Begins}
+use Rattle.call_journal.specs.Inside.Known.{known, names_of}
 use Rattle.call_journal.specs.contracts.front.Front as Front
 
 abbrev pub token : Val

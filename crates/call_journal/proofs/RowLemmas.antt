@@ -4,7 +4,8 @@ use Rattle.std.specs.Prelude.{slice_get}
 use Rattle.std.proofs.lemmas.List.{length-map, map-append}
 use Rattle.std.proofs.lemmas.Option.{slice_get-map, slice_get_read}
 use Rattle.once_cell.specs.Once.{Agrees}
-use Rattle.call_journal.specs.Fronts.{Begins, names_of, values_of}
+use Rattle.call_journal.specs.Fronts.{Begins}
+use Rattle.call_journal.specs.Inside.Known.{names_of, values_of}
 
 -- of two beginnings of one list the shorter begins the longer
 pub fronts_begin : {A : Type 0} (xs ys zs : List A) → Begins xs zs → Begins ys zs → length xs ≤ length ys → Begins xs ys

@@ -4,7 +4,8 @@ use Rattle.std.specs.Prelude.{slice_get}
 use Rattle.std.proofs.lemmas.List.Sums.{sum_by-append, sum_by-cons}
 use Rattle.std.proofs.lemmas.Bool.Decides.{nat_tests}
 use Rattle.call_journal.specs.declared.entry.Entry.{Entry}
-use Rattle.call_journal.specs.Seats.{own_calls, EndsWithCall}
+use Rattle.call_journal.specs.Seats.{own_calls}
+use Rattle.call_journal.specs.Inside.Calls.{EndsWithCall}
 
 -- where no entry after a front is of the seat, none of the rest is
 pub none_own :

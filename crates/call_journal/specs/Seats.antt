@@ -29,14 +29,6 @@ pub record GoesOn (number : ℕ) (history journal : List Entry) : Type 0 where
   pub joins : history ++ rest ≡ journal
   pub none : own_calls number rest ≡ 0
 
--- the journal goes on from the history with calls of others, and ends with a call of the seat
-pub record EndsWithCall (number : ℕ) (history journal : List Entry) : Type 0 where
-  pub before : List Entry
-  pub entry : Entry
-  pub is : journal ≡ before ++ entry ∷ []
-  pub seat : entry.seat ≡ number
-  pub on : GoesOn number history before
-
 -- A seat has made a call that was journalled. Its history begins with all that it had seen, has no other call
 -- of its own after that, and ends with this one; the call was answered as it may be after the entries before
 -- it. The share has one more

@@ -1,6 +1,7 @@
 //! A row of cells, each of which is written once.
-ghost use Rattle.std.specs.Prelude.{◌≡◌, ◌<◌, length, take, [], ◌∷◌, ◌++◌, option_map, slice_get, Some, IfSome, None};
-ghost use Rattle.call_journal.specs.Fronts.{Begins, names_of, values_of};
+ghost use Rattle.std.specs.Prelude.{◌≡◌, ◌<◌, length, [], ◌∷◌, ◌++◌, slice_get, Some, IfSome, None};
+ghost use Rattle.call_journal.specs.Fronts.{Begins};
+ghost use Rattle.call_journal.specs.Inside.Known.{names_of, values_of};
 ghost use Rattle.call_journal.specs.Seats.{most_entries};
 
 use crate::entry::Entry;

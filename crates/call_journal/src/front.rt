@@ -1,9 +1,9 @@
 //! What is known of the first cells of a row.
-ghost use Rattle.std.specs.Prelude.{◌≡◌, ℕ, List, [], ◌∷◌, ◌++◌, map, Some, option_map, slice_get};
+ghost use Rattle.std.specs.Prelude.{◌≡◌, ℕ, List, [], ◌∷◌, ◌++◌, Some, option_map, slice_get};
 ghost use base.Stored.{coded×, coded_ℕ, coded_list};
 ghost use denote.Sharing.{said};
-ghost use Rattle.call_journal.specs.Fronts.{Begins, names_of};
-ghost use Rattle.call_journal.specs.Inside.Known.{known};
+ghost use Rattle.call_journal.specs.Fronts.{Begins};
+ghost use Rattle.call_journal.specs.Inside.Known.{known, names_of};
 
 use once_cell::race::Note;
 use std::marker::{Model, PhantomData};

@@ -1,9 +1,9 @@
 //! Seats: each caller has one.
-ghost use Rattle.std.specs.Prelude.{◌≡◌, ◌<◌, ◌≤◌, ◌+◌, List, [], ◌∷◌, ◌++◌, length, option_map, slice_get, IsTrue, false};
+ghost use Rattle.std.specs.Prelude.{◌≡◌, ◌<◌, ◌≤◌, ◌+◌, [], length, option_map, slice_get, IsTrue, false};
 ghost use Rattle.std.specs.Ordering.{nat_cmp};
-ghost use Rattle.call_journal.specs.declared.entry.Entry.{Entry as EntryValue};
 ghost use Rattle.call_journal.specs.Fronts.{Begins};
-ghost use Rattle.call_journal.specs.Seats.{own_calls, GoesOn, EndsWithCall};
+ghost use Rattle.call_journal.specs.Seats.{own_calls, GoesOn};
+ghost use Rattle.call_journal.specs.Inside.Calls.{EndsWithCall};
 ghost use Rattle.call_journal.specs.Replay.{IsLegal};
 
 use crate::cells::Cells;

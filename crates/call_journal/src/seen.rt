@@ -23,7 +23,8 @@ pub struct Seen<R: Row> {
 impl<R: Row> Model for Seen<R> {
     ghost use Rattle.std.specs.Prelude.{◌≡◌, List, length};
     ghost use Rattle.call_journal.specs.declared.entry.Entry.{Entry as EntryValue};
-    ghost use Rattle.call_journal.specs.Fronts.{Begins, names_of, values_of};
+    ghost use Rattle.call_journal.specs.Fronts.{Begins};
+    ghost use Rattle.call_journal.specs.Inside.Known.{names_of, values_of};
 
     ghost Value = { List EntryValue };
 

@@ -3,8 +3,8 @@ use Rattle.call_journal.specs.declared.entry.Entry.{Entry}
 use Rattle.call_journal.specs.Books.{BookValue, HasCalled}
 use Rattle.call_journal.specs.Records.{entry_on}
 use Rattle.call_journal.specs.Replay.{IsLegal}
-use Rattle.call_journal.specs.Seats.{Known, GoesOn, EndsWithCall, most_entries}
-use Rattle.call_journal.specs.Inside.Calls.{IsEntered}
+use Rattle.call_journal.specs.Seats.{Known, GoesOn, most_entries}
+use Rattle.call_journal.specs.Inside.Calls.{EndsWithCall, IsEntered}
 use Rattle.call_journal.proofs.BookLemmas.{counted, ends_call, few_more, goes_on, has_called, is_legal}
 use Rattle.call_journal.proofs.DeskLemmas.{answered_fit}
 use Rattle.call_journal.proofs.book.Book.enter.Goals as goal

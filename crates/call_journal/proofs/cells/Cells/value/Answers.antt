@@ -1,5 +1,6 @@
 use Rattle.std.proofs.Common.{◌<◌, length, map, arith}
-use Rattle.call_journal.specs.Fronts.{Begins, names_of}
+use Rattle.call_journal.specs.Fronts.{Begins}
+use Rattle.call_journal.specs.Inside.Known.{names_of}
 use Rattle.once_cell.specs.Once.{cell_name}
 use Rattle.call_journal.proofs.RowLemmas.{name_at, has_value, value_read, name_of_read, front_fits}
 use Rattle.call_journal.proofs.cells.Cells.value.Goals as goal

@@ -19,7 +19,8 @@ use denote.Param.{param, layouts}
 use denote.Ref.{shr_vals, shr_Tells}
 use denote.Triple.Walked.{Stays, stay_dropped, walk_of, Goes-dropped}
 use Rattle.std.proofs.raw_atomic.Walks.{proved, leaves}
-use Rattle.call_journal.specs.Fronts.{Begins, names_of}
+use Rattle.call_journal.specs.Fronts.{Begins}
+use Rattle.call_journal.specs.Inside.Known.{names_of}
 use Rattle.call_journal.specs.contracts.front.Front as Front
 use Rattle.call_journal.proofs.FrontLemmas.{known_agree}
 use Rattle.call_journal.specs.contracts.front.Front.agrees.{ended, clauses}

@@ -1,5 +1,6 @@
 use Rattle.std.proofs.Common.{◌+◌, ap, sym, ◌∙◌, arith, subst}
-use Rattle.call_journal.specs.Seats.{Known, EndsWithCall}
+use Rattle.call_journal.specs.Seats.{Known}
+use Rattle.call_journal.specs.Inside.Calls.{EndsWithCall}
 use Rattle.call_journal.proofs.SeatLemmas.{one_more}
 use Rattle.call_journal.proofs.seat.Seat.made.Goals as goal
 

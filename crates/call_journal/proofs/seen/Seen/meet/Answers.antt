@@ -1,6 +1,6 @@
 use Rattle.std.proofs.Common.{arith}
 use Rattle.std.proofs.lemmas.List.{length-map}
-use Rattle.call_journal.specs.Fronts.{names_of}
+use Rattle.call_journal.specs.Inside.Known.{names_of}
 use Rattle.call_journal.proofs.RowLemmas.{fronts_begin}
 use Rattle.call_journal.proofs.seen.Seen.meet.Goals as goal
 
