@@ -127,6 +127,9 @@ impl<E: Outlet + Eprint + Copy> Watch<E> {
 
     // Logs a refusal, with the id that the line names, if it names one.
     fn log_refusal(&self, line: Option<&[u8]>, refusal: Refusal) {
+        if !self.wanted.log.is_wanted() {
+            return;
+        }
         let found = match line {
             Some(line) => id_in(self.wanted.alloc, line),
             None => Ok(None),
@@ -140,19 +143,22 @@ impl<E: Outlet + Eprint + Copy> Watch<E> {
         }
     }
 
-    // Logs an answer.
-    fn log_answer(&self, line: Option<&[u8]>, answer: &Result<Reply, Refusal>) {
-        if !self.wanted.log.is_wanted() {
-            return;
-        }
+    // Says what is wanted of an answer. How full the journal is, is said if the caller's call has made an
+    // entry of it.
+    fn say_answer<J: Row>(
+        &mut self,
+        seen: &Seen<'_, J>,
+        line: Option<&[u8]>,
+        answer: &Result<Reply, Refusal>,
+    ) {
         match answer {
             Ok(reply) => self.wanted.log.accepted(self.by(), reply),
-            Err(refusal) => self.log_refusal(line, *refusal),
+            Err(refusal) => {
+                self.log_refusal(line, *refusal);
+                self.explain(seen, line, *refusal);
+            }
         }
-    }
-
-    // Logs how full the journal is, if the caller's call has made an entry of it.
-    fn log_entries(&mut self, entries: usize) {
+        let entries = seen.seat.len();
         if entries != self.entries {
             self.entries = entries;
             self.wanted.log.filled(self.by(), entries);
@@ -169,11 +175,9 @@ impl<E: Outlet + Eprint + Copy> Notes for Watch<E> {
         answer: &Result<Reply, Refusal>,
     ) {
         self.lines = self.lines.saturating_add(1);
-        self.log_answer(line, answer);
-        if let Err(refusal) = answer {
-            self.explain(&Seen { shim, seat }, line, *refusal);
+        if self.wanted.explain || self.wanted.log.is_wanted() {
+            self.say_answer(&Seen { shim, seat }, line, answer);
         }
-        self.log_entries(seat.len());
     }
 
     fn ended(&mut self, id: &Text, turns: u64, end: ExitRecord) {
