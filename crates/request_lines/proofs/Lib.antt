@@ -1,4 +1,6 @@
 pub mod MemberLemmas
+pub mod ValueLemmas
+pub mod TableLemmas
 pub mod ParseLemmas
 pub mod LineLemmas
 pub mod SplitLemmas

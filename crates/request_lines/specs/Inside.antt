@@ -1,4 +1,5 @@
 -- What only private clauses name.
 pub mod Parse
+pub mod Values
 pub mod States
 pub mod Pieces

@@ -1,5 +1,6 @@
 pub mod Shape
 pub mod Request
+pub mod Table
 pub mod Reply
 pub mod Lines
 pub mod Session

@@ -5,7 +5,10 @@ ghost use Rattle.task_requests.specs.declared.event.Event.{Event};
 ghost use Rattle.task_requests.specs.declared.event.Event.TheVariants.{Call};
 ghost use Rattle.task_requests.specs.declared.request.Request.{Request};
 ghost use Rattle.request_lines.specs.Examples.{PutExample, TextExample, FaultExample, LeaseExample, TwiceExample, TakeExample, RemovedExample, StoppedExample, OutputExample, WrittenExample, BreakExample, StepExample, PeekExample, ShownExample, InspectExample, FramesExample};
-ghost use Rattle.request_lines.specs.Request.{IsRequest, IsEvent};
+ghost use Rattle.request_lines.specs.Request.{event_op, IsRequest, IsEvent};
+ghost use Rattle.request_lines.specs.declared.table.Op.{Op};
+ghost use Rattle.request_lines.specs.declared.values.Values.{Values};
+ghost use Rattle.request_lines.specs.Table.{event_with, op_word};
 
 /// A line is at most one event.
 pub fn one_event_to_a_line()
@@ -15,6 +18,13 @@ pub fn one_event_to_a_line()
 /// A line is the event of a request exactly where it is that request.
 pub fn requests_are_events()
     ensures { (line : List ℕ) (r : Request) → IsRequest line r ↔ IsEvent line (Call r) }
+{}
+
+/// The word of an op is that of all its events, and no other op has it.
+pub fn ops_have_their_words()
+    ensures own { (op : Op) (bytes : List ℕ) (values : Values) →
+        event_op (event_with op bytes values) ≡ op_word op }
+    ensures differ { (a b : Op) → op_word a ≡ op_word b → a ≡ b }
 {}
 
 /// Lines that are read so, and some that are written so.

@@ -12,12 +12,16 @@ mod parse_request;
 mod reply_line;
 mod reply_value;
 mod stream;
+mod table;
+mod values;
 
 pub use line_error::LineError;
 pub use line_reader::{LineReader, Stop};
+pub use members::MAX_LINE_BYTES;
 pub use parse_event::{event_of, read_event_line};
 pub use parse_request::{read_request_line, request_of};
 pub use reply_line::{
     answer_line, bad_request_line, event_line, event_line_of, line_of, no_memory_line,
 };
 pub use stream::{Sink, Source, StreamFailed, Watched};
+pub use table::{Key, Kind, Op};

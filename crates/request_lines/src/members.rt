@@ -5,7 +5,6 @@ ghost use Rattle.serde_json.specs.Data.{Data, string, number, unsigned, object, 
 ghost use Rattle.serde_json.specs.Find.{get_member};
 ghost use Rattle.serde_json.specs.View.{view, members_view};
 ghost use Rattle.request_lines.specs.Shape.{IsJson, max_line_bytes};
-ghost use Rattle.request_lines.specs.Request.{only_id};
 ghost use Rattle.request_lines.specs.Inside.Parse.{without};
 
 use crate::line_error::LineError;
@@ -14,7 +13,7 @@ use std::alloc::Global;
 use wasm_ast::Text;
 
 /// Bytes of a line at most, its line feed not counted.
-pub(crate) const MAX_LINE_BYTES: usize = 1_048_576;
+pub const MAX_LINE_BYTES: usize = 1_048_576;
 
 /// The members of an object that are not taken yet.
 pub(crate) type Members = Map<String, Value>;
@@ -85,18 +84,6 @@ pub(crate) fn is_done(members: &Members) -> bool
     ensures left { result ≡ false → members_view members.now.entries ≢ no_members }
 {
     members.is_empty()
-}
-
-/// Gives the text of the key `id` if that is the only member.
-pub(crate) fn read_only_id(members: Members) -> Option<Text>
-    ensures some { IfSome result (λ id. members_view members.entries ≡ only_id id) }
-    ensures none { IfNone result ((id : List ℕ) → members_view members.entries ≢ only_id id) }
-{
-    let mut left = members;
-    let Some(id) = take_text(&mut left, "id") else {
-        return None;
-    };
-    if is_done(&left) { Some(id) } else { None }
 }
 
 /// Takes the `op` of an object.

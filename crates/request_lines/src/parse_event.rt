@@ -1,55 +1,115 @@
 //! Lines to events.
 
-ghost use Rattle.std.specs.Prelude.{◌≡◌, ◌≤◌, ◌<◌, ◌⊎◌, IfOk, IfErr, IfSome, IfNone, Err, List, ℕ, length};
+ghost use Rattle.std.specs.Prelude.{◌≡◌, ◌<◌, ◌⊎◌, IfOk, IfErr, Ok, Err, Some, length};
+ghost use Rattle.hex.specs.Hex.{decode_of};
 ghost use Rattle.serde_json.specs.View.{view, members_view};
 ghost use Rattle.task_requests.specs.declared.event.Event.{Event};
-ghost use Rattle.task_requests.specs.declared.event.Event.TheVariants as Happening;
-ghost use Rattle.task_requests.specs.Limits.{max_budget};
-ghost use Rattle.request_lines.specs.Request.{HasEventKeys, AsksEvent, IsEvent};
+ghost use Rattle.task_requests.specs.declared.event.Event.TheVariants.{Call};
+ghost use Rattle.task_requests.specs.declared.request.Request.TheVariants as asked;
+ghost use Rattle.request_lines.specs.Request.{AsksEvent, IsEvent};
 ghost use Rattle.request_lines.specs.Shape.{max_line_bytes};
 ghost use Rattle.request_lines.specs.Inside.Parse.{Parses, IsEventAsked};
+ghost use Rattle.request_lines.specs.Inside.Values.{put_read, take_read, event_read};
 
 use crate::line_error::LineError;
-use crate::members::{Members, read_only_id, read_value, split_op, take_number};
-use crate::parse_request::read_request;
+use crate::members::{Members, read_value, split_op};
+use crate::table::Op;
+use crate::values::{Values, take_values};
+use hex::FromHexError;
 use serde_json::Value;
 use std::alloc::Global;
-use task_requests::{Event, MAX_BUDGET};
-use wasm_ast::{Refusal, Text};
+use task_requests::{Ask, Event, MAX_BUDGET, Request, SharedBytes};
+use wasm_ast::{Bytes, Refusal, Sequence, Text};
 
-/// Reads the members beside `op` of a take: its budget, from 1 to 1,000,000, and its id.
-fn read_take(members: Members) -> Option<(Text, u64)>
-    ensures some { IfSome result (λ r.
-        HasEventKeys (members_view members.entries) (Happening.Take r.0 r.1)) }
-    ensures none { IfNone result ((id : List ℕ) (budget : ℕ) →
-        HasEventKeys (members_view members.entries) (Happening.Take id budget) → ⊥) }
+/// Reads hexadecimal digits of either case, two to a byte.
+fn read_hex(alloc: Global, digits: &str) -> Result<Bytes, LineError>
+    ensures { Parses (λ b. decode_of digits.now ≡ Ok b) result }
 {
-    let mut left = members;
-    let Some(budget) = take_number(&mut left, "budget") else {
-        return None;
-    };
-    let id = read_only_id(left)?;
-    if budget < 1 || budget > MAX_BUDGET {
-        return None;
+    match hex::decode(alloc, digits) {
+        Ok(bytes) => Ok(Sequence::new(bytes)),
+        Err(FromHexError::OutOfMemory) => Err(LineError::OutOfMemory),
+        Err(_) => Err(LineError::NoRequest),
     }
-    Some((id, budget))
+}
+
+/// Makes the put of the bytes with these digits.
+fn read_put(alloc: Global, digits: &Text) -> Result<Event, LineError>
+    ensures { Parses (λ e. put_read (decode_of digits.now) ≡ Some e) result }
+{
+    let bytes = read_hex(alloc, digits.as_str())?;
+    Ok(Event::Call(Request::Put {
+        bytes: SharedBytes::new(alloc, bytes)?,
+    }))
+}
+
+/// Makes the take of a slice, whose budget has to be from 1 to 1,000,000.
+fn read_take(id: Text, budget: u64) -> Result<Event, LineError>
+    ensures { Parses (λ e. take_read id budget ≡ Some e) result }
+{
+    if budget < 1 || budget > MAX_BUDGET {
+        return Err(LineError::NoRequest);
+    }
+    Ok(Event::Take(id, budget))
+}
+
+/// Makes the event that asks this of a task.
+fn of_task(id: Text, ask: Ask) -> Result<Event, LineError>
+    ensures { result ≡ Ok (Call (asked.Task id ask)) }
+{
+    Ok(Event::Call(Request::Task { id, ask }))
+}
+
+/// Makes the event of these values.
+fn make_event(alloc: Global, op: Op, values: Values) -> Result<Event, LineError>
+    ensures { Parses (λ e. event_read op values ≡ Some e) result }
+{
+    let Values {
+        id,
+        text,
+        first,
+        second,
+    } = values;
+    // The numbers of a line that has two, by their keys.
+    let (func, place) = (first, second);
+    let (address, length) = (first, second);
+    match op {
+        Op::Put => read_put(alloc, &text),
+        Op::PutText => Ok(Event::Call(Request::PutText { text })),
+        Op::Remove => Ok(Event::Call(Request::Remove { digest: text })),
+        Op::LeaseCreate => Ok(Event::Call(Request::LeaseCreate { id })),
+        Op::LeaseAdd => Ok(Event::Call(Request::LeaseAdd { digest: text, id })),
+        Op::LeaseDelete => Ok(Event::Call(Request::LeaseDelete { id })),
+        Op::Gc => Ok(Event::Call(Request::Gc)),
+        Op::Create => Ok(Event::Call(Request::Create { config: text, id })),
+        Op::Start => of_task(id, Ask::Start),
+        Op::Pause => of_task(id, Ask::Pause),
+        Op::Resume => of_task(id, Ask::Resume),
+        Op::Kill => of_task(id, Ask::Kill { signal: first }),
+        Op::Delete => of_task(id, Ask::Delete),
+        Op::State => of_task(id, Ask::State),
+        Op::Wait => of_task(id, Ask::Wait),
+        Op::Output => of_task(id, Ask::Output { stream: first }),
+        Op::Break => of_task(id, Ask::Break { func, place }),
+        Op::Unbreak => of_task(id, Ask::Unbreak { func, place }),
+        Op::Step => of_task(id, Ask::Step { count: first }),
+        Op::Inspect => of_task(id, Ask::Inspect),
+        Op::Peek => of_task(id, Ask::Peek { address, length }),
+        Op::Take => read_take(id, first),
+        Op::Return => Ok(Event::Return(id)),
+    }
 }
 
 /// Reads an event by its `op` and its other members.
-fn read_event(alloc: Global, op: &str, members: Members) -> Result<Event, LineError>
-    ensures { Parses (IsEventAsked op.now (members_view members.entries)) result }
+fn read_event(alloc: Global, word: &str, members: Members) -> Result<Event, LineError>
+    ensures { Parses (IsEventAsked word.now (members_view members.entries)) result }
 {
-    match op {
-        "take" => {
-            let (id, budget) = read_take(members).ok_or(LineError::NoRequest)?;
-            Ok(Event::Take(id, budget))
-        }
-        "return" => {
-            let id = read_only_id(members).ok_or(LineError::NoRequest)?;
-            Ok(Event::Return(id))
-        }
-        _ => Ok(Event::Call(read_request(alloc, op, members)?)),
-    }
+    let Some(op) = Op::with_word(word) else {
+        return Err(LineError::NoRequest);
+    };
+    let Some(values) = take_values(alloc, op.keys(), members) else {
+        return Err(LineError::NoRequest);
+    };
+    make_event(alloc, op, values)
 }
 
 /// Reads the event that a value is.

@@ -27,14 +27,14 @@ MODES = {"one alone": (1, False, 1), "one of realloc alone": (1, True, 1), "ten 
 PHASES = {
     "the line of a reply is written": ("request_lines::reply_line", "request_lines::reply_value",
                                        "shim_service::replay::write"),
-    "a line is read as JSON": ("request_lines::members", "request_lines::parse_request", "request_lines::parse_event"),
+    "a line is read as JSON": ("request_lines::members", "request_lines::values", "request_lines::parse_event"),
     "lines are stored": ("request_lines::line_reader", "shim_service::replay::Script", "wasm_shim::files::read"),
     "the command line is taken": ("wasm_shim::arguments",),
     "the command line is understood": ("file_commands::command",),
     "the cells of the journal are made": ("call_journal::cells",),
     "the queue of tickets is made": ("slice_workers::tickets",),
     "a slice is taken": ("task_board::run::take",),
-    "the tables of the board are made": ("task_board::board::Board::new", "task_board::tables::Tables::new",
+    "the tables of the board are made": ("task_board::board::Board::new",
                                          "task_board::waiting", "task_board::run::run_all"),
     "a thread is started": ("slice_workers::working", "callers::living", "the C library"),
 }

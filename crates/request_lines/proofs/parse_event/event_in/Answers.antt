@@ -9,7 +9,6 @@ returns-in_default c = record { ok = tt; none = λ _ e a. no_op (view c.args.val
 
 pub returns : goal.returns
 returns c =
-    parses_whole (λ e. e) (view c.args.value) c.in-Some.op (members_view c.in-Some.members.entries)
-    c.in-Some.ensures.some c.in-Some.ensures.rest c.read_event.result
-    (subst (λ op. Parses (λ x. IsEventAsked op (members_view c.in-Some.members.entries) x) c.read_event.result)
-    c.as_str.ensures c.read_event.ensures)
+    let ms = members_view c.in-Some.members.entries in
+    parses_whole (view c.args.value) c.in-Some.op ms c.in-Some.ensures.some c.in-Some.ensures.rest c.read_event.result
+    (subst (λ op. Parses (IsEventAsked op ms) c.read_event.result) c.as_str.ensures c.read_event.ensures)
