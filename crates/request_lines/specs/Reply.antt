@@ -2,7 +2,7 @@
 -- their keys.
 use Rattle.std.specs.Prelude.{ℕ, List, [], ◌∷◌, ◌++◌, map, true, false, Option, None, Some, Result, Ok, Err, codes}
 use Rattle.hex.specs.Hex.{encode_lower}
-use Rattle.serde_json.specs.Data.{Data, string, boolean, number, array, unsigned}
+use Rattle.serde_json.specs.Data.{Data, string, boolean, number, array, unsigned, object, put}
 use Rattle.serde_json.specs.View.{items_of}
 use Rattle.serde_json.specs.Written.{compact_text}
 use Rattle.wasm_ast.specs.declared.values.Value.{Value}
@@ -21,59 +21,33 @@ use Rattle.task_requests.specs.declared.request.TaskState.{TaskState}
 use Rattle.task_lifecycle.specs.declared.status.ExitRecord.{ExitRecord}
 use Rattle.task_lifecycle.specs.declared.status.ExitRecord.TheVariants.{Trapped, Kill}
 use Rattle.task_lifecycle.specs.declared.status.Status.{Status}
-use Rattle.request_lines.specs.Shape.{object_of}
+use Rattle.request_lines.specs.Shape.{members, object_of}
 
 abbrev pub count : ℕ → Data
 count n = number (unsigned n)
 
+-- a refused one has the name and the number of its refusal
+abbrev pub refused : Refusal → List (List ℕ × Data) → Data
+refused e ms = object
+    (put (codes "ok") (boolean false)
+    (put (codes "error") (string (refusal_name e))
+    (put (codes "number") (count (refusal_number e)) (members ms))))
+
 -- with its place where a text denotes no module, or where the body of a function has a fault
 abbrev pub refusal_data : Refusal → Data
-refusal_data (BadText line column) = object_of
-    ((codes "column", count column)
-    ∷ (codes "error", string (refusal_name (BadText line column)))
-    ∷ (codes "line", count line)
-    ∷ (codes "number", count (refusal_number (BadText line column)))
-    ∷ (codes "ok", boolean false)
-    ∷ [])
-refusal_data (Invalid (Some p)) = object_of
-    ((codes "error", string (refusal_name (Invalid (Some p))))
-    ∷ (codes "func", count p.func)
-    ∷ (codes "number", count (refusal_number (Invalid (Some p))))
-    ∷ (codes "ok", boolean false)
-    ∷ (codes "place", count p.instr)
-    ∷ [])
-refusal_data refusal = object_of
-    ((codes "error", string (refusal_name refusal))
-    ∷ (codes "number", count (refusal_number refusal))
-    ∷ (codes "ok", boolean false)
-    ∷ [])
+refusal_data (BadText line column) =
+    refused (BadText line column) ((codes "column", count column) ∷ (codes "line", count line) ∷ [])
+refusal_data (Invalid (Some p)) =
+    refused (Invalid (Some p)) ((codes "func", count p.func) ∷ (codes "place", count p.instr) ∷ [])
+refusal_data refusal = refused refusal []
 
-abbrev pub put_data : (digest : List ℕ) → (size : ℕ) → Data
-put_data digest size = object_of
-    ((codes "digest", string digest) ∷ (codes "ok", boolean true) ∷ (codes "size", count size) ∷ [])
-
-abbrev pub digest_data : (digest : List ℕ) → Data
-digest_data digest = object_of ((codes "digest", string digest) ∷ (codes "ok", boolean true) ∷ [])
-
-abbrev pub id_data : (id : List ℕ) → Data
-id_data id = object_of ((codes "id", string id) ∷ (codes "ok", boolean true) ∷ [])
-
-abbrev pub member_data : (digest id : List ℕ) → Data
-member_data digest id = object_of
-    ((codes "digest", string digest) ∷ (codes "id", string id) ∷ (codes "ok", boolean true) ∷ [])
+-- an accepted request is answered `ok`, with these members
+abbrev pub accepted : List (List ℕ × Data) → Data
+accepted ms = object (put (codes "ok") (boolean true) (members ms))
 
 -- a list of texts
 abbrev pub texts_data : List (List ℕ) → Data
 texts_data texts = array (items_of (map string texts))
-
-abbrev pub removed_data : (digests : List (List ℕ)) → Data
-removed_data digests =
-    object_of ((codes "ok", boolean true) ∷ (codes "removed", texts_data digests) ∷ [])
-
-abbrev pub status_data : (id : List ℕ) → Status → Data
-status_data id status = object_of
-    ((codes "id", string id) ∷ (codes "ok", boolean true)
-    ∷ (codes "status", string (status_name status)) ∷ [])
 
 -- why a stopped task ended, and its exit status
 abbrev pub cause_members : Option ExitRecord → List (List ℕ × Data)
@@ -100,20 +74,6 @@ state_data s = object_of
     ∷ signal_members s.end
     ++ (codes "status", string (status_name s.status))
     ∷ trap_members s.end)
-
--- the bytes in lower-case hexadecimal digits
-abbrev pub output_data : (bytes id : List ℕ) → (size : ℕ) → Data
-output_data bytes id size = object_of
-    ((codes "hex", string (encode_lower bytes))
-    ∷ (codes "id", string id)
-    ∷ (codes "ok", boolean true)
-    ∷ (codes "size", count size)
-    ∷ [])
-
-abbrev pub peek_data : (bytes id : List ℕ) → Data
-peek_data bytes id =
-    object_of ((codes "hex", string (encode_lower bytes)) ∷ (codes "id", string id)
-    ∷ (codes "ok", boolean true) ∷ [])
 
 -- a value as a text: its type, and its number read as signed
 abbrev pub value_text : Value → List ℕ
@@ -143,35 +103,44 @@ frame_data f = object_of
 abbrev pub frames_data : List ShownFrame → Data
 frames_data frames = array (items_of (map frame_data frames))
 
-abbrev pub inspect_data : List ShownFrame → (id : List ℕ) → (n : ℕ) → Data
-inspect_data frames id n = object_of
-    ((codes "frames", frames_data frames)
-    ∷ (codes "id", string id)
-    ∷ (codes "n", count n)
-    ∷ (codes "ok", boolean true)
-    ∷ [])
+-- a status of a task, and bytes in lower-case hexadecimal digits, with their keys
+abbrev pub status_member : Status → List ℕ × Data
+status_member status = (codes "status", string (status_name status))
 
+abbrev pub hex_member : (bytes : List ℕ) → List ℕ × Data
+hex_member bytes = (codes "hex", string (encode_lower bytes))
+
+abbrev pub id_member : (id : List ℕ) → List ℕ × Data
+id_member id = (codes "id", string id)
+
+abbrev pub digest_member : (digest : List ℕ) → List ℕ × Data
+digest_member digest = (codes "digest", string digest)
+
+-- the keys of each reply but `ok`, and their values
 abbrev pub reply_data : Reply → Data
-reply_data (reply.Put digest size) = put_data digest size
-reply_data (reply.Remove digest) = digest_data digest
-reply_data (reply.LeaseCreate id) = id_data id
-reply_data (reply.LeaseAdd digest id) = member_data digest id
-reply_data (reply.LeaseDelete id) = id_data id
-reply_data (reply.Gc removed) = removed_data removed
-reply_data (reply.Create id status) = status_data id status
-reply_data (reply.Start id status) = status_data id status
-reply_data (reply.Pause id status) = status_data id status
-reply_data (reply.Resume id status) = status_data id status
-reply_data (reply.Kill id status) = status_data id status
+reply_data (reply.Put digest size) =
+    accepted (digest_member digest ∷ (codes "size", count size) ∷ [])
+reply_data (reply.Remove digest) = accepted (digest_member digest ∷ [])
+reply_data (reply.LeaseCreate id) = accepted (id_member id ∷ [])
+reply_data (reply.LeaseAdd digest id) = accepted (digest_member digest ∷ id_member id ∷ [])
+reply_data (reply.LeaseDelete id) = accepted (id_member id ∷ [])
+reply_data (reply.Gc removed) = accepted ((codes "removed", texts_data removed) ∷ [])
+reply_data (reply.Create id status) = accepted (id_member id ∷ status_member status ∷ [])
+reply_data (reply.Start id status) = accepted (id_member id ∷ status_member status ∷ [])
+reply_data (reply.Pause id status) = accepted (id_member id ∷ status_member status ∷ [])
+reply_data (reply.Resume id status) = accepted (id_member id ∷ status_member status ∷ [])
+reply_data (reply.Kill id status) = accepted (id_member id ∷ status_member status ∷ [])
 reply_data (reply.Delete state) = state_data state
 reply_data (reply.State state) = state_data state
 reply_data (reply.Wait state) = state_data state
-reply_data (reply.Output bytes id size) = output_data bytes id size
-reply_data (reply.Break id) = id_data id
-reply_data (reply.Unbreak id) = id_data id
+reply_data (reply.Output bytes id size) =
+    accepted (hex_member bytes ∷ id_member id ∷ (codes "size", count size) ∷ [])
+reply_data (reply.Break id) = accepted (id_member id ∷ [])
+reply_data (reply.Unbreak id) = accepted (id_member id ∷ [])
 reply_data (reply.Step state) = state_data state
-reply_data (reply.Inspect frames id n) = inspect_data frames id n
-reply_data (reply.Peek bytes id) = peek_data bytes id
+reply_data (reply.Inspect frames id n) =
+    accepted ((codes "frames", frames_data frames) ∷ id_member id ∷ (codes "n", count n) ∷ [])
+reply_data (reply.Peek bytes id) = accepted (hex_member bytes ∷ id_member id ∷ [])
 
 -- what a request is answered
 abbrev pub json_of : Result Reply Refusal → Data
@@ -181,10 +150,8 @@ json_of (Err refusal) = refusal_data refusal
 -- what an event is answered
 abbrev pub event_data : EventReply → Data
 event_data (Called answer) = json_of answer
-event_data (Taken taken) =
-    object_of ((codes "ok", boolean true) ∷ (codes "taken", boolean taken) ∷ [])
-event_data (Returned returned) =
-    object_of ((codes "ok", boolean true) ∷ (codes "returned", boolean returned) ∷ [])
+event_data (Taken taken) = accepted ((codes "taken", boolean taken) ∷ [])
+event_data (Returned returned) = accepted ((codes "returned", boolean returned) ∷ [])
 
 -- a line: compact JSON with its keys in byte order, and a line feed
 abbrev pub line_text : Data → List ℕ

@@ -3,7 +3,8 @@
 ghost use Rattle.std.specs.Prelude.{◌≡◌, IfOk, string_bytes};
 ghost use Rattle.wasm_ast.specs.declared.values.Value.TheVariants as values;
 ghost use Rattle.serde_json.specs.View.{view};
-ghost use Rattle.request_lines.specs.Reply.{value_text, values_data, next_data, places_data, frame_data, frames_data, inspect_data};
+ghost use Rattle.task_requests.specs.declared.request.Reply.TheVariants as reply;
+ghost use Rattle.request_lines.specs.Reply.{value_text, values_data, next_data, places_data, frame_data, frames_data, reply_data};
 
 use serde_json::{Map, Value as Json, json, put};
 use std::alloc::{AllocError, Global};
@@ -105,7 +106,7 @@ pub(crate) fn inspect_value(
     id: &str,
     n: u64,
 ) -> Result<Json, AllocError>
-    ensures { IfOk result (λ v. view v ≡ inspect_data frames.now id.now n) }
+    ensures { IfOk result (λ v. view v ≡ reply_data (reply.Inspect frames.now id.now n)) }
 {
     let mut members = Map::new(alloc);
     let frames = frames_value(alloc, frames)?;

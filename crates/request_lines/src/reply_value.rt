@@ -4,7 +4,8 @@ ghost use Rattle.std.specs.Prelude.{◌≡◌, IfOk, OnOk, codes, [], ◌∷◌,
 ghost use Rattle.serde_json.specs.Data.{string, boolean, put};
 ghost use Rattle.serde_json.specs.View.{view, members_view};
 ghost use Rattle.task_lifecycle.specs.Names.{cause_name, exit_status};
-ghost use Rattle.request_lines.specs.Reply.{count as count_data, refusal_data, put_data, digest_data, id_data, member_data, texts_data, removed_data, status_data, state_data, output_data, peek_data, reply_data, json_of, event_data};
+ghost use Rattle.task_requests.specs.declared.request.Reply.TheVariants as reply;
+ghost use Rattle.request_lines.specs.Reply.{count as count_data, refusal_data, texts_data, state_data, reply_data, json_of, event_data};
 ghost use Rattle.request_lines.specs.Inside.States.{base_members, with_detail};
 
 use crate::frame_value::inspect_value;
@@ -43,28 +44,28 @@ fn refusal_value(alloc: Global, refusal: &Refusal) -> Result<Value, AllocError>
 
 // The value of a reply to a put.
 fn put_value(alloc: Global, digest: &str, size: u64) -> Result<Value, AllocError>
-    ensures { IfOk result (λ v. view v ≡ put_data digest.now size) }
+    ensures { IfOk result (λ v. view v ≡ reply_data (reply.Put digest.now size)) }
 {
     json!(in alloc; {"digest": digest, "ok": true, "size": size})
 }
 
 // The value of a reply to a removal.
 fn digest_value(alloc: Global, digest: &str) -> Result<Value, AllocError>
-    ensures { IfOk result (λ v. view v ≡ digest_data digest.now) }
+    ensures { IfOk result (λ v. view v ≡ reply_data (reply.Remove digest.now)) }
 {
     json!(in alloc; {"digest": digest, "ok": true})
 }
 
 // The value of a reply that is an id.
 fn id_value(alloc: Global, id: &str) -> Result<Value, AllocError>
-    ensures { IfOk result (λ v. view v ≡ id_data id.now) }
+    ensures { IfOk result (λ v. view v ≡ reply_data (reply.LeaseCreate id.now)) }
 {
     json!(in alloc; {"id": id, "ok": true})
 }
 
 // The value of a reply to an addition to a lease.
 fn member_value(alloc: Global, digest: &str, id: &str) -> Result<Value, AllocError>
-    ensures { IfOk result (λ v. view v ≡ member_data digest.now id.now) }
+    ensures { IfOk result (λ v. view v ≡ reply_data (reply.LeaseAdd digest.now id.now)) }
 {
     json!(in alloc; {"digest": digest, "id": id, "ok": true})
 }
@@ -83,7 +84,7 @@ fn texts_value(alloc: Global, texts: &[Text]) -> Result<Value, AllocError>
 
 // The value of a reply to a removal of all contents that are not held.
 fn removed_value(alloc: Global, digests: &[Text]) -> Result<Value, AllocError>
-    ensures { IfOk result (λ v. view v ≡ removed_data digests.now) }
+    ensures { IfOk result (λ v. view v ≡ reply_data (reply.Gc digests.now)) }
 {
     let list = texts_value(alloc, digests)?;
     let mut members = Map::new(alloc);
@@ -94,7 +95,7 @@ fn removed_value(alloc: Global, digests: &[Text]) -> Result<Value, AllocError>
 
 // The value of a reply that is a task's status.
 fn status_value(alloc: Global, id: &str, status: Status) -> Result<Value, AllocError>
-    ensures { IfOk result (λ v. view v ≡ status_data id.now status) }
+    ensures { IfOk result (λ v. view v ≡ reply_data (reply.Create id.now status)) }
 {
     json!(in alloc; {"id": id, "ok": true, "status": status.name()})
 }
@@ -165,7 +166,7 @@ fn state_value(alloc: Global, state: &TaskState) -> Result<Value, AllocError>
 
 // The value of a reply that is what a task has written.
 fn output_value(alloc: Global, bytes: &[u8], id: &str, size: u64) -> Result<Value, AllocError>
-    ensures { IfOk result (λ v. view v ≡ output_data bytes.now id.now size) }
+    ensures { IfOk result (λ v. view v ≡ reply_data (reply.Output bytes.now id.now size)) }
 {
     let digits = hex::encode(alloc, bytes)?;
     json!(in alloc; {"hex": digits.as_str(), "id": id, "ok": true, "size": size})
@@ -173,7 +174,7 @@ fn output_value(alloc: Global, bytes: &[u8], id: &str, size: u64) -> Result<Valu
 
 // The value of a reply that is bytes of a task's memory.
 fn peek_value(alloc: Global, bytes: &[u8], id: &str) -> Result<Value, AllocError>
-    ensures { IfOk result (λ v. view v ≡ peek_data bytes.now id.now) }
+    ensures { IfOk result (λ v. view v ≡ reply_data (reply.Peek bytes.now id.now)) }
 {
     let shown = hex::encode(alloc, bytes)?;
     json!(in alloc; {"hex": shown.as_str(), "id": id, "ok": true})
