@@ -20,7 +20,6 @@ mod invalid;
 mod json;
 mod limits;
 mod line;
-mod line_keys;
 mod located;
 mod module;
 mod operands;

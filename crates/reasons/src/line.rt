@@ -1,17 +1,12 @@
 //! Why a line is no request, or no event of a replay.
 
 use crate::json::{Parsed, kind_of_value, other_kind, parse};
-use crate::line_keys::{Key, Line, Wanted, event_with, has_key, request_with};
 use crate::shown::shown;
+use request_lines::{Key, Kind, MAX_LINE_BYTES, Op};
 use serde_json::{Map, Value};
 use std::alloc::{AllocError, Global};
 use std::str::from_utf8;
-
-/// Bytes of a line at most, its line feed not counted.
-const MAX_LINE_BYTES: usize = 1_048_576;
-
-/// The most turns of a slice that a replay may take.
-const MAX_BUDGET: u64 = 1_000_000;
+use task_requests::MAX_BUDGET;
 
 /// Which lines are read.
 #[derive(Clone, Copy, PartialEq, Eq, Debug)]
@@ -63,17 +58,12 @@ fn budget_text(alloc: Global, path: &str, value: &Value) -> Result<String, Alloc
 }
 
 // What is said of the value of a key that is not as it has to be.
-fn value_text(
-    alloc: Global,
-    path: &str,
-    value: &Value,
-    wanted: Wanted,
-) -> Result<String, AllocError> {
-    match wanted {
-        Wanted::Number => number_text(alloc, path, value),
-        Wanted::Budget => budget_text(alloc, path, value),
-        Wanted::Text | Wanted::Digits => match value {
-            Value::String(text) => if wanted == Wanted::Digits {
+fn value_text(alloc: Global, path: &str, value: &Value, kind: Kind) -> Result<String, AllocError> {
+    match kind {
+        Kind::Number => number_text(alloc, path, value),
+        Kind::Budget => budget_text(alloc, path, value),
+        Kind::Text | Kind::Digits => match value {
+            Value::String(text) => if kind == Kind::Digits {
                 digits_text(alloc, path, text.as_str())
             } else {
                 Ok(String::new(alloc))
@@ -83,37 +73,34 @@ fn value_text(
     }
 }
 
-// What kind of value a key wants.
-fn kind_wanted(wanted: Wanted) -> &'static str {
-    match wanted {
-        Wanted::Text | Wanted::Digits => "a text",
-        Wanted::Number | Wanted::Budget => "a number",
+// What a value of this kind is called.
+fn kind_wanted(kind: Kind) -> &'static str {
+    match kind {
+        Kind::Text | Kind::Digits => "a text",
+        Kind::Number | Kind::Budget => "a number",
     }
 }
 
 // What is said of a key.
 fn why_key(
     alloc: Global,
-    op: &str,
-    key: &Key,
+    op: Op,
+    key: Key,
     members: &Map<String, Value>,
 ) -> Result<String, AllocError> {
-    let name = key.name;
-    let path = format!(in alloc; "{op}: {name}")?;
+    let word = op.word();
+    let name = key.name();
+    let path = format!(in alloc; "{word}: {name}")?;
     match members.get(name) {
-        Some(value) => value_text(alloc, path.as_str(), value, key.wanted),
-        None => other_kind(alloc, path.as_str(), None, kind_wanted(key.wanted)),
+        Some(value) => value_text(alloc, path.as_str(), value, key.kind()),
+        None => other_kind(alloc, path.as_str(), None, kind_wanted(key.kind())),
     }
 }
 
 // What is said of the first key that is missing or has another value.
-fn why_keys(
-    alloc: Global,
-    line: &Line,
-    members: &Map<String, Value>,
-) -> Result<String, AllocError> {
-    for key in line.keys {
-        let text = why_key(alloc, line.op, key, members)?;
+fn why_keys(alloc: Global, op: Op, members: &Map<String, Value>) -> Result<String, AllocError> {
+    for key in op.keys() {
+        let text = why_key(alloc, op, *key, members)?;
         if !text.is_empty() {
             return Ok(text);
         }
@@ -122,40 +109,42 @@ fn why_keys(
 }
 
 // The keys of a line, `op` first.
-fn key_names(alloc: Global, line: &Line) -> Result<String, AllocError> {
+fn key_names(alloc: Global, op: Op) -> Result<String, AllocError> {
     let mut names = String::from_str(alloc, "op")?;
-    for key in line.keys {
+    for key in op.keys() {
         names.push_str(", ")?;
-        names.push_str(key.name)?;
+        names.push_str(key.name())?;
     }
     Ok(names)
 }
 
+// Whether a line has this key.
+fn has_key(op: Op, name: &str) -> bool {
+    for key in op.keys() {
+        if key.name() == name {
+            return true;
+        }
+    }
+    name == "op"
+}
+
 // What is said of the first key that the line does not have.
-fn why_further(
-    alloc: Global,
-    line: &Line,
-    members: &Map<String, Value>,
-) -> Result<String, AllocError> {
+fn why_further(alloc: Global, op: Op, members: &Map<String, Value>) -> Result<String, AllocError> {
     for (key, _value) in members.iter() {
-        if !has_key(line, key.as_str()) {
-            let op = line.op;
+        if !has_key(op, key.as_str()) {
+            let word = op.word();
             let key = shown(alloc, key.as_str())?;
-            let names = key_names(alloc, line)?;
-            return format!(in alloc; "{op}: no key is named {key}; its keys are {names}");
+            let names = key_names(alloc, op)?;
+            return format!(in alloc; "{word}: no key is named {key}; its keys are {names}");
         }
     }
     Ok(String::new(alloc))
 }
 
-fn why_line_of(
-    alloc: Global,
-    line: &Line,
-    members: &Map<String, Value>,
-) -> Result<String, AllocError> {
-    let text = why_keys(alloc, line, members)?;
+fn why_line_of(alloc: Global, op: Op, members: &Map<String, Value>) -> Result<String, AllocError> {
+    let text = why_keys(alloc, op, members)?;
     if text.is_empty() {
-        why_further(alloc, line, members)
+        why_further(alloc, op, members)
     } else {
         Ok(text)
     }
@@ -164,20 +153,19 @@ fn why_line_of(
 // Why a line with this `op` is none.
 fn why_op(
     alloc: Global,
-    op: &str,
+    word: &str,
     members: &Map<String, Value>,
     lines: Lines,
 ) -> Result<String, AllocError> {
-    if let Some(line) = request_with(op) {
-        return why_line_of(alloc, line, members);
-    }
-    let Some(line) = event_with(op) else {
-        let op = shown(alloc, op)?;
-        return format!(in alloc; "op: there is no request \"{op}\"");
-    };
-    match lines {
-        Lines::Events => why_line_of(alloc, line, members),
-        Lines::Requests => format!(in alloc; "op: \"{op}\" is for replays alone"),
+    match Op::with_word(word) {
+        None => {
+            let word = shown(alloc, word)?;
+            format!(in alloc; "op: there is no request \"{word}\"")
+        }
+        Some(Op::Take | Op::Return) if lines == Lines::Requests => {
+            format!(in alloc; "op: \"{word}\" is for replays alone")
+        }
+        Some(op) => why_line_of(alloc, op, members),
     }
 }
 

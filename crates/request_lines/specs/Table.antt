@@ -16,6 +16,7 @@ use Rattle.request_lines.specs.declared.table.Slot.TheVariants as slot
 use Rattle.request_lines.specs.declared.values.Values.{Values}
 use Rattle.request_lines.specs.Request.{event_op}
 
+-- every op
 abbrev pub all_ops : List Op
 all_ops =
     Put ∷ PutText ∷ Remove ∷ LeaseCreate ∷ LeaseAdd ∷ LeaseDelete ∷ Gc ∷ Create ∷ Start
@@ -52,6 +53,7 @@ event_with Return bytes v = happening.Return v.id
 abbrev pub op_word : Op → List ℕ
 op_word op = event_op (event_with op [] (record { id = []; text = []; first = 0; second = 0 }))
 
+-- the keys beside `op`, in the order of their names
 abbrev pub op_keys : Op → List Key
 op_keys Put = Hex ∷ []
 op_keys PutText = Text ∷ []
@@ -73,6 +75,7 @@ abbrev pub op_with : (word : List ℕ) → List Op → Option Op
 op_with word [] = None
 op_with word (op ∷ ops) = if bytes_eq (op_word op) word then Some op else op_with word ops
 
+-- the name of a key in a line
 abbrev pub key_name : Key → List ℕ
 key_name Hex = codes "hex"
 key_name Text = codes "text"
@@ -99,12 +102,14 @@ key_slot Place = slot.Second
 key_slot Length = slot.Second
 key_slot other = slot.First
 
+-- what kind of value is kept there
 abbrev pub kind_in : Slot → Kind
 kind_in slot.Id = kind.Text
 kind_in slot.Text = kind.Text
 kind_in slot.First = kind.Number
 kind_in slot.Second = kind.Number
 
+-- what the value of a key has to be
 abbrev pub key_kind : Key → Kind
 key_kind Hex = kind.Digits
 key_kind Budget = kind.Budget

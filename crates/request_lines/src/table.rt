@@ -5,7 +5,7 @@ ghost use Rattle.std.specs.Prelude.{◌≡◌};
 ghost use Rattle.request_lines.specs.Table.{all_ops, op_word, op_keys, op_with, key_name, key_kind, key_slot};
 
 /// What a line asks for.
-#[derive(Clone, Copy, PartialEq, Eq, Debug)]
+#[derive(Clone, Copy)]
 pub enum Op {
     Put,
     PutText,
@@ -35,7 +35,7 @@ pub enum Op {
 }
 
 /// A key beside `op`.
-#[derive(Clone, Copy, PartialEq, Eq, Debug)]
+#[derive(Clone, Copy)]
 pub enum Key {
     Hex,
     Text,
@@ -53,7 +53,7 @@ pub enum Key {
 }
 
 /// What the value of a key has to be.
-#[derive(Clone, Copy, PartialEq, Eq, Debug)]
+#[derive(Clone, Copy, PartialEq, Eq)]
 pub enum Kind {
     Text,
     /// A text of hexadecimal digits, two to a byte.
@@ -65,7 +65,7 @@ pub enum Kind {
 }
 
 /// Where the value of a key is kept until the whole line is read: no line has two keys of one place.
-#[derive(Clone, Copy, PartialEq, Eq, Debug)]
+#[derive(Clone, Copy)]
 pub(crate) enum Slot {
     Id,
     Text,
