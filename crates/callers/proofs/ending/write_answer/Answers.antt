@@ -1,4 +1,4 @@
-use Rattle.std.proofs.Common.{◌≡◌, sym, subst, append-nil}
+use Rattle.std.proofs.Common.{sym, subst, append-nil, [], ◌∷◌}
 use Rattle.std.specs.Io.KnownBytes.{Appends}
 use Rattle.callers.specs.Ends.{AllEnded, all_replies}
 use Rattle.callers.proofs.ending.write_answer.Goals as goal

@@ -1,4 +1,4 @@
-use Rattle.std.proofs.Common.{◌≡◌, refl, sym, subst, ap, ◌∙◌, ◌++◌, [], ◌∷◌, append_assoc}
+use Rattle.std.proofs.Common.{refl, sym, subst, ap, ◌∙◌, ◌++◌, [], ◌∷◌, append_assoc}
 use Rattle.std.specs.Io.KnownBytes.{Appends}
 use Rattle.callers.specs.Ends.{AllEnded, all_replies}
 use Rattle.callers.proofs.DriveLemmas.{appends_none}
@@ -13,15 +13,15 @@ pub loop-answered-preserved : goal.loop-answered-preserved
 loop-answered-preserved g c =
     let inv = c.loop-answered.invariant in
     let x = c.in-Some.answered in
-    let both = c.first_fault.ensures in (
+    let both = c.first_fault-how.ensures in (
       inv.0 ++ x ∷ [],
       append_assoc inv.0 (x ∷ []) c.next.new.self.rest.items
           ∙ ap (λ r. inv.0 ++ r) (sym c.in-Some.ensures.steps.0) ∙ inv.1,
       λ is. ended_more (λ a. a.driven) inv.0 (x ∷ []) (inv.2 (both.0 is).0)
-          (c.write_answer.ensures.ended (both.0 is).1),
+          (c.write_answer-one.ensures.ended (both.0 is).1),
       λ is. written_more (λ a. a.replies.items) inv.0 (x ∷ []) (g.W.Sink.contents c.args.writer.now)
-          (g.W.Sink.contents c.loop-answered.writer) (g.W.Sink.contents c.write_answer.new.writer)
-          (inv.3 (both.0 is).0) (c.write_answer.ensures.written (both.0 is).1),
+          (g.W.Sink.contents c.loop-answered.writer) (g.W.Sink.contents c.write_answer-one.new.writer)
+          (inv.3 (both.0 is).0) (c.write_answer-one.ensures.written (both.0 is).1),
     )
 
 pub returns-clause-ended : goal.returns-clause-ended
