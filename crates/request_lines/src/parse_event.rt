@@ -59,7 +59,8 @@ fn of_task(id: Text, ask: Ask) -> Result<Event, LineError>
     Ok(Event::Call(Request::Task { id, ask }))
 }
 
-/// Makes the event of these values. There is none if the digits of a put or the budget of a take are malformed.
+/// Makes the event of these values. There is none if the digits of a put or the budget of a take
+/// are malformed.
 fn make_event(alloc: Global, op: Op, values: Values) -> Result<Event, LineError>
     ensures { Parses (λ e. event_read op values ≡ Some e) result }
 {
