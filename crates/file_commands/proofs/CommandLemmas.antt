@@ -1,5 +1,5 @@
 -- The program's command line, and what was found of its arguments.
-use Rattle.std.proofs.Common.{◌≡◌, ◌⊎◌, ◌≤◌, ℕ, nat_le, List, [], Option, Some, None, option_map, Bool, true, false, not, ◌&&◌, ◌||◌, refl, ap, subst, inl, inr, arith}
+use Rattle.std.proofs.Common.{◌≡◌, ◌⊎◌, ◌≤◌, ℕ, nat_le, List, [], ◌∷◌, map, codes, string_bytes, Option, Some, None, Bool, true, false, not, ◌&&◌, ◌||◌, refl, ap, subst, inl, inr, arith}
 use Rattle.std.proofs.lemmas.Bool.Decides.{nat_tests}
 use Rattle.clap.specs.Faults.{is_simple_and_free}
 use Rattle.clap.specs.Kinds.{IsAmong}
@@ -8,7 +8,7 @@ use Rattle.clap.specs.Walk.{Row, Text}
 use Rattle.clap.specs.declared.error.kind.ErrorKind.{ErrorKind}
 use Rattle.clap.specs.declared.error.kind.ErrorKind.TheVariants.{OutOfMemory}
 use Rattle.clap.proofs.OnLiterals.{clap_on_literals}
-use Rattle.file_commands.specs.Command.{program, command_in, faults_in, is_unfit, is_no_count, most_workers, with_file, with_output, with_flags, with_module, file_in, module_in, IsUnfit, IsCommand, Name, AreFaulty}
+use Rattle.file_commands.specs.Command.{program, command_in, faults_in, is_unfit, is_no_count, most_workers, file_in, module_in, IsUnfit, IsCommand, Name, AreFaulty}
 use Rattle.file_commands.specs.Inside.Chosen.{IsShown, IsRefusedFor, IsOfArguments}
 use Rattle.file_commands.specs.declared.command.Command.{Command}
 use Rattle.file_commands.specs.declared.command.Command.TheVariants.{Serve, Replay, Asm, Check, Run, Show}
@@ -36,7 +36,8 @@ named_from_chosen arguments found e none (Check file list task memory explain) (
     (none, subst (λ f. IsCommand f (Check file list task memory explain)) e h, complete)
 named_from_chosen arguments found e none (Run name args settings explain) (h, complete) =
     (none, subst (λ f. IsCommand f (Run name args settings explain)) e h, complete)
-named_from_chosen arguments found e none (Show text) (h, complete) = absurd h
+named_from_chosen arguments None e none (Show text) (h, complete) = absurd h
+named_from_chosen arguments (Some f) e none (Show text) (h, complete) = absurd h
 
 pub named_from_shown :
     (arguments : List Text) (kind : ErrorKind) → (kind ≡ OutOfMemory) ⊎ IsAmong kind (faults_in arguments)
@@ -95,39 +96,25 @@ workers_within n a b h =
     let high = both.1 in
     (grind (arith, nat_tests, low), grind (arith, nat_tests, high))
 
-some_same : {X : Type 0} (x y : X) → Some x ≡ Some y → x ≡ y
-some_same x y h = cc
-
 -- the command that was found, and what is found of its arguments
 abbrev Takes : {X : Type 0} → Option (Text × List Row) → (name : Text) → (List Row → Option X) → X → Type 0
 Takes found name of x = (rows : List Row) × (found ≡ Some (name, rows)) × (of rows ≡ Some x)
 
-pub named_file : (found : Option (Text × List Row)) (name file : Text)
-    → option_map with_file found ≡ Some (name, Some file) → Takes found name file_in file
-named_file None name file h = cc
-named_file (Some p) name file h =
-    let same = some_same (with_file p) (name, Some file) h in
-    (p.1, ap (λ (n : Text). Some (n, p.1)) (ap (λ x. x.0) same), ap (λ x. x.1) same)
+abbrev pub TakesFile : Option (Text × List Row) → Command → Type 0
+TakesFile found (Replay file) = Takes found (codes "replay") file_in (string_bytes file)
+TakesFile found (Asm file output explain) = Takes found (codes "asm") file_in (string_bytes file)
+TakesFile found (Check file list task memory explain) = Takes found (codes "check") file_in (string_bytes file)
+TakesFile found (Run name args settings explain) =
+    Takes found (codes "run") module_in (string_bytes name ∷ map string_bytes args.items)
+TakesFile found other = Unit {0}
 
-pub named_output : (found : Option (Text × List Row)) (name file : Text) (output : Option Text) (explain : Bool)
-    → option_map with_output found ≡ Some (name, Some file, output, explain) → Takes found name file_in file
-named_output None name file output explain h = cc
-named_output (Some p) name file output explain h =
-    let same = some_same (with_output p) (name, Some file, output, explain) h in
-    (p.1, ap (λ (n : Text). Some (n, p.1)) (ap (λ x. x.0) same), ap (λ x. x.1) same)
-
-pub named_checked : (found : Option (Text × List Row)) (name file : Text) (list task : Bool) (memory : Option ℕ)
-    (explain : Bool)
-    → option_map with_flags found ≡ Some (name, Some file, list, task, memory, explain) → Takes found name file_in file
-named_checked None name file list task memory explain h = cc
-named_checked (Some p) name file list task memory explain h =
-    let same = some_same (with_flags p) (name, Some file, list, task, memory, explain) h in
-    (p.1, ap (λ (n : Text). Some (n, p.1)) (ap (λ x. x.0) same), ap (λ x. x.1) same)
-
-pub named_module : (found : Option (Text × List Row)) (name : Text) (words env : List Text) (memory : Option ℕ)
-    (explain : Bool)
-    → option_map with_module found ≡ Some (name, Some words, env, memory, explain) → Takes found name module_in words
-named_module None name words env memory explain h = cc
-named_module (Some p) name words env memory explain h =
-    let same = some_same (with_module p) (name, Some words, env, memory, explain) h in
-    (p.1, ap (λ (n : Text). Some (n, p.1)) (ap (λ x. x.0) same), ap (λ x. x.1) same)
+pub takes_file : (found : Option (Text × List Row)) (c : Command) → IsCommand found c → TakesFile found c
+takes_file None c h = absurd h
+takes_file (Some f) (Serve workers scripts callers explain log format) h = tt
+takes_file (Some f) (Replay file) (named, is) = (f.1, ap (λ (n : Text). Some (n, f.1)) named, is)
+takes_file (Some f) (Asm file output explain) (named, is, out, told) = (f.1, ap (λ (n : Text). Some (n, f.1)) named, is)
+takes_file (Some f) (Check file list task memory explain) (named, is, listed, tasked, limit, told) =
+    (f.1, ap (λ (n : Text). Some (n, f.1)) named, is)
+takes_file (Some f) (Run name args settings explain) (named, is, entries, limit, told) =
+    (f.1, ap (λ (n : Text). Some (n, f.1)) named, is)
+takes_file (Some f) (Show text) h = absurd h

@@ -6,3 +6,8 @@ pub mod RanLemmas
 pub mod RunLemmas
 pub mod FileLaws
 pub mod ExplainedLemmas
+pub mod ReplayLemmas
+pub mod DeterminedLemmas
+pub mod RowLemmas
+pub mod WalkedRows
+pub mod FoundLemmas

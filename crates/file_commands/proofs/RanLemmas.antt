@@ -1,5 +1,5 @@
 -- What a command answers where one of its parts was refused.
-use Rattle.std.proofs.Common.{◌≡◌, ◌≢◌, ◌⊎◌, inl, inr, ℕ, List, Bool, Option, Result, Ok, Err, refl, sym, subst}
+use Rattle.std.proofs.Common.{◌≡◌, ◌≢◌, ◌⊎◌, inl, inr, ℕ, List, Bool, true, false, Option, Result, Ok, Err, refl, sym, subst}
 use Rattle.std.specs.Prelude.{IfOk, IfErr, OnOk, OnErr}
 use Rattle.wasm_ast.specs.declared.module.Module.{Module}
 use Rattle.wasm_ast.specs.declared.place.Place.{Place}
@@ -9,7 +9,7 @@ use Rattle.wasm_binary.specs.Canonical.{FitsLimits}
 use Rattle.file_commands.specs.declared.ran.Ran.{Ran}
 use Rattle.file_commands.specs.Source.{IsSource, IsNoSource}
 use Rattle.file_commands.specs.Ran.{refused}
-use Rattle.file_commands.specs.Explained.{IsToldWhy, IsExplained}
+use Rattle.file_commands.specs.Explained.{IsTold, IsToldBy}
 use Rattle.file_commands.specs.Assembled.{IsAssembled}
 use Rattle.file_commands.specs.Assembled as assembled
 use Rattle.file_commands.specs.Checked.{IsChecked}
@@ -68,30 +68,25 @@ checked_refused bytes list e r is told (inr (why.CannotCheck.no_module x h)) =
 checked_refused bytes list e r is told (inr (why.CannotCheck.invalid m at source fault)) =
     subst (IsChecked bytes list) (sym is) (checked.IsChecked.invalid m at source fault)
 
-pub asm_answer :
-    (bytes : List ℕ) (e : Refusal) (r : Result Ran Refusal) → IfOk r (λ x. x ≡ refused e)
-    → OnOk r (e ≢ refusal.NoMemory) → Told (CannotAssemble bytes) e → IfOk r (IsAssembled bytes)
-asm_answer bytes e (Ok x) is told h = assembled_refused bytes e x is told h
-asm_answer bytes e (Err x) is told h = tt
+-- ---- with or without the line of a reason
 
-pub check_answer :
-    (bytes : List ℕ) (list : Bool) (e : Refusal) (r : Result Ran Refusal) → IfOk r (λ x. x ≡ refused e)
-    → OnOk r (e ≢ refusal.NoMemory) → Told (CannotCheck bytes) e → IfOk r (IsChecked bytes list)
-check_answer bytes list e (Ok x) is told h = checked_refused bytes list e x is told h
-check_answer bytes list e (Err x) is told h = tt
+pub told_plain : (Is : Ran → Type 0) (explain : Bool) (refuse : Refusal → Ran) (r : Ran) → Is r
+    → IsToldBy explain refuse Is r
+told_plain Is true refuse r is = inl is
+told_plain Is false refuse r is = is
 
--- ---- with the line of a reason
-
-pub asm_why :
-    (bytes : List ℕ) (e : Refusal) (r : Result Ran Refusal) → IfOk r (IsToldWhy (refused e))
+pub asm_told :
+    (bytes : List ℕ) (e : Refusal) (explain : Bool) (r : Result Ran Refusal) → IfOk r (IsTold explain (refused e))
     → OnOk r (e ≢ refusal.NoMemory) → Told (CannotAssemble bytes) e
-    → IfOk r (IsExplained refused (IsAssembled bytes))
-asm_why bytes e (Ok x) is told h = inr (e, assembled_refused bytes e (refused e) refl told h, is)
-asm_why bytes e (Err x) is told h = tt
+    → IfOk r (IsToldBy explain refused (IsAssembled bytes))
+asm_told bytes e true (Ok x) is told h = inr (e, assembled_refused bytes e (refused e) refl told h, is)
+asm_told bytes e false (Ok x) is told h = assembled_refused bytes e x is told h
+asm_told bytes e explain (Err x) is told h = tt
 
-pub check_why :
-    (bytes : List ℕ) (list : Bool) (e : Refusal) (r : Result Ran Refusal) → IfOk r (IsToldWhy (refused e))
-    → OnOk r (e ≢ refusal.NoMemory) → Told (CannotCheck bytes) e
-    → IfOk r (IsExplained refused (IsChecked bytes list))
-check_why bytes list e (Ok x) is told h = inr (e, checked_refused bytes list e (refused e) refl told h, is)
-check_why bytes list e (Err x) is told h = tt
+pub check_told :
+    (bytes : List ℕ) (list : Bool) (e : Refusal) (explain : Bool) (r : Result Ran Refusal)
+    → IfOk r (IsTold explain (refused e)) → OnOk r (e ≢ refusal.NoMemory) → Told (CannotCheck bytes) e
+    → IfOk r (IsToldBy explain refused (IsChecked bytes list))
+check_told bytes list e true (Ok x) is told h = inr (e, checked_refused bytes list e (refused e) refl told h, is)
+check_told bytes list e false (Ok x) is told h = checked_refused bytes list e x is told h
+check_told bytes list e explain (Err x) is told h = tt

@@ -13,7 +13,7 @@ use Rattle.file_commands.specs.Source.{IsSource, IsNoSource}
 use Rattle.file_commands.specs.TaskRun.{Given, can_have, process_given, ran_to, CannotRun, IsEnd, IsRun}
 use Rattle.file_commands.specs.TaskRun as task
 use Rattle.file_commands.specs.Ran.{line, succeeded, refused}
-use Rattle.file_commands.specs.Explained.{IsToldWhy, IsExplained}
+use Rattle.file_commands.specs.Explained.{IsTold, IsToldBy}
 use Rattle.file_commands.specs.Checked.{list_if, IsTaskChecked}
 use Rattle.file_commands.specs.Checked as checked
 use Rattle.file_commands.specs.Inside.Written.{CannotStart, IsOpened, HasEnded}
@@ -129,17 +129,11 @@ task_checked bytes g list v text r opened_so same is =
     (checked.IsTaskChecked.task v.module opened_so.source opened_so.arguments opened_so.valid opened_so.opens)
 
 -- one of which none was made
-pub task_refused :
-    (bytes : List ℕ) (g : Given) (list : Bool) (e : Refusal) (r : Result Ran Refusal) → IfOk r (λ x. x ≡ refused e)
-    → OnOk r (e ≢ refusal.NoMemory) → Unless (CannotRun bytes g) e → IfOk r (IsTaskChecked bytes g list)
-task_refused bytes g list e (Ok x) is told why =
+pub task_told :
+    (bytes : List ℕ) (g : Given) (list : Bool) (e : Refusal) (explain : Bool) (r : Result Ran Refusal)
+    → IfOk r (IsTold explain (refused e)) → OnOk r (e ≢ refusal.NoMemory) → Unless (CannotRun bytes g) e
+    → IfOk r (IsToldBy explain refused (IsTaskChecked bytes g list))
+task_told bytes g list e true (Ok x) is told why = inr (e, checked.IsTaskChecked.no_task e (why told), is)
+task_told bytes g list e false (Ok x) is told why =
     subst (IsTaskChecked bytes g list) (sym is) (checked.IsTaskChecked.no_task e (why told))
-task_refused bytes g list e (Err x) is told why = tt
-
--- the same with the line of a reason
-pub task_why :
-    (bytes : List ℕ) (g : Given) (list : Bool) (e : Refusal) (r : Result Ran Refusal) → IfOk r (IsToldWhy (refused e))
-    → OnOk r (e ≢ refusal.NoMemory) → Unless (CannotRun bytes g) e
-    → IfOk r (IsExplained refused (IsTaskChecked bytes g list))
-task_why bytes g list e (Ok x) is told why = inr (e, checked.IsTaskChecked.no_task e (why told), is)
-task_why bytes g list e (Err x) is told why = tt
+task_told bytes g list e explain (Err x) is told why = tt

@@ -17,10 +17,11 @@ use Rattle.step_machine.specs.MachineView.{MachineView, state_of, written_to, ou
 use Rattle.file_commands.specs.declared.ran.Ran.{Ran}
 use Rattle.file_commands.specs.declared.run_error.RunError.{RunError}
 use Rattle.file_commands.specs.Ran.{refused_run}
-use Rattle.file_commands.specs.Explained.{IsToldWhy, IsExplained}
+use Rattle.file_commands.specs.Explained.{IsTold, IsToldBy}
 use Rattle.file_commands.specs.TaskRun.{Given, end_lines, status_of, ran_to, CannotRun, IsRun, IsWritten}
 use Rattle.file_commands.specs.TaskRun as task
 use Rattle.file_commands.specs.Inside.Written.{IsOpened, HasEnded, IsCopied}
+use Rattle.file_commands.proofs.RanLemmas.{told_plain}
 use Rattle.file_commands.proofs.RunLemmas.{Unless, is_run}
 
 -- the outputs of turns grow
@@ -75,51 +76,31 @@ end_written v w end o o' e e' e'' status same_module same_process ends out err l
     )
 
 -- the task of a file
-pub run_written : (bytes : List ℕ) (g : Given) (v : MachineView)
+pub run_written : (bytes : List ℕ) (g : Given) (explain : Bool) (v : MachineView)
     (r : Result ℕ RunError) (o o' e e' : Option (List ℕ))
     → IsOpened bytes g v → IfOk r (IsWritten (HasEnded v.module v.process) o o' e e')
-    → IfOk r (IsWritten (IsRun bytes g) o o' e e')
-run_written bytes g v r o o' e e' opened_so h =
-    written_as r o o' e e' (λ x ended_so. is_run bytes g v x opened_so ended_so) h
+    → IfOk r (IsWritten (IsToldBy explain refused_run (IsRun bytes g)) o o' e e')
+run_written bytes g explain v r o o' e e' opened_so h =
+    written_as r o o' e e'
+    (λ x ended_so. told_plain (IsRun bytes g) explain refused_run x (is_run bytes g v x opened_so ended_so)) h
+
+run_told : (bytes : List ℕ) (g : Given) (cause : Refusal) (explain : Bool) (ran : Ran) → CannotRun bytes g cause
+    → IsTold explain (refused_run cause) ran → IsToldBy explain refused_run (IsRun bytes g) ran
+run_told bytes g cause true ran why is = inr (cause, task.IsRun.no_task cause why, is)
+run_told bytes g cause false ran why is = subst (IsRun bytes g) (sym is) (task.IsRun.no_task cause why)
 
 -- a file without a task
-pub refusal_written : (bytes : List ℕ) (g : Given) (cause : Refusal)
-    (r : Result ℕ RunError) (o e e' : Option (List ℕ))
-    → Unless (CannotRun bytes g) cause → OnOk r (Appends e e' (refused_run cause).err)
-    → IfOk r (λ s. s ≡ (refused_run cause).status) → OnOk r (cause ≢ refusal.NoMemory)
-    → IfOk r (IsWritten (IsRun bytes g) o o e e')
-refusal_written bytes g cause (Ok n) o e e' why err status told =
-    (refused_run cause, task.IsRun.no_task cause (why told), Appends-nil o, err, status)
-refusal_written bytes g cause (Err x) o e e' why err status told = tt
-
--- ---- with the line of a reason
-
--- the task of a file
-pub run_why : (bytes : List ℕ) (g : Given) (v : MachineView)
+pub refusal_written : (bytes : List ℕ) (g : Given) (cause : Refusal) (explain : Bool) (told : Result Ran Refusal)
     (r : Result ℕ RunError) (o o' e e' : Option (List ℕ))
-    → IsOpened bytes g v → IfOk r (IsWritten (HasEnded v.module v.process) o o' e e')
-    → IfOk r (IsWritten (IsExplained refused_run (IsRun bytes g)) o o' e e')
-run_why bytes g v r o o' e e' opened_so h =
-    written_as r o o' e e' (λ x ended_so. inl (is_run bytes g v x opened_so ended_so)) h
-
--- a reason is no output
-told_out : (cause : Refusal) (ran : Ran) → IsToldWhy (refused_run cause) ran → ran.out ≡ []
-told_out cause ran (inl is) = ap (λ (r : Ran). r.out) is
-told_out cause ran (inr h) = ap (λ (r : Ran). r.out) h.2
-
--- a file without a task
-pub refusal_why : (bytes : List ℕ) (g : Given) (cause : Refusal)
-    (r : Result ℕ RunError) (o e e' : Option (List ℕ))
-    → Unless (CannotRun bytes g) cause
-    → IfOk r (λ s. (ran : Ran) × IsToldWhy (refused_run cause) ran × Appends e e' ran.err × (s ≡ ran.status))
-    → OnOk r (cause ≢ refusal.NoMemory)
-    → IfOk r (IsWritten (IsExplained refused_run (IsRun bytes g)) o o e e')
-refusal_why bytes g cause (Ok n) o e e' why written told =
-    let ran = written.0 in (
-      ran,
-      inr (cause, task.IsRun.no_task cause (why told), written.1),
-      subst (Appends o o) (sym (told_out cause ran written.1)) (Appends-nil o),
-      written.2,
-      written.3,
-    )
-refusal_why bytes g cause (Err x) o e e' why written told = tt
+    → Unless (CannotRun bytes g) cause → IfOk told (IsTold explain (refused_run cause))
+    → OnOk told (cause ≢ refusal.NoMemory)
+    → IfOk r
+    (λ s. (ran : Ran) × (told ≡ Ok ran) × Appends o o' ran.out × Appends e e' ran.err × (s ≡ ran.status))
+    → IfOk r (IsWritten (IsToldBy explain refused_run (IsRun bytes g)) o o' e e')
+refusal_written bytes g cause explain told (Ok n) o o' e e' why is some (ran, same, out, err, status) =
+    let its : IsTold explain (refused_run cause) ran =
+    subst (λ (t : Result Ran Refusal). IfOk t (IsTold explain (refused_run cause))) same is in
+    let other : cause ≢ refusal.NoMemory =
+    subst (λ (t : Result Ran Refusal). OnOk t (cause ≢ refusal.NoMemory)) same some in
+    (ran, run_told bytes g cause explain ran (why other) its, out, err, status)
+refusal_written bytes g cause explain told (Err x) o o' e e' why is some h = tt

@@ -1,5 +1,5 @@
 -- What `check` writes.
-use Rattle.std.specs.Prelude.{◌≡◌, ℕ, ◌+◌, List, [], ◌∷◌, ◌++◌, length, Bool, true, codes, decimal, if◌then◌else◌, Option, None}
+use Rattle.std.specs.Prelude.{◌≡◌, ℕ, ◌+◌, List, [], ◌∷◌, ◌++◌, length, Bool, true, false, codes, decimal, if◌then◌else◌, Option, None}
 use Rattle.wasm_ast.specs.declared.module.Func.{Func}
 use Rattle.wasm_ast.specs.declared.module.Module.{Module}
 use Rattle.wasm_ast.specs.declared.place.Place.{Place}
@@ -71,3 +71,9 @@ pub data IsTaskChecked (bytes : List ℕ) (g : Given) (list : Bool) : Ran → Ty
       → instantiation_refusal m (process_given g) ≡ None
       → IsTaskChecked bytes g list (succeeded (line (codes "ok") ++ list_if list m))
   no_task : (e : Refusal) → CannotRun bytes g e → IsTaskChecked bytes g list (refused e)
+
+-- what a check writes for a file with this name and these bytes, with or without a task under this limit
+abbrev pub IsCheck : (task : Bool) → (name bytes : List ℕ) → Bool → Option ℕ → Ran → Type 0
+IsCheck false name bytes list limit = IsChecked bytes list
+IsCheck true name bytes list limit =
+    IsTaskChecked bytes (record { args = name ∷ []; env = []; limit = limit }) list

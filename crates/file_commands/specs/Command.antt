@@ -1,5 +1,5 @@
 -- How the program's command line is read, by `clap`'s own reading of its arguments.
-use Rattle.std.specs.Prelude.{ℕ, ◌≡◌, ◌≢◌, ◌⊎◌, List, [], ◌∷◌, map, Bool, true, false, not, ◌&&◌, ◌||◌, nat_le, bytes_eq, Option, Some, None, is_some, option_map, codes, string_bytes}
+use Rattle.std.specs.Prelude.{ℕ, ◌≡◌, ◌≢◌, ◌⊎◌, List, [], ◌∷◌, map, Bool, true, false, not, ◌&&◌, ◌||◌, nat_le, bytes_eq, Option, Some, None, is_some, option_map, unwrap_or, fold, codes, string_bytes}
 use Rattle.std.specs.Str.Parse.{digits_value, without_leading_plus}
 use Rattle.clap.specs.Faults.{fault_of}
 use Rattle.clap.specs.Kinds.{Kinds, IsAmong}
@@ -16,6 +16,7 @@ use Rattle.file_commands.specs.declared.command.Command.TheVariants.{Serve, Repl
 use Rattle.file_commands.specs.declared.command.CommandError.{CommandError}
 use Rattle.file_commands.specs.declared.command.CommandError.TheVariants.{OutOfMemory, Arguments}
 
+-- the argument FILE, which there has to be
 abbrev pub file_rule : Rule
 file_rule = record (new_rule (codes "FILE")) { required = true }
 
@@ -23,63 +24,25 @@ file_rule = record (new_rule (codes "FILE")) { required = true }
 abbrev pub flag_rule : (name : Text) → Rule
 flag_rule name = record (new_rule name) { long = Some name; action = Some SetTrue }
 
-abbrev pub list_rule : Rule
-list_rule = flag_rule (codes "list")
+-- the option of this name, with a value
+abbrev pub option_rule : (name : Text) → Rule
+option_rule name = record (new_rule name) { long = Some name; value_names = 1 }
 
-abbrev pub explain_rule : Rule
-explain_rule = flag_rule (codes "explain")
+-- the option of this name, whose value is a number in this range
+abbrev pub number_rule : (name : Text) → (least most : ℕ) → Rule
+number_rule name least most = record (option_rule name) { parser = Some (Unsigned least most) }
 
-abbrev pub log_rule : Rule
-log_rule = flag_rule (codes "log")
+-- the option of this name, with one value more each time that it is given
+abbrev pub repeated_rule : (name : Text) → Rule
+repeated_rule name = record (option_rule name) { action = Some Append }
 
 -- the option `-o` or `--output`, whose value is the name of a file
 abbrev pub output_rule : Rule
-output_rule =
-    record (new_rule (codes "output")) {
-      long = Some (codes "output");
-      short = Some 111;
-      value_names = 1;
-    }
+output_rule = record (option_rule (codes "output")) { short = Some 111 }
 
--- the option `--log-format`, whose value is a text
-abbrev pub format_rule : Rule
-format_rule =
-    record (new_rule (codes "log-format")) { long = Some (codes "log-format"); value_names = 1 }
-
-abbrev pub task_rule : Rule
-task_rule = flag_rule (codes "task")
-
--- the option `--workers`, whose value is a number from 1 to 16
-abbrev pub workers_rule : Rule
-workers_rule = record (new_rule (codes "workers")) {
-  long = Some (codes "workers");
-  value_names = 1;
-  parser = Some (Unsigned 1 16);
-}
-
--- the option `--env`, an entry of the environment each time that it is given
-abbrev pub env_rule : Rule
-env_rule = record (new_rule (codes "env")) {
-  long = Some (codes "env");
-  value_names = 1;
-  action = Some Append;
-}
-
--- the option `--memory`, whose value is a number of bytes
+-- the limit on a task's memory: any number of bytes
 abbrev pub memory_rule : Rule
-memory_rule = record (new_rule (codes "memory")) {
-  long = Some (codes "memory");
-  value_names = 1;
-  parser = Some (Unsigned 0 18446744073709551615);
-}
-
--- the option `--caller`, a file of lines and a file for replies each time that it is given
-abbrev pub caller_rule : Rule
-caller_rule = record (new_rule (codes "caller")) {
-  long = Some (codes "caller");
-  value_names = 1;
-  action = Some Append;
-}
+memory_rule = number_rule (codes "memory") 0 18446744073709551615
 
 -- the files of callers, of which there may be several
 abbrev pub script_rule : Rule
@@ -109,175 +72,109 @@ bare_program =
       subs = [];
     }
 
--- `serve [--workers N] [--explain] [--log] [--log-format FORMAT] [--caller IN:OUT]* [SCRIPT..]`,
--- `replay FILE`, `asm [-o FILE] [--explain] FILE`, `check [--task [--memory BYTES]] [--list]
--- [--explain] FILE` and `run [--env NAME=VALUE]* [--memory BYTES] [--explain] MODULE [ARG..]`
+-- `serve [--workers N] [--explain] [--log] [--log-format FORMAT] [--caller IN:OUT]* [SCRIPT..]`
 abbrev pub serve_shape : Shape
 serve_shape =
     command_shape (codes "serve")
-    (workers_rule ∷ explain_rule ∷ log_rule ∷ format_rule ∷ caller_rule ∷ script_rule ∷ [])
+    (number_rule (codes "workers") 1 16 ∷ flag_rule (codes "explain") ∷ flag_rule (codes "log")
+    ∷ option_rule (codes "log-format") ∷ repeated_rule (codes "caller") ∷ script_rule ∷ [])
 
+-- `replay FILE`
 abbrev pub replay_shape : Shape
 replay_shape = command_shape (codes "replay") (file_rule ∷ [])
 
+-- `asm [-o OUTPUT] [--explain] FILE`
 abbrev pub asm_shape : Shape
-asm_shape = command_shape (codes "asm") (output_rule ∷ explain_rule ∷ file_rule ∷ [])
+asm_shape = command_shape (codes "asm") (output_rule ∷ flag_rule (codes "explain") ∷ file_rule ∷ [])
 
+-- `check [--task [--memory BYTES]] [--list] [--explain] FILE`
 abbrev pub check_shape : Shape
 check_shape =
     command_shape (codes "check")
-    (task_rule ∷ memory_rule ∷ list_rule ∷ explain_rule ∷ file_rule ∷ [])
+    (flag_rule (codes "task") ∷ memory_rule ∷ flag_rule (codes "list") ∷ flag_rule (codes "explain")
+    ∷ file_rule ∷ [])
 
+-- `run [--env NAME=VALUE]* [--memory BYTES] [--explain] MODULE [ARG..]`
 abbrev pub run_shape : Shape
 run_shape =
-    command_shape (codes "run") (env_rule ∷ memory_rule ∷ explain_rule ∷ module_rule ∷ [])
-
--- the program with the commands for lines, and with all
-abbrev pub line_program : App
-line_program = with_subcommand (with_subcommand bare_program serve_shape) replay_shape
+    command_shape (codes "run")
+    (repeated_rule (codes "env") ∷ memory_rule ∷ flag_rule (codes "explain") ∷ module_rule ∷ [])
 
 abbrev pub program : App
 program =
-    with_subcommand (with_subcommand (with_subcommand line_program asm_shape) check_shape) run_shape
+    fold with_subcommand bare_program
+    (serve_shape ∷ replay_shape ∷ asm_shape ∷ check_shape ∷ run_shape ∷ [])
 
 -- ---- what is found of the arguments of a command
 
 abbrev pub file_in : List Row → Option Text
 file_in = first_of (codes "FILE")
 
+-- the file of a module and the words after it
+abbrev pub module_in : List Row → Option (List Text)
+module_in = all_of (codes "MODULE")
+
 abbrev pub is_set : Option Text → Bool
 is_set None = false
 is_set (Some value) = bytes_eq value (codes "true")
 
--- `--list` is among them
-abbrev pub has_list : List Row → Bool
-has_list rows = is_set (first_of (codes "list") rows)
+-- the flag of this name is among them
+abbrev pub has_flag : (name : Text) → List Row → Bool
+has_flag name rows = is_set (first_of name rows)
 
--- `--task` is among them
-abbrev pub has_task : List Row → Bool
-has_task rows = is_set (first_of (codes "task") rows)
+-- the values of the argument of this name, in their order
+abbrev pub texts_in : (name : Text) → List Row → List Text
+texts_in name rows = unwrap_or (all_of name rows) []
 
--- `--explain` is among them
-abbrev pub has_explain : List Row → Bool
-has_explain rows = is_set (first_of (codes "explain") rows)
+abbrev pub number_from : Option Text → Option ℕ
+number_from = option_map (λ text. digits_value 10 (without_leading_plus text))
 
--- `--log` is among them
-abbrev pub has_log : List Row → Bool
-has_log rows = is_set (first_of (codes "log") rows)
+-- the number that the option of this name has, if it is given
+abbrev pub number_in : (name : Text) → List Row → Option ℕ
+number_in name rows = number_from (first_of name rows)
 
--- the value of `-o`, if it is among them
-abbrev pub output_in : List Row → Option Text
-output_in = first_of (codes "output")
-
--- the value of `--log-format`, if it is among them
-abbrev pub format_in : List Row → Option Text
-format_in = first_of (codes "log-format")
+-- how many workers there are: the number given, or else 2
+abbrev pub workers_in : List Row → ℕ
+workers_in rows = unwrap_or (number_in (codes "workers") rows) 2
 
 -- a format that the log does not have
 abbrev pub is_no_format : Option Text → Bool
 is_no_format None = false
 is_no_format (Some name) = not (bytes_eq name (codes "text") || bytes_eq name (codes "json"))
 
--- how many workers there are: the number given, or else 2
-abbrev pub workers_from : Option Text → ℕ
-workers_from None = 2
-workers_from (Some text) = digits_value 10 (without_leading_plus text)
-
-abbrev pub workers_in : List Row → ℕ
-workers_in rows = workers_from (first_of (codes "workers") rows)
-
--- the files of the callers
-abbrev pub texts_from : Option (List Text) → List Text
-texts_from None = []
-texts_from (Some texts) = texts
-
-abbrev pub scripts_in : List Row → List Text
-scripts_in rows = texts_from (all_of (codes "SCRIPT") rows)
-
--- the words of `--caller`, in their order
-abbrev pub callers_in : List Row → List Text
-callers_in rows = texts_from (all_of (codes "caller") rows)
-
--- the entries of the environment, in their order
-abbrev pub env_in : List Row → List Text
-env_in rows = texts_from (all_of (codes "env") rows)
-
--- the limit on the memory in bytes, if one is given
-abbrev pub limit_from : Option Text → Option ℕ
-limit_from None = None
-limit_from (Some text) = Some (digits_value 10 (without_leading_plus text))
-
-abbrev pub memory_in : List Row → Option ℕ
-memory_in rows = limit_from (first_of (codes "memory") rows)
-
--- the file of a module and the words after it
-abbrev pub module_in : List Row → Option (List Text)
-module_in = all_of (codes "MODULE")
-
 -- the command that the arguments name, and what is found of its own
 abbrev pub command_in : List Text → Option (Text × List Row)
 command_in = subcommand_of program
 
--- its name with its workers, its SCRIPTs, its callers, which flags are there and the log's format; with
--- its FILE; with its FILE, the file of `-o` and whether `--explain` is there; with its FILE, the limit on
--- memory and which flags are there; and with its MODULE and ARGs, the settings of the task and whether
--- `--explain` is there
-abbrev pub with_scripts :
-    Text × List Row → Text × ℕ × List Text × List Text × Bool × Bool × Option Text
-with_scripts p = (
-  p.0,
-  workers_in p.1,
-  scripts_in p.1,
-  callers_in p.1,
-  has_explain p.1,
-  has_log p.1,
-  format_in p.1,
-)
+-- this is the command of this name, with what is found of its arguments
+abbrev pub IsRead : (name : Text) → List Row → Command → Type 0
+IsRead name rows (Serve workers scripts callers explain log format) =
+    (name ≡ codes "serve") × (workers_in rows ≡ workers)
+    × (texts_in (codes "SCRIPT") rows ≡ map string_bytes scripts.items)
+    × (texts_in (codes "caller") rows ≡ map string_bytes callers.items)
+    × (has_flag (codes "explain") rows ≡ explain) × (has_flag (codes "log") rows ≡ log)
+    × (first_of (codes "log-format") rows ≡ option_map string_bytes format)
+IsRead name rows (Replay file) =
+    (name ≡ codes "replay") × (file_in rows ≡ Some (string_bytes file))
+IsRead name rows (Asm file output explain) =
+    (name ≡ codes "asm") × (file_in rows ≡ Some (string_bytes file))
+    × (first_of (codes "output") rows ≡ option_map string_bytes output)
+    × (has_flag (codes "explain") rows ≡ explain)
+IsRead name rows (Check file list task memory explain) =
+    (name ≡ codes "check") × (file_in rows ≡ Some (string_bytes file))
+    × (has_flag (codes "list") rows ≡ list) × (has_flag (codes "task") rows ≡ task)
+    × (number_in (codes "memory") rows ≡ memory) × (has_flag (codes "explain") rows ≡ explain)
+IsRead name rows (Run file args settings explain) =
+    (name ≡ codes "run") × (module_in rows ≡ Some (string_bytes file ∷ map string_bytes args.items))
+    × (texts_in (codes "env") rows ≡ map string_bytes settings.env.items)
+    × (number_in (codes "memory") rows ≡ settings.memory)
+    × (has_flag (codes "explain") rows ≡ explain)
+IsRead name rows (Show text) = ⊥
 
-abbrev pub with_file : Text × List Row → Text × Option Text
-with_file p = (p.0, file_in p.1)
-
-abbrev pub with_output : Text × List Row → Text × Option Text × Option Text × Bool
-with_output p = (p.0, file_in p.1, output_in p.1, has_explain p.1)
-
-abbrev pub with_flags : Text × List Row → Text × Option Text × Bool × Bool × Option ℕ × Bool
-with_flags p = (p.0, file_in p.1, has_list p.1, has_task p.1, memory_in p.1, has_explain p.1)
-
-abbrev pub with_module :
-    Text × List Row → Text × Option (List Text) × List Text × Option ℕ × Bool
-with_module p = (p.0, module_in p.1, env_in p.1, memory_in p.1, has_explain p.1)
-
--- this is the command
+-- this is the command that was found
 abbrev pub IsCommand : Option (Text × List Row) → Command → Type 0
-IsCommand found (Serve workers scripts callers explain log format) =
-    option_map with_scripts found
-    ≡ Some (
-      codes "serve",
-      workers,
-      map string_bytes scripts.items,
-      map string_bytes callers.items,
-      explain,
-      log,
-      option_map string_bytes format,
-    )
-IsCommand found (Replay file) =
-    option_map with_file found ≡ Some (codes "replay", Some (string_bytes file))
-IsCommand found (Asm file output explain) =
-    option_map with_output found
-    ≡ Some (codes "asm", Some (string_bytes file), option_map string_bytes output, explain)
-IsCommand found (Check file list task memory explain) =
-    option_map with_flags found
-    ≡ Some (codes "check", Some (string_bytes file), list, task, memory, explain)
-IsCommand found (Run name args settings explain) =
-    option_map with_module found
-    ≡ Some (
-      codes "run",
-      Some (string_bytes name ∷ map string_bytes args.items),
-      map string_bytes settings.env.items,
-      settings.memory,
-      explain,
-    )
-IsCommand found (Show text) = ⊥
+IsCommand None command = ⊥
+IsCommand (Some found) command = IsRead found.0 found.1 command
 
 -- what is wrong with the arguments, help and version included; empty where nothing is
 abbrev pub faults_in : List Text → Kinds

@@ -1,5 +1,5 @@
 -- What a command writes with `--explain`: what it writes without, and after a refusal a line that says why.
-use Rattle.std.specs.Prelude.{◌≡◌, ◌≢◌, ◌⊎◌, ℕ, List, ◌++◌, All, codes}
+use Rattle.std.specs.Prelude.{◌≡◌, ◌≢◌, ◌⊎◌, ℕ, List, ◌++◌, All, Bool, true, false, codes}
 use Rattle.wasm_ast.specs.declared.refusal.Refusal.{Refusal}
 use Rattle.file_commands.specs.declared.ran.Ran.{Ran}
 use Rattle.file_commands.specs.Ran.{line}
@@ -17,9 +17,19 @@ abbrev pub IsToldWhy : (plain ran : Ran) → Type 0
 IsToldWhy plain ran =
     (ran ≡ plain) ⊎ ((reason : List ℕ) × IsOneLine reason × (ran ≡ because plain reason))
 
+-- the same, with the line of some reason only if an explanation is wanted
+abbrev pub IsTold : (explain : Bool) → (plain ran : Ran) → Type 0
+IsTold true plain ran = IsToldWhy plain ran
+IsTold false plain ran = ran ≡ plain
+
 -- one of these, or what is written for a refusal, which is one of these, with the line of some reason
 abbrev pub IsExplained : (refuse : Refusal → Ran) → (Ran → Type 0) → Ran → Type 0
 IsExplained refuse Is ran = Is ran ⊎ ((e : Refusal) × Is (refuse e) × IsToldWhy (refuse e) ran)
+
+-- with an explanation, or without
+abbrev pub IsToldBy : (explain : Bool) → (refuse : Refusal → Ran) → (Ran → Type 0) → Ran → Type 0
+IsToldBy true refuse Is = IsExplained refuse Is
+IsToldBy false refuse Is = Is
 
 -- the output and the status of one of these, and on standard error what is there and then perhaps more
 abbrev pub AnswersAs : (Ran → Type 0) → Ran → Type 0

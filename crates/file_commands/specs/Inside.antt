@@ -1,3 +1,4 @@
 -- What only private clauses name.
 pub mod Chosen
+pub mod Script
 pub mod Written

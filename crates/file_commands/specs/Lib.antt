@@ -6,4 +6,6 @@ pub mod Explained
 pub mod Assembled
 pub mod Checked
 pub mod TaskRun
+pub mod Replay
+pub mod Performed
 pub mod Inside

@@ -1,25 +1,126 @@
 //! The command `check`.
 
-ghost use Rattle.std.specs.Prelude.{◌≡◌, ◌⊎◌, ◌+◌, ◌++◌, All, IfOk, IfErr, OnOk, codes, string_bytes};
+ghost use Rattle.std.specs.Prelude.{◌≡◌, ◌⊎◌, ◌+◌, ◌++◌, ◌∷◌, [], false, true, not, ◌&&◌, is_some, All, IfOk, IfErr, OnOk, codes, string_bytes};
+ghost use Rattle.clap.specs.Matches.{found_of};
+ghost use Rattle.clap.specs.Simple.{shape_of};
+ghost use Rattle.clap.specs.Walk.{rows_of, rule_of};
+ghost use Rattle.clap.specs.declared.builder.command.Command.TheViews.{out-Command as fields_of};
 ghost use Rattle.wasm_ast.specs.declared.module.Module.{Module as ModuleValue};
 ghost use Rattle.wasm_ast.specs.declared.refusal.Refusal.TheVariants as refusal;
 ghost use Rattle.wasm_ast.specs.Syntax.{count, ops_count};
 ghost use Rattle.wasm_ast.specs.View.{op_of};
 ghost use Rattle.text_assembler.specs.Lines.{IsAligned, line_of};
 ghost use Rattle.validator.specs.Typing.{ValidModule};
+ghost use Rattle.file_commands.specs.Command.{flag_rule, memory_rule, command_shape, check_shape, IsRead};
 ghost use Rattle.file_commands.specs.Source.{IsSource};
 ghost use Rattle.file_commands.specs.Ran.{line, refused};
-ghost use Rattle.file_commands.specs.Explained.{IsExplained};
-ghost use Rattle.file_commands.specs.Checked.{instr_line, op_lines, ops_lines, func_lines, listing, list_if, IsChecked};
+ghost use Rattle.file_commands.specs.Explained.{IsExplained, IsToldBy};
+ghost use Rattle.file_commands.specs.Checked.{instr_line, op_lines, ops_lines, func_lines, listing, list_if, IsChecked, IsCheck};
 ghost use Rattle.file_commands.specs.Inside.Written.{CannotCheck, OpAligned, OpsAligned};
+ghost use Rattle.file_commands.specs.Inside.Chosen.{IsComplete};
 
-use crate::explain::{file_reason, refused_why};
+use crate::arguments::{
+    explain_arg, file_of, flag_arg, has_flag, memory_arg, module_file_arg, number_of,
+};
+use crate::command::{Command, bare_command};
+use crate::explain::refused_why;
 use crate::ran::Ran;
+use crate::settings::Settings;
 use crate::source::module_of;
+use crate::task_check::task_checked;
+use clap::{Arg, ArgMatches, Command as Parser};
 use std::alloc::{AllocError, Global};
 use text_assembler::instr_text;
 use validator::{Valid, validate};
 use wasm_ast::{Body, Func, Instr, Module, Refusal, push_decimal};
+
+pub(crate) const NAME: &str = "check";
+
+// What is said of a check with `--memory` and without `--task`.
+const LONE_MEMORY: &str =
+    "error: the argument '--memory <BYTES>' is for '--task' alone\n\nUsage: wasm-shim check [OPTIONS] <FILE>\n\nFor more information, try '--help'.\n";
+
+// The flag `--task`.
+fn task_arg<'a>(alloc: Global) -> Arg<'a>
+    ensures rule { rule_of result ≡ flag_rule (codes "task") }
+    ensures local { result.global ≡ false }
+{
+    flag_arg(
+        alloc,
+        "task",
+        "Also check whether a task can be made of the module, as run makes one",
+    )
+}
+
+// The flag `--list`.
+fn list_arg<'a>(alloc: Global) -> Arg<'a>
+    ensures rule { rule_of result ≡ flag_rule (codes "list") }
+    ensures local { result.global ≡ false }
+{
+    flag_arg(
+        alloc,
+        "list",
+        "Also list the instructions, a line each: function, place, instruction",
+    )
+}
+
+// The command with its options for tasks alone.
+fn task_options<'a>(alloc: Global) -> Result<Parser<'a>, AllocError>
+    ensures shape { IfOk result (λ p. shape_of p
+        ≡ command_shape (codes "check") (flag_rule (codes "task") ∷ memory_rule ∷ [])) }
+    ensures local { IfOk result (λ p. (fields_of p).has_globals ≡ false) }
+{
+    let command = bare_command(
+        alloc,
+        NAME,
+        "Check whether the module of a file is valid",
+        "Example: wasm-shim check --list examples/sum.wat",
+    );
+    let with_task = command.arg(task_arg(alloc))?;
+    with_task.arg(memory_arg(alloc))
+}
+
+/// `check [--task [--memory BYTES]] [--list] [--explain] FILE`
+pub(crate) fn parser<'a>(alloc: Global) -> Result<Parser<'a>, AllocError>
+    ensures shape { IfOk result (λ p. shape_of p ≡ check_shape) }
+    ensures local { IfOk result (λ p. (fields_of p).has_globals ≡ false) }
+{
+    let listed = task_options(alloc)?.arg(list_arg(alloc))?;
+    let explained = listed.arg(explain_arg(alloc))?;
+    explained.arg(module_file_arg(alloc))
+}
+
+/// The command with the arguments that were found.
+pub(crate) fn read(alloc: Global, found: &ArgMatches<'_>) -> Result<Command, AllocError>
+    requires { IsComplete (codes "check") (rows_of (found_of found.now)) }
+    ensures { IfOk result (IsRead (codes "check") (rows_of (found_of found.now))) }
+{
+    let file = file_of(alloc, found)?;
+    let memory = number_of(found, "memory");
+    Ok(Command::Check {
+        file,
+        list: has_flag(found, "list"),
+        task: has_flag(found, "task"),
+        memory,
+        explain: has_flag(found, "explain"),
+    })
+}
+
+/// What is said of a limit on the memory of a task that is not asked for. None if there is none.
+pub(crate) fn unfit_text(
+    alloc: Global,
+    memory: Option<u64>,
+    task: bool,
+) -> Result<Option<String>, AllocError>
+    ensures { IfOk result (λ t. is_some t ≡ (is_some memory && not task)) }
+{
+    if memory.is_some() && !task {
+        let text = String::from_str(alloc, LONE_MEMORY)?;
+        Ok(Some(text))
+    } else {
+        Ok(None)
+    }
+}
 
 // One more. No number of instructions or functions comes near 2^64: memory ends first.
 fn next(number: u64) -> Result<u64, AllocError>
@@ -158,6 +259,40 @@ fn checked(alloc: Global, bytes: &[u8], list: bool) -> Result<String, Refusal>
     Ok(checked_text(alloc, &valid, list)?)
 }
 
+// What `check` writes for a file with these bytes, with or without the reason of a refusal.
+fn file_checked(alloc: Global, bytes: &[u8], list: bool, explain: bool) -> Result<Ran, Refusal>
+    ensures ran { IfOk result (IsToldBy explain refused (IsChecked bytes.now list)) }
+    ensures errors { IfErr result (λ e. e ≡ refusal.NoMemory) }
+{
+    match checked(alloc, bytes, list) {
+        Ok(text) => Ok(Ran::succeeded(alloc, text)),
+        Err(refusal) => refused_why(alloc, bytes, None, refusal, explain),
+    }
+}
+
+/// What `check` writes for a file of this name with these bytes, with or without a task under this
+/// limit on its memory, and with or without the reason of a refusal.
+pub(crate) fn check(
+    alloc: Global,
+    name: &str,
+    bytes: &[u8],
+    list: bool,
+    task: bool,
+    memory: Option<u64>,
+    explain: bool,
+) -> Result<Ran, Refusal>
+    ensures { IfOk result (IsToldBy explain refused (IsCheck task name.now bytes.now list memory)) }
+{
+    if !task {
+        return file_checked(alloc, bytes, list, explain);
+    }
+    let settings = Settings {
+        env: Vec::new(alloc),
+        memory,
+    };
+    task_checked(alloc, name, bytes, list, &settings, explain)
+}
+
 /// What `check` writes for a file with these bytes: `ok` if its module is valid, and then, if `list` holds,
 /// a line `FUNC PLACE TEXT` for each instruction of its functions, in the order of functions and places. If
 /// it is refused, that is a line on standard error, and the status is 3. `NoMemory`, and no other refusal,
@@ -166,10 +301,7 @@ pub fn check_file(alloc: Global, bytes: &[u8], list: bool) -> Result<Ran, Refusa
     ensures ran { IfOk result (IsChecked bytes.now list) }
     ensures errors { IfErr result (λ e. e ≡ refusal.NoMemory) }
 {
-    match checked(alloc, bytes, list) {
-        Ok(text) => Ok(Ran::succeeded(alloc, text)),
-        Err(refusal) => Ran::refused(alloc, refusal),
-    }
+    file_checked(alloc, bytes, list, false)
 }
 
 /// The same, and after a refusal that has a reason a line with it on standard error: `check --explain`.
@@ -177,11 +309,5 @@ pub fn explain_check(alloc: Global, bytes: &[u8], list: bool) -> Result<Ran, Ref
     ensures ran { IfOk result (IsExplained refused (IsChecked bytes.now list)) }
     ensures errors { IfErr result (λ e. e ≡ refusal.NoMemory) }
 {
-    match checked(alloc, bytes, list) {
-        Ok(text) => Ok(Ran::succeeded(alloc, text)),
-        Err(refusal) => {
-            let reason = file_reason(alloc, bytes, refusal);
-            refused_why(alloc, reason.as_str(), refusal)
-        }
-    }
+    file_checked(alloc, bytes, list, true)
 }

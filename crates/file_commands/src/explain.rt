@@ -3,7 +3,7 @@
 ghost use Rattle.std.specs.Prelude.{◌≡◌, ◌≢◌, ◌++◌, List, ℕ, IsTrue, IfOk, IfErr, IfSome, OnOk, codes, string_bytes};
 ghost use Rattle.wasm_ast.specs.declared.refusal.Refusal.TheVariants as refusals;
 ghost use Rattle.file_commands.specs.Ran.{line, refused, refused_run};
-ghost use Rattle.file_commands.specs.Explained.{IsOneLine, IsToldWhy};
+ghost use Rattle.file_commands.specs.Explained.{IsOneLine, IsToldWhy, IsTold};
 
 use crate::ran::Ran;
 use reasons::{TaskWords, why_file, why_run};
@@ -27,28 +27,22 @@ fn is_one_line(text: &str) -> bool
     !text.as_bytes().contains(&b'\n')
 }
 
-// A reason, or an empty text if there was no memory for it.
-fn or_empty(alloc: Global, found: Result<String, AllocError>) -> String {
+// Why a file with these bytes is refused so or, if it was to be a task, why none can be made of it with what
+// the command line gives it; an empty text if no reason is found, or no memory for it.
+fn reason_of(
+    alloc: Global,
+    bytes: &[u8],
+    task: Option<&TaskWords<'_>>,
+    refusal: Refusal,
+) -> String {
+    let found = match task {
+        Some(words) => why_run(alloc, bytes, words, refusal),
+        None => why_file(alloc, bytes, refusal),
+    };
     match found {
         Ok(reason) => reason,
         Err(_) => String::new(alloc),
     }
-}
-
-/// Why a file with these bytes is refused so; an empty text if no reason is found, or no memory for it.
-pub(crate) fn file_reason(alloc: Global, bytes: &[u8], refusal: Refusal) -> String {
-    or_empty(alloc, why_file(alloc, bytes, refusal))
-}
-
-/// Why no task can be made of a file with these bytes and what a command line gives it; an empty text if no
-/// reason is found, or no memory for it.
-pub(crate) fn task_reason(
-    alloc: Global,
-    bytes: &[u8],
-    words: &TaskWords<'_>,
-    refusal: Refusal,
-) -> String {
-    or_empty(alloc, why_run(alloc, bytes, words, refusal))
 }
 
 // The line of a reason, if there is one and memory for it.
@@ -81,7 +75,7 @@ fn with_line(plain: Ran, text: &str) -> Ran
 }
 
 // What a refused command writes, with the line of a reason if it is not empty and there is memory for it.
-fn explained(alloc: Global, plain: Ran, reason: &str) -> Ran
+fn with_reason(alloc: Global, plain: Ran, reason: &str) -> Ran
     ensures { IsToldWhy plain result }
 {
     match reason_line(alloc, reason) {
@@ -90,26 +84,59 @@ fn explained(alloc: Global, plain: Ran, reason: &str) -> Ran
     }
 }
 
-/// Of `asm` or `check`, with the line of a reason if it is not empty. `NoMemory` is handed on.
-pub(crate) fn refused_why(alloc: Global, reason: &str, refusal: Refusal) -> Result<Ran, Refusal>
-    ensures ran { IfOk result (IsToldWhy (refused refusal)) }
+// What a refused command writes: `plain` and, if `explain` holds, the line of the reason, if one is found.
+fn told(
+    alloc: Global,
+    plain: Ran,
+    bytes: &[u8],
+    task: Option<&TaskWords<'_>>,
+    refusal: Refusal,
+    explain: bool,
+) -> Ran
+    ensures { IsTold explain plain result }
+{
+    if explain {
+        let reason = reason_of(alloc, bytes, task, refusal);
+        with_reason(alloc, plain, reason.as_str())
+    } else {
+        plain
+    }
+}
+
+/// Of `asm` or `check`, for a file with these bytes; with the line of a reason if `explain` holds and one is
+/// found. `NoMemory` is handed on.
+pub(crate) fn refused_why(
+    alloc: Global,
+    bytes: &[u8],
+    task: Option<&TaskWords<'_>>,
+    refusal: Refusal,
+    explain: bool,
+) -> Result<Ran, Refusal>
+    ensures ran { IfOk result (IsTold explain (refused refusal)) }
     ensures told { OnOk result (refusal ≢ refusals.NoMemory) }
     ensures errors { IfErr result (λ e. e ≡ refusals.NoMemory) }
 {
     match Ran::refused(alloc, refusal) {
-        Ok(plain) => Ok(explained(alloc, plain, reason)),
+        Ok(plain) => Ok(told(alloc, plain, bytes, task, refusal, explain)),
         Err(error) => Err(error),
     }
 }
 
-/// Of `run`, if there is no task, with the line of a reason if it is not empty. `NoMemory` is handed on.
-pub(crate) fn refused_run_why(alloc: Global, reason: &str, refusal: Refusal) -> Result<Ran, Refusal>
-    ensures ran { IfOk result (IsToldWhy (refused_run refusal)) }
+/// Of `run`, if there is no task; with the line of a reason if `explain` holds and one is found.
+/// `NoMemory` is handed on.
+pub(crate) fn refused_run_why(
+    alloc: Global,
+    bytes: &[u8],
+    task: &TaskWords<'_>,
+    refusal: Refusal,
+    explain: bool,
+) -> Result<Ran, Refusal>
+    ensures ran { IfOk result (IsTold explain (refused_run refusal)) }
     ensures told { OnOk result (refusal ≢ refusals.NoMemory) }
     ensures errors { IfErr result (λ e. e ≡ refusals.NoMemory) }
 {
     match Ran::refused_run(alloc, refusal) {
-        Ok(plain) => Ok(explained(alloc, plain, reason)),
+        Ok(plain) => Ok(told(alloc, plain, bytes, Some(task), refusal, explain)),
         Err(error) => Err(error),
     }
 }

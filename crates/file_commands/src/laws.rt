@@ -1,11 +1,17 @@
-//! What is proved of the definitions of the commands for files.
+//! What is proved of the definitions of the commands.
 
-ghost use Rattle.std.specs.Prelude.{◌≡◌, ◌≤◌, ◌∷◌, ℕ, List, Bool, Option, Some, codes, map, string_bytes};
+ghost use Rattle.std.specs.Prelude.{◌≡◌, ◌≢◌, ◌≤◌, ◌∷◌, ℕ, List, Bool, Option, Some, Err, codes, map, string_bytes};
 ghost use Rattle.clap.specs.Walk.{Row, Text};
 ghost use Rattle.file_commands.specs.Command.{command_in, file_in, module_in, Name};
 ghost use Rattle.file_commands.specs.declared.command.Command.TheVariants as command;
 ghost use Rattle.wasm_ast.specs.declared.module.Module.{Module};
 ghost use Rattle.wasm_ast.specs.declared.refusal.Refusal.{Refusal};
+ghost use Rattle.wasm_ast.specs.declared.refusal.Refusal.TheVariants as refusal;
+ghost use Rattle.task_requests.specs.declared.event.Event.{Event};
+ghost use Rattle.task_board.specs.BoardState.{BoardState};
+ghost use Rattle.task_board.specs.Choices.{IsDetermined};
+ghost use Rattle.request_lines.specs.Reply.{json_of, line_text};
+ghost use Rattle.request_lines.specs.Request.{IsEvent};
 ghost use Rattle.file_commands.specs.declared.ran.Ran.{Ran};
 ghost use Rattle.file_commands.specs.Source.{IsSource, IsNoSource};
 ghost use Rattle.file_commands.specs.Assembled.{IsAssembled};
@@ -13,8 +19,10 @@ ghost use Rattle.file_commands.specs.Checked.{IsChecked, IsTaskChecked};
 ghost use Rattle.file_commands.specs.Ran.{refused, refused_run};
 ghost use Rattle.file_commands.specs.TaskRun.{Given, IsRun};
 ghost use Rattle.file_commands.specs.Explained.{IsExplained, AnswersAs};
+ghost use Rattle.file_commands.specs.Replay.{IsReplied};
 
 use step_machine::laws::{cuts_commute, halted_stays};
+use task_board::laws::events_are_determined;
 use text_assembler::laws::denotes_one;
 use wasm_binary::laws::{over_spells_none_within, spells_one};
 
@@ -104,3 +112,16 @@ pub fn reasons_change_nothing()
     ensures run { (bytes : List ℕ) (g : Given) (r : Ran)
         → IsExplained refused_run (IsRun bytes g) r → AnswersAs (IsRun bytes g) r }
 {}
+
+/// What a line of a script is answered, and the board that it leaves, are determined by the line and the
+/// board, unless the line is a create or a put of a text, or memory ran out.
+pub fn script_lines_are_determined()
+    ensures { (s : BoardState) (line : List ℕ)
+        (text : List ℕ) (s1 : BoardState) (text' : List ℕ) (s2 : BoardState)
+        → ((e : Event) → IsEvent line e → IsDetermined e)
+        → text ≢ line_text (json_of (Err refusal.NoMemory))
+        → text' ≢ line_text (json_of (Err refusal.NoMemory))
+        → IsReplied s line text s1 → IsReplied s line text' s2 → (text ≡ text') × (s1 ≡ s2) }
+{
+    events_are_determined();
+}

@@ -1,15 +1,20 @@
-//! The command line, and the commands for files: what is asked for, and what `asm`, `check` and `run` write.
+//! The command line, and the commands: what is asked for, and what `replay`, `asm`, `check` and `run` write.
 #![tactic(auto)]
 
+mod arguments;
 mod asm;
 mod caller_words;
 mod check;
 mod command;
 mod explain;
 pub mod laws;
+mod perform;
 mod ran;
+mod replay;
+mod row;
 mod run;
 mod run_error;
+mod serve;
 mod settings;
 mod source;
 mod task_check;
@@ -19,7 +24,9 @@ pub use asm::{asm_file, explain_asm};
 pub use caller_words::files_of;
 pub use check::{check_file, explain_check};
 pub use command::{Command, CommandError, command_of};
+pub use perform::{file_of, perform};
 pub use ran::Ran;
+pub use replay::replay_lines;
 pub use run::{explain_run, run_file, run_streams};
 pub use run_error::RunError;
 pub use settings::Settings;

@@ -1,8 +1,9 @@
 //! What a command writes, and the status that it ends with.
 
-ghost use Rattle.std.specs.Prelude.{◌≡◌, ◌≢◌, ◌++◌, ◌∷◌, [], Some, IfOk, IfErr, OnOk, string_bytes};
+ghost use Rattle.std.specs.Prelude.{◌≡◌, ◌≢◌, ◌++◌, ◌∷◌, [], Ok, Some, IfOk, IfErr, OnOk, string_bytes};
 ghost use Rattle.std.specs.Io.KnownBytes.{Appends};
 ghost use Rattle.wasm_ast.specs.declared.refusal.Refusal.TheVariants as refusals;
+ghost use Rattle.file_commands.specs.declared.ran.Ran.{Ran as RanValue};
 ghost use Rattle.file_commands.specs.Ran.{line, succeeded, refusal_text, place_text, fault_text, refused, refused_run};
 
 use crate::run_error::RunError;
@@ -40,15 +41,22 @@ impl Ran {
         Ok(self.status)
     }
 
-    // Of a command that has done what it was asked to.
-    pub(crate) fn succeeded(alloc: Global, out: String) -> Ran
-        ensures { result ≡ succeeded (string_bytes out) }
+    // Of a command that has done what it was asked to, and writes these bytes.
+    pub(crate) fn answered(alloc: Global, out: Vec<u8>) -> Ran
+        ensures { result ≡ succeeded out.items }
     {
         Ran {
-            out: Sequence::new(out.into_bytes()),
+            out: Sequence::new(out),
             err: Sequence::new(Vec::new(alloc)),
             status: 0,
         }
+    }
+
+    // Of one that writes this text.
+    pub(crate) fn succeeded(alloc: Global, out: String) -> Ran
+        ensures { result ≡ succeeded (string_bytes out) }
+    {
+        Ran::answered(alloc, out.into_bytes())
     }
 
     // Of `asm` or `check`. `NoMemory` is handed on.
@@ -93,6 +101,24 @@ pub(crate) fn write_some<W: Write>(bytes: &[u8], writer: &mut W) -> io::Result<(
     }
     writer.write_all(bytes)?;
     writer.flush()
+}
+
+/// Writes what a command writes, and answers the status that it ends with. Of a refusal nothing is written:
+/// memory ran out.
+pub(crate) fn write<O: Write, E: Write>(
+    ran: Result<Ran, Refusal>,
+    out: &mut O,
+    err: &mut E,
+) -> Result<u8, RunError>
+    ensures { IfOk result (λ status. (r : RanValue) × (ran ≡ Ok r)
+        × Appends (O.contents out.old) (O.contents out.new) r.out
+        × Appends (E.contents err.old) (E.contents err.new) r.err
+        × (status ≡ r.status)) }
+{
+    match ran {
+        Ok(ran) => ran.write(out, err),
+        Err(_) => Err(RunError::OutOfMemory),
+    }
 }
 
 // Of a command that writes to standard error alone.

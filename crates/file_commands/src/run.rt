@@ -1,6 +1,10 @@
 //! The command `run`.
 
 ghost use Rattle.std.specs.Prelude.{◌≡◌, ◌≢◌, ◌-◌, ◌<◌, ◌≤◌, ◌%◌, ◌∷◌, ◌++◌, [], List, ℕ, map, drop, length, IfOk, IfErr, OnOk, Some, None, true, false, codes, string_bytes};
+ghost use Rattle.clap.specs.Matches.{found_of};
+ghost use Rattle.clap.specs.Simple.{shape_of};
+ghost use Rattle.clap.specs.Walk.{rows_of, rule_of};
+ghost use Rattle.clap.specs.declared.builder.command.Command.TheViews.{out-Command as fields_of};
 ghost use Rattle.std.specs.Io.KnownBytes.{Appends};
 ghost use Rattle.wasm_ast.specs.declared.refusal.Refusal.TheVariants as refusal;
 ghost use Rattle.oci_config.specs.Processes.{config_of};
@@ -8,17 +12,23 @@ ghost use Rattle.validator.specs.Typing.{ValidModule};
 ghost use Rattle.step_machine.specs.Instantiation.{instantiation_refusal, ended};
 ghost use Rattle.step_machine.specs.Limits.{last_turn};
 ghost use Rattle.step_machine.specs.MachineView.{state_of, output_of};
+ghost use Rattle.file_commands.specs.Command.{repeated_rule, module_rule, run_shape, module_in, texts_in, number_in, IsRead};
 ghost use Rattle.file_commands.specs.Ran.{line, refused_run};
-ghost use Rattle.file_commands.specs.Explained.{IsToldWhy, IsExplained};
-ghost use Rattle.file_commands.specs.declared.ran.Ran.{Ran};
+ghost use Rattle.file_commands.specs.Explained.{IsExplained, IsToldBy};
 ghost use Rattle.file_commands.specs.TaskRun.{given, can_have, process_given, trap_line, full_line, end_lines, CannotRun, IsRun, IsWritten, status_of};
 ghost use Rattle.file_commands.specs.Inside.Written.{CannotStart, IsOpened, HasEnded};
+ghost use Rattle.file_commands.specs.Inside.Chosen.{Has, IsNumberIn, IsComplete};
 
-use crate::explain::{refused_run_why, task_reason};
-use crate::ran::{Ran, write_some};
+use crate::arguments::{
+    copies, explain_arg, has_flag, memory_arg, number_of, repeated_arg, words_of,
+};
+use crate::command::{Command, bare_command};
+use crate::explain::refused_run_why;
+use crate::ran::{Ran, write, write_some};
 use crate::run_error::RunError;
 use crate::settings::Settings;
 use crate::source::module_of;
+use clap::{Arg, ArgMatches, Command as Parser};
 use oci_config::{Process, Stream, process_under};
 use std::alloc::{AllocError, Global};
 use std::io;
@@ -26,6 +36,110 @@ use std::io::Write;
 use step_machine::laws::{outputs_grow, slices_go_forward, turns_are_limited};
 use step_machine::{Breaks, End, Machine, validate};
 use wasm_ast::{Module, Refusal, Sequence, Text};
+
+// ---- its row
+
+pub(crate) const NAME: &str = "run";
+
+// The option `--env`.
+fn env_arg<'a>(alloc: Global) -> Arg<'a>
+    ensures rule { rule_of result ≡ repeated_rule (codes "env") }
+    ensures local { result.global ≡ false }
+{
+    repeated_arg(
+        alloc,
+        "env",
+        "NAME=VALUE",
+        "An entry of the task's environment; may be given several times",
+    )
+}
+
+// The arguments MODULE and ARG. They are one argument with several values, so that after the name of the
+// module a word that begins with a dash is one of the values.
+fn module_arg<'a>(alloc: Global) -> Arg<'a>
+    ensures rule { rule_of result ≡ module_rule }
+    ensures local { result.global ≡ false }
+{
+    Arg::new(alloc, "MODULE")
+        .required(true)
+        .num_args(1..)
+        .trailing_var_arg(true)
+        .value_names(&["MODULE", "ARG"])
+        .help("The file of the module, and the arguments of the task after its name")
+}
+
+/// `run [--env NAME=VALUE]* [--memory BYTES] [--explain] MODULE [ARG..]`
+pub(crate) fn parser<'a>(alloc: Global) -> Result<Parser<'a>, AllocError>
+    ensures shape { IfOk result (λ p. shape_of p ≡ run_shape) }
+    ensures local { IfOk result (λ p. (fields_of p).has_globals ≡ false) }
+{
+    let command = bare_command(
+        alloc,
+        NAME,
+        "Run the module of a file as one task, and end with its status",
+        "Example: wasm-shim run --env LANG=C examples/hello.wat --any words",
+    );
+    let with_env = command.arg(env_arg(alloc))?;
+    let with_memory = with_env.arg(memory_arg(alloc))?;
+    let explained = with_memory.arg(explain_arg(alloc))?;
+    explained.arg(module_arg(alloc))
+}
+
+// The settings of a task that were found.
+fn settings_of(alloc: Global, found: &ArgMatches<'_>) -> Result<Settings, AllocError>
+    requires { IsNumberIn (rows_of (found_of found.now)) (codes "memory") }
+    ensures env { IfOk result (λ s. texts_in (codes "env") (rows_of (found_of found.now))
+        ≡ map string_bytes s.env.items) }
+    ensures memory { IfOk result
+        (λ s. number_in (codes "memory") (rows_of (found_of found.now)) ≡ s.memory) }
+{
+    let env = words_of(alloc, found, "env")?;
+    let memory = number_of(found, "memory");
+    Ok(Settings { env, memory })
+}
+
+// The first of these words, and those after it.
+fn split_words(alloc: Global, words: &[&str]) -> Result<(String, Vec<String>), AllocError>
+    requires { 0 < length words.now }
+    ensures { IfOk result (λ p. map (λ w. w.now) words.now
+        ≡ string_bytes p.0 ∷ map string_bytes p.1.items) }
+{
+    let Some((name, rest)) = words.split_first() else {
+        unreachable!();
+    };
+    let module = String::from_str(alloc, name)?;
+    let args = copies(alloc, rest)?;
+    Ok((module, args))
+}
+
+// The words MODULE and ARGs that were found.
+fn module_words(alloc: Global, found: &ArgMatches<'_>) -> Result<(String, Vec<String>), AllocError>
+    requires { Has (codes "MODULE") (rows_of (found_of found.now)) }
+    ensures { IfOk result (λ p. module_in (rows_of (found_of found.now))
+        ≡ Some (string_bytes p.0 ∷ map string_bytes p.1.items)) }
+{
+    match found.get_strs("MODULE") {
+        Some(words) => split_words(alloc, words),
+        None => unreachable!(),
+    }
+}
+
+/// The command with the arguments that were found.
+pub(crate) fn read(alloc: Global, found: &ArgMatches<'_>) -> Result<Command, AllocError>
+    requires { IsComplete (codes "run") (rows_of (found_of found.now)) }
+    ensures { IfOk result (IsRead (codes "run") (rows_of (found_of found.now))) }
+{
+    let settings = settings_of(alloc, found)?;
+    let (module, args) = module_words(alloc, found)?;
+    Ok(Command::Run {
+        module,
+        args,
+        settings,
+        explain: has_flag(found, "explain"),
+    })
+}
+
+// ---- how it runs
 
 /// The most bytes that an output stream takes.
 const MAX_OUTPUT: usize = 65_536;
@@ -267,39 +381,6 @@ fn write_end<W: Write>(
     write_some(lines.as_slice(), err).map_err(RunError::StandardError)
 }
 
-// Writes the line of a refusal, and answers its status. `NoMemory` has no line.
-fn write_refusal<W: Write>(alloc: Global, cause: Refusal, err: &mut W) -> Result<u8, RunError>
-    ensures written { OnOk result
-        (Appends (W.contents err.old) (W.contents err.new) (refused_run cause).err) }
-    ensures status { IfOk result (λ s. s ≡ (refused_run cause).status) }
-    ensures told { OnOk result (cause ≢ refusal.NoMemory) }
-{
-    let Ok(ran) = Ran::refused_run(alloc, cause) else {
-        return Err(RunError::OutOfMemory);
-    };
-    write_some(ran.err.as_slice(), err).map_err(RunError::StandardError)?;
-    Ok(ran.status)
-}
-
-// Writes the line of a refusal, and that of its reason if it is not empty, and answers its status. `NoMemory`
-// has no line.
-fn write_refusal_why<W: Write>(
-    alloc: Global,
-    reason: &str,
-    cause: Refusal,
-    err: &mut W,
-) -> Result<u8, RunError>
-    ensures written { IfOk result (λ s. (ran : Ran) × IsToldWhy (refused_run cause) ran
-        × Appends (W.contents err.old) (W.contents err.new) ran.err × (s ≡ ran.status)) }
-    ensures told { OnOk result (cause ≢ refusal.NoMemory) }
-{
-    let Ok(ran) = refused_run_why(alloc, reason, cause) else {
-        return Err(RunError::OutOfMemory);
-    };
-    write_some(ran.err.as_slice(), err).map_err(RunError::StandardError)?;
-    Ok(ran.status)
-}
-
 // Runs a task to its end, and writes what it writes.
 fn run_task<O: Write, E: Write>(
     alloc: Global,
@@ -314,6 +395,31 @@ fn run_task<O: Write, E: Write>(
     let end = run_to_end(machine, &none, out, err)?;
     write_end(alloc, machine, end, err)?;
     Ok(status_of(end))
+}
+
+/// What `run` writes over two streams, with or without the reason of a refusal.
+pub(crate) fn run<O: Write, E: Write>(
+    alloc: Global,
+    name: &str,
+    bytes: &[u8],
+    args: &[String],
+    settings: &Settings,
+    explain: bool,
+    out: &mut O,
+    err: &mut E,
+) -> Result<u8, RunError>
+    ensures { IfOk result (IsWritten (IsToldBy explain refused_run
+        (IsRun bytes.now (given name.now (map string_bytes args.now) settings.now)))
+        (O.contents out.old) (O.contents out.new) (E.contents err.old) (E.contents err.new)) }
+{
+    match task_of(alloc, name, bytes, args, settings) {
+        Ok(mut machine) => run_task(alloc, &mut machine, out, err),
+        Err(refusal) => {
+            let words = settings.words(name, args);
+            let told = refused_run_why(alloc, bytes, &words, refusal, explain);
+            write(told, out, err)
+        }
+    }
 }
 
 /// The command `run` for a file of this name with these bytes, as `run_file` says, over two streams that are
@@ -335,10 +441,7 @@ pub fn run_streams<O: Write, E: Write>(
         (IsRun bytes.now (given name.now (map string_bytes args.now) settings.now))
         (O.contents out.old) (O.contents out.new) (E.contents err.old) (E.contents err.new)) }
 {
-    match task_of(alloc, name, bytes, args, settings) {
-        Ok(mut machine) => run_task(alloc, &mut machine, out, err),
-        Err(refusal) => write_refusal(alloc, refusal, err),
-    }
+    run(alloc, name, bytes, args, settings, false, out, err)
 }
 
 /// The same, and after a refusal that has a reason a line with it on standard error: `run --explain`.
@@ -355,13 +458,7 @@ pub fn explain_run<O: Write, E: Write>(
         (IsRun bytes.now (given name.now (map string_bytes args.now) settings.now)))
         (O.contents out.old) (O.contents out.new) (E.contents err.old) (E.contents err.new)) }
 {
-    match task_of(alloc, name, bytes, args, settings) {
-        Ok(mut machine) => run_task(alloc, &mut machine, out, err),
-        Err(refusal) => {
-            let reason = task_reason(alloc, bytes, &settings.words(name, args), refusal);
-            write_refusal_why(alloc, reason.as_str(), refusal, err)
-        }
-    }
+    run(alloc, name, bytes, args, settings, true, out, err)
 }
 
 /// What `run` writes for a file of this name with these bytes: one task whose arguments are the name and

@@ -1,16 +1,16 @@
 //! What definitions come to, computed. Each function has a contract and no body.
 
 ghost use Rattle.std.specs.Prelude.{◌≡◌, ◌∷◌, [], Some, None, true, false, codes};
-ghost use Rattle.file_commands.specs.Command.{limit_from};
+ghost use Rattle.file_commands.specs.Command.{number_from};
 ghost use Rattle.step_machine.specs.declared.ends.End.TheVariants as ends;
 ghost use Rattle.file_commands.specs.Ran.{line};
 ghost use Rattle.file_commands.specs.TaskRun.{can_have, full_line, end_lines};
 
-/// The limit on memory that the words of a command line give.
+/// The numbers that the words of a command line give.
 pub fn limits_are_numbers()
-    ensures none { limit_from None ≡ None }
-    ensures nothing { limit_from (Some (codes "0")) ≡ Some 0 }
-    ensures bytes { limit_from (Some (codes "65536")) ≡ Some 65536 }
+    ensures none { number_from None ≡ None }
+    ensures nothing { number_from (Some (codes "0")) ≡ Some 0 }
+    ensures bytes { number_from (Some (codes "65536")) ≡ Some 65536 }
 {}
 
 /// What a task can be given.

@@ -1,6 +1,6 @@
 //! Requests that are made again where memory is refused.
 
-use shim_service::{line_of, request_of};
+use request_lines::{line_of, request_of};
 use task_board::{Board, Reply, Request};
 use wasm_ast::Refusal;
 

@@ -6,7 +6,7 @@
 #![tactic(auto)]
 
 use anyhow::{Context, Result, bail};
-use shim_service::replay_lines;
+use file_commands::replay_lines;
 use std::alloc::Global;
 use std::fs;
 

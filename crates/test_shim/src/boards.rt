@@ -2,7 +2,7 @@
 //! asks for.
 
 use crate::checks::check_text;
-use shim_service::{event_line_of, event_of, request_of};
+use request_lines::{event_line_of, event_of, request_of};
 use std::alloc::Global;
 use std::process::Abort;
 use std::test::Fail;

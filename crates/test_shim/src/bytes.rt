@@ -1,8 +1,8 @@
 //! Bytes that are no text, which no row can hold.
 
 use crate::checks::check_text;
+use file_commands::replay_lines;
 use oci_config::read_config;
-use shim_service::replay_lines;
 use std::str::from_utf8;
 use std::test::Fail;
 use wasm_ast::Refusal;

@@ -1,7 +1,7 @@
 //! Command lines, and the texts of help and of errors.
 
 use crate::checks::check_text;
-use shim_service::{Command, CommandError, Settings, command_of};
+use file_commands::{Command, CommandError, Settings, command_of};
 use std::alloc::{AllocError, Global};
 use std::process::Abort;
 use std::test::Fail;

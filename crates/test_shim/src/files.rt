@@ -1,7 +1,7 @@
 //! What the program writes for a command line and a file, by rows that were worked out by hand.
 
 use crate::checks::{check_bytes, check_text};
-use shim_service::{asm_file, command_of, file_of, perform};
+use file_commands::{asm_file, command_of, file_of, perform};
 use std::alloc::{AllocError, Global};
 use std::process::Abort;
 use std::str::from_utf8;

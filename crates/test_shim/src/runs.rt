@@ -2,7 +2,7 @@
 
 use crate::checks::{check_bytes, check_text};
 use crate::writers::FailingWriter;
-use shim_service::{Command, Ran, RunError, Settings, perform, run_file, run_streams};
+use file_commands::{Command, Ran, RunError, Settings, perform, run_file, run_streams};
 use std::alloc::{AllocError, Global};
 use std::process::Abort;
 use std::test::Fail;

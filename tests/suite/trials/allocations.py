@@ -26,9 +26,9 @@ MODES = {"one alone": (1, False, 1), "one of realloc alone": (1, True, 1), "ten 
 # What the program is doing, by the functions that have called an allocation; the first that fits counts.
 PHASES = {
     "the line of a reply is written": ("request_lines::reply_line", "request_lines::reply_value",
-                                       "shim_service::replay::write"),
+                                       "file_commands::replay::write"),
     "a line is read as JSON": ("request_lines::members", "request_lines::values", "request_lines::parse_event"),
-    "lines are stored": ("request_lines::line_reader", "shim_service::replay::Script", "wasm_shim::files::read"),
+    "lines are stored": ("request_lines::line_reader", "file_commands::replay::Script", "wasm_shim::files::read"),
     "the command line is taken": ("wasm_shim::arguments",),
     "the command line is understood": ("file_commands::command",),
     "the cells of the journal are made": ("call_journal::cells",),

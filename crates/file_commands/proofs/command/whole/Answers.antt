@@ -1,5 +1,5 @@
 use Rattle.clap.specs.Simple.{subcommand_rows_of}
 use Rattle.file_commands.proofs.command.whole.Goals as goal
 
-pub returns-in-Ok-clause-err : goal.returns-in-Ok-clause-err
-returns-in-Ok-clause-err c = c.complete.ensures.err (subcommand_rows_of c.args.matches.now) c.in-Ok.ensures.ok
+pub returns-clause-err : goal.returns-clause-err
+returns-clause-err c = c.complete.ensures.err (subcommand_rows_of c.args.matches.now) c.in_ok-command.ensures

@@ -1,5 +1,0 @@
-use Rattle.shim_service.proofs.DeterminedLemmas.{replied_once}
-use Rattle.shim_service.proofs.laws.script_lines_are_determined.Goals as goal
-
-pub returns : goal.returns
-returns c = replied_once c.events_are_determined.ensures

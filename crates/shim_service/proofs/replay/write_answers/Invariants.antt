@@ -1,6 +1,0 @@
-use Rattle.std.proofs.Common.{◌≡◌, ◌++◌, drop}
-use Rattle.shim_service.specs.Inside.Script.{replay_text}
-use Rattle.shim_service.proofs.replay.write_answers.Given as goal
-
-abbrev pub invariant-loop-mark : goal.invariant-loop-mark
-invariant-loop-mark l = l.out.items ++ replay_text (drop l.mark-index l.marks) l.left ≡ replay_text l.marks l.replies

@@ -1,2 +1,0 @@
--- What only private clauses name.
-pub mod Script

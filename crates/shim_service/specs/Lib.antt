@@ -1,3 +1,0 @@
-pub mod Replay
-pub mod Performed
-pub mod Inside
