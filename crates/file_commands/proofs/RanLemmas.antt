@@ -9,7 +9,8 @@ use Rattle.wasm_binary.specs.Canonical.{FitsLimits}
 use Rattle.file_commands.specs.declared.ran.Ran.{Ran}
 use Rattle.file_commands.specs.Source.{IsSource, IsNoSource}
 use Rattle.file_commands.specs.Ran.{refused}
-use Rattle.file_commands.specs.Explained.{IsTold, IsToldBy}
+use Rattle.file_commands.specs.Explained.{IsToldBy}
+use Rattle.file_commands.specs.Inside.Written.{IsTold}
 use Rattle.file_commands.specs.Assembled.{IsAssembled}
 use Rattle.file_commands.specs.Assembled as assembled
 use Rattle.file_commands.specs.Checked.{IsChecked}

@@ -13,7 +13,8 @@ use Rattle.file_commands.specs.Source.{IsSource, IsNoSource}
 use Rattle.file_commands.specs.TaskRun.{Given, can_have, process_given, ran_to, CannotRun, IsEnd, IsRun}
 use Rattle.file_commands.specs.TaskRun as task
 use Rattle.file_commands.specs.Ran.{line, succeeded, refused}
-use Rattle.file_commands.specs.Explained.{IsTold, IsToldBy}
+use Rattle.file_commands.specs.Explained.{IsToldBy}
+use Rattle.file_commands.specs.Inside.Written.{IsTold}
 use Rattle.file_commands.specs.Checked.{list_if, IsTaskChecked}
 use Rattle.file_commands.specs.Checked as checked
 use Rattle.file_commands.specs.Inside.Written.{CannotStart, IsOpened, HasEnded}

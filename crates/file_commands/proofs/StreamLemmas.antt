@@ -17,7 +17,8 @@ use Rattle.step_machine.specs.MachineView.{MachineView, state_of, written_to, ou
 use Rattle.file_commands.specs.declared.ran.Ran.{Ran}
 use Rattle.file_commands.specs.declared.run_error.RunError.{RunError}
 use Rattle.file_commands.specs.Ran.{refused_run}
-use Rattle.file_commands.specs.Explained.{IsTold, IsToldBy}
+use Rattle.file_commands.specs.Explained.{IsToldBy}
+use Rattle.file_commands.specs.Inside.Written.{IsTold}
 use Rattle.file_commands.specs.TaskRun.{Given, end_lines, status_of, ran_to, CannotRun, IsRun, IsWritten}
 use Rattle.file_commands.specs.TaskRun as task
 use Rattle.file_commands.specs.Inside.Written.{IsOpened, HasEnded, IsCopied}

@@ -17,11 +17,6 @@ abbrev pub IsToldWhy : (plain ran : Ran) → Type 0
 IsToldWhy plain ran =
     (ran ≡ plain) ⊎ ((reason : List ℕ) × IsOneLine reason × (ran ≡ because plain reason))
 
--- the same, with the line of some reason only if an explanation is wanted
-abbrev pub IsTold : (explain : Bool) → (plain ran : Ran) → Type 0
-IsTold true plain ran = IsToldWhy plain ran
-IsTold false plain ran = ran ≡ plain
-
 -- one of these, or what is written for a refusal, which is one of these, with the line of some reason
 abbrev pub IsExplained : (refuse : Refusal → Ran) → (Ran → Type 0) → Ran → Type 0
 IsExplained refuse Is ran = Is ran ⊎ ((e : Refusal) × Is (refuse e) × IsToldWhy (refuse e) ran)

@@ -3,7 +3,8 @@
 ghost use Rattle.std.specs.Prelude.{◌≡◌, ◌≢◌, ◌++◌, List, ℕ, IsTrue, IfOk, IfErr, IfSome, OnOk, codes, string_bytes};
 ghost use Rattle.wasm_ast.specs.declared.refusal.Refusal.TheVariants as refusals;
 ghost use Rattle.file_commands.specs.Ran.{line, refused, refused_run};
-ghost use Rattle.file_commands.specs.Explained.{IsOneLine, IsToldWhy, IsTold};
+ghost use Rattle.file_commands.specs.Explained.{IsOneLine, IsToldWhy};
+ghost use Rattle.file_commands.specs.Inside.Written.{IsTold};
 
 use crate::ran::Ran;
 use reasons::{TaskWords, why_file, why_run};

@@ -1,5 +1,5 @@
 -- What the parts of the commands promise.
-use Rattle.std.specs.Prelude.{◌≡◌, ℕ, ◌≤◌, List, length, take, true, Option, None, Some}
+use Rattle.std.specs.Prelude.{◌≡◌, ℕ, ◌≤◌, List, length, take, Bool, true, false, Option, None, Some}
 use Rattle.std.specs.Io.KnownBytes.{Appends}
 use Rattle.wasm_ast.specs.declared.module.Module.{Module}
 use Rattle.wasm_ast.specs.declared.place.Place.{Place}
@@ -15,6 +15,7 @@ use Rattle.step_machine.specs.declared.ends.End.{End}
 use Rattle.step_machine.specs.Instantiation.{instantiation_refusal, after, ended}
 use Rattle.step_machine.specs.MachineView.{MachineView}
 use Rattle.file_commands.specs.declared.ran.Ran.{Ran}
+use Rattle.file_commands.specs.Explained.{IsToldWhy}
 use Rattle.file_commands.specs.Source.{IsSource, IsNoSource}
 use Rattle.file_commands.specs.TaskRun.{Given, can_have, process_given, ran_to}
 
@@ -67,3 +68,8 @@ pub record HasEnded (m : Module) (p : ProcessConfig) (ran : Ran) : Type 0 where
 -- of a stream, the first bytes, of this number, were appended to what a writer holds
 abbrev pub IsCopied : (stream : List ℕ) → (count : ℕ) → (old new : Option (List ℕ)) → Type 0
 IsCopied stream count old new = (count ≤ length stream) × Appends old new (take count stream)
+
+-- what is written, with the line of some reason only if an explanation is wanted
+abbrev pub IsTold : (explain : Bool) → (plain ran : Ran) → Type 0
+IsTold true plain ran = IsToldWhy plain ran
+IsTold false plain ran = ran ≡ plain
