@@ -55,49 +55,48 @@ fn state(alloc: Global, status: Status, end: Option<ExitRecord>) -> Result<TaskS
     })
 }
 
+// Line 1 made the task `a`.
+fn log_create(alloc: Global, log: Log<Kept<'_>>) -> Result<(), AllocError> {
+    let (id, status) = (id(alloc)?, Status::Created);
+    log.accepted(By::Line("", 1), &Reply::Create { id, status });
+    Ok(())
+}
+
+// Line 2 started it.
+fn log_start(alloc: Global, log: Log<Kept<'_>>) -> Result<(), AllocError> {
+    let (id, status) = (id(alloc)?, Status::Running);
+    log.accepted(By::Line("", 2), &Reply::Start { id, status });
+    Ok(())
+}
+
+// Line 3 of the caller `x` paused it.
+fn log_pause(alloc: Global, log: Log<Kept<'_>>) -> Result<(), AllocError> {
+    let (id, status) = (id(alloc)?, Status::Paused);
+    log.accepted(By::Line("x", 3), &Reply::Pause { id, status });
+    Ok(())
+}
+
+// Line 4 of the caller `x` resumed it.
+fn log_resume(alloc: Global, log: Log<Kept<'_>>) -> Result<(), AllocError> {
+    let (id, status) = (id(alloc)?, Status::Running);
+    log.accepted(By::Line("x", 4), &Reply::Resume { id, status });
+    Ok(())
+}
+
+// Line 5 of the caller `x` killed it.
+fn log_kill(alloc: Global, log: Log<Kept<'_>>) -> Result<(), AllocError> {
+    let (id, status) = (id(alloc)?, Status::Stopped);
+    log.accepted(By::Line("x", 5), &Reply::Kill { id, status });
+    Ok(())
+}
+
 // Logs replies whose lines have a status or the number of turns.
 fn log_statuses(alloc: Global, log: Log<Kept<'_>>) -> Result<(), AllocError> {
-    let (by, status) = (By::Line("", 1), Status::Created);
-    log.accepted(
-        by,
-        &Reply::Create {
-            id: id(alloc)?,
-            status,
-        },
-    );
-    let (by, status) = (By::Line("", 2), Status::Running);
-    log.accepted(
-        by,
-        &Reply::Start {
-            id: id(alloc)?,
-            status,
-        },
-    );
-    let (by, status) = (By::Line("x", 3), Status::Paused);
-    log.accepted(
-        by,
-        &Reply::Pause {
-            id: id(alloc)?,
-            status,
-        },
-    );
-    let (by, status) = (By::Line("x", 4), Status::Running);
-    log.accepted(
-        by,
-        &Reply::Resume {
-            id: id(alloc)?,
-            status,
-        },
-    );
-    let (by, status) = (By::Line("x", 5), Status::Stopped);
-    log.accepted(
-        by,
-        &Reply::Kill {
-            id: id(alloc)?,
-            status,
-        },
-    );
-    Ok(())
+    log_create(alloc, log)?;
+    log_start(alloc, log)?;
+    log_pause(alloc, log)?;
+    log_resume(alloc, log)?;
+    log_kill(alloc, log)
 }
 
 #[test]
@@ -113,16 +112,44 @@ fn statuses_are_told(rt: HostRuntime) -> Result<(), AllocError> {
     Ok(())
 }
 
+// Line 1 set a breakpoint.
+fn log_break(alloc: Global, log: Log<Kept<'_>>) -> Result<(), AllocError> {
+    log.accepted(By::Line("", 1), &Reply::Break { id: id(alloc)? });
+    Ok(())
+}
+
+// Line 1 removed a breakpoint.
+fn log_unbreak(alloc: Global, log: Log<Kept<'_>>) -> Result<(), AllocError> {
+    log.accepted(By::Line("", 1), &Reply::Unbreak { id: id(alloc)? });
+    Ok(())
+}
+
+// Line 1 stepped the task, which then was in this state.
+fn log_step(
+    alloc: Global,
+    log: Log<Kept<'_>>,
+    status: Status,
+    end: Option<ExitRecord>,
+) -> Result<(), AllocError> {
+    log.accepted(By::Line("", 1), &Reply::Step(state(alloc, status, end)?));
+    Ok(())
+}
+
+// Line 1 deleted the task.
+fn log_delete(alloc: Global, log: Log<Kept<'_>>) -> Result<(), AllocError> {
+    let end = Some(ExitRecord::Exit(7));
+    let state = state(alloc, Status::Stopped, end)?;
+    log.accepted(By::Line("", 1), &Reply::Delete(state));
+    Ok(())
+}
+
 // Logs replies whose lines have the id alone, and steps.
 fn log_others(alloc: Global, log: Log<Kept<'_>>) -> Result<(), AllocError> {
-    let by = By::Line("", 1);
-    log.accepted(by, &Reply::Break { id: id(alloc)? });
-    log.accepted(by, &Reply::Unbreak { id: id(alloc)? });
-    log.accepted(by, &Reply::Step(state(alloc, Status::Paused, None)?));
-    let end = Some(ExitRecord::Exit(7));
-    log.accepted(by, &Reply::Step(state(alloc, Status::Stopped, end)?));
-    log.accepted(by, &Reply::Delete(state(alloc, Status::Stopped, end)?));
-    Ok(())
+    log_break(alloc, log)?;
+    log_unbreak(alloc, log)?;
+    log_step(alloc, log, Status::Paused, None)?;
+    log_step(alloc, log, Status::Stopped, Some(ExitRecord::Exit(7)))?;
+    log_delete(alloc, log)
 }
 
 #[test]
@@ -138,15 +165,46 @@ fn steps_and_breakpoints_are_told(rt: HostRuntime) -> Result<(), AllocError> {
     Ok(())
 }
 
+// Line 1 asked for the state of the task.
+fn log_state(alloc: Global, log: Log<Kept<'_>>) -> Result<(), AllocError> {
+    let state = state(alloc, Status::Running, None)?;
+    log.accepted(By::Line("", 1), &Reply::State(state));
+    Ok(())
+}
+
+// Line 1 waited for the task.
+fn log_wait(alloc: Global, log: Log<Kept<'_>>) -> Result<(), AllocError> {
+    let state = state(alloc, Status::Paused, None)?;
+    log.accepted(By::Line("", 1), &Reply::Wait(state));
+    Ok(())
+}
+
+// Line 1 removed a content.
+fn log_remove(alloc: Global, log: Log<Kept<'_>>) -> Result<(), AllocError> {
+    let digest = id(alloc)?;
+    log.accepted(By::Line("", 1), &Reply::Remove { digest });
+    Ok(())
+}
+
+// Line 1 made a lease.
+fn log_lease(alloc: Global, log: Log<Kept<'_>>) -> Result<(), AllocError> {
+    log.accepted(By::Line("", 1), &Reply::LeaseCreate { id: id(alloc)? });
+    Ok(())
+}
+
+// Line 1 deleted a lease.
+fn log_lease_end(alloc: Global, log: Log<Kept<'_>>) -> Result<(), AllocError> {
+    log.accepted(By::Line("", 1), &Reply::LeaseDelete { id: id(alloc)? });
+    Ok(())
+}
+
 // Logs replies by which nothing becomes of a task.
 fn log_quiet(alloc: Global, log: Log<Kept<'_>>) -> Result<(), AllocError> {
-    let by = By::Line("", 1);
-    log.accepted(by, &Reply::State(state(alloc, Status::Running, None)?));
-    log.accepted(by, &Reply::Wait(state(alloc, Status::Paused, None)?));
-    log.accepted(by, &Reply::Remove { digest: id(alloc)? });
-    log.accepted(by, &Reply::LeaseCreate { id: id(alloc)? });
-    log.accepted(by, &Reply::LeaseDelete { id: id(alloc)? });
-    Ok(())
+    log_state(alloc, log)?;
+    log_wait(alloc, log)?;
+    log_remove(alloc, log)?;
+    log_lease(alloc, log)?;
+    log_lease_end(alloc, log)
 }
 
 #[test]
