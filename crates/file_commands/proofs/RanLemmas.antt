@@ -10,12 +10,11 @@ use Rattle.file_commands.specs.declared.ran.Ran.{Ran}
 use Rattle.file_commands.specs.Source.{IsSource, IsNoSource}
 use Rattle.file_commands.specs.Ran.{refused}
 use Rattle.file_commands.specs.Explained.{IsToldBy}
-use Rattle.file_commands.specs.Inside.Written.{IsTold}
 use Rattle.file_commands.specs.Assembled.{IsAssembled}
 use Rattle.file_commands.specs.Assembled as assembled
 use Rattle.file_commands.specs.Checked.{IsChecked}
 use Rattle.file_commands.specs.Checked as checked
-use Rattle.file_commands.specs.Inside.Written.{CannotAssemble, CannotCheck}
+use Rattle.file_commands.specs.Inside.Written.{CannotAssemble, CannotCheck, IsTold}
 use Rattle.file_commands.specs.Inside.Written as why
 
 -- out of memory, or refused for this reason

@@ -14,10 +14,9 @@ use Rattle.file_commands.specs.TaskRun.{Given, can_have, process_given, ran_to, 
 use Rattle.file_commands.specs.TaskRun as task
 use Rattle.file_commands.specs.Ran.{line, succeeded, refused}
 use Rattle.file_commands.specs.Explained.{IsToldBy}
-use Rattle.file_commands.specs.Inside.Written.{IsTold}
 use Rattle.file_commands.specs.Checked.{list_if, IsTaskChecked}
 use Rattle.file_commands.specs.Checked as checked
-use Rattle.file_commands.specs.Inside.Written.{CannotStart, IsOpened, HasEnded}
+use Rattle.file_commands.specs.Inside.Written.{CannotStart, IsOpened, HasEnded, IsTold}
 use Rattle.file_commands.specs.Inside.Written as why
 use Rattle.file_commands.proofs.RanLemmas.{Told}
 

@@ -18,10 +18,9 @@ use Rattle.file_commands.specs.declared.ran.Ran.{Ran}
 use Rattle.file_commands.specs.declared.run_error.RunError.{RunError}
 use Rattle.file_commands.specs.Ran.{refused_run}
 use Rattle.file_commands.specs.Explained.{IsToldBy}
-use Rattle.file_commands.specs.Inside.Written.{IsTold}
 use Rattle.file_commands.specs.TaskRun.{Given, end_lines, status_of, ran_to, CannotRun, IsRun, IsWritten}
 use Rattle.file_commands.specs.TaskRun as task
-use Rattle.file_commands.specs.Inside.Written.{IsOpened, HasEnded, IsCopied}
+use Rattle.file_commands.specs.Inside.Written.{IsOpened, HasEnded, IsCopied, IsTold}
 use Rattle.file_commands.proofs.RanLemmas.{told_plain}
 use Rattle.file_commands.proofs.RunLemmas.{Unless, is_run}
 

@@ -85,9 +85,11 @@ pub(crate) fn with_rows<'a>(
         ≡ fold with_subcommand (app_of program.entry) (map row_shape rows.now)) }
 {
     let mut program = program;
-    for row in rows {
+    let mut left = rows;
+    while let Some((row, rest)) = left.split_first() {
         let command = row.parser(alloc)?;
         program = program.subcommand(command)?;
+        left = rest;
     }
     Ok(program)
 }

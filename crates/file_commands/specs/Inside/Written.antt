@@ -65,11 +65,11 @@ pub record HasEnded (m : Module) (p : ProcessConfig) (ran : Ran) : Type 0 where
   pub ends : ended (after m p turns).state ≡ Some end
   pub is : ran ≡ ran_to (after m p turns).store end
 
--- of a stream, the first bytes, of this number, were appended to what a writer holds
-abbrev pub IsCopied : (stream : List ℕ) → (count : ℕ) → (old new : Option (List ℕ)) → Type 0
-IsCopied stream count old new = (count ≤ length stream) × Appends old new (take count stream)
-
--- what is written, with the line of some reason only if an explanation is wanted
+-- the same, or with the line of some reason if an explanation is wanted
 abbrev pub IsTold : (explain : Bool) → (plain ran : Ran) → Type 0
 IsTold true plain ran = IsToldWhy plain ran
 IsTold false plain ran = ran ≡ plain
+
+-- of a stream, the first bytes, of this number, were appended to what a writer holds
+abbrev pub IsCopied : (stream : List ℕ) → (count : ℕ) → (old new : Option (List ℕ)) → Type 0
+IsCopied stream count old new = (count ≤ length stream) × Appends old new (take count stream)

@@ -9,14 +9,14 @@ pub returns-in_default : goal.returns-in_default
 returns-in_default c =
     sym (ap number_from (c.in_default.ensures ∙ first_value-rows (found_of c.args.found.now) c.args.name.now))
 
-pub returns-in-Ok : goal.returns-in-Ok
-returns-in-Ok c =
+pub returns : goal.returns
+returns c =
     sym (ap Some c.in-Ok.ensures.value.0.1
     ∙ ap number_from (c.in-Some.ensures ∙ first_value-rows (found_of c.args.found.now) c.args.name.now))
 
 pub unreachable-requires : goal.unreachable-requires
 unreachable-requires c =
-    c.in-Err.ensures.value
+    c.in-Err.ensures.value.0
     (number_parses c.in-Some.text.now
     (c.requires c.in-Some.text.now
     (sym (c.in-Some.ensures ∙ first_value-rows (found_of c.args.found.now) c.args.name.now))))

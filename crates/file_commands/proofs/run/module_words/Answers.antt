@@ -15,8 +15,8 @@ unreachable-requires c =
     let bad = c.in-None.ensures ∙ (raw_values-rows (found_of c.args.found.now) (codes "MODULE") ∙ c.requires.2) in
     absurd cc
 
-pub returns-in-Some : goal.returns-in-Some
-returns-in-Some c =
+pub returns : goal.returns
+returns c =
     IfOk-weaker c.split_words.result _ _
     (λ p h. sym (c.in-Some.ensures ∙ raw_values-rows (found_of c.args.found.now) (codes "MODULE")) ∙ ap Some h)
     c.split_words.ensures
