@@ -1,5 +1,5 @@
 -- Streams that are written piece by piece.
-use Rattle.std.proofs.Common.{◌≡◌, ◌≢◌, inl, inr, [], ap, ℕ, ◌+◌, ◌%◌, List, ◌++◌, length, length-append, take, drop, take-append-drop, Option, Some, Result, Ok, Err, refl, sym, subst, arith}
+use Rattle.std.proofs.Common.{◌≡◌, ◌≢◌, inl, inr, [], ap, ℕ, ◌+◌, ◌%◌, List, ◌++◌, length, length-append, take, drop, take-append-drop, Option, Some, Result, Ok, Err, refl, sym, subst, arith, Bool, true, false}
 use lib.Seq.{take-append_seam}
 use Rattle.std.specs.Prelude.{IfOk, OnOk}
 use Rattle.std.specs.Io.KnownBytes.{Appends}
