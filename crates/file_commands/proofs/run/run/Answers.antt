@@ -16,7 +16,7 @@ pub returns-in-Err : goal.returns-in-Err
 returns-in-Err g c =
     refusal_written c.args.bytes.now
     (given c.args.name.now (map string_bytes c.args.args.now) c.args.settings.now) c.in-Err.refusal c.args.explain
-    c.refused_run_why.result c.write.result
+    c.refused_run_why-told.result c.write.result
     (g.O.Write.contents c.args.out.now) (g.O.Write.contents c.write.new.out)
     (g.E.Write.contents c.args.err.now) (g.E.Write.contents c.write.new.err)
-    c.in-Err.ensures.err c.refused_run_why.ensures.ran c.refused_run_why.ensures.told c.write.ensures
+    c.in-Err.ensures.err c.refused_run_why-told.ensures.ran c.refused_run_why-told.ensures.told c.write.ensures
