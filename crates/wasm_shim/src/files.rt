@@ -85,8 +85,6 @@ pub fn carry_out(rt: &HostRuntime, command: &Command) -> u8 {
         };
     }
     let mut out = rt.stdout();
-    finish(
-        rt,
-        perform(rt.alloc(), command, bytes.as_slice(), &mut out, &mut err),
-    )
+    let ran = perform(rt.alloc(), command, bytes.as_slice(), &mut out, &mut err);
+    finish(rt, ran)
 }

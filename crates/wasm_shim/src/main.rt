@@ -25,27 +25,28 @@ fn perform<H: Threads + Wait + Clock + Copy + Send + Sync + 'static>(
     threads: H,
     command: Command,
 ) -> u8 {
-    let Command::Serve {
-        workers,
-        scripts,
-        callers,
-        explain,
-        log,
-        format,
-    } = command
-    else {
-        return carry_out(rt, &command);
-    };
-    let terminal = Terminal::new(rt.stderr(), *rt);
-    let wanted = Wanted::new(rt.alloc(), terminal, explain, Format::wanted(log, &format));
-    let work = if callers.is_empty() {
-        open_scripts(rt, scripts.leak())
-    } else {
-        open_callers(rt, callers.leak())
-    };
-    match work {
-        Ok(work) => serve(threads, workers, wanted, work),
-        Err(status) => status,
+    match command {
+        Command::Serve {
+            workers,
+            scripts,
+            callers,
+            explain,
+            log,
+            format,
+        } => {
+            let terminal = Terminal::new(rt.stderr(), *rt);
+            let wanted = Wanted::new(rt.alloc(), terminal, explain, Format::wanted(log, &format));
+            let work = if callers.is_empty() {
+                open_scripts(rt, scripts.leak())
+            } else {
+                open_callers(rt, callers.leak())
+            };
+            match work {
+                Ok(work) => serve(threads, workers, wanted, work),
+                Err(status) => status,
+            }
+        }
+        other => carry_out(rt, &other),
     }
 }
 
