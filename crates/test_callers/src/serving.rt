@@ -133,12 +133,10 @@ fn check_served<H: Threads + Wait + Clock + Abort + Copy + Send + Sync + 'static
     said: &str,
     status: u8,
 ) -> Result<(), Fail> {
-    let error = ErrorPage {
-        page: Page::new(rt, alloc)?,
-    };
-    let wanted = Wanted::new(alloc, error, false, format);
+    let page = Page::new(rt, alloc)?;
+    let wanted = Wanted::new(alloc, ErrorPage { page }, false, format);
     assert_eq!(rt; serve(rt, 2, wanted, work), status);
-    error.page.check(&rt, said);
+    page.check(&rt, said);
     Ok(())
 }
 
