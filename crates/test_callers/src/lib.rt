@@ -27,8 +27,6 @@ mod readers;
 #[cfg(test)]
 mod scripts;
 #[cfg(test)]
-mod serving;
-#[cfg(test)]
 mod sharing;
 #[cfg(test)]
 mod stories;
