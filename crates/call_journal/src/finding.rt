@@ -1,35 +1,22 @@
 //! What the entry of a request needs: a copy of the request, and the task that it names.
 
-ghost use Rattle.std.specs.Prelude.{◌≡◌, None, IfOk, option_map};
+ghost use Rattle.std.specs.Prelude.{◌≡◌, None, IfOk};
 ghost use Rattle.task_requests.specs.declared.request.Request.TheVariants as request;
 ghost use Rattle.call_journal.specs.Finding.{named, found_of};
 
 use crate::entry::Found;
 use std::alloc::{AllocError, Global};
-use task_board::{Ask, Board, Request};
+use task_board::{Board, Request};
 use wasm_ast::Text;
-
-/// The id of the task that a request names.
-pub fn named(request: &Request) -> Option<&Text>
-    ensures { option_map (λ t. t.now) result ≡ named request.now }
-{
-    match request {
-        Request::Create { config: _, id } | Request::Task { id, ask: _ } => Some(id),
-        Request::Put { bytes: _ }
-        | Request::PutText { text: _ }
-        | Request::Remove { digest: _ }
-        | Request::LeaseCreate { id: _ }
-        | Request::LeaseAdd { digest: _, id: _ }
-        | Request::LeaseDelete { id: _ }
-        | Request::Gc => None,
-    }
-}
 
 /// How a board has the task that a request names, if it is there.
 pub fn found(board: &Board, request: &Request) -> Option<Found>
     ensures { result ≡ found_of board.now.state request.now }
 {
-    let id = named(request)?;
+    let id = match request {
+        Request::Create { config: _, id } | Request::Task { id, ask: _ } => id,
+        _ => return None,
+    };
     let (n, out) = board.found(id.as_str())?;
     Some(Found { n, out })
 }
@@ -40,7 +27,10 @@ pub fn copy(alloc: Global, request: &Request) -> Result<Request, AllocError>
 {
     match request {
         Request::Create { config, id } => copy_create(alloc, config, id),
-        Request::Task { id, ask } => copy_task(alloc, id, *ask),
+        Request::Task { id, ask } => Ok(Request::Task {
+            id: id.copy(alloc)?,
+            ask: *ask,
+        }),
         other => copy_store(alloc, other),
     }
 }
@@ -51,13 +41,6 @@ fn copy_create(alloc: Global, config: &Text, id: &Text) -> Result<Request, Alloc
     let config = config.copy(alloc)?;
     let id = id.copy(alloc)?;
     Ok(Request::Create { config, id })
-}
-
-fn copy_task(alloc: Global, id: &Text, ask: Ask) -> Result<Request, AllocError>
-    ensures { IfOk result (λ r. r ≡ request.Task id.now ask) }
-{
-    let id = id.copy(alloc)?;
-    Ok(Request::Task { id, ask })
 }
 
 // The same request to the store.

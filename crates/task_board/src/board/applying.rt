@@ -6,7 +6,7 @@ ghost use Rattle.task_requests.specs.declared.request.Request.TheVariants as req
 ghost use Rattle.task_board.specs.Refusals.{unless_allowed, own_refusals};
 ghost use Rattle.task_board.specs.Step.{Answers, Step};
 ghost use Rattle.task_board.specs.Tickets.{ticket_in};
-ghost use Rattle.task_board.specs.Waiting.{enter_if, running_ticket, waiting_after_call};
+ghost use Rattle.task_board.specs.Waiting.{running_ticket, waiting_after_call};
 ghost use Rattle.task_board.specs.Inside.Plans.{CreatePrepared, CallPrepared, MarkPrepared};
 ghost use Rattle.task_requests.specs.declared.request.Ask.TheVariants as ask;
 ghost use Rattle.task_board.specs.Inside.Changes.{change_request, change_refusals};
@@ -77,17 +77,6 @@ impl Board {
         }
     }
 
-    // Lets the task in a slot wait, if that is running and does not wait yet.
-    fn enter(&mut self, slot: usize)
-        ensures { self.new ≡ record self.old {
-          waiting = enter_if (ticket_in slot self.old.state.tasks) self.old.waiting;
-        } }
-    {
-        if let Some(ticket) = self.ticket_in(slot) {
-            self.waiting.enter(ticket);
-        }
-    }
-
     // Changes the task in a slot, which waits afterwards if it was started or resumed and is running.
     pub(crate) fn change_and_enter(&mut self, slot: usize, id: Text, change: Change) -> Reply
         requires { CallPrepared self.old.state (change_refusals change) slot id }
@@ -98,7 +87,9 @@ impl Board {
     {
         let reply = self.change(slot, id, change);
         if change.enters() {
-            self.enter(slot);
+            if let Some(ticket) = self.ticket_in(slot) {
+                self.waiting.enter(ticket);
+            }
         }
         reply
     }

@@ -5,12 +5,12 @@ use Rattle.task_board.specs.Tickets.{ticket_in}
 use Rattle.task_board.specs.Waiting.{AreWaiting}
 use Rattle.task_board.specs.Inside.Shown.{board_state_of}
 use Rattle.task_board.proofs.WaitingLemmas.{room_to_enter, running_there, entered}
-use Rattle.task_board.proofs.board.Board.enter.Goals as goal
+use Rattle.task_board.proofs.board.Board.change_and_enter.Goals as goal
 
 pub enter-requires : goal.enter-requires
 enter-requires c free =
     let s = board_state_of c.self.inside in
-    let is : ticket_in c.args.slot c.args.self.now.state.tasks ≡ Some c.in-Some.ticket = search rules in
+    let is : ticket_in c.args.slot c.change-reply.new.self.state.tasks ≡ Some c.in-Some.ticket = search rules in
     let own =
     subst (λ (v : BoardValue). ticket_in c.args.slot v.state.tasks ≡ Some c.in-Some.ticket) (sym c.self.view_is) is
     in
@@ -20,7 +20,7 @@ enter-requires c free =
 pub invariant_of-self : goal.invariant_of-self
 invariant_of-self c =
     let s = board_state_of c.self.inside in
-    let is : ticket_in c.args.slot c.args.self.now.state.tasks ≡ Some c.in-Some.ticket = search rules in
+    let is : ticket_in c.args.slot c.change-reply.new.self.state.tasks ≡ Some c.in-Some.ticket = search rules in
     let own =
     subst (λ (v : BoardValue). ticket_in c.args.slot v.state.tasks ≡ Some c.in-Some.ticket) (sym c.self.view_is) is
     in
