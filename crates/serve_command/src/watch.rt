@@ -1,5 +1,7 @@
 //! What is said on standard error of the lines of a caller: why they are refused, a log, and how they ended.
 
+ghost use Rattle.std.specs.Prelude.{◌≡◌};
+
 use crate::said::{Failing, Streams, say_end};
 use call_journal::{Row, Seat, Shim};
 use callers::{Driven, Notes, Report, find_content};
@@ -22,7 +24,9 @@ pub struct Wanted<E> {
 
 impl<E: Outlet + Copy> Wanted<E> {
     /// Why requests are refused, if that is to be explained, and a log of this format or none.
-    pub fn new(alloc: Global, outlet: E, explain: bool, format: Option<Format>) -> Wanted<E> {
+    pub fn new(alloc: Global, outlet: E, explain: bool, format: Option<Format>) -> Wanted<E>
+        ensures { (result.outlet ≡ outlet) × (result.explain ≡ explain) }
+    {
         Wanted {
             alloc,
             outlet,
@@ -70,7 +74,9 @@ fn plain_name(alloc: Global, name: &str) -> Result<String, AllocError> {
 
 impl<E: Outlet + Eprint + Copy> Watch<E> {
     /// What watches the lines of the caller of this name, with these streams.
-    pub fn new(wanted: Wanted<E>, name: &'static str, streams: Streams) -> Watch<E> {
+    pub fn new(wanted: Wanted<E>, name: &'static str, streams: Streams) -> Watch<E>
+        ensures { (result.wanted ≡ wanted) × (result.lines ≡ 0) × (result.entries ≡ 0) }
+    {
         Watch {
             wanted,
             name,
