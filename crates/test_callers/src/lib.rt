@@ -27,6 +27,8 @@ mod readers;
 #[cfg(test)]
 mod scripts;
 #[cfg(test)]
+mod serving;
+#[cfg(test)]
 mod sharing;
 #[cfg(test)]
 mod stories;
