@@ -1,159 +1,83 @@
 //! How the text format of the profile writes what other assemblers take too.
 
-/// A word, and what to write in its place.
-struct Hint {
-    word: &'static str,
-    text: &'static str,
-}
-
-// Words after a parenthesis.
-const GROUPS: &[Hint] = &[
-    Hint {
-        word: "export",
-        text: "an export is a field of its own: (export \"f\" (func $f))",
-    },
-    Hint {
-        word: "import",
-        text: "an import is a field of its own, before functions, tables, memories and globals: (import \"m\" \"f\" (func (type $t)))",
-    },
-    Hint {
-        word: "param",
-        text: "a function names its type: (type $t (func (param i32))) and (func (type $t) (param i32) ..)",
-    },
-    Hint {
-        word: "result",
-        text: "a function names its type: (type $t (func (result i32))) and (func (type $t) (result i32) ..)",
-    },
-    Hint {
-        word: "local",
-        text: "a function names its type and then its locals, before its instructions: (func (type $t) (local i32) ..)",
-    },
-    Hint {
-        word: "then",
-        text: "arms are no groups: if .. else .. end",
-    },
-    Hint {
-        word: "else",
-        text: "arms are no groups: if .. else .. end",
-    },
-    Hint {
-        word: "data",
-        text: "a memory has its size, and data are a field: (memory 1) (data (offset i32.const 0) \"a\")",
-    },
-    Hint {
-        word: "elem",
-        text: "a table has its size, and elements are a field: (table 1 funcref) (elem (offset i32.const 0) $f)",
-    },
-    Hint {
-        word: "item",
-        text: "an element is the index of a function: (elem (offset i32.const 0) $f)",
-    },
-    Hint {
-        word: "ref.func",
-        text: "an element is the index of a function: (elem (offset i32.const 0) $f)",
-    },
+// Words after a parenthesis, each with what to write in its place.
+const GROUPS: &[(&str, &str)] = &[
+    (
+        "export",
+        "an export is a field of its own: (export \"f\" (func $f))",
+    ),
+    (
+        "import",
+        "an import is a field of its own, before functions, tables, memories and globals: (import \"m\" \"f\" (func (type $t)))",
+    ),
+    (
+        "param",
+        "a function names its type: (type $t (func (param i32))) and (func (type $t) (param i32) ..)",
+    ),
+    (
+        "result",
+        "a function names its type: (type $t (func (result i32))) and (func (type $t) (result i32) ..)",
+    ),
+    (
+        "local",
+        "a function names its type and then its locals, before its instructions: (func (type $t) (local i32) ..)",
+    ),
+    ("then", "arms are no groups: if .. else .. end"),
+    ("else", "arms are no groups: if .. else .. end"),
+    (
+        "data",
+        "a memory has its size, and data are a field: (memory 1) (data (offset i32.const 0) \"a\")",
+    ),
+    (
+        "elem",
+        "a table has its size, and elements are a field: (table 1 funcref) (elem (offset i32.const 0) $f)",
+    ),
+    (
+        "item",
+        "an element is the index of a function: (elem (offset i32.const 0) $f)",
+    ),
+    (
+        "ref.func",
+        "an element is the index of a function: (elem (offset i32.const 0) $f)",
+    ),
 ];
 
 // Words that are written otherwise.
-const OLD_WORDS: &[Hint] = &[
-    Hint {
-        word: "get_local",
-        text: "it is written local.get",
-    },
-    Hint {
-        word: "set_local",
-        text: "it is written local.set",
-    },
-    Hint {
-        word: "tee_local",
-        text: "it is written local.tee",
-    },
-    Hint {
-        word: "get_global",
-        text: "it is written global.get",
-    },
-    Hint {
-        word: "set_global",
-        text: "it is written global.set",
-    },
-    Hint {
-        word: "current_memory",
-        text: "it is written memory.size",
-    },
-    Hint {
-        word: "grow_memory",
-        text: "it is written memory.grow",
-    },
-    Hint {
-        word: "anyfunc",
-        text: "it is written funcref",
-    },
+const OLD_WORDS: &[(&str, &str)] = &[
+    ("get_local", "it is written local.get"),
+    ("set_local", "it is written local.set"),
+    ("tee_local", "it is written local.tee"),
+    ("get_global", "it is written global.get"),
+    ("set_global", "it is written global.set"),
+    ("current_memory", "it is written memory.size"),
+    ("grow_memory", "it is written memory.grow"),
+    ("anyfunc", "it is written funcref"),
 ];
 
 // How words begin that are outside the profile.
-const FRONTS: &[Hint] = &[
-    Hint {
-        word: "f32",
-        text: "floats are outside the profile",
-    },
-    Hint {
-        word: "f64",
-        text: "floats are outside the profile",
-    },
-    Hint {
-        word: "i32.trunc",
-        text: "floats are outside the profile",
-    },
-    Hint {
-        word: "i64.trunc",
-        text: "floats are outside the profile",
-    },
-    Hint {
-        word: "v128",
-        text: "vectors of 128 bits are outside the profile",
-    },
-    Hint {
-        word: "memory.",
-        text: "of memory the profile has memory.size and memory.grow alone",
-    },
-    Hint {
-        word: "data.",
-        text: "bulk memory is outside the profile",
-    },
-    Hint {
-        word: "table.",
-        text: "reference types and bulk memory are outside the profile",
-    },
-    Hint {
-        word: "ref.",
-        text: "reference types are outside the profile",
-    },
-    Hint {
-        word: "externref",
-        text: "reference types are outside the profile",
-    },
-    Hint {
-        word: "return_call",
-        text: "tail calls are outside the profile",
-    },
+const FRONTS: &[(&str, &str)] = &[
+    ("f32", "floats are outside the profile"),
+    ("f64", "floats are outside the profile"),
+    ("i32.trunc", "floats are outside the profile"),
+    ("i64.trunc", "floats are outside the profile"),
+    ("v128", "vectors of 128 bits are outside the profile"),
+    (
+        "memory.",
+        "of memory the profile has memory.size and memory.grow alone",
+    ),
+    ("data.", "bulk memory is outside the profile"),
+    (
+        "table.",
+        "reference types and bulk memory are outside the profile",
+    ),
+    ("ref.", "reference types are outside the profile"),
+    ("externref", "reference types are outside the profile"),
+    ("return_call", "tail calls are outside the profile"),
 ];
 
 // Instructions whose words have no full stop.
-const CONTROL: &[&str] = &[
-    "unreachable",
-    "nop",
-    "block",
-    "loop",
-    "if",
-    "br",
-    "br_if",
-    "br_table",
-    "return",
-    "call",
-    "call_indirect",
-    "drop",
-    "select",
-];
+const CONTROL: &str =
+    "unreachable nop block loop if br br_if br_table return call call_indirect drop select";
 
 const FOLDED: &str =
     "an instruction is not in parentheses: i32.const 1 i32.const 2 i32.add, and block .. end";
@@ -165,10 +89,10 @@ const NO_TYPE: &str =
 
 const NO_MODULE: &str = "fields are inside (module ..)";
 
-fn find(hints: &'static [Hint], word: &str) -> Option<&'static str> {
-    for hint in hints {
-        if hint.word == word {
-            return Some(hint.text);
+fn find(hints: &'static [(&'static str, &'static str)], word: &str) -> Option<&'static str> {
+    for (each, text) in hints {
+        if *each == word {
+            return Some(*text);
         }
     }
     None
@@ -176,21 +100,16 @@ fn find(hints: &'static [Hint], word: &str) -> Option<&'static str> {
 
 // What is said of words that begin like this one.
 fn find_front(word: &str) -> Option<&'static str> {
-    for hint in FRONTS {
-        if word.starts_with(hint.word) {
-            return Some(hint.text);
+    for (front, text) in FRONTS {
+        if word.starts_with(*front) {
+            return Some(*text);
         }
     }
     None
 }
 
 fn is_control(word: &str) -> bool {
-    for each in CONTROL {
-        if *each == word {
-            return true;
-        }
-    }
-    false
+    CONTROL.split(' ').any(|each| each == word)
 }
 
 // What is after the last parenthesis that is open at the end of a text; empty if one was closed after it.

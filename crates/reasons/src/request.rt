@@ -11,6 +11,7 @@ use crate::request_facts::{Said, said_of};
 use crate::shown::shown;
 use crate::{bad_text, why_file};
 use oci_config::{Process, read_config};
+use request_lines::{Key, Op};
 use serde_json::Value;
 use std::alloc::{AllocError, Global};
 use std::str::from_utf8;
@@ -49,12 +50,12 @@ fn value_text(alloc: Global, value: Option<&Value>) -> Result<String, AllocError
 }
 
 // These keys of a request, with their values.
-fn keys_text(alloc: Global, request: &Value, keys: &[&str]) -> Result<String, AllocError> {
+fn keys_text(alloc: Global, request: &Value, keys: &[Key]) -> Result<String, AllocError> {
     let mut text = String::new(alloc);
     for (i, key) in keys.iter().enumerate() {
-        let value = value_text(alloc, request.get(*key))?;
+        let value = value_text(alloc, request.get(key.name()))?;
         text.push_str(if i == 0 { "" } else { ", " })?;
-        text.push_str(*key)?;
+        text.push_str(key.name())?;
         text.push_str(" ")?;
         text.push_str(value.as_str())?;
     }
@@ -74,7 +75,7 @@ fn said_text(alloc: Global, request: &Value, said: Said) -> Result<String, Alloc
 // What is said of a request by its name and the number of its refusal.
 fn why_known(
     alloc: Global,
-    op: &str,
+    op: Op,
     request: &Value,
     refusal: Refusal,
 ) -> Result<String, AllocError> {
@@ -111,7 +112,7 @@ fn why_text(alloc: Global, request: &Value, refusal: Refusal) -> Result<String, 
             bad_text::why_text(alloc, text.as_bytes(), line, column)
         }
         Refusal::Limit => why_file(alloc, text.as_bytes(), refusal),
-        _ => why_known(alloc, "put_text", request, refusal),
+        _ => why_known(alloc, Op::PutText, request, refusal),
     }
 }
 
@@ -145,7 +146,7 @@ fn why_process<C: Contents>(
     refusal: Refusal,
     contents: &C,
 ) -> Result<String, AllocError> {
-    let known = why_known(alloc, "create", request, refusal)?;
+    let known = why_known(alloc, Op::Create, request, refusal)?;
     if !known.is_empty() {
         return Ok(known);
     }
@@ -175,15 +176,15 @@ fn why_create<C: Contents>(
 // Why a request with this `op` is refused.
 fn why_op<C: Contents>(
     alloc: Global,
-    op: &str,
+    op: Op,
     request: &Value,
     refusal: Refusal,
     contents: &C,
 ) -> Result<String, AllocError> {
     match (refusal, op) {
         (Refusal::BadId, _) => why_names(alloc, request),
-        (_, "put_text") => why_text(alloc, request, refusal),
-        (_, "create") => why_create(alloc, request, refusal, contents),
+        (_, Op::PutText) => why_text(alloc, request, refusal),
+        (_, Op::Create) => why_create(alloc, request, refusal, contents),
         _ => why_known(alloc, op, request, refusal),
     }
 }
@@ -195,14 +196,15 @@ fn why_value<C: Contents>(
     refusal: Refusal,
     contents: &C,
 ) -> Result<String, AllocError> {
-    let Some(op) = text_at(request, "op") else {
+    let Some(op) = Op::with_word(text_at(request, "op").unwrap_or("")) else {
         return Ok(String::new(alloc));
     };
     let why = why_op(alloc, op, request, refusal, contents)?;
     if why.is_empty() {
         return Ok(why);
     }
-    format!(in alloc; "{op}: {why}")
+    let word = op.word();
+    format!(in alloc; "{word}: {why}")
 }
 
 // The JSON value of a line, if it is one.

@@ -1,269 +1,192 @@
 //! What is said of a refused request whose reason is not in a content, a text or a config, as
 //! docs/PROTOCOL.md has it.
 
-/// What is said of requests that are refused with one number.
-struct Fact {
-    number: u64,
-    /// The requests; empty if it is said of all.
-    ops: &'static [&'static str],
-    /// The keys that it is said of.
-    keys: &'static [&'static str],
-    text: &'static str,
-}
+use request_lines::{Key, Op};
 
 /// What is said of a request: of these keys, if there are any, and the text.
 #[derive(Clone, Copy)]
 pub struct Said {
-    pub keys: &'static [&'static str],
+    pub keys: &'static [Key],
     pub text: &'static str,
 }
 
-const NO_KEYS: &[&str] = &[];
+const ALL: &[Op] = &[];
 
-const ID: &[&str] = &["id"];
+const PUTS: &[Op] = &[Op::Put, Op::PutText];
 
-const DIGEST: &[&str] = &["digest"];
+const MARKS: &[Op] = &[Op::Break, Op::Unbreak];
 
-const PUTS: &[&str] = &["put", "put_text"];
+const NO_KEYS: &[Key] = &[];
 
-const MARKS: &[&str] = &["break", "unbreak"];
+const ID: &[Key] = &[Key::Id];
 
-const PLACE: &[&str] = &["func", "place"];
+const DIGEST: &[Key] = &[Key::Digest];
 
-// The first fact with the number and the request counts.
-const FACTS: &[Fact] = &[
-    Fact {
-        number: 3,
-        ops: PUTS,
-        keys: NO_KEYS,
-        text: "the content is stored already",
-    },
-    Fact {
-        number: 3,
-        ops: &["lease_create"],
-        keys: ID,
-        text: "a lease has that id",
-    },
-    Fact {
-        number: 3,
-        ops: &["lease_add"],
-        keys: DIGEST,
-        text: "the lease has that member already",
-    },
-    Fact {
-        number: 3,
-        ops: &["create"],
-        keys: ID,
-        text: "a task has that id, until it is deleted",
-    },
-    Fact {
-        number: 3,
-        ops: &["break"],
-        keys: PLACE,
-        text: "that breakpoint is set already",
-    },
-    Fact {
-        number: 4,
-        ops: &["lease_add", "lease_delete"],
-        keys: ID,
-        text: "no lease has that id",
-    },
-    Fact {
-        number: 4,
-        ops: &["unbreak"],
-        keys: &["id", "func", "place"],
-        text: "no task has that id, or that breakpoint of it is not set",
-    },
-    Fact {
-        number: 4,
-        ops: &[],
-        keys: ID,
-        text: "no task has that id",
-    },
-    Fact {
-        number: 5,
-        ops: &["create"],
-        keys: NO_KEYS,
-        text: "annotations.dev.shim.module: no content is stored under that digest; a put stores one",
-    },
-    Fact {
-        number: 5,
-        ops: &[],
-        keys: DIGEST,
-        text: "no content is stored under that digest; a put stores one",
-    },
-    Fact {
-        number: 6,
-        ops: &[],
-        keys: DIGEST,
-        text: "a lease has it as a member, or a task that was made of it is not deleted",
-    },
-    Fact {
-        number: 9,
-        ops: &["put"],
-        keys: NO_KEYS,
-        text: "a content has at most 262144 bytes",
-    },
-    Fact {
-        number: 11,
-        ops: &["start"],
-        keys: ID,
-        text: "the task is not created: it has been started, or has ended",
-    },
-    Fact {
-        number: 11,
-        ops: &["pause"],
-        keys: ID,
-        text: "the task is not running",
-    },
-    Fact {
-        number: 11,
-        ops: &["resume"],
-        keys: ID,
-        text: "the task is not paused",
-    },
-    Fact {
-        number: 11,
-        ops: &["kill"],
-        keys: ID,
-        text: "the task is stopped already",
-    },
-    Fact {
-        number: 11,
-        ops: &["delete"],
-        keys: ID,
-        text: "the task is not stopped: wait for its end, or kill it and wait",
-    },
-    Fact {
-        number: 11,
-        ops: MARKS,
-        keys: ID,
-        text: "the task is neither created nor paused: pause it and wait",
-    },
-    Fact {
-        number: 11,
-        ops: &["step"],
-        keys: ID,
-        text: "the task is not paused: pause it and wait",
-    },
-    Fact {
-        number: 12,
-        ops: &[],
-        keys: ID,
-        text: "a slice of the task is out: pause it and wait, and then ask again",
-    },
-    Fact {
-        number: 13,
-        ops: &["kill"],
-        keys: &["signal"],
-        text: "it is neither 9 nor 15",
-    },
-    Fact {
-        number: 13,
-        ops: &["output"],
-        keys: &["stream"],
-        text: "it is neither 1 nor 2",
-    },
-    Fact {
-        number: 13,
-        ops: MARKS,
-        keys: PLACE,
-        text: "the module has no such instruction; check --list shows all",
-    },
-    Fact {
-        number: 13,
-        ops: &["step"],
-        keys: &["count"],
-        text: "it is not from 1 to 1000",
-    },
-    Fact {
-        number: 13,
-        ops: &["peek"],
-        keys: &["address", "length"],
-        text: "more than 256 bytes are asked for, or one of them is outside the memory",
-    },
-    Fact {
-        number: 14,
-        ops: PUTS,
-        keys: NO_KEYS,
-        text: "there are 256 contents, the most that there may be: remove or gc makes room",
-    },
-    Fact {
-        number: 14,
-        ops: &["lease_create"],
-        keys: NO_KEYS,
-        text: "there are 64 leases, the most that there may be: lease_delete makes room",
-    },
-    Fact {
-        number: 14,
-        ops: &["lease_add"],
-        keys: ID,
-        text: "the lease has 64 members, the most that there may be",
-    },
-    Fact {
-        number: 14,
-        ops: &["create"],
-        keys: NO_KEYS,
-        text: "there are 64 tasks, stopped ones counted, the most that there may be: delete makes room",
-    },
-    Fact {
-        number: 14,
-        ops: &["break"],
-        keys: ID,
-        text: "the task has 32 breakpoints, the most that there may be: unbreak makes room",
-    },
-    Fact {
-        number: 15,
-        ops: &[],
-        keys: NO_KEYS,
-        text: "the board has answered 16384 requests, the most that it does: begin another serve",
-    },
-    Fact {
-        number: 16,
-        ops: &[],
-        keys: NO_KEYS,
-        text: "other bytes are stored under the digest of these",
-    },
-    Fact {
-        number: 17,
-        ops: &[],
-        keys: NO_KEYS,
-        text: "an allocation failed: delete tasks, remove contents, or let the program have more memory",
-    },
-    Fact {
-        number: 19,
-        ops: &[],
-        keys: NO_KEYS,
-        text: "the shim is closed",
-    },
-    Fact {
-        number: 20,
-        ops: &[],
-        keys: NO_KEYS,
-        text: "the journal and its cells differ",
-    },
+const PLACE: &[Key] = &[Key::Func, Key::Place];
+
+// What is said of requests that are refused with one number: the number, the requests (none: all of
+// them), the keys that it is said of, and the text. The first row with the number and the request
+// counts.
+const FACTS: &[(u64, &[Op], &[Key], &str)] = &[
+    (3, PUTS, NO_KEYS, "the content is stored already"),
+    (3, &[Op::LeaseCreate], ID, "a lease has that id"),
+    (
+        3,
+        &[Op::LeaseAdd],
+        DIGEST,
+        "the lease has that member already",
+    ),
+    (
+        3,
+        &[Op::Create],
+        ID,
+        "a task has that id, until it is deleted",
+    ),
+    (3, &[Op::Break], PLACE, "that breakpoint is set already"),
+    (
+        4,
+        &[Op::LeaseAdd, Op::LeaseDelete],
+        ID,
+        "no lease has that id",
+    ),
+    (
+        4,
+        &[Op::Unbreak],
+        &[Key::Id, Key::Func, Key::Place],
+        "no task has that id, or that breakpoint of it is not set",
+    ),
+    (4, ALL, ID, "no task has that id"),
+    (
+        5,
+        &[Op::Create],
+        NO_KEYS,
+        "annotations.dev.shim.module: no content is stored under that digest; a put stores one",
+    ),
+    (
+        5,
+        ALL,
+        DIGEST,
+        "no content is stored under that digest; a put stores one",
+    ),
+    (
+        6,
+        ALL,
+        DIGEST,
+        "a lease has it as a member, or a task that was made of it is not deleted",
+    ),
+    (9, &[Op::Put], NO_KEYS, "a content has at most 262144 bytes"),
+    (
+        11,
+        &[Op::Start],
+        ID,
+        "the task is not created: it has been started, or has ended",
+    ),
+    (11, &[Op::Pause], ID, "the task is not running"),
+    (11, &[Op::Resume], ID, "the task is not paused"),
+    (11, &[Op::Kill], ID, "the task is stopped already"),
+    (
+        11,
+        &[Op::Delete],
+        ID,
+        "the task is not stopped: wait for its end, or kill it and wait",
+    ),
+    (
+        11,
+        MARKS,
+        ID,
+        "the task is neither created nor paused: pause it and wait",
+    ),
+    (
+        11,
+        &[Op::Step],
+        ID,
+        "the task is not paused: pause it and wait",
+    ),
+    (
+        12,
+        ALL,
+        ID,
+        "a slice of the task is out: pause it and wait, and then ask again",
+    ),
+    (13, &[Op::Kill], &[Key::Signal], "it is neither 9 nor 15"),
+    (13, &[Op::Output], &[Key::Stream], "it is neither 1 nor 2"),
+    (
+        13,
+        MARKS,
+        PLACE,
+        "the module has no such instruction; check --list shows all",
+    ),
+    (13, &[Op::Step], &[Key::Count], "it is not from 1 to 1000"),
+    (
+        13,
+        &[Op::Peek],
+        &[Key::Address, Key::Length],
+        "more than 256 bytes are asked for, or one of them is outside the memory",
+    ),
+    (
+        14,
+        PUTS,
+        NO_KEYS,
+        "there are 256 contents, the most that there may be: remove or gc makes room",
+    ),
+    (
+        14,
+        &[Op::LeaseCreate],
+        NO_KEYS,
+        "there are 64 leases, the most that there may be: lease_delete makes room",
+    ),
+    (
+        14,
+        &[Op::LeaseAdd],
+        ID,
+        "the lease has 64 members, the most that there may be",
+    ),
+    (
+        14,
+        &[Op::Create],
+        NO_KEYS,
+        "there are 64 tasks, stopped ones counted, the most that there may be: delete makes room",
+    ),
+    (
+        14,
+        &[Op::Break],
+        ID,
+        "the task has 32 breakpoints, the most that there may be: unbreak makes room",
+    ),
+    (
+        15,
+        ALL,
+        NO_KEYS,
+        "the board has answered 16384 requests, the most that it does: begin another serve",
+    ),
+    (
+        16,
+        ALL,
+        NO_KEYS,
+        "other bytes are stored under the digest of these",
+    ),
+    (
+        17,
+        ALL,
+        NO_KEYS,
+        "an allocation failed: delete tasks, remove contents, or let the program have more memory",
+    ),
+    (19, ALL, NO_KEYS, "the shim is closed"),
+    (20, ALL, NO_KEYS, "the journal and its cells differ"),
 ];
 
-// Whether a fact is one of requests with this `op`.
-fn is_of(fact: &Fact, op: &str) -> bool {
-    if fact.ops.is_empty() {
-        return true;
-    }
-    for each in fact.ops {
-        if *each == op {
-            return true;
-        }
-    }
-    false
+// Whether a row is one of requests with this `op`.
+fn is_of(ops: &[Op], op: Op) -> bool {
+    ops.is_empty() || ops.iter().any(|each| each.word() == op.word())
 }
 
 /// What is said of a request with this `op` that is refused with this number.
-pub fn said_of(op: &str, number: u64) -> Option<Said> {
-    for fact in FACTS {
-        if fact.number == number && is_of(fact, op) {
+pub fn said_of(op: Op, number: u64) -> Option<Said> {
+    for (of, ops, keys, text) in FACTS {
+        if *of == number && is_of(*ops, op) {
             return Some(Said {
-                keys: fact.keys,
-                text: fact.text,
+                keys: *keys,
+                text: *text,
             });
         }
     }
