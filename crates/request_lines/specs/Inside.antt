@@ -2,4 +2,5 @@
 pub mod Parse
 pub mod Values
 pub mod States
+pub mod Rows
 pub mod Pieces

@@ -6,7 +6,8 @@ ghost use Rattle.serde_json.specs.View.{view};
 ghost use Rattle.task_requests.specs.declared.request.Reply.TheVariants as reply;
 ghost use Rattle.request_lines.specs.Reply.{value_text, values_data, next_data, places_data, frame_data, frames_data, reply_data};
 
-use serde_json::{Map, Value as Json, json, put};
+use crate::shown::{OK, Shown, add};
+use serde_json::{Map, Value as Json, put};
 use std::alloc::{AllocError, Global};
 use wasm_ast::{ShownFrame, Value, push_signed32, push_signed64};
 
@@ -111,9 +112,7 @@ pub(crate) fn inspect_value(
     let mut members = Map::new(alloc);
     let frames = frames_value(alloc, frames)?;
     put(&mut members, alloc, "frames", frames)?;
-    let id = Json::String(String::from_str(alloc, id)?);
-    put(&mut members, alloc, "id", id)?;
-    put(&mut members, alloc, "n", Json::from(n))?;
-    put(&mut members, alloc, "ok", Json::Bool(true))?;
+    let id = ("id", Shown::Text(id));
+    add(alloc, &mut members, &[id, ("n", Shown::Count(n)), OK])?;
     Ok(Json::Object(members))
 }

@@ -11,6 +11,7 @@ mod parse_event;
 mod parse_request;
 mod reply_line;
 mod reply_value;
+mod shown;
 mod stream;
 mod table;
 mod values;

@@ -1,7 +1,8 @@
 //! Replies as JSON values.
 
 ghost use Rattle.std.specs.Prelude.{◌≡◌, IfOk, OnOk, codes, [], ◌∷◌, true, Some};
-ghost use Rattle.serde_json.specs.Data.{string, boolean, put};
+ghost use Rattle.hex.specs.Hex.{encode_lower};
+ghost use Rattle.serde_json.specs.Data.{string, put, no_members};
 ghost use Rattle.serde_json.specs.View.{view, members_view};
 ghost use Rattle.task_lifecycle.specs.Names.{cause_name, exit_status};
 ghost use Rattle.task_requests.specs.declared.request.Reply.TheVariants as reply;
@@ -10,35 +11,30 @@ ghost use Rattle.request_lines.specs.Inside.States.{base_members, with_detail};
 
 use crate::frame_value::inspect_value;
 use crate::members::Members;
-use serde_json::{Map, Value, json};
+use crate::shown::{NOT_OK, OK, Shown, add, object};
+use serde_json::{Map, Value, put};
 use std::alloc::{AllocError, Global};
 use task_requests::{EventReply, ExitRecord, Reply, Status, TaskState};
 use wasm_ast::{Place, Refusal, Text};
-
-// The value of the refusal of a text that denotes no module.
-fn text_refusal_value(alloc: Global, line: u64, column: u64) -> Result<Value, AllocError>
-    ensures { IfOk result (λ v. view v ≡ refusal_data (Refusal.BadText line column)) }
-{
-    json!(in alloc; {"column": column, "error": "BadText", "line": line, "number": 18, "ok": false})
-}
-
-// The value of the refusal of a module with a fault in a body.
-fn fault_value(alloc: Global, place: Place) -> Result<Value, AllocError>
-    ensures { IfOk result (λ v. view v ≡ refusal_data (Refusal.Invalid (Some place))) }
-{
-    let func = u64::from(place.func);
-    let instr = u64::from(place.instr);
-    json!(in alloc; {"error": "Invalid", "func": func, "number": 8, "ok": false, "place": instr})
-}
 
 // The value of a refusal.
 fn refusal_value(alloc: Global, refusal: &Refusal) -> Result<Value, AllocError>
     ensures { IfOk result (λ v. view v ≡ refusal_data refusal.now) }
 {
+    let error = ("error", Shown::Text(refusal.name()));
+    let number = ("number", Shown::Count(refusal.number()));
     match refusal {
-        Refusal::BadText { line, column } => text_refusal_value(alloc, *line, *column),
-        Refusal::Invalid(Some(place)) => fault_value(alloc, *place),
-        _ => json!(in alloc; {"error": refusal.name(), "number": refusal.number(), "ok": false}),
+        Refusal::BadText { line, column } => {
+            let column = ("column", Shown::Count(*column));
+            let line = ("line", Shown::Count(*line));
+            object(alloc, &[column, error, line, number, NOT_OK])
+        }
+        Refusal::Invalid(Some(place)) => {
+            let func = ("func", Shown::Count(u64::from(place.func)));
+            let place = ("place", Shown::Count(u64::from(place.instr)));
+            object(alloc, &[error, func, number, NOT_OK, place])
+        }
+        _ => object(alloc, &[error, number, NOT_OK]),
     }
 }
 
@@ -46,28 +42,32 @@ fn refusal_value(alloc: Global, refusal: &Refusal) -> Result<Value, AllocError>
 fn put_value(alloc: Global, digest: &str, size: u64) -> Result<Value, AllocError>
     ensures { IfOk result (λ v. view v ≡ reply_data (reply.Put digest.now size)) }
 {
-    json!(in alloc; {"digest": digest, "ok": true, "size": size})
+    let digest = ("digest", Shown::Text(digest));
+    object(alloc, &[digest, OK, ("size", Shown::Count(size))])
 }
 
 // The value of a reply to a removal.
 fn digest_value(alloc: Global, digest: &str) -> Result<Value, AllocError>
     ensures { IfOk result (λ v. view v ≡ reply_data (reply.Remove digest.now)) }
 {
-    json!(in alloc; {"digest": digest, "ok": true})
+    object(alloc, &[("digest", Shown::Text(digest)), OK])
 }
 
 // The value of a reply that is an id.
 fn id_value(alloc: Global, id: &str) -> Result<Value, AllocError>
     ensures { IfOk result (λ v. view v ≡ reply_data (reply.LeaseCreate id.now)) }
 {
-    json!(in alloc; {"id": id, "ok": true})
+    object(alloc, &[("id", Shown::Text(id)), OK])
 }
 
 // The value of a reply to an addition to a lease.
-fn member_value(alloc: Global, digest: &str, id: &str) -> Result<Value, AllocError>
+fn member_value<'a>(alloc: Global, digest: &'a str, id: &'a str) -> Result<Value, AllocError>
     ensures { IfOk result (λ v. view v ≡ reply_data (reply.LeaseAdd digest.now id.now)) }
 {
-    json!(in alloc; {"digest": digest, "id": id, "ok": true})
+    object(
+        alloc,
+        &[("digest", Shown::Text(digest)), ("id", Shown::Text(id)), OK],
+    )
 }
 
 // The value of a list of texts.
@@ -88,8 +88,8 @@ fn removed_value(alloc: Global, digests: &[Text]) -> Result<Value, AllocError>
 {
     let list = texts_value(alloc, digests)?;
     let mut members = Map::new(alloc);
-    serde_json::put(&mut members, alloc, "ok", Value::Bool(true))?;
-    serde_json::put(&mut members, alloc, "removed", list)?;
+    add(alloc, &mut members, &[OK])?;
+    put(&mut members, alloc, "removed", list)?;
     Ok(Value::Object(members))
 }
 
@@ -97,24 +97,8 @@ fn removed_value(alloc: Global, digests: &[Text]) -> Result<Value, AllocError>
 fn status_value(alloc: Global, id: &str, status: Status) -> Result<Value, AllocError>
     ensures { IfOk result (λ v. view v ≡ reply_data (reply.Create id.now status)) }
 {
-    json!(in alloc; {"id": id, "ok": true, "status": status.name()})
-}
-
-/// Adds a text to the members of an object.
-fn put_text(alloc: Global, members: &mut Members, key: &str, text: &str) -> Result<(), AllocError>
-    ensures { OnOk result (members_view members.new.entries
-        ≡ put key.now (string text.now) (members_view members.old.entries)) }
-{
-    let value = Value::String(String::from_str(alloc, text)?);
-    serde_json::put(members, alloc, key, value)
-}
-
-/// Adds a count to the members of an object.
-fn put_count(alloc: Global, members: &mut Members, key: &str, count: u64) -> Result<(), AllocError>
-    ensures { OnOk result (members_view members.new.entries
-        ≡ put key.now (count_data count) (members_view members.old.entries)) }
-{
-    serde_json::put(members, alloc, key, Value::from(count))
+    let id = ("id", Shown::Text(id));
+    object(alloc, &[id, OK, ("status", Shown::Text(status.name()))])
 }
 
 /// Adds why a task ended: its cause and exit status.
@@ -123,8 +107,8 @@ fn put_cause(alloc: Global, members: &mut Members, end: &ExitRecord) -> Result<(
         (members_view members.new.entries ≡ put (codes "exit") (count_data (exit_status end.now))
         (put (codes "cause") (string (cause_name end.now)) (members_view members.old.entries))) }
 {
-    put_text(alloc, members, "cause", end.cause())?;
-    put_count(alloc, members, "exit", end.exit())
+    let cause = ("cause", Shown::Text(end.cause()));
+    add(alloc, members, &[cause, ("exit", Shown::Count(end.exit()))])
 }
 
 /// Adds the trap or the signal that ended a task.
@@ -134,8 +118,10 @@ fn put_detail(alloc: Global, members: &mut Members, end: &ExitRecord) -> Result<
         ≡ with_detail end.now (members_view members.old.entries)) }
 {
     match end {
-        ExitRecord::Trapped(trap) => put_text(alloc, members, "trap", trap.name()),
-        ExitRecord::Kill(signal) => put_count(alloc, members, "signal", signal.number()),
+        ExitRecord::Trapped(trap) => { add(alloc, members, &[("trap", Shown::Text(trap.name()))]) }
+        ExitRecord::Kill(signal) => {
+            add(alloc, members, &[("signal", Shown::Count(signal.number()))])
+        }
         ExitRecord::Return | ExitRecord::Exit(_) => Ok(()),
     }
 }
@@ -145,10 +131,13 @@ fn base_members(alloc: Global, state: &TaskState) -> Result<Members, AllocError>
     ensures { IfOk result (λ m. members_view m.entries ≡ base_members state.now) }
 {
     let mut members = Map::new(alloc);
-    put_text(alloc, &mut members, "id", state.id.as_str())?;
-    put_count(alloc, &mut members, "n", state.n)?;
-    serde_json::put(&mut members, alloc, "ok", Value::Bool(true))?;
-    put_text(alloc, &mut members, "status", state.status.name())?;
+    let id = ("id", Shown::Text(state.id.as_str()));
+    let status = ("status", Shown::Text(state.status.name()));
+    add(
+        alloc,
+        &mut members,
+        &[id, ("n", Shown::Count(state.n)), OK, status],
+    )?;
     Ok(members)
 }
 
@@ -164,20 +153,38 @@ fn state_value(alloc: Global, state: &TaskState) -> Result<Value, AllocError>
     Ok(Value::Object(members))
 }
 
+// The member of a reply that is bytes, in hexadecimal digits.
+fn hex_member(alloc: Global, bytes: &[u8]) -> Result<Members, AllocError>
+    ensures { IfOk result (λ m. members_view m.entries
+        ≡ put (codes "hex") (string (encode_lower bytes.now)) no_members) }
+{
+    let digits = hex::encode(alloc, bytes)?;
+    let mut members = Map::new(alloc);
+    add(
+        alloc,
+        &mut members,
+        &[("hex", Shown::Text(digits.as_str()))],
+    )?;
+    Ok(members)
+}
+
 // The value of a reply that is what a task has written.
 fn output_value(alloc: Global, bytes: &[u8], id: &str, size: u64) -> Result<Value, AllocError>
     ensures { IfOk result (λ v. view v ≡ reply_data (reply.Output bytes.now id.now size)) }
 {
-    let digits = hex::encode(alloc, bytes)?;
-    json!(in alloc; {"hex": digits.as_str(), "id": id, "ok": true, "size": size})
+    let mut members = hex_member(alloc, bytes)?;
+    let id = ("id", Shown::Text(id));
+    add(alloc, &mut members, &[id, OK, ("size", Shown::Count(size))])?;
+    Ok(Value::Object(members))
 }
 
 // The value of a reply that is bytes of a task's memory.
 fn peek_value(alloc: Global, bytes: &[u8], id: &str) -> Result<Value, AllocError>
     ensures { IfOk result (λ v. view v ≡ reply_data (reply.Peek bytes.now id.now)) }
 {
-    let shown = hex::encode(alloc, bytes)?;
-    json!(in alloc; {"hex": shown.as_str(), "id": id, "ok": true})
+    let mut members = hex_member(alloc, bytes)?;
+    add(alloc, &mut members, &[("id", Shown::Text(id)), OK])?;
+    Ok(Value::Object(members))
 }
 
 // The value of a reply.
@@ -231,7 +238,10 @@ pub(crate) fn event_value(alloc: Global, reply: &EventReply) -> Result<Value, Al
 {
     match reply {
         EventReply::Called(answer) => answer_value(alloc, answer),
-        EventReply::Taken(taken) => json!(in alloc; {"ok": true, "taken": *taken}),
-        EventReply::Returned(returned) => json!(in alloc; {"ok": true, "returned": *returned}),
+        EventReply::Taken(taken) => object(alloc, &[OK, ("taken", Shown::Flag(*taken))]),
+        EventReply::Returned(returned) => object(
+            alloc,
+            &[OK, ("returned", Shown::Flag(*returned))],
+        ),
     }
 }
