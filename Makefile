@@ -3,7 +3,7 @@
 PYTHON ?= /usr/bin/python3
 export PYTHON
 # The crates whose programs `check-all` runs beside the product's.
-TEST_PROGRAMS = test_both_machines test_reasons test_allocations
+TEST_PROGRAMS = test_inputs test_allocations
 # Suites that can be run one by one.
 SUITES = own-tests examples pages rows live-callers clients/python floats real-programs dap-emacs compare compare-text compare-reasons \
 	compare-serve-reasons serve-threads check-history refuse-allocations hostile

@@ -11,14 +11,15 @@ from pathlib import Path
 import pytest
 
 from suite.places import TOP, built
-from suite.rows import spelled
+from suite.rows import part, spelled
 
 pytestmark = pytest.mark.program
-ROWS = TOP / "crates/test_rows"
+ROWS = TOP / "crates/test_inputs"
+NAMES = part((ROWS / "stdin").read_text(), "rows")
 SERVED = TOP / "crates/wasm_shim"
 
 
-@pytest.mark.parametrize("name", (ROWS / "stdin").read_text().splitlines())
+@pytest.mark.parametrize("name", NAMES)
 def test_row(name: str, tmp_path: Path) -> None:
     script = tmp_path / "script"
     script.write_bytes(spelled((ROWS / f"data/{name}.jsonl").read_bytes()))
@@ -38,7 +39,6 @@ def test_serve() -> None:
 
 
 def test_each_row_has_its_files() -> None:
-    names = (ROWS / "stdin").read_text().splitlines()
     stems = {path.stem for path in (ROWS / "data").iterdir()}
-    assert sorted(stems) == sorted(names)
-    assert (ROWS / "stdout").read_text() == "".join(f"ok {name}\n" for name in names)
+    assert sorted(stems) == sorted(NAMES)
+    assert part((ROWS / "stdout").read_text(), "rows") == [f"ok {name}" for name in NAMES]

@@ -13,10 +13,10 @@ smallest module first, and the status is 1; so it is at the first difference of 
 the environment names another one. With --dry there is no program: the second reading alone answers, and what it answered is
 counted.
 
-With --both it is another program that is compared, `test_both_machines`, over the modules alone: it runs each on the machine
+With --both it is another program that is compared, `test_inputs`, over the modules alone: it runs each on the machine
 that programs use and on the one that keeps labels, and prints what the second shows at random turns, and whether the
 first shows the same there. Both are to show the end, the output and the frames that the second reading has. Build it
-first (rt run </dev/null in crates/test_both_machines); TEST_BOTH_MACHINES in the environment names another one.
+first (rt run </dev/null in crates/test_inputs); TEST_INPUTS in the environment names another one.
 """
 import collections
 import hashlib
@@ -36,6 +36,8 @@ from suite.reference.execute import Machine
 from suite.summary import COULD_NOT, Summary
 
 FIRST_RUN = EXAMPLES / "first_run.jsonl"
+# The head of the part of `test_inputs` that runs modules on both machines.
+BOTH = b"[machines]"
 # A line, the reply or its number, and what differs from it.
 Difference = tuple[Any, bytes, bytes]
 # Modules with a difference: the size of each, its script, and the first difference.
@@ -143,9 +145,10 @@ def compare_machines(tally: "Tally", differing: Differing) -> None:
     """Runs 60 modules on both machines; adds those that either shows in another way than the second reading."""
     modules = [(data, [*itertools.accumulate(slices)]) for data, slices in (some_module() for _ in range(60))]
     lines = [" ".join([data.hex(), *map(str, counts)]).encode() for data, counts in modules]
-    script = b"\n".join([*lines, b""])
-    run = subprocess.run([built("test_both_machines")], input=script, stdout=subprocess.PIPE, check=True)
-    answers = [answer.split(b"\n") for answer in run.stdout.split(b"\n\n")] + [[]] * len(modules)
+    script = b"\n".join([BOTH, *lines, b""])
+    run = subprocess.run([built("test_inputs")], input=script, stdout=subprocess.PIPE, check=True)
+    shown = run.stdout.removeprefix(BOTH + b"\n")
+    answers = [answer.split(b"\n") for answer in shown.split(b"\n\n")] + [[]] * len(modules)
     for line, (data, counts), found in zip(lines, modules, answers):
         wanted = shown_at(data, counts)
         pairs = enumerate(itertools.zip_longest(wanted, found, fillvalue=b""), 1)

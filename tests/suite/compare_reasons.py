@@ -3,7 +3,7 @@
     tests/run compare-reasons [SEED [COUNT]]
 
 Each file is given to `asm`, `check`, `check --task` or `run` (only if a second reading of the standards has it refused), the
-last two also with `--memory` and `--env`, with and without the option, by the program `test_reasons`, which ends with an
+last two also with `--memory` and `--env`, with and without the option, by the program `test_inputs`, which ends with an
 error where standard output, status or what is first on standard error differ. Each refusal is to have a reason of one
 line, and nothing else has one. Of a task the second reading says which refusals there may be. For a 7 it
 also says how far it came: no reason names an offset after that, and one that speaks of one byte names the last one that
@@ -11,7 +11,7 @@ was read; and for an 8 which operands the instruction at fault finds, and which 
 The files are bent modules of tests/suite/reference and bent texts of examples/ and of the stored rows. Configs and
 lines of requests and replays, which are bent too, have a reason exactly if the second reading refuses them. Prints how
 often each refusal came, and ends with 1 at the first that is answered otherwise. Without words the seed is 1, and there
-are 10,000 in all. Build the program first (rt run </dev/null in crates/test_reasons); TEST_REASONS in the environment names
+are 10,000 in all. Build the program first (rt run </dev/null in crates/test_inputs); TEST_INPUTS in the environment names
 another one.
 """
 from __future__ import annotations
@@ -29,7 +29,9 @@ from suite.places import EXAMPLES, TOP, built
 from suite.reference import board, generate, programs, wasm
 from suite.summary import Summary
 
-ROWS = TOP / "crates/test_reasons/stdin"
+ROWS = TOP / "crates/test_inputs/stdin"
+# The head of the part of `test_inputs` that tells reasons.
+HEAD = "[reasons]"
 # The digest of b"abc".
 DIGEST = "sha256:ba7816bf8f01cfea414140de5dae2223b00361a396177a9cb410ff61f20015ad"
 # What a text is bent with, besides what lines are bent with.
@@ -218,9 +220,9 @@ class Differs(Exception):
 
 
 def answers(asked: list[str]) -> list[str]:
-    script = "".join(f"{row}\n" for row in asked).encode()
-    run = subprocess.run([built("test_reasons")], input=script, stdout=subprocess.PIPE, check=False)
-    found = run.stdout.decode("utf-8", "replace").splitlines()
+    script = "".join(f"{row}\n" for row in [HEAD, *asked]).encode()
+    run = subprocess.run([built("test_inputs")], input=script, stdout=subprocess.PIPE, check=False)
+    found = run.stdout.decode("utf-8", "replace").removeprefix(f"{HEAD}\n").splitlines()
     if run.returncode != 0:
         raise Differs(f"ended with {run.returncode} at: {asked[len(found)] if len(found) < len(asked) else 'the end'}")
     if len(found) - 1 != len(asked):
@@ -258,7 +260,7 @@ def main(words: list[str]) -> int:
     parser.add_argument("seed", nargs="?", type=int, default=1, metavar="SEED")
     parser.add_argument("count", nargs="?", type=int, default=10_000, metavar="COUNT")
     given = parser.parse_args(words)
-    built("test_reasons")
+    built("test_inputs")
     random.seed(given.seed)
     asked = rows(given.count)
     counts: collections.Counter[str] = collections.Counter()

@@ -26,7 +26,7 @@ from suite.reference import wasm
 from suite.rows import spelled
 from suite.summary import Summary
 
-ROWS = TOP / "crates/test_rows/data"
+ROWS = TOP / "crates/test_inputs/data"
 FRAME = ('(module (type $p (func (param i32))) (type $v (func)) (import "wasi_snapshot_preview1" "proc_exit"'
          ' (func $exit (type $p))) %s (func $s (type $v) %s) (export "_start" (func $s)))')
 # The bytes of texts of which wat2wasm is known to write others: it takes the index 2^32 - 1 for none, and leaves the section

@@ -12,8 +12,7 @@ EXAMPLES = TOP / "examples"
 CLIENT = TOP / "clients/python"
 # The environment variable that names a built program in place of the one in crates/NAME/out, and what builds that.
 BUILT = {"wasm_shim": ("PROGRAM", "make build"),
-         "test_both_machines": ("TEST_BOTH_MACHINES", "rt run </dev/null in crates/test_both_machines"),
-         "test_reasons": ("TEST_REASONS", "rt run </dev/null in crates/test_reasons"),
+         "test_inputs": ("TEST_INPUTS", "rt run </dev/null in crates/test_inputs"),
          "test_allocations": ("TEST_ALLOCATIONS", "rt run </dev/null in crates/test_allocations")}
 
 

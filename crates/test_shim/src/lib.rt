@@ -1,5 +1,5 @@
 //! Tests over the public calls of all crates: that each can succeed, with answers that were worked out by
-//! hand, and what no contract says. What a line can show is a row of `test_rows`; callers and workers are
+//! hand, and what no contract says. What a line can show is a row of `test_inputs`; callers and workers are
 //! those of `test_callers`.
 #![tactic(auto)]
 

@@ -8,7 +8,7 @@ from collections.abc import Iterator
 from suite.checks.tree import Tree
 
 # Data: what programs are given and print, byte by byte, and edits, whose texts are what they are.
-DATA = re.compile(r".*\.(edit|jsonl|expected|png|wasm|debug|cases)|.*/(stdin|stdout)|crates/test_rows/data/.*")
+DATA = re.compile(r".*\.(edit|jsonl|expected|png|wasm|debug|cases)|.*/(stdin|stdout)|crates/test_inputs/data/.*")
 # Where a line may begin with a tab.
 TABS = re.compile(r"(.*/)?Makefile|.*\.(go|mod)|(.*/)?debian/rules")
 # What a person reads whole. Proofs are not.

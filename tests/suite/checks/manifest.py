@@ -16,7 +16,7 @@ from suite.checks.tree import Tree
 
 LIST = "tests/manifest.txt"
 # What is a test, or the data of one. Each such file belongs to a suite.
-TESTS = ("*/test_*.py", "*_test.go", "examples/*", "crates/*/attacks/*", "crates/*/must-fail/*", "crates/test_rows/data/*",
+TESTS = ("*/test_*.py", "*_test.go", "examples/*", "crates/*/attacks/*", "crates/*/must-fail/*", "crates/test_inputs/data/*",
          "crates/*/stdin", "tests/*.expected", "tests/data/*", "clients/*/examples/*")
 
 

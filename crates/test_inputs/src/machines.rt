@@ -1,13 +1,12 @@
-//! Modules that run on both machines, the one with targets that are found before and the one that
-//! keeps labels.
+//! Modules that run on both machines, the one with targets that are found before and the one that keeps
+//! labels.
 //!
-//! A line of standard input is a module in hexadecimal digits, and counts of turns in rising order, each
-//! after a space. For each count a line is printed when both machines have made that many turns, or have
-//! ended before: `same` or `different`, and then what the machine that keeps labels shows, with a tab before
-//! each part: how it has ended, what it has written to each stream in hexadecimal digits, and its turns and
-//! frames as the reply to `inspect`. A refusal is printed as its reply, and nothing more of its module. An
-//! empty line follows each module.
-#![tactic(auto)]
+//! A line is a module in hexadecimal digits, and counts of turns in rising order, each after a space. For
+//! each count a line is printed when both machines have made that many turns, or have ended before: `same`
+//! or `different`, and then what the machine that keeps labels shows, with a tab before each part: how it
+//! has ended, what it has written to each stream in hexadecimal digits, and its turns and frames as the
+//! reply to `inspect`. A refusal is printed as its reply, and nothing more of its module. An empty line
+//! follows each module.
 
 ghost use Rattle.std.specs.Prelude.{◌≡◌, [], IfOk};
 
@@ -138,12 +137,10 @@ fn lines_of(alloc: Global, line: &str) -> Result<String, Refusal> {
     Ok(lines)
 }
 
-fn main(rt: HostRuntime) -> io::Result<()> {
-    for line in rt.lines(rt.alloc()) {
-        match lines_of(rt.alloc(), line?.as_str()) {
-            Ok(lines) => println!(rt; "{lines}")?,
-            Err(_) => println!(rt; "{}", no_memory_line())?,
-        }
+/// Prints the lines of a module.
+pub fn line(rt: &HostRuntime, module: &str) -> io::Result<()> {
+    match lines_of(rt.alloc(), module) {
+        Ok(lines) => println!(rt; "{lines}"),
+        Err(_) => println!(rt; "{}", no_memory_line()),
     }
-    Ok(())
 }

@@ -1,23 +1,21 @@
 //! What is refused, and the reasons that are told with it.
 //!
-//! A line of standard input is a command, what it is given, and the reason that is wanted, with ` => `
-//! between. The command is that of a command line (`asm`, `check` or `run`, with options and perhaps the
-//! name `m` of the file and arguments after it) for a file; `config` for the text of one; `request` or
-//! `event` for a line of `serve` or `replay`; `refused NUMBER` for the line of a request that is refused so,
-//! with `at LINE COLUMN` after a number 18, `at FUNC PLACE` after an 8, and `content HEX` if the config of a
-//! create names that content. What it is given is in hexadecimal digits or, after `text `, as it
-//! is, with `\n` for a line feed. A line that is empty or begins with `#` says something of the
-//! others. `ok COUNT` is printed at the end: of how many lines the reason is the one that is wanted, and
-//! the command with `--explain` writes what it writes without, and then the line of that reason. Each
-//! other line is printed with what was found. Of a line without a reason the refusal and its reason are
-//! printed.
-#![tactic(auto)]
+//! A line is a command, what it is given, and the reason that is wanted, with ` => ` between. The command is
+//! that of a command line (`asm`, `check` or `run`, with options and perhaps the name `m` of the file and
+//! arguments after it) for a file; `config` for the text of one; `request` or `event` for a line of `serve`
+//! or `replay`; `refused NUMBER` for the line of a request that is refused so, with `at LINE COLUMN` after a
+//! number 18, `at FUNC PLACE` after an 8, and `content HEX` if the config of a create names that content.
+//! What it is given is in hexadecimal digits or, after `text `, as it is, with `\n` for a line feed. A line
+//! that is empty or begins with `#` says something of the others. `ok COUNT` is printed at the end: of how
+//! many lines the reason is the one that is wanted, and the command with `--explain` writes what it writes
+//! without, and then the line of that reason. Each other line is printed with what was found. Of a line
+//! without a reason the refusal and its reason are printed.
 
 mod files;
 mod requests;
 
-use crate::files::file_told;
-use crate::requests::refused_told;
+use crate::reason_rows::files::file_told;
+use crate::reason_rows::requests::refused_told;
 use anyhow::{Context, Result, bail};
 use oci_config::read_config;
 use reasons::{Lines, why_config, why_line};
@@ -118,17 +116,32 @@ fn is_right(rt: &HostRuntime, row: &str) -> Result<bool> {
     Ok(false)
 }
 
-fn main(rt: HostRuntime) -> Result<()> {
-    let mut right = 0u64;
-    for line in rt.lines(rt.alloc()) {
-        let row = line?;
-        if row.is_empty() || row.starts_with('#') {
-            continue;
-        }
-        if is_right(&rt, row.as_str())? {
-            right = right.saturating_add(1);
-        }
+/// Of how many lines the reason is the one that is wanted.
+#[derive(Drop)]
+pub struct Count {
+    right: u64,
+}
+
+impl Count {
+    /// Of none.
+    pub fn none() -> Count {
+        Count { right: 0 }
     }
-    println!(rt; "ok {right}")?;
-    Ok(())
+
+    /// Compares the reason of a line.
+    pub fn line(&mut self, rt: &HostRuntime, row: &str) -> Result<()> {
+        if row.is_empty() || row.starts_with('#') {
+            return Ok(());
+        }
+        if is_right(rt, row)? {
+            self.right = self.right.saturating_add(1);
+        }
+        Ok(())
+    }
+
+    /// Prints the count.
+    pub fn end(&self, rt: &HostRuntime) -> Result<()> {
+        println!(rt; "ok {}", self.right)?;
+        Ok(())
+    }
 }

@@ -1,9 +1,8 @@
 //! Scripts of lines, and what they are answered.
 //!
-//! Standard input names the scripts, one a line. The lines of `NAME.jsonl` are replayed, and `ok NAME`
-//! is printed if their answers are `NAME.expected`; else the first line that differs is printed. In both
-//! files `<COUNT*TEXT>` is the text repeated that number of times.
-#![tactic(auto)]
+//! A line names a script. The lines of `NAME.jsonl` are replayed, and `ok NAME` is printed if their answers
+//! are `NAME.expected`; else the first line that differs is printed. In both files `<COUNT*TEXT>` is the
+//! text repeated that number of times.
 
 use anyhow::{Context, Result, bail};
 use file_commands::replay_lines;
@@ -46,8 +45,8 @@ fn print_difference(rt: &HostRuntime, name: &str, answers: &str, wanted: &str) -
     Ok(())
 }
 
-// Replays a script.
-fn replay(rt: &HostRuntime, name: &str) -> Result<()> {
+/// Replays the script that a line names.
+pub fn line(rt: &HostRuntime, name: &str) -> Result<()> {
     let alloc = rt.alloc();
     let script = fs::read_to_string(rt, format!(in alloc; "{name}.jsonl")?)?;
     let wanted = fs::read_to_string(rt, format!(in alloc; "{name}.expected")?)?;
@@ -63,11 +62,4 @@ fn replay(rt: &HostRuntime, name: &str) -> Result<()> {
     } else {
         print_difference(rt, name, answers, wanted.as_str())
     }
-}
-
-fn main(rt: HostRuntime) -> Result<()> {
-    for name in rt.lines(rt.alloc()) {
-        replay(&rt, name?.as_str())?;
-    }
-    Ok(())
 }
