@@ -4,6 +4,7 @@ pub mod View
 pub mod Runs
 pub mod Weights
 pub mod Callees
+pub mod Calls
 pub mod Turns
 pub mod Reached
 pub mod Sound
