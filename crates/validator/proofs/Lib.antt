@@ -18,5 +18,6 @@ pub mod PackedLemmas
 pub mod PeriodLemmas
 pub mod LabelLemmas
 pub mod UncheckedTypes
+pub mod NeedLemmas
 pub mod EachLemmas
 pub mod EachOfModules

@@ -1,5 +1,5 @@
 -- The checker's steps for simple instructions are sound and exact.
-use Rattle.std.proofs.Common.{◌≡◌, ℕ, ◌<◌, ◌≤◌, ◌^◌, nat_le, Bool, true, ◌&&◌, if◌then◌else◌, List, [], ◌∷◌, length, All, Option, Some, None, refl, sym, ap, subst, ◌∙◌, arith}
+use Rattle.std.proofs.Common.{◌≡◌, ℕ, ◌<◌, ◌≤◌, ◌^◌, nat_le, Bool, true, false, true≢false, ◌&&◌, inr, if◌then◌else◌, List, [], ◌∷◌, length, All, Option, Some, None, refl, sym, ap, subst, ◌∙◌, arith}
 use Rattle.std.specs.Prelude.{slice_get}
 use Rattle.std.proofs.lemmas.Bool.Decides.{nat_tests}
 use Rattle.std.proofs.lemmas.List.Elements.{All-cons, All-nil, All-head, All-tail}
@@ -18,8 +18,10 @@ use Rattle.wasm_ast.specs.declared.module.Global.{Global}
 use Rattle.wasm_ast.specs.Types.{type_of, type_at}
 use Rattle.wasm_ast.specs.Access.{load_type, load_bytes, store_type, store_bytes}
 use Rattle.wasm_ast.specs.Limits.{are_all}
-use Rattle.validator.specs.Typing.{Context, on_top, Replaces, LocalTyped, GlobalTyped, Accesses, source_of, target_of, IsLabel, SimpleTyped}
+use Rattle.validator.specs.Typing.{Context, on_top, Replaces, LocalTyped, GlobalTyped, Accesses, source_of, target_of, SimpleTyped}
 use Rattle.validator.specs.PlaceTypes.{Stack, IsOf, Matches}
+use Rattle.validator.specs.declared.needs.Lack.{Lack}
+use Rattle.validator.specs.Needs.{DoesTake, LacksOther, LacksTable}
 use Rattle.validator.specs.Inside.Algorithm.{and_then, can_be, pop_any, with_types, replaced, nowhere, leaves, after_i32, drops, join, joins, joins_next, check_local, is_variable, check_global, takes_types, is_label, is_some_there, applies, branches, call_indirect, with_memory, access, check_simple}
 use Rattle.validator.proofs.StackMatching.{Sound, Exact, both, passed, passes, given, gives, all_same, themselves, can_be_of, of_can_be, pop_any_sound, pop_any_exact, some_type, some_types, replaced_sound, replaced_exact, Takes, leaves_sound, leaves_exact, AfterI32, after_i32_sound, after_i32_exact}
 
@@ -57,7 +59,7 @@ named_exact o check P exact s old new m h =
 
 -- ---- drop and select
 
-drops_sound : Sound drops (λ old new. (t : ValType) × Replaces (t ∷ []) [] old new)
+pub drops_sound : Sound drops (λ old new. (t : ValType) × Replaces (t ∷ []) [] old new)
 drops_sound s e new h m =
     let found = passed (pop_any s.unreachable s.types) (λ p. Some (with_types s p.1)) e h in
     let after : with_types s found.0.1 ≡ e = cc in
@@ -68,7 +70,7 @@ drops_sound s e new h m =
       (any.0, (new, refl, refl)),
     )
 
-drops_exact : Exact drops (λ old new. (t : ValType) × Replaces (t ∷ []) [] old new)
+pub drops_exact : Exact drops (λ old new. (t : ValType) × Replaces (t ∷ []) [] old new)
 drops_exact s old new m h =
     let t = h.0 in
     let rest = h.1.0 in
@@ -94,7 +96,7 @@ join_exact (Some u) y t one two =
     (Some u, gives (can_be u y) (Some (Some u)) (of_can_be u y (subst (λ (v : ValType). IsOf y v) (sym one) two)), one)
 
 -- two operands of a type are replaced by one
-abbrev Joins : List ValType → List ValType → Type 0
+abbrev pub Joins : List ValType → List ValType → Type 0
 Joins old new = (t : ValType) × (rest : List ValType) × (old ≡ t ∷ t ∷ rest) × (new ≡ t ∷ rest)
 
 abbrev joins_with :
@@ -104,7 +106,7 @@ joins_with s p q = and_then (join p.0 q.0) (λ t. Some (with_types s (t ∷ q.1)
 abbrev joins_to : Stack → Option ValType × List (Option ValType) → Option Stack
 joins_to s p = joins_next p.0 (with_types s p.1)
 
-joins_sound : Sound joins Joins
+pub joins_sound : Sound joins Joins
 joins_sound s e new h m =
     let b = s.unreachable in
     let one = passed (pop_any b s.types) (joins_to s) e h in
@@ -127,7 +129,7 @@ joins_sound s e new h m =
           (t, rest, refl, refl),
         )
 
-joins_exact : Exact joins Joins
+pub joins_exact : Exact joins Joins
 joins_exact s old new m h =
     let b = s.unreachable in
     let t = h.0 in
@@ -159,20 +161,34 @@ label_exact :
     → is_label labels ts k ≡ true
 label_exact labels ts k h = ap (takes_types ts) h ∙ themselves ts
 
-labels_sound :
-    (c : Context) (ts : List ValType) (ks : List ℕ) → are_all (is_label c.labels ts) ks ≡ true → All (IsLabel c ts) ks
-labels_sound c ts [] h = All-nil (IsLabel c ts)
-labels_sound c ts (k ∷ ks) h =
-    let parts = both (is_label c.labels ts k) (are_all (is_label c.labels ts) ks) h in
-    All-cons (IsLabel c ts) k ks (label_sound c.labels ts k parts.0) (labels_sound c ts ks parts.1)
+labels_sound : (labels : List (List ValType)) (ts : List ValType) (ks : List ℕ) → are_all (is_label labels ts) ks ≡ true
+    → All (DoesTake labels ts) ks
+labels_sound labels ts [] h = All-nil (DoesTake labels ts)
+labels_sound labels ts (k ∷ ks) h =
+    let parts = both (is_label labels ts k) (are_all (is_label labels ts) ks) h in
+    All-cons (DoesTake labels ts) k ks (label_sound labels ts k parts.0) (labels_sound labels ts ks parts.1)
 
-labels_exact :
-    (c : Context) (ts : List ValType) (ks : List ℕ) → All (IsLabel c ts) ks → are_all (is_label c.labels ts) ks ≡ true
-labels_exact c ts [] h = refl
-labels_exact c ts (k ∷ ks) h =
-    let first = label_exact c.labels ts k (All-head (IsLabel c ts) k ks h) in
-    let others = labels_exact c ts ks (All-tail (IsLabel c ts) k ks h) in
-    ap (λ b. b && are_all (is_label c.labels ts) ks) first ∙ others
+labels_exact : (labels : List (List ValType)) (ts : List ValType) (ks : List ℕ) → All (DoesTake labels ts) ks
+    → are_all (is_label labels ts) ks ≡ true
+labels_exact labels ts [] h = refl
+labels_exact labels ts (k ∷ ks) h =
+    let first = label_exact labels ts k (All-head (DoesTake labels ts) k ks h) in
+    let others = labels_exact labels ts ks (All-tail (DoesTake labels ts) k ks h) in
+    ap (λ b. b && are_all (is_label labels ts) ks) first ∙ others
+
+-- labels of which this one does not take the types of the last
+pub table_lacks : (labels : List (List ValType)) (ks : List ℕ) (other k : ℕ) (ts : List ValType) (l : Lack)
+    → slice_get labels other ≡ Some ts → are_all (is_label labels ts) ks ≡ false → is_label labels ts k ≡ false
+    → LacksOther labels k l → LacksTable labels ks other l
+table_lacks labels ks other k ts l is some this lacks =
+    inr (
+      ts,
+      k,
+      is,
+      λ all. true≢false (sym (labels_exact labels ts ks all) ∙ some),
+      λ takes. true≢false (sym (label_exact labels ts k takes) ∙ this),
+      lacks,
+    )
 
 -- ---- accesses
 
@@ -332,7 +348,7 @@ simple_sound c (instr.BrTable labels other) s e new h m =
       (
         found.2.0,
         p.1.2.0,
-        labels_sound c found.2.0 labels p.0,
+        labels_sound c.labels found.2.0 labels p.0,
         found.2.1,
         p.1.1 ∙ ap (λ (ts : List ValType). I32 ∷ ts) p.1.2.1,
       ),
@@ -379,7 +395,7 @@ simple_exact c (instr.BrIf label) s old new m h =
 simple_exact c (instr.BrTable labels other) s old new m h =
     named_exact (slice_get c.labels other) (branches c.labels labels) (Branches c labels)
     (branches_exact c labels) s old new m
-    (h.0, h.3, (labels_exact c h.0 labels h.2, (on_top h.0 h.1, h.4, (h.1, refl))))
+    (h.0, h.3, (labels_exact c.labels h.0 labels h.2, (on_top h.0 h.1, h.4, (h.1, refl))))
 simple_exact c instr.Return s old new m h = leaves_exact c.results s old new m h
 simple_exact c (instr.Call func) s old new m h =
     named_exact (type_at c.funcs func) applies (λ (t : FuncType). Replaces t.params t.results)

@@ -14,7 +14,7 @@ use Rattle.validator.specs.Inside.Algorithm.{start, check_ops}
 use Rattle.validator.proofs.SequenceExact.{start_matches, start_is, ops_sound, ops_exact}
 use Rattle.validator.proofs.PlacesOfModules.{HasType, known, known_exact, known_sound, matches, one_function}
 
-none_some : {A : Type 0} (o : Option A) (x : A) → o ≡ None → o ≡ Some x → ⊥
+pub none_some : {A : Type 0} (o : Option A) (x : A) → o ≡ None → o ≡ Some x → ⊥
 none_some o x none some = let both : None ≡ Some x = sym none ∙ some in cc
 
 -- ---- before an instruction

@@ -1,5 +1,6 @@
 -- What only private clauses and the checker's types name.
 pub mod Algorithm
+pub mod Effects
 pub mod PlaceWalk
 pub mod EachPlace
 pub mod Blocks

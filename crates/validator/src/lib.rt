@@ -12,6 +12,7 @@ mod groups;
 mod labels;
 pub mod laws;
 mod module_parts;
+mod needs;
 mod operands;
 mod packed;
 mod packed_module;
@@ -27,6 +28,7 @@ mod validation;
 mod walk;
 
 pub use access::{is_aligned, load_bytes, source_of, store_bytes, store_type};
+pub use needs::{Lack, Taken};
 pub use types::{KnownOperands, Types};
 pub use unchecked::{EndTypes, Unchecked};
 pub use valid_module::{Valid, validate};

@@ -27,6 +27,23 @@ pub fn replace<'a>(
     Ok(())
 }
 
+/// The same after an i32.
+pub fn replace_after_i32<'a>(
+    operands: &mut Operands<'a>,
+    takes: &TypeList<'_>,
+    gives: &TypeList<'a>,
+) -> Result<(), CheckError>
+    ensures ok { OnOk result
+        (Leads (after_i32 (replaced takes.now gives.now)) operands.old operands.new) }
+    ensures invalid { result ≡ Err CheckError.Invalid
+        → after_i32 (replaced takes.now gives.now) operands.old.stack ≡ None }
+{
+    if !operands.pop(ValType::I32) {
+        return Err(CheckError::Invalid);
+    }
+    replace(operands, takes, gives)
+}
+
 /// An operand is put on top.
 pub fn give(operands: &mut Operands<'_>, gives: ValType) -> Result<(), CheckError>
     ensures ok { OnOk result (Leads (replaced [] (gives ∷ [])) operands.old operands.new) }
@@ -108,6 +125,19 @@ pub fn leave(operands: &mut Operands<'_>, takes: &TypeList<'_>) -> Result<(), Ch
     }
     operands.stop();
     Ok(())
+}
+
+/// The same after an i32.
+pub fn leave_after_i32(operands: &mut Operands<'_>, takes: &TypeList<'_>) -> Result<(), CheckError>
+    ensures ok { OnOk result
+        (Leads (after_i32 (leaves takes.now)) operands.old operands.new) }
+    ensures invalid { result ≡ Err CheckError.Invalid
+        → after_i32 (leaves takes.now) operands.old.stack ≡ None }
+{
+    if !operands.pop(ValType::I32) {
+        return Err(CheckError::Invalid);
+    }
+    leave(operands, takes)
 }
 
 /// The newest operand is taken, whatever its type.

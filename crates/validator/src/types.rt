@@ -1,13 +1,19 @@
 //! What is known of operands and labels before an instruction.
 
-ghost use Rattle.std.specs.Prelude.{◌≡◌, ◌∷◌, [], OnOk, MatchOption, None, Some, option_copied, slice_get, length, reverse, false};
+ghost use Rattle.std.specs.Prelude.{◌≡◌, ◌∷◌, [], OnOk, IfOk, IfErr, MatchOption, None, Some, option_copied, slice_get, length, reverse, false};
 ghost use Rattle.validator.specs.PlaceTypes.{Stack, Known};
+ghost use Rattle.validator.specs.Needs.{Lacks};
+ghost use Rattle.validator.specs.Inside.Algorithm.{check_simple};
+ghost use Rattle.validator.specs.Inside.Effects.{Does};
+ghost use Rattle.validator.specs.Inside.FunctionContext.{context_of};
 
+use crate::function::Function;
 use crate::labels::Labels;
+use crate::needs::{Lack, Needs, needs_of};
 use crate::operands::Operands;
 use std::alloc::{AllocError, Global};
 use std::marker::Model;
-use wasm_ast::ValType;
+use wasm_ast::{Simple, ValType};
 
 /// The operands of a block that is open.
 #[derive(Drop)]
@@ -122,6 +128,13 @@ impl<'a> Types<'a> {
         Types { labels, stacks }
     }
 
+    /// Nothing: no block is open. No memory is taken.
+    pub fn none(alloc: Global) -> Types<'a>
+        ensures { result ≡ record { labels = []; stacks = [] } }
+    {
+        Types::new(Labels::new(alloc), Stacks::new(alloc))
+    }
+
     /// How many blocks are open, the function's body included.
     pub fn open_blocks(&self) -> usize
         ensures { result ≡ length self.now.labels }
@@ -148,4 +161,19 @@ impl<'a> Types<'a> {
     {
         self.stacks.get(block)
     }
+}
+
+/// What an instruction without a body does to operands in a function, inside the labels that are known, or
+/// what it names that is not there.
+pub fn needs_inside<'a>(
+    function: &Function<'a>,
+    known: &mut Types<'a>,
+    simple: &Simple,
+) -> Result<Needs<'a>, Lack>
+    ensures ok { IfOk result
+        (λ n. Does n (check_simple (context_of function.now known.old.labels) simple.now)) }
+    ensures lacks { IfErr result (Lacks (context_of function.now known.old.labels) simple.now) }
+    ensures known { known.new ≡ known.old }
+{
+    needs_of(function, &mut known.labels, simple)
 }

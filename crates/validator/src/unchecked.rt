@@ -1,11 +1,12 @@
 //! Modules that need not be valid, and what is known of operands in their bodies (3.3).
 
-ghost use Rattle.std.specs.Prelude.{◌≡◌, ◌∷◌, ◌↔◌, [], List, IfOk, OnOk, IfSome, MatchOption, Err, Some, None, slice_get, map, reverse};
+ghost use Rattle.std.specs.Prelude.{◌≡◌, ◌∷◌, ◌↔◌, [], List, IfOk, IfErr, OnOk, IfSome, MatchOption, Err, Some, None, slice_get, map, reverse};
 ghost use Rattle.wasm_ast.specs.declared.values.ValType.{ValType as ValTypeValue};
 ghost use Rattle.wasm_ast.specs.declared.values.FuncType.{FuncType as FuncTypeValue};
 ghost use Rattle.wasm_ast.specs.declared.module.Func.{Func as FuncValue};
 ghost use Rattle.validator.specs.PlaceTypes.{Point, IsOwn, ReachesAt, Matches, MatchPoint};
 ghost use Rattle.validator.specs.SequenceTypes.{LeadsIn};
+ghost use Rattle.validator.specs.Needs.{LacksIn, IsThereFor, GoesOn};
 ghost use Rattle.validator.specs.Inside.Algorithm.{start, check_ops};
 ghost use Rattle.validator.specs.Inside.FunctionContext.{context_of};
 
@@ -13,14 +14,15 @@ use crate::bodies::check_instr;
 use crate::check_error::CheckError;
 use crate::function::Function;
 use crate::labels::Labels;
+use crate::needs::{Lack, Taken};
 use crate::operands::Operands;
 use crate::packed_module::PackedModule;
 use crate::type_list::TypeList;
-use crate::types::{KnownOperands, Types};
+use crate::types::{KnownOperands, Types, needs_inside};
 use crate::walk::known_at;
 use std::alloc::{AllocError, Global};
 use std::marker::Model;
-use wasm_ast::{Body, Module, ValType};
+use wasm_ast::{Body, Module, Simple, ValType};
 
 /// A module that need not be valid. Contracts see the module.
 #[derive(Drop)]
@@ -110,6 +112,33 @@ impl Unchecked {
             Ok(types) => Ok(Some(types)),
             Err(CheckError::Memory) => Err(AllocError),
             Err(CheckError::Invalid) => Ok(None),
+        }
+    }
+
+    /// Which operands an instruction without a body takes in a function, inside the labels that are known:
+    /// it leads from the stacks that have them on top to others, and from no other stack (3.3.1 to 3.3.5).
+    /// An error says what it names that is not there. None if the module has no such function of its own
+    /// with a type. Imports are counted before the module's own functions. No memory is taken.
+    pub fn taken_by<'a>(
+        &'a self,
+        func: u32,
+        known: &mut Types<'a>,
+        simple: &Simple,
+    ) -> Option<Result<Taken<'a>, Lack>>
+        ensures taken { IfSome result (λ r. IfOk r (λ taken. (old : List ValTypeValue)
+            → IsThereFor taken old ↔ GoesOn self.now func known.old.labels simple.now old)) }
+        ensures lacks { IfSome result
+            (λ r. IfErr r (LacksIn self.now func known.old.labels simple.now)) }
+        ensures none { result ≡ None → (f : FuncValue) (t : FuncTypeValue)
+            → IsOwn self.now func f → slice_get self.now.types f.type_index ≡ Some t → ⊥ }
+        ensures known { known.new ≡ known.old }
+    {
+        let Some(function) = function_at(&self.packed, func) else {
+            return None;
+        };
+        match needs_inside(&function, known, simple) {
+            Ok(needs) => Some(Ok(needs.taken())),
+            Err(lack) => Some(Err(lack)),
         }
     }
 }

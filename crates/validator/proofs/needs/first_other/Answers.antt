@@ -1,7 +1,7 @@
 use Rattle.std.proofs.Common.{refl, ap, ◌∙◌}
 use Rattle.validator.specs.Inside.Algorithm.{takes_types}
 use Rattle.validator.proofs.StackMatching.{themselves}
-use Rattle.validator.proofs.simple.are_labels.Goals as goal
+use Rattle.validator.proofs.needs.first_other.Goals as goal
 
 pub loop-label-init : goal.loop-label-init
 loop-label-init c = record {

@@ -3,7 +3,7 @@ use Rattle.std.specs.Prelude.{slice_get}
 use Rattle.wasm_ast.specs.Limits.{are_all}
 use Rattle.wasm_ast.specs.declared.values.ValType.{ValType}
 use Rattle.validator.specs.Inside.Algorithm.{is_label}
-use Rattle.validator.proofs.simple.are_labels.Given as goal
+use Rattle.validator.proofs.needs.first_other.Given as goal
 
 -- all are labels if the rest of them are
 abbrev pub invariant-loop-label : goal.invariant-loop-label
