@@ -1,7 +1,9 @@
 //! Which operands a block takes, and which are there where its body or that of a function ends.
 
-use crate::branches::open_label;
-use crate::operands::{OTHERS, Taken, one, results_of, taken_text};
+ghost use Rattle.std.specs.Prelude.{◌≡◌, IfSome, Some, slice_get};
+
+use crate::lacks::count_text;
+use crate::operands::{OTHERS, Wanted, one, results_of, wanted_text};
 use crate::type_names::{end_text, last_of, types_text};
 use std::alloc::{AllocError, Global};
 use validator::{KnownOperands, Types, Unchecked};
@@ -30,7 +32,7 @@ fn types_of<'a>(of: &'a Module, kind: BlockType) -> Option<(&'a [ValType], &'a [
     }
 }
 
-// The types of an instruction with a body. None if they are not there, or if it has no body.
+// The types of an instruction with a body. None if they are not there.
 fn block_types<'a>(of: &'a Module, instr: &Instr) -> Option<BlockTypes<'a>> {
     let (kind, is_loop, has_condition) = match instr {
         Instr::Simple(_) => return None,
@@ -102,6 +104,13 @@ fn are_results(operands: KnownOperands<'_>, results: &[ValType]) -> bool {
 }
 
 // ---- lines
+
+// The types that a branch takes to the label with this number, the innermost one being 0, if it is open.
+fn open_label<'a>(types: &Types<'a>, label: usize) -> Option<&'a [ValType]>
+    ensures { IfSome result (λ found. slice_get types.now.labels label ≡ Some found.now) }
+{
+    types.label(u32::try_from(label).ok()?)
+}
 
 // The labels inside a block, the outermost first. None if one takes very many types, with which the check of
 // its body may take long.
@@ -207,7 +216,7 @@ pub fn block_text<'a>(
     instr: &Instr,
 ) -> Result<String, AllocError> {
     let Some(block) = block_types(of.module(), instr) else {
-        return String::from_str(alloc, OTHERS);
+        return count_text(alloc, "types", of.module().types.len());
     };
     let Some(operands) = types.operands(0) else {
         return String::from_str(alloc, OTHERS);
@@ -215,12 +224,12 @@ pub fn block_text<'a>(
     if finds(operands, block) {
         return inside_text(alloc, of, func, types, block, instr);
     }
-    let taken = Taken {
+    let wanted = Wanted {
         lead: "it takes",
         types: block.params,
         then_i32: block.has_condition,
     };
-    taken_text(alloc, types, taken)
+    wanted_text(alloc, types, wanted)
 }
 
 /// What is said of the end of the body of this function, which has this index.

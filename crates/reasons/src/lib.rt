@@ -6,7 +6,6 @@
 #![tactic(auto)]
 
 mod bad_text;
-mod branches;
 mod command_line;
 mod config;
 mod config_texts;
@@ -18,6 +17,7 @@ mod floats;
 mod hints;
 mod invalid;
 mod json;
+mod lacks;
 mod limits;
 mod line;
 mod located;

@@ -27,7 +27,6 @@ mod valid_module;
 mod validation;
 mod walk;
 
-pub use access::{is_aligned, load_bytes, source_of, store_bytes, store_type};
 pub use needs::{Lack, Taken};
 pub use types::{KnownOperands, Types};
 pub use unchecked::{EndTypes, Unchecked};
