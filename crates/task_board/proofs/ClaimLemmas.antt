@@ -1,6 +1,5 @@
 -- That what replies say of tasks is true.
 use Rattle.std.proofs.Common.{◌≡◌, ℕ, List, [], ◌∷◌, Bool, true, false, cond, ◌&&◌, nat_lt, bytes_eq, Option, Some, None, is_none, is_some, option_map, Ok, inl, inr, ◌⊎◌, refl, sym, ap, ◌∙◌, subst}
-use Rattle.wasm_ast.specs.declared.refusal.Refusal.{Refusal}
 use Rattle.wasm_ast.specs.declared.refusal.Refusal.TheVariants as refusal
 use Rattle.oci_config.specs.declared.stream.Stream.{Stream}
 use Rattle.oci_config.specs.Config.{process_read}
@@ -27,14 +26,14 @@ use Rattle.task_requests.specs.Memory.{takes_memory}
 use Rattle.task_board.specs.BoardState.{Task, Entries, BoardState, empty, created_task, entry_of, task_in, task_of, put_task, change_task, with_task}
 use Rattle.task_board.specs.Tasks.{state_of, output_of, memory_at, shown, started, paused, resumed, killed_while, killed_by, place_of, with_break, without_break, stepped}
 use Rattle.task_board.specs.Refusals.{own_refusals, create_refusals, task_refusals}
-use Rattle.task_board.specs.Step.{Answer, DecidedBy, Done, with_left, OnFound, OnTask, Creates, does, Answers}
+use Rattle.task_board.specs.Step.{Answer, Done, with_left, OnFound, OnTask, Creates, does, Answers}
 use Rattle.task_board.specs.Run.{Happens, Run}
 use Rattle.task_board.specs.Sound.{IsSound, IsBoard}
 use Rattle.task_board.specs.Moves.{Moves, stays, starts, pauses, resumes, is_killed, is_taken, returns, has_break, loses_break, steps, Becomes, goes, remains}
 use Rattle.task_board.specs.Claims.{asked_of, told_on, state_told, id_told, turns_told, status_told, end_told, StatusIsTrue, ShowsTruly, SaysTruly}
 use Rattle.task_board.proofs.EntryLemmas.{none_is_not, some_is, by_id, same_id, cond_true, cond_false, cond_is_true, cond_is_false, in_slot}
 use Rattle.task_board.proofs.StepLemmas.{found, task_named, sound_of, none_first}
-use Rattle.task_board.proofs.EffectLemmas.{own_accepted}
+use Rattle.task_board.proofs.EffectLemmas.{own_accepted, decided_ok}
 use Rattle.task_board.proofs.LawLemmas.{happens_moves, is_step}
 use Rattle.task_board.proofs.HeldLemmas.{AllThere, happens_there, run_there}
 
@@ -153,12 +152,6 @@ says b id t q a there at words =
     }
 
 -- ---- accepted requests
-
-decided_ok :
-    (o : Option Refusal) (E : Type 0) (s : BoardState) (a : Reply) (s' : BoardState) → DecidedBy o E s (Ok a) s'
-    → (o ≡ None) × E
-decided_ok None E s a s' d = (refl, d)
-decided_ok (Some e) E s a s' d = let is = d.0 in cc
 
 -- the task that an accepted request finds, what it is answered, and what it leaves
 record Accepted (s : BoardState) (id : List ℕ) (own : Task → Refusals) (does : Task → Done) (a : Reply)

@@ -24,16 +24,18 @@ use Rattle.wasm_ast.specs.Identifiers.{is_id}
 use Rattle.content_leases.specs.Digests.{digest_of}
 use Rattle.content_leases.specs.StoreState.{StoreState, with_content, without_content, with_lease, with_member, without_lease, unheld, collected}
 use Rattle.content_leases.specs.Refusals.{Refusals, first_refusal, put_refusals, remove_refusals, lease_create_refusals, lease_add_refusals, lease_delete_refusals}
-use Rattle.task_board.specs.BoardState.{Task, BoardState, used_by, with_store, entry_of, task_of, with_task, without_task}
+use Rattle.task_board.specs.BoardState.{Task, Entries, BoardState, used_by, with_store, entry_of, task_of, with_task, without_task}
 use Rattle.task_board.specs.declared.mark.Mark.{Mark}
 use Rattle.task_board.specs.declared.mark.Mark.TheVariants as mark
-use Rattle.task_board.specs.Tasks.{killed_while, killed_by, place_of, stepped, state_of}
+use Rattle.task_board.specs.Tasks.{started, resumed, killed_while, killed_by, place_of, stepped, state_of}
 use Rattle.task_board.specs.Refusals.{own_refusals, create_refusals, unless_allowed, task_refusals}
 use Rattle.task_board.specs.Step.{Answer, DecidedBy, OnStore, Puts, PutsText, refused, stored, Done, with_left, OnFound, OnTask, Creates, does, Answers}
 use Rattle.task_board.specs.Sound.{IsSound, IsBoard}
+use Rattle.task_board.specs.declared.ticket.Ticket.{Ticket}
+use Rattle.task_board.specs.Waiting.{waiting_after_call}
 use Rattle.task_board.specs.Inside.Changes.{change_call, change_request, change_reply, change_refusals, changed}
 use Rattle.task_board.specs.Inside.Marks.{mark_call, mark_refusals, marked}
-use Rattle.task_board.specs.Inside.Plans.{IsAllowed, RefusesTask, RefusesKill}
+use Rattle.task_board.specs.Inside.Plans.{IsAllowed, RefusesTask, RefusesKill, IsQuestion}
 use Rattle.task_board.proofs.EntryLemmas.{none_is_not, some_is}
 use Rattle.task_board.proofs.MarkLemmas.{mark_allowed, marked_sound}
 use Rattle.task_board.proofs.SoundLemmas.{stepped_sound, started_sound, paused_sound, resumed_sound, killed_sound, remove_sound}
@@ -579,6 +581,44 @@ effect_sound s q s' b (enters config id r none made) = create_leaves s config id
 effect_sound s q s' b (changes c id t at can is) = subst IsBoard (sym is) (change_keeps_sound s c id t b at can)
 effect_sound s q s' b (deletes id t at can is) = subst IsBoard (sym is) (delete_keeps_sound s id t b at)
 effect_sound s q s' b (alters id t t' at a is) = subst IsBoard (sym is) (alter_keeps_sound s q id t t' b at a)
+
+-- ---- questions
+
+pub decided_ok :
+    (o : Option Refusal) (E : Type 0) (s : BoardState) (a : Reply) (s' : BoardState) → DecidedBy o E s (Ok a) s'
+    → (o ≡ None) × E
+decided_ok None E s a s' d = (refl, d)
+decided_ok (Some e) E s a s' d = let is = d.0 in cc
+
+-- what is accepted is asked of a task that is there
+asked_task :
+    (s : BoardState) (id : List ℕ) (own : Task → Refusals) (does : Task → Done) (o : Option Task) (a : Reply)
+    (s' : BoardState) → OnFound id own does o s (Ok a) s' → Task
+asked_task s id own does None a s' on =
+    absurd (decided_ok (first_refusal (task_refusals id own None)) ⊥ s a s' on).1
+asked_task s id own does (Some t) a s' on = t
+
+-- what leaves each task as it is lets none enter that wait, and none leave
+waits_still :
+    (k : Ask) (t : Task) (id : List ℕ) (ts : Entries) (ws : List Ticket) → ((x : Task) → (does k x).1 ≡ Some x)
+    → waiting_after_call (request.Task id k) ts ws ≡ ws
+waits_still ask.Start t id ts ws same =
+    let asked : Task = record t { signal = Some signal.Kill } in
+    absurd (none_is_not signal.Kill (ap (λ (x : Task). x.signal) (some_is (started asked) asked (same asked))))
+waits_still ask.Resume t id ts ws same =
+    let asked : Task = record t { status = Created } in
+    let is : Running ≡ Created = ap (λ (x : Task). x.status) (some_is (resumed asked) asked (same asked)) in
+    cc
+waits_still ask.Delete t id ts ws same = absurd (none_is_not t (same t))
+waits_still _ t id ts ws same = refl
+
+pub question_waits :
+    (s : BoardState) (r : Request) (a : Reply) (ws : List Ticket) → IsQuestion r → Answers s r (Ok a) s
+    → ws ≡ waiting_after_call r s.tasks ws
+question_waits s (request.Task id k) a ws leaves on =
+    sym
+    (waits_still k (asked_task s id (own_refusals k) (does k) (task_of id s.tasks) a s on) id s.tasks ws leaves)
+question_waits s _ a ws leaves on = absurd leaves
 
 pub answers_sound :
     (s : BoardState) (q : Request) (r : Answer) (s' : BoardState) → IsBoard s → Answers s q r s' → IsBoard s'

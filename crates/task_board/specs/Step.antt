@@ -119,6 +119,10 @@ does (ask.Step count) t = (reply.Step (state_of (stepped t count)), Some (steppe
 does ask.Inspect t = (reply.Inspect (frames_of t) t.id t.turns, Some t)
 does (ask.Peek address length) t = (reply.Peek (shown (memory_at t address length)) t.id, Some t)
 
+-- it leaves each task as it is
+abbrev pub LeavesTask : Ask → Type 0
+LeavesTask a = (t : Task) → (does a t).1 ≡ Some t
+
 -- What a request may be answered on a board, and the board that it leaves. A refusal leaves the board. What
 -- a task names is held until the task is deleted.
 abbrev pub Answers : BoardState → Request → Answer → BoardState → Type 0

@@ -27,7 +27,7 @@ use Rattle.oci_config.specs.Streams.{stream_of}
 use Rattle.task_board.specs.BoardState.{Task, created_task, BoardState, entry_of, task_of}
 use Rattle.task_board.specs.BoardValue.{Room}
 use Rattle.task_board.specs.Refusals.{is_full, create_refusals, unless_allowed, task_refusals, Openable, CannotOpen, own_refusals}
-use Rattle.task_board.specs.Step.{Answers}
+use Rattle.task_board.specs.Step.{LeavesTask, Answers}
 use Rattle.task_board.specs.Tasks.{output_of, place_of}
 use Rattle.task_board.specs.Inside.Changes.{change_request, change_refusals}
 use Rattle.task_board.specs.Inside.Machines.{IsMachine}
@@ -139,13 +139,9 @@ PlansTask s id bytes p (plan.Create task answered) =
     × (task ≡ created_task id s.creates bytes m p)
 PlansTask s id bytes p other = ⊥
 
--- a request that changes nothing
+-- a request that leaves each task as it is
 abbrev pub IsQuestion : Request → Type 0
-IsQuestion (request.Task id ask.State) = Unit {0}
-IsQuestion (request.Task id ask.Wait) = Unit {0}
-IsQuestion (request.Task id (ask.Output stream)) = Unit {0}
-IsQuestion (request.Task id ask.Inspect) = Unit {0}
-IsQuestion (request.Task id (ask.Peek address length)) = Unit {0}
+IsQuestion (request.Task id a) = LeavesTask a
 IsQuestion other = ⊥
 
 -- the request is prepared so on a board with that state and room

@@ -1,4 +1,4 @@
-use Rattle.std.proofs.Common.{ℕ, List, Ok, sym, subst}
+use Rattle.std.proofs.Common.{ℕ, List, Ok, refl, sym, subst}
 use Rattle.task_requests.specs.declared.request.Request.TheVariants as request
 use Rattle.task_requests.specs.declared.request.Ask.TheVariants as ask
 use Rattle.task_requests.specs.declared.request.Reply.TheVariants as reply
@@ -19,7 +19,7 @@ returns-in-Ok-inspect c =
     let s = c.args.self.now.state in
     let m = c.in-Ok.machine.now in
     let here = subst (λ (x : List ℕ). HasMachine s x m) c.as_str.ensures c.in-Ok.ensures.ok in (
-      tt,
+      (λ t. refl),
       subst
           (λ (n : ℕ). Answers s (request.Task c.args.id ask.Inspect)
           (Ok (reply.Inspect c.in-Ok-inspect.shown.frames c.args.id n)) s)

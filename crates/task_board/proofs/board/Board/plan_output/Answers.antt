@@ -1,4 +1,4 @@
-use Rattle.std.proofs.Common.{List, ℕ, length, Ok, sym, ◌∙◌, subst}
+use Rattle.std.proofs.Common.{List, ℕ, length, Ok, refl, sym, ◌∙◌, subst}
 use Rattle.task_requests.specs.declared.request.Request.TheVariants as request
 use Rattle.task_requests.specs.declared.request.Ask.TheVariants as ask
 use Rattle.task_requests.specs.declared.request.Reply.TheVariants as reply
@@ -13,7 +13,7 @@ returns-in_ok-from_slice-in-Ok c =
     let told =
     subst (λ (x : List ℕ). TellsOutput s x c.args.number c.in-Ok.written.now) c.as_str.ensures c.in-Ok.ensures.ok in
     let copied = c.new-bytes.ensures ∙ c.in_ok-from_slice-in-Ok.ensures.items in (
-      tt,
+      (λ t. refl),
       subst
           (λ (x : List ℕ). Answers s (request.Task c.args.id (ask.Output c.args.number))
           (Ok (reply.Output x c.args.id (length c.in-Ok.written.now))) s) (sym copied)

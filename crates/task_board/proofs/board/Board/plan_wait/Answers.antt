@@ -1,4 +1,4 @@
-use Rattle.std.proofs.Common.{sym, ◌∙◌}
+use Rattle.std.proofs.Common.{refl, sym, ◌∙◌}
 use Rattle.task_board.proofs.EffectLemmas.{wait_answers}
 use Rattle.task_board.proofs.EntryLemmas.{named}
 use Rattle.task_board.proofs.board.Board.plan_wait.Goals as goal
@@ -9,7 +9,7 @@ state-requires c =
 
 pub returns-in-Ok : goal.returns-in-Ok
 returns-in-Ok c = (
-  tt,
+  (λ t. refl),
   wait_answers c.args.self.now.state c.args.id c.as_str.result.now _ c.state.result c.as_str.ensures
       c.in-Ok.ensures.ok c.state.ensures,
 )
