@@ -17,6 +17,7 @@ pub mod InstantiateLemmas
 pub mod RunLemmas
 pub mod LifecycleLemmas
 pub mod LawLemmas
+pub mod MemoryLemmas
 pub mod AdvanceLemmas
 pub mod StepTurns
 pub mod PlaceLemmas

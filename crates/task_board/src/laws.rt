@@ -1,6 +1,6 @@
 //! Laws of the abstract board. Each function is nothing but its contract.
 
-ghost use Rattle.std.specs.Prelude.{◌≡◌, ℕ, ◌+◌, ◌^◌, ◌<◌, ◌≤◌, List, length, Option, Some, None, is_some, true, false, Ok, Err};
+ghost use Rattle.std.specs.Prelude.{◌≡◌, ◌↔◌, ◌⊎◌, ℕ, ◌+◌, ◌^◌, ◌<◌, ◌≤◌, List, length, Option, Some, None, is_some, true, false, Ok, Err};
 ghost use Rattle.wasm_ast.specs.declared.module.Module.{Module};
 ghost use Rattle.wasm_ast.specs.declared.place.Place.{Place};
 ghost use Rattle.oci_config.specs.declared.process.ProcessConfig.{ProcessConfig};
@@ -16,6 +16,7 @@ ghost use Rattle.task_requests.specs.declared.event.EventReply.{EventReply};
 ghost use Rattle.task_requests.specs.declared.event.EventReply.TheVariants as answer;
 ghost use Rattle.task_requests.specs.declared.request.Request.{Request as RequestValue};
 ghost use Rattle.task_requests.specs.declared.request.Request.TheVariants as request;
+ghost use Rattle.task_requests.specs.declared.request.Ask.{Ask as AskValue};
 ghost use Rattle.task_requests.specs.declared.request.Ask.TheVariants as ask;
 ghost use Rattle.task_requests.specs.declared.request.Reply.{Reply as ReplyValue};
 ghost use Rattle.content_leases.specs.StoreState.{content_in, is_leased, is_held};
@@ -30,7 +31,7 @@ ghost use Rattle.task_requests.specs.Limits.{max_budget};
 ghost use Rattle.task_board.specs.Moves.{MakeTurns, Becomes, IsStepOf};
 ghost use Rattle.wasm_binary.specs.Spelled.{IsSpelled};
 ghost use Rattle.task_board.specs.Refusals.{CannotOpen};
-ghost use Rattle.task_requests.specs.Memory.{takes_memory};
+ghost use Rattle.task_requests.specs.Memory.{takes_memory, asks_for_memory};
 ghost use Rattle.task_board.specs.Run.{met_no_memory, Happens, Run};
 ghost use Rattle.task_board.specs.Sound.{AreDistinct, AreRising, slots_of, IsSound, IsBoard};
 ghost use Rattle.task_board.specs.Step.{Answer, Answers, Step};
@@ -313,17 +314,23 @@ pub fn texts_are_determined()
 /// Only put, put_text, lease_create, lease_add, gc, create, output, break, unbreak, inspect and peek
 /// allocate: no other request, no take and no return may be left out for lack of memory.
 pub fn few_requests_allocate()
-    ensures remove { (digest : List ℕ) → takes_memory (request.Remove digest) ≡ false }
-    ensures lease_delete { (id : List ℕ) → takes_memory (request.LeaseDelete id) ≡ false }
-    ensures start { (id : List ℕ) → takes_memory (request.Task id ask.Start) ≡ false }
-    ensures pause { (id : List ℕ) → takes_memory (request.Task id ask.Pause) ≡ false }
-    ensures resume { (id : List ℕ) → takes_memory (request.Task id ask.Resume) ≡ false }
-    ensures kill { (id : List ℕ) (n : ℕ) → takes_memory (request.Task id (ask.Kill n)) ≡ false }
-    ensures delete { (id : List ℕ) → takes_memory (request.Task id ask.Delete) ≡ false }
-    ensures state { (id : List ℕ) → takes_memory (request.Task id ask.State) ≡ false }
-    ensures wait { (id : List ℕ) → takes_memory (request.Task id ask.Wait) ≡ false }
-    ensures step { (count : ℕ) (id : List ℕ)
-        → takes_memory (request.Task id (ask.Step count)) ≡ false }
+    ensures requests { (r : RequestValue) → (takes_memory r ≡ true)
+        ↔ (((bytes : List ℕ) × (r ≡ request.Put bytes))
+        ⊎ ((text : List ℕ) × (r ≡ request.PutText text))
+        ⊎ ((id : List ℕ) × (r ≡ request.LeaseCreate id))
+        ⊎ ((digest : List ℕ) × (id : List ℕ) × (r ≡ request.LeaseAdd digest id))
+        ⊎ (r ≡ request.Gc)
+        ⊎ ((config : List ℕ) × (id : List ℕ) × (r ≡ request.Create config id))
+        ⊎ ((id : List ℕ) × (a : AskValue) × (r ≡ request.Task id a)
+        × (asks_for_memory a ≡ true))) }
+    ensures asked { (a : AskValue) → (asks_for_memory a ≡ true)
+        ↔ (((stream : ℕ) × (a ≡ ask.Output stream))
+        ⊎ ((func : ℕ) × (place : ℕ) × (a ≡ ask.Break func place))
+        ⊎ ((func : ℕ) × (place : ℕ) × (a ≡ ask.Unbreak func place))
+        ⊎ (a ≡ ask.Inspect)
+        ⊎ ((address : ℕ) × (length : ℕ) × (a ≡ ask.Peek address length))) }
+    ensures call { (r : RequestValue) (reply : EventReply)
+        → met_no_memory (event.Call r) reply ≡ true → takes_memory r ≡ true }
     ensures take { (id : List ℕ) (n : ℕ) (r : EventReply)
         → met_no_memory (event.Take id n) r ≡ false }
     ensures give_back { (id : List ℕ) (r : EventReply) → met_no_memory (event.Return id) r ≡ false }
