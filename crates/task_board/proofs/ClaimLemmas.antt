@@ -26,11 +26,11 @@ use Rattle.task_requests.specs.Memory.{takes_memory}
 use Rattle.task_board.specs.BoardState.{Task, Entries, BoardState, empty, created_task, entry_of, task_in, task_of, put_task, change_task, with_task}
 use Rattle.task_board.specs.Tasks.{state_of, output_of, memory_at, shown, started, paused, resumed, killed_while, killed_by, place_of, with_break, without_break, stepped}
 use Rattle.task_board.specs.Refusals.{own_refusals, create_refusals, task_refusals}
-use Rattle.task_board.specs.Step.{Answer, Done, with_left, OnFound, OnTask, Creates, does, Answers}
+use Rattle.task_board.specs.Step.{Answer, Done, with_left, OnFound, OnTask, Creates, does, LeavesTask, Answers}
 use Rattle.task_board.specs.Run.{Happens, Run}
 use Rattle.task_board.specs.Sound.{IsSound, IsBoard}
 use Rattle.task_board.specs.Moves.{Moves, stays, starts, pauses, resumes, is_killed, is_taken, returns, has_break, loses_break, steps, Becomes, goes, remains}
-use Rattle.task_board.specs.Claims.{asked_of, told_on, state_told, id_told, turns_told, status_told, end_told, StatusIsTrue, ShowsTruly, SaysTruly}
+use Rattle.task_board.specs.Claims.{asked_of, told_on, state_told, id_told, turns_told, status_told, end_told, StatusIsTrue, ShowsTruly, AnswersTruly, SaysTruly}
 use Rattle.task_board.proofs.EntryLemmas.{none_is_not, some_is, by_id, same_id, cond_true, cond_false, cond_is_true, cond_is_false, in_slot}
 use Rattle.task_board.proofs.StepLemmas.{found, task_named, sound_of, none_first}
 use Rattle.task_board.proofs.EffectLemmas.{own_accepted, decided_ok}
@@ -134,8 +134,8 @@ stops_right creates t x sound is =
 -- on a board that events lead to, the words are true
 says :
     (b : BoardState) (id : List ℕ) (t : Task) (q : Request) (a : Reply) → AllThere b → task_of id b.tasks ≡ Some t
-    → Words t q a → SaysTruly b.store t q a
-says b id t q a there at words =
+    → Words t q a → AnswersTruly t q a → SaysTruly b.store t q a
+says b id t q a there at words answers =
     let f = found id b.tasks t at in
     let sound = sound_of b id t there.sound at in
     record {
@@ -149,6 +149,7 @@ says b id t q a there at words =
       end = λ e is. sound.end e (if_ended (end_told a) t.end words.end e is);
       stopped = λ x is. stops_right b.creates t x sound (if_told (state_told a) (state_of t) words.state x is);
       shows = words.shows;
+      answers = answers;
     }
 
 -- ---- accepted requests
@@ -307,11 +308,16 @@ module _ (s s' : BoardState) (a : Reply) (left : AllThere s') where
   -- a request that leaves the task changed
   changes_it :
       (q : Request) (id : List ℕ) (t t' : Task) → told_on q s s' ≡ s' → task_of id s.tasks ≡ Some t → t'.id ≡ t.id
-      → s' ≡ with_task s t' → Words t' q a → Truly s q a s' id
-  changes_it q id t t' on at same is words =
+      → s' ≡ with_task s t' → Words t' q a → AnswersTruly t' q a → Truly s q a s' id
+  changes_it q id t t' on at same is words answers =
       let named : task_of id s'.tasks ≡ Some t' = left_named s id t t' s' at same is in
       let P : BoardState → Type 0 = λ b. (u : Task) × (task_of id b.tasks ≡ Some u) × SaysTruly b.store u q a in
-      subst P (sym on) (t', named, says s' id t' q a left named words)
+      subst P (sym on) (t', named, says s' id t' q a left named words answers)
+
+  -- the task that a request leaves as it is, is the one of which it was asked
+  same_answer : (k : Ask) (t t' : Task) → (does k t).1 ≡ Some t' → a ≡ (does k t).0 → LeavesTask k → a ≡ (does k t').0
+  same_answer k t t' left is leaves =
+      is ∙ ap (λ (x : Task). (does k x).0) (sym (some_is t' t (sym left ∙ leaves t)))
 
   leaves_it :
       (id : List ℕ) (k : Ask) → told_on (request.Task id k) s s' ≡ s'
@@ -323,6 +329,7 @@ module _ (s s' : BoardState) (a : Reply) (left : AllThere s') where
       changes_it (request.Task id k) id is.task new on is.named (same is.task)
       (is.leaves ∙ ap (with_left s is.task) (leaves is.task))
       (subst (Words new (request.Task id k)) (sym is.answer) (words_of k is.task id is.none))
+      (same_answer k is.task new (leaves is.task) is.answer)
 
   -- a delete speaks of the task that it found
   deletes_it : (id : List ℕ) → AllThere s → Answers s (request.Task id ask.Delete) (Ok a) s'
@@ -333,7 +340,8 @@ module _ (s s' : BoardState) (a : Reply) (left : AllThere s') where
         is.named,
         says s id is.task (request.Task id ask.Delete) a there is.named
             (subst (Words is.task (request.Task id ask.Delete)) (sym is.answer)
-            (words_of ask.Delete is.task id is.none)),
+            (words_of ask.Delete is.task id is.none))
+            (λ same. is.answer),
       )
 
   task_true : (id : List ℕ) (k : Ask) → AllThere s → Answers s (request.Task id k) (Ok a) s'
@@ -383,7 +391,7 @@ module _ (s s' : BoardState) (a : Reply) (left : AllThere s') where
         t,
         named,
         says s' id t (request.Create config id) a left named
-            (subst (Words t (request.Create config id)) (sym opened.2) words),
+            (subst (Words t (request.Create config id)) (sym opened.2) words) tt,
       )
 
 -- ---- every reply

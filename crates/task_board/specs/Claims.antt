@@ -24,6 +24,7 @@ use Rattle.task_requests.specs.declared.request.Reply.TheVariants as reply
 use Rattle.task_requests.specs.declared.request.TaskState.{TaskState}
 use Rattle.task_board.specs.BoardState.{Task, BoardState}
 use Rattle.task_board.specs.Tasks.{IsTrueOf}
+use Rattle.task_board.specs.Step.{does, LeavesTask}
 
 -- the id of the task that a request is about
 abbrev pub asked_of : Request → Option (List ℕ)
@@ -116,6 +117,11 @@ ShowsTruly t (request.Task id (ask.Output number)) other = ⊥
 ShowsTruly t (request.Task id (ask.Peek address length)) other = ⊥
 ShowsTruly t other a = Unit {0}
 
+-- a request that leaves the task is answered what `does` says of it, and nothing else
+abbrev pub AnswersTruly : Task → Request → Reply → Type 0
+AnswersTruly t (request.Task id k) a = LeavesTask k → a ≡ (does k t).0
+AnswersTruly t other a = Unit {0}
+
 -- what a reply to a request says of a task, on a board with this store
 pub record SaysTruly (store : StoreState) (t : Task) (q : Request) (a : Reply) : Type 0 where
   -- its module is valid, and the one that those bytes encode that are stored under its config's digest
@@ -133,3 +139,4 @@ pub record SaysTruly (store : StoreState) (t : Task) (q : Request) (a : Reply) :
   pub stopped : (x : TaskState) → state_told a ≡ Some x
       → (x.status ≡ Stopped → is_some x.end ≡ true) × (is_some x.end ≡ true → x.status ≡ Stopped)
   pub shows : ShowsTruly t q a
+  pub answers : AnswersTruly t q a

@@ -1,7 +1,7 @@
 //! What a reply says of its task, one request at a time: the tables of the claim, written out. Each function
 //! has a contract and no body.
 
-ghost use Rattle.std.specs.Prelude.{◌≡◌, ℕ, List, Option, Some, None, is_some, true};
+ghost use Rattle.std.specs.Prelude.{◌≡◌, ℕ, List, length, Option, Some, None, is_some, true};
 ghost use Rattle.wasm_binary.specs.Spelled.{IsSpelled};
 ghost use Rattle.validator.specs.Typing.{ValidModule};
 ghost use Rattle.oci_config.specs.Config.{process_read};
@@ -18,12 +18,14 @@ ghost use Rattle.task_lifecycle.specs.declared.status.ExitRecord.{ExitRecord as 
 ghost use Rattle.task_lifecycle.specs.Lifecycle.{is_going};
 ghost use Rattle.task_requests.specs.declared.request.Request.{Request as RequestValue};
 ghost use Rattle.task_requests.specs.declared.request.Request.TheVariants as request;
+ghost use Rattle.task_requests.specs.declared.request.Ask.{Ask as AskValue};
 ghost use Rattle.task_requests.specs.declared.request.Ask.TheVariants as ask;
 ghost use Rattle.task_requests.specs.declared.request.Reply.{Reply as ReplyValue};
 ghost use Rattle.task_requests.specs.declared.request.Reply.TheVariants as reply;
 ghost use Rattle.task_requests.specs.declared.request.TaskState.{TaskState as StateValue};
 ghost use Rattle.task_board.specs.BoardState.{Task, BoardState};
 ghost use Rattle.task_board.specs.Claims.{asked_of, told_on, SaysTruly};
+ghost use Rattle.task_board.specs.Step.{does, LeavesTask};
 ghost use Rattle.task_board.specs.Tasks.{IsTrueOf};
 
 use task_lifecycle::Status;
@@ -133,8 +135,14 @@ pub fn statuses_are_true()
         → ended (after t.module t.process t.turns).state ≡ None) }
 {}
 
+/// A request that leaves its task as it is, is answered what `does` says of that task, and nothing else.
+pub fn questions_are_answered()
+    ensures { (store : StoreState) (t : Task) (id : List ℕ) (k : AskValue) (a : ReplyValue)
+        → LeavesTask k → SaysTruly store t (request.Task id k) a → a ≡ (does k t).0 }
+{}
+
 /// What is shown of a task is that of the configuration after its turns: its frames, the bytes that
-/// it has written to a stream, bytes of its memory.
+/// it has written to a stream and how many they are, bytes of its memory.
 pub fn shown_parts_are_true()
     ensures inspect { (store : StoreState) (t : Task) (id name : List ℕ)
         (frames : List ShownFrame) (n : ℕ)
@@ -143,7 +151,8 @@ pub fn shown_parts_are_true()
         × (frames ≡ shown (after t.module t.process t.turns).state) }
     ensures output { (store : StoreState) (t : Task) (id name bytes : List ℕ) (number size : ℕ)
         → SaysTruly store t (request.Task id (ask.Output number)) (reply.Output bytes name size)
-        → (name ≡ t.id) × (stream : StreamValue) × (stream_of number ≡ Some stream)
+        → (name ≡ t.id) × (size ≡ length bytes)
+        × (stream : StreamValue) × (stream_of number ≡ Some stream)
         × (bytes ≡ written_to stream (after t.module t.process t.turns).store) }
     ensures peek { (store : StoreState) (t : Task) (id name bytes : List ℕ)
         (address length : ℕ)

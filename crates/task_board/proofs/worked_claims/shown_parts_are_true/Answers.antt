@@ -14,8 +14,10 @@ returns-clause-inspect c store t id name frames n says = (
 
 pub returns-clause-output : goal.returns-clause-output
 returns-clause-output c store t id name bytes number size says =
-    let s = says.shows in (
+    let s = says.shows in
+    let whole = says.answers (λ x. refl) in (
       name_part store t (request.Task id (ask.Output number)) (reply.Output bytes name size) says name refl,
+      cc,
       s.0,
       s.1,
       s.2,
