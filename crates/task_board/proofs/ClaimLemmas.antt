@@ -290,12 +290,6 @@ words_of ask.Wait t id none = state_words t id ask.Wait (does ask.Wait t).0 refl
 words_of (ask.Output number) t id none =
     plain_words t id (ask.Output number) (does (ask.Output number) t).0 refl (inl refl) refl refl refl
     (output_shows t id number none)
-words_of (ask.Break func place) t id none =
-    plain_words (with_break t (place_of func place)) id (ask.Break func place) (does (ask.Break func place) t).0
-    refl (inl refl) refl refl refl tt
-words_of (ask.Unbreak func place) t id none =
-    plain_words (without_break t (place_of func place)) id (ask.Unbreak func place) (does (ask.Unbreak func place) t).0
-    refl (inl refl) refl refl refl tt
 words_of (ask.Step count) t id none =
     state_words (stepped t count) id (ask.Step count) (does (ask.Step count) t).0 refl refl refl refl refl tt
 words_of ask.Inspect t id none =
@@ -303,6 +297,7 @@ words_of ask.Inspect t id none =
 words_of (ask.Peek address length) t id none =
     plain_words t id (ask.Peek address length) (does (ask.Peek address length) t).0 refl (inl refl) refl refl refl
     (peek_shows t id address length none)
+words_of k t id none = plain_words (spoken k t) id k (does k t).0 refl (inl refl) refl refl refl tt
 
 module _ (s s' : BoardState) (a : Reply) (left : AllThere s') where
   -- a request that leaves the task changed
@@ -346,21 +341,10 @@ module _ (s s' : BoardState) (a : Reply) (left : AllThere s') where
 
   task_true : (id : List ℕ) (k : Ask) → AllThere s → Answers s (request.Task id k) (Ok a) s'
       → Truly s (request.Task id k) a s' id
-  task_true id ask.Start there h = leaves_it id ask.Start refl (λ t. refl) (λ t. refl) h
-  task_true id ask.Pause there h = leaves_it id ask.Pause refl (λ t. refl) (λ t. refl) h
-  task_true id ask.Resume there h = leaves_it id ask.Resume refl (λ t. refl) (λ t. refl) h
   task_true id (ask.Kill number) there h =
       leaves_it id (ask.Kill number) refl (λ t. refl) (killed_same (signal_of number)) h
   task_true id ask.Delete there h = deletes_it id there h
-  task_true id ask.State there h = leaves_it id ask.State refl (λ t. refl) (λ t. refl) h
-  task_true id ask.Wait there h = leaves_it id ask.Wait refl (λ t. refl) (λ t. refl) h
-  task_true id (ask.Output number) there h = leaves_it id (ask.Output number) refl (λ t. refl) (λ t. refl) h
-  task_true id (ask.Break func place) there h = leaves_it id (ask.Break func place) refl (λ t. refl) (λ t. refl) h
-  task_true id (ask.Unbreak func place) there h = leaves_it id (ask.Unbreak func place) refl (λ t. refl) (λ t. refl) h
-  task_true id (ask.Step count) there h = leaves_it id (ask.Step count) refl (λ t. refl) (λ t. refl) h
-  task_true id ask.Inspect there h = leaves_it id ask.Inspect refl (λ t. refl) (λ t. refl) h
-  task_true id (ask.Peek address length) there h =
-      leaves_it id (ask.Peek address length) refl (λ t. refl) (λ t. refl) h
+  task_true id k there h = leaves_it id k refl (λ t. refl) (λ t. refl) h
 
   -- a create's task enters the board
   create_true :
