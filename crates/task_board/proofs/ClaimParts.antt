@@ -1,5 +1,5 @@
 -- The parts of what a reply says of its task.
-use Rattle.std.proofs.Common.{◌≡◌, ℕ, List, true, Option, Some, None, is_some, ◌∙◌, sym}
+use Rattle.std.proofs.Common.{◌≡◌, ◌≢◌, ℕ, List, true, Option, Some, None, is_some, refl, ◌∙◌, sym}
 use Rattle.step_machine.specs.Instantiation.{after, ended}
 use Rattle.task_lifecycle.specs.declared.status.Status.{Status}
 use Rattle.task_lifecycle.specs.declared.status.Status.TheVariants.{Created, Stopped}
@@ -7,12 +7,20 @@ use Rattle.task_lifecycle.specs.declared.status.ExitRecord.{ExitRecord}
 use Rattle.task_lifecycle.specs.Lifecycle.{is_going}
 use Rattle.content_leases.specs.StoreState.{StoreState}
 use Rattle.task_requests.specs.declared.request.Request.{Request}
+use Rattle.task_requests.specs.declared.request.Request.TheVariants as request
+use Rattle.task_requests.specs.declared.request.Ask.TheVariants as ask
 use Rattle.task_requests.specs.declared.request.Reply.{Reply}
 use Rattle.task_requests.specs.declared.request.TaskState.{TaskState}
-use Rattle.task_board.specs.BoardState.{Task}
-use Rattle.task_board.specs.Claims.{id_told, turns_told, status_told, end_told, state_told, SaysTruly}
+use Rattle.task_board.specs.BoardState.{Task, BoardState}
+use Rattle.task_board.specs.Claims.{told_on, id_told, turns_told, status_told, end_told, state_told, SaysTruly}
 use Rattle.task_board.specs.Tasks.{IsTrueOf}
 use Rattle.task_board.proofs.EntryLemmas.{some_is}
+
+pub told_left : (q : Request) (found left : BoardState) → ((id : List ℕ) → q ≢ request.Task id ask.Delete)
+    → told_on q found left ≡ left
+told_left (request.Task id ask.Delete) found left other = absurd (other id refl)
+told_left (request.Task id _) found left other = refl
+told_left _ found left other = refl
 
 module _ (store : StoreState) (t : Task) (q : Request) (a : Reply) (says : SaysTruly store t q a) where
   pub name_part : (name : List ℕ) → id_told a ≡ Some name → name ≡ t.id

@@ -1,7 +1,7 @@
 //! What a reply says of its task, one request at a time: the tables of the claim, written out. Each function
 //! has a contract and no body.
 
-ghost use Rattle.std.specs.Prelude.{◌≡◌, ℕ, List, length, Option, Some, None, is_some, true};
+ghost use Rattle.std.specs.Prelude.{◌≡◌, ◌≢◌, ℕ, List, length, Option, Some, None, is_some, true};
 ghost use Rattle.wasm_binary.specs.Spelled.{IsSpelled};
 ghost use Rattle.validator.specs.Typing.{ValidModule};
 ghost use Rattle.oci_config.specs.Config.{process_read};
@@ -44,27 +44,11 @@ pub fn modules_are_stored()
 /// Which requests are about a task: each names it by its id.
 pub fn requests_name_their_task()
     ensures created { (config id : List ℕ) → asked_of (request.Create config id) ≡ Some id }
-    ensures moved { (id : List ℕ) (signal count : ℕ)
-        → (asked_of (request.Task id ask.Start) ≡ Some id)
-        × (asked_of (request.Task id ask.Pause) ≡ Some id)
-        × (asked_of (request.Task id ask.Resume) ≡ Some id)
-        × (asked_of (request.Task id (ask.Kill signal)) ≡ Some id)
-        × (asked_of (request.Task id (ask.Step count)) ≡ Some id)
-        × (asked_of (request.Task id ask.Delete) ≡ Some id) }
-    ensures shown { (id : List ℕ) (stream address length : ℕ)
-        → (asked_of (request.Task id ask.State) ≡ Some id)
-        × (asked_of (request.Task id ask.Wait) ≡ Some id)
-        × (asked_of (request.Task id (ask.Output stream)) ≡ Some id)
-        × (asked_of (request.Task id ask.Inspect) ≡ Some id)
-        × (asked_of (request.Task id (ask.Peek address length)) ≡ Some id) }
-    ensures breaks { (id : List ℕ) (func place : ℕ)
-        → (asked_of (request.Task id (ask.Break func place)) ≡ Some id)
-        × (asked_of (request.Task id (ask.Unbreak func place)) ≡ Some id) }
+    ensures asked { (id : List ℕ) (k : AskValue) → asked_of (request.Task id k) ≡ Some id }
     ensures deleted { (id : List ℕ) (found left : BoardState)
         → told_on (request.Task id ask.Delete) found left ≡ found }
-    ensures left { (id : List ℕ) (found left : BoardState)
-        → (told_on (request.Task id ask.State) found left ≡ left)
-        × (told_on (request.Task id (ask.Step 1)) found left ≡ left) }
+    ensures left { (q : RequestValue) (found left : BoardState)
+        → ((id : List ℕ) → q ≢ request.Task id ask.Delete) → told_on q found left ≡ left }
 {}
 
 /// A reply with a state says the task's id, how many turns it has made, its status, and how it has ended: by
