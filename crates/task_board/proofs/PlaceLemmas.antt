@@ -21,12 +21,13 @@ use Rattle.task_board.specs.declared.mark.Mark.{Mark}
 use Rattle.task_board.specs.declared.mark.Mark.TheVariants as mark
 use Rattle.task_board.specs.declared.mark.NewBreaks.{NewBreaks}
 use Rattle.task_requests.specs.declared.request.Request.TheVariants as request
+use Rattle.task_requests.specs.declared.request.Ask.{Ask}
 use Rattle.task_requests.specs.declared.request.Ask.TheVariants as ask
 use Rattle.task_requests.specs.declared.request.Reply.TheVariants as reply
 use Rattle.task_board.specs.BoardState.{Task, BoardState, entry_of, task_of, with_task}
 use Rattle.task_board.specs.Tasks.{frames_of, memory_at, shown, place_of, stepped, state_of}
 use Rattle.task_board.specs.Refusals.{unless_allowed, is_step, task_refusals, own_refusals}
-use Rattle.task_board.specs.Step.{Answers, does}
+use Rattle.task_board.specs.Step.{with_left, does, LeavesTask, Answers}
 use Rattle.task_board.specs.Inside.Marks.{mark_request, mark_reply, mark_refusals, marked_places, marked}
 use Rattle.task_board.specs.Inside.Plans.{IsAllowed, RefusesTask, RefusesOwn, place_refusals, HasPlace, MayMark, HasMachine, CallPrepared, MarkPrepared}
 use Rattle.task_board.proofs.MarkLemmas.{few_after, few_without}
@@ -363,13 +364,24 @@ module _ (s : BoardState) (id : List ℕ) where
   inspect_known None e h = known_of_none (not (is_id id)) e h
   inspect_known (Some t) e h = known_of_inspect (not (is_id id)) (is_some t.out) e h
 
-  pub refused_inspect :
-      (e : Refusal) → RefusesOwn s id (own_refusals ask.Inspect) e
-      → (e ≢ refusal.NoMemory) × Answers s (request.Task id ask.Inspect) (Err e) s
-  refused_inspect e h = (
-    inspect_known (task_of id s.tasks) e h,
-    refused_on s id (own_refusals ask.Inspect) (does ask.Inspect) (task_of id s.tasks) e h,
-  )
+  -- what is refused as an inspect is, and what it is answered
+  module _ (k : Ask) (same : own_refusals ask.Inspect ≡ own_refusals k) where
+    pub refused_idle :
+        (e : Refusal) → RefusesOwn s id (own_refusals ask.Inspect) e
+        → (e ≢ refusal.NoMemory) × Answers s (request.Task id k) (Err e) s
+    refused_idle e h = (
+      inspect_known (task_of id s.tasks) e h,
+      refused_on s id (own_refusals k) (does k) (task_of id s.tasks) e
+          (subst (λ (own : Task → Refusals). RefusesOwn s id own e) same h),
+    )
+
+    pub idle_answers : (m : MachineView) → (h : HasMachine s id m) → LeavesTask k
+        → Answers s (request.Task id k) (Ok (does k h.task).0) s
+    idle_answers m h leaves =
+        accepted_on s id (own_refusals k) (does k) h.task s h.found
+        (subst (λ (own : Task → Refusals). first_refusal (task_refusals id own (Some h.task)) ≡ None) same
+        (none_of_inspect (not (is_id id)) (is_some h.task.out) (ap not h.named) (ap is_some h.idle)))
+        (sym (ap (with_left s h.task) (leaves h.task) ∙ unchanged s id h.task h.found))
 
   pub inspect_answers : (m : MachineView) (frames : List ShownFrame) → HasMachine s id m
       → frames ≡ frames_shown (machine_state m)
@@ -377,10 +389,7 @@ module _ (s : BoardState) (id : List ℕ) where
   inspect_answers m frames h is =
       let here : frames ≡ frames_of h.task =
       is ∙ ap (λ (x : MachineView). frames_shown (machine_state x)) h.is in
-      let done =
-      accepted_on s id (own_refusals ask.Inspect) (does ask.Inspect) h.task s h.found
-      (none_of_inspect (not (is_id id)) (is_some h.task.out) (ap not h.named) (ap is_some h.idle))
-      (sym (unchanged s id h.task h.found)) in
+      let done = idle_answers ask.Inspect refl m h (λ t. refl) in
       subst (λ (x : List ℕ). Answers s (request.Task id ask.Inspect) (Ok (reply.Inspect frames x m.turns)) s)
       (task_named id s.tasks h.task h.found)
       (subst (λ (n : ℕ). Answers s (request.Task id ask.Inspect) (Ok (reply.Inspect frames h.task.id n)) s)

@@ -5,12 +5,12 @@ use Rattle.task_requests.specs.declared.request.Reply.TheVariants as reply
 use Rattle.task_board.specs.Refusals.{own_refusals}
 use Rattle.task_board.specs.Step.{Answers}
 use Rattle.task_board.specs.Inside.Plans.{RefusesOwn, HasMachine}
-use Rattle.task_board.proofs.PlaceLemmas.{refused_inspect, inspect_answers}
+use Rattle.task_board.proofs.PlaceLemmas.{refused_idle, inspect_answers}
 use Rattle.task_board.proofs.board.Board.plan_inspect.Goals as goal
 
 pub returns-in-Err : goal.returns-in-Err
 returns-in-Err c =
-    refused_inspect c.args.self.now.state c.args.id c.in-Err.refusal
+    refused_idle c.args.self.now.state c.args.id ask.Inspect refl c.in-Err.refusal
     (subst (λ (x : List ℕ). RefusesOwn c.args.self.now.state x (own_refusals ask.Inspect) c.in-Err.refusal)
     c.as_str.ensures c.in-Err.ensures.inspects)
 
