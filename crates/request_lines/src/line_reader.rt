@@ -2,7 +2,7 @@
 
 ghost use Rattle.std.specs.Prelude.{◌≡◌, ◌≢◌, ◌↔◌, ◌==◌, ◌<◌, ◌≤◌, ◌++◌, [], List, ℕ, Some, None, Ok, Err, false, true, IfOk, OnOk, IsTrue, length, drop, option_map};
 ghost use Rattle.std.specs.List.{list_any};
-ghost use Rattle.std.specs.Io.KnownBytes.{Consumes, Keeps, IsAtEnd, prepend_known};
+ghost use Rattle.std.specs.Io.KnownBytes.{Keeps, IsAtEnd, prepend_known};
 ghost use Rattle.request_lines.specs.Input.{IsKept, KnowsEnd, TakesLine, TakesWhole, TakesPart, chunk_bytes, still_to_read};
 ghost use Rattle.request_lines.specs.Inside.Pieces.{TakesPiece, ReadsPiece};
 
@@ -94,19 +94,23 @@ impl Chunk {
 }
 
 impl Chunk {
-    /// Reads the next bytes; false if there are none, since the source is at its end.
-    fn fill<R: Source>(&mut self, reader: &mut R) -> Result<bool, Stop>
-        requires { self.old ≡ [] }
-        ensures bytes { OnOk result
-            (Consumes (R.remaining reader.old) (R.remaining reader.new) self.new) }
+    /// Reads the next bytes if none are left; false if there are none to read.
+    fn refill<R: Source>(&mut self, reader: &mut R) -> Result<bool, Stop>
+        ensures bytes { OnOk result (Keeps (prepend_known self.old (R.remaining reader.old))
+            (prepend_known self.new (R.remaining reader.new))) }
         ensures some { result ≡ Ok true → self.new ≢ [] }
-        ensures end { result ≡ Ok false → IsAtEnd (R.remaining reader.new) × (self.new ≡ []) }
+        ensures end { result ≡ Ok false → IsAtEnd (prepend_known self.new (R.remaining reader.new)) }
         ensures failed { result ≡ Err Stop.Stream → R.has_failed reader.new }
         ensures fault { result ≡ Err Stop.Stream
-            → Keeps (R.remaining reader.old) (R.remaining reader.new) }
-        ensures left { OnOk result (R.reads_left reader.new < R.reads_left reader.old) }
-        ensures fits { length self.new ≤ chunk_bytes }
+            → Keeps (prepend_known self.old (R.remaining reader.old)) (R.remaining reader.new) }
+        ensures left { OnOk result (still_to_read (R.reads_left reader.new) self.new
+            ≤ still_to_read (R.reads_left reader.old) self.old) }
+        ensures less { result ≡ Ok false → still_to_read (R.reads_left reader.new) self.new
+            < still_to_read (R.reads_left reader.old) self.old }
     {
+        if !self.bytes().is_empty() {
+            return Ok(true);
+        }
         self.start = 0;
         self.end = 0;
         let count = reader.read(&mut self.buffer)?;
@@ -214,26 +218,6 @@ pub(crate) enum Progress {
     End,
 }
 
-/// Reads the next bytes if none are left; false if there are none to read.
-fn refill<R: Source>(chunk: &mut Chunk, reader: &mut R) -> Result<bool, Stop>
-    ensures bytes { OnOk result (Keeps (prepend_known chunk.old (R.remaining reader.old))
-        (prepend_known chunk.new (R.remaining reader.new))) }
-    ensures some { result ≡ Ok true → chunk.new ≢ [] }
-    ensures end { result ≡ Ok false → IsAtEnd (prepend_known chunk.new (R.remaining reader.new)) }
-    ensures failed { result ≡ Err Stop.Stream → R.has_failed reader.new }
-    ensures fault { result ≡ Err Stop.Stream
-        → Keeps (prepend_known chunk.old (R.remaining reader.old)) (R.remaining reader.new) }
-    ensures left { OnOk result (still_to_read (R.reads_left reader.new) chunk.new
-        ≤ still_to_read (R.reads_left reader.old) chunk.old) }
-    ensures less { result ≡ Ok false → still_to_read (R.reads_left reader.new) chunk.new
-        < still_to_read (R.reads_left reader.old) chunk.old }
-{
-    if !chunk.bytes().is_empty() {
-        return Ok(true);
-    }
-    chunk.fill(reader)
-}
-
 /// Moves a piece of a line from the reader to the line.
 fn read_piece<R: Source>(
     chunk: &mut Chunk,
@@ -250,7 +234,7 @@ fn read_piece<R: Source>(
     ensures less { OnOk result (still_to_read (R.reads_left reader.new) chunk.new
         < still_to_read (R.reads_left reader.old) chunk.old) }
 {
-    if !refill(chunk, reader)? {
+    if !chunk.refill(reader)? {
         return Ok(Progress::End);
     }
     if take_piece(chunk, line)? {

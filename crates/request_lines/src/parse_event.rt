@@ -2,11 +2,11 @@
 
 ghost use Rattle.std.specs.Prelude.{◌≡◌, ◌<◌, ◌⊎◌, IfOk, IfErr, Ok, Err, Some, length};
 ghost use Rattle.hex.specs.Hex.{decode_of};
-ghost use Rattle.serde_json.specs.View.{view, members_view};
+ghost use Rattle.serde_json.specs.View.{members_view};
 ghost use Rattle.task_requests.specs.declared.event.Event.{Event};
 ghost use Rattle.task_requests.specs.declared.event.Event.TheVariants.{Call};
 ghost use Rattle.task_requests.specs.declared.request.Request.TheVariants as asked;
-ghost use Rattle.request_lines.specs.Request.{AsksEvent, IsEvent};
+ghost use Rattle.request_lines.specs.Request.{IsEvent};
 ghost use Rattle.request_lines.specs.Shape.{max_line_bytes};
 ghost use Rattle.request_lines.specs.Inside.Parse.{Parses, IsEventAsked};
 ghost use Rattle.request_lines.specs.Inside.Values.{put_read, take_read, event_read};
@@ -16,7 +16,6 @@ use crate::members::{Members, read_value, split_op};
 use crate::table::Op;
 use crate::values::{Values, take_values};
 use hex::FromHexError;
-use serde_json::Value;
 use std::alloc::Global;
 use task_requests::{Ask, Event, MAX_BUDGET, Request, SharedBytes};
 use wasm_ast::{Bytes, Refusal, Sequence, Text};
@@ -113,16 +112,6 @@ fn read_event(alloc: Global, word: &str, members: Members) -> Result<Event, Line
     make_event(alloc, op, values)
 }
 
-/// Reads the event that a value is.
-fn event_in(alloc: Global, value: Value) -> Result<Event, LineError>
-    ensures { Parses (AsksEvent (view value)) result }
-{
-    let Some((op, members)) = split_op(value) else {
-        return Err(LineError::NoRequest);
-    };
-    read_event(alloc, op.as_str(), members)
-}
-
 /// Reads a line as an event.
 pub fn read_event_line(alloc: Global, line: &[u8]) -> Result<Event, LineError>
     ensures ok { IfOk result (λ e. IsEvent line.now e) }
@@ -130,7 +119,10 @@ pub fn read_event_line(alloc: Global, line: &[u8]) -> Result<Event, LineError>
     ensures long { max_line_bytes < length line.now → result ≡ Err LineError.NoRequest }
 {
     let value = read_value(alloc, line)?;
-    event_in(alloc, value)
+    let Some((op, members)) = split_op(value) else {
+        return Err(LineError::NoRequest);
+    };
+    read_event(alloc, op.as_str(), members)
 }
 
 /// Reads a line of a replay, given without its line feed, as an event: a request,
