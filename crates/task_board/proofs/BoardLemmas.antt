@@ -15,7 +15,7 @@ use Rattle.task_board.specs.BoardState.{Task, Entries, BoardState, task_in, entr
 use Rattle.task_board.specs.Tasks.{can_lend, lent, advanced, slice_turns, stepped, state_of}
 use Rattle.content_leases.specs.Refusals.{Refusals, first_refusal}
 use Rattle.task_board.specs.Refusals.{unless_allowed, task_refusals, own_refusals}
-use Rattle.task_board.specs.Step.{Answer, Answers, taken, Returns}
+use Rattle.task_board.specs.Step.{Answer, Answers, does, taken, Returns}
 use Rattle.task_board.specs.Sound.{IsBoard}
 use Rattle.task_board.specs.Loans.{Lent, loan_of, FitsTask, Fits}
 use Rattle.task_board.specs.Tickets.{ticket_in, Lends}
@@ -24,16 +24,16 @@ use Rattle.task_board.specs.declared.change.Change.{Change}
 use Rattle.std.specs.Arc.{arc_value}
 use Rattle.wasm_ast.specs.declared.place.Place.{Place}
 use Rattle.task_board.specs.declared.mark.Mark.{Mark}
+use Rattle.task_board.specs.declared.mark.Mark.TheVariants as mark
 use Rattle.task_board.specs.declared.mark.NewBreaks.{NewBreaks}
-use Rattle.task_board.specs.Inside.Marks.{mark_request, mark_reply, mark_refusals, marked_places, marked}
+use Rattle.task_board.specs.Inside.Marks.{mark_ask, mark_request, mark_reply, mark_refusals, marked_places, marked}
 use Rattle.task_board.specs.Inside.Plans.{CreatePrepared, CallPrepared, MarkPrepared}
 use Rattle.task_board.specs.Inside.Changes.{change_request, change_reply, change_refusals, changed as changed_by}
 use Rattle.task_board.specs.Inside.Shown.{board_state_of}
 use Rattle.task_board.proofs.EntryLemmas.{none_is_not, some_is, entry_at, named, in_slot, changed_in}
 use Rattle.task_board.proofs.SlabLemmas.{in_slab, changed, removed, inserted, count}
 use Rattle.task_board.proofs.MarkLemmas.{mark_allowed}
-use Rattle.task_board.proofs.PlaceLemmas.{mark_answers, step_answers}
-use Rattle.task_board.proofs.EffectLemmas.{change_id, change_incarnation, change_answers, delete_answers, answers_sound, Alters, marks, takes_steps, altered_same, marked_idle, own_accepted, step_allowed, alter_keeps_sound, paused_only}
+use Rattle.task_board.proofs.EffectLemmas.{change_id, change_incarnation, accepted_on, change_answers, delete_answers, answers_sound, Alters, marks, takes_steps, altered_same, marked_idle, own_accepted, step_allowed, alter_keeps_sound, paused_only}
 use Rattle.task_board.proofs.WaitingLemmas.{same_ticket, stay_changed, stay_more}
 use Rattle.task_board.proofs.StepLemmas.{task_named, sound_of, few_tasks, create_answers, lends_sound, takes, GoForward, StopFirst, returns, returned_sound}
 
@@ -341,6 +341,15 @@ mark_may b m slot id n old sound p here =
     marked_idle s.creates m old (sound_of s id old sound at)
     (mark_allowed m old (own_accepted id old (mark_refusals m) accepted))
 
+mark_answers :
+    (s : BoardState) (id : List ℕ) (m : Mark) (t : Task) (s' : BoardState) → task_of id s.tasks ≡ Some t
+    → first_refusal (task_refusals id (mark_refusals m) (Some t)) ≡ None → s' ≡ with_task s (marked m t)
+    → Answers s (mark_request m id) (Ok (mark_reply m t.id)) s'
+mark_answers s id (mark.Set p) t s' at none is =
+    accepted_on s id (mark_refusals (mark.Set p)) (does (mark_ask (mark.Set p))) t s' at none is
+mark_answers s id (mark.Remove p) t s' at none is =
+    accepted_on s id (mark_refusals (mark.Remove p)) (does (mark_ask (mark.Remove p))) t s' at none is
+
 pub marked_there :
     (b : board.Inside) (m : Mark) (slot : ℕ) (id : List ℕ) (n : NewBreaks) (old new : Task)
     → IsBoard (board_state_of b) → AreWaiting (board_state_of b).tasks b.waiting
@@ -380,7 +389,8 @@ stepped_there b count slot id old new sound waits p here is =
     waits at here alters
     (λ s' leaves.
     subst (λ (t : Task). Answers s (request.Task id (ask.Step count)) (Ok (reply.Step (state_of t))) s') (sym is)
-    (step_answers s id count old s' at accepted (leaves ∙ ap (with_task s) is)))
+    (accepted_on s id (own_refusals (ask.Step count)) (does (ask.Step count)) old s' at accepted
+    (leaves ∙ ap (with_task s) is)))
 
 pub may_step :
     (b : board.Inside) (count slot : ℕ) (id : List ℕ) (old : Task) → IsBoard (board_state_of b)

@@ -6,7 +6,7 @@ use Rattle.oci_config.specs.Config.{process_read}
 use Rattle.oci_config.specs.Streams.{stream_of}
 use Rattle.content_leases.specs.Refusals.{Refusals, first_refusal}
 use Rattle.task_lifecycle.specs.declared.status.Status.{Status}
-use Rattle.task_lifecycle.specs.declared.status.Status.TheVariants.{Created, Running, Pausing, Paused, Stopped}
+use Rattle.task_lifecycle.specs.declared.status.Status.TheVariants.{Created, Stopped}
 use Rattle.task_lifecycle.specs.declared.status.Signal.{Signal}
 use Rattle.task_lifecycle.specs.declared.status.ExitRecord.{ExitRecord}
 use Rattle.task_lifecycle.specs.Lifecycle.{is_stopped, is_going}

@@ -1,5 +1,5 @@
 -- The parts of what a reply says of its task.
-use Rattle.std.proofs.Common.{◌≡◌, ◌≢◌, ℕ, List, true, Option, Some, None, is_some, refl, ◌∙◌, sym}
+use Rattle.std.proofs.Common.{◌≡◌, ◌≢◌, ℕ, List, true, Some, None, is_some, refl, ◌∙◌, sym}
 use Rattle.step_machine.specs.Instantiation.{after, ended}
 use Rattle.task_lifecycle.specs.declared.status.Status.{Status}
 use Rattle.task_lifecycle.specs.declared.status.Status.TheVariants.{Created, Stopped}

@@ -1,5 +1,5 @@
 -- What a request does to a board, whatever it is answered, and that the board stays sound.
-use Rattle.std.proofs.Common.{◌≡◌, ◌≢◌, ℕ, List, [], ◌∷◌, length, Bool, true, false, true≢false, cond, not, nat_eq, Option, Some, None, is_none, is_some, option_map, Ok, Err, inl, inr, ◌⊎◌, refl, sym, ap, ◌∙◌, subst, arith}
+use Rattle.std.proofs.Common.{◌≡◌, ◌≢◌, ℕ, List, [], ◌∷◌, length, Bool, true, false, true≢false, cond, not, nat_eq, Option, Some, None, is_none, is_some, Ok, Err, inl, inr, ◌⊎◌, refl, sym, ap, ◌∙◌, subst, arith}
 use Rattle.std.proofs.lemmas.Bool.Decides.{nat_tests}
 use Rattle.wasm_ast.specs.declared.refusal.Refusal.{Refusal}
 use Rattle.wasm_ast.specs.declared.refusal.Refusal.TheVariants as refusal
@@ -19,7 +19,6 @@ use Rattle.task_requests.specs.declared.request.Request.TheVariants as request
 use Rattle.task_requests.specs.declared.request.Ask.TheVariants as ask
 use Rattle.task_requests.specs.declared.request.Reply.{Reply}
 use Rattle.task_requests.specs.declared.request.Reply.TheVariants as reply
-use Rattle.task_requests.specs.declared.request.TaskState.{TaskState}
 use Rattle.wasm_ast.specs.Identifiers.{is_id}
 use Rattle.content_leases.specs.Digests.{digest_of}
 use Rattle.content_leases.specs.StoreState.{StoreState, with_content, without_content, with_lease, with_member, without_lease, unheld, collected}
@@ -35,7 +34,7 @@ use Rattle.task_board.specs.declared.ticket.Ticket.{Ticket}
 use Rattle.task_board.specs.Waiting.{waiting_after_call}
 use Rattle.task_board.specs.Inside.Changes.{change_call, change_request, change_reply, change_refusals, changed}
 use Rattle.task_board.specs.Inside.Marks.{mark_call, mark_refusals, marked}
-use Rattle.task_board.specs.Inside.Plans.{IsAllowed, RefusesTask, RefusesKill, IsQuestion}
+use Rattle.task_board.specs.Inside.Plans.{IsQuestion}
 use Rattle.task_board.proofs.EntryLemmas.{none_is_not, some_is}
 use Rattle.task_board.proofs.MarkLemmas.{mark_allowed, marked_sound}
 use Rattle.task_board.proofs.SoundLemmas.{stepped_sound, started_sound, paused_sound, resumed_sound, killed_sound, remove_sound}
@@ -123,21 +122,6 @@ change_allowed change.Resume id t h = one_accepted id t call.Resume h
 change_allowed (change.Kill signal.Kill) id t h = one_accepted id t call.Kill h
 change_allowed (change.Kill signal.Terminate) id t h = one_accepted id t call.Kill h
 
--- and one that is allowed is not refused
-pub change_accepted :
-    (c : Change) (id : List ℕ) (t : Task) → is_id id ≡ true → allowed (change_call c) t.status ≡ true
-    → first_refusal (task_refusals id (change_refusals c) (Some t)) ≡ None
-change_accepted change.Start id t ok can = rw (ok, can) refl
-change_accepted change.Pause id t ok can = rw (ok, can) refl
-change_accepted change.Resume id t ok can = rw (ok, can) refl
-change_accepted (change.Kill signal.Kill) id t ok can = rw (ok, can) refl
-change_accepted (change.Kill signal.Terminate) id t ok can = rw (ok, can) refl
-
-pub delete_accepted :
-    (id : List ℕ) (t : Task) → is_id id ≡ true → allowed call.Delete t.status ≡ true
-    → first_refusal (task_refusals id (unless_allowed call.Delete refusal.WrongStatus) (Some t)) ≡ None
-delete_accepted id t ok can = rw (ok, can) refl
-
 -- ---- answers to requests of one task
 
 -- a refusal of its own list
@@ -184,154 +168,6 @@ pub delete_answers : (s : BoardState) (id : List ℕ) (t : Task) (s' : BoardStat
     → Answers s (request.Task id ask.Delete) (Ok (reply.Delete (state_of t))) s'
 delete_answers s id t s' at none is =
     accepted_on s id (unless_allowed call.Delete refusal.WrongStatus) (does ask.Delete) t s' at none is
-
--- ---- questions for the state of a task
-
-pub state_answers :
-    (s : BoardState) (id name : List ℕ) (e : ℕ × Task) (x : TaskState) → name ≡ id → IsAllowed s name call.State e
-    → x ≡ state_of e.1 → Answers s (request.Task id ask.State) (Ok (reply.State x)) s
-state_answers s id name e x same is told =
-    let at : task_of name s.tasks ≡ Some e.1 = ap (option_map (λ (y : ℕ × Task). y.1)) is.found in
-    let named = is.named in
-    let done =
-    accepted_on s name (own_refusals ask.State) (does ask.State) e.1 s at (rw named refl)
-    (sym (unchanged s name e.1 at)) in
-    subst (λ (y : TaskState). Answers s (request.Task id ask.State) (Ok (reply.State y)) s) (sym told)
-    (subst (λ (y : List ℕ). Answers s (request.Task y ask.State) (Ok (reply.State (state_of e.1))) s) same done)
-
-pub wait_answers :
-    (s : BoardState) (id name : List ℕ) (e : ℕ × Task) (x : TaskState) → name ≡ id → IsAllowed s name call.Wait e
-    → x ≡ state_of e.1 → Answers s (request.Task id ask.Wait) (Ok (reply.Wait x)) s
-wait_answers s id name e x same is told =
-    let at : task_of name s.tasks ≡ Some e.1 = ap (option_map (λ (y : ℕ × Task). y.1)) is.found in
-    let named = is.named in
-    let can = is.allowed in
-    let done =
-    accepted_on s name (unless_allowed call.Wait refusal.Busy) (does ask.Wait) e.1 s at (rw (named, can) refl)
-    (sym (unchanged s name e.1 at)) in
-    subst (λ (y : TaskState). Answers s (request.Task id ask.Wait) (Ok (reply.Wait y)) s) (sym told)
-    (subst (λ (y : List ℕ). Answers s (request.Task y ask.Wait) (Ok (reply.Wait (state_of e.1))) s) same done)
-
--- ---- refusals of requests of one task
-
-pub not_memory :
-    (a b : Bool) (x e : Refusal) → x ≢ refusal.NoMemory → cond a (Some refusal.BadId) (cond b (Some x) None) ≡ Some e
-    → e ≢ refusal.NoMemory
-not_memory true b x e known h is = cc
-not_memory false true x e known h is = known (some_is x e h ∙ is)
-not_memory false false x e known h is = cc
-
-task_known : (id : List ℕ) (c : TaskCall) (o : Option Task) (e : Refusal)
-    → first_refusal (task_refusals id (unless_allowed c refusal.WrongStatus) o) ≡ Some e
-    → e ≢ refusal.NoMemory
-task_known id c None e h = not_memory (not (is_id id)) true refusal.NotFound e (λ x. cc) h
-task_known id c (Some t) e h = not_memory (not (is_id id)) (not (allowed c t.status)) refusal.WrongStatus e (λ x. cc) h
-
-same_refusal :
-    (id : List ℕ) (c : Change) (o : Option Task) (e : Refusal)
-    → first_refusal (task_refusals id (unless_allowed (change_call c) refusal.WrongStatus) o)
-    ≡ Some e
-    → first_refusal (task_refusals id (change_refusals c) o) ≡ Some e
-same_refusal id change.Start None e h = h
-same_refusal id change.Start (Some t) e h = h
-same_refusal id change.Pause None e h = h
-same_refusal id change.Pause (Some t) e h = h
-same_refusal id change.Resume None e h = h
-same_refusal id change.Resume (Some t) e h = h
-same_refusal id (change.Kill signal.Kill) None e h = h
-same_refusal id (change.Kill signal.Kill) (Some t) e h = h
-same_refusal id (change.Kill signal.Terminate) None e h = h
-same_refusal id (change.Kill signal.Terminate) (Some t) e h = h
-
-refused_change_by :
-    (c : Change) (s : BoardState) (id : List ℕ) (e : Refusal)
-    → first_refusal (task_refusals id (change_refusals c) (task_of id s.tasks)) ≡ Some e
-    → Answers s (change_request c id) (Err e) s
-refused_change_by change.Start s id e h =
-    refused_on s id (unless_allowed call.Start refusal.WrongStatus) (does ask.Start)
-    (task_of id s.tasks) e h
-refused_change_by change.Pause s id e h =
-    refused_on s id (unless_allowed call.Pause refusal.WrongStatus) (does ask.Pause)
-    (task_of id s.tasks) e h
-refused_change_by change.Resume s id e h =
-    refused_on s id (unless_allowed call.Resume refusal.WrongStatus) (does ask.Resume)
-    (task_of id s.tasks) e h
-refused_change_by (change.Kill x) s id e h =
-    refused_on s id (own_refusals (ask.Kill (signal_number x)))
-    (does (ask.Kill (signal_number x))) (task_of id s.tasks) e h
-
--- a change that is not allowed, or of no task
-pub refused_change :
-    (c : Change) (s : BoardState) (id : List ℕ) (e : Refusal) → RefusesTask s id (change_call c) refusal.WrongStatus e
-    → (e ≢ refusal.NoMemory) × Answers s (change_request c id) (Err e) s
-refused_change c s id e h = (
-  task_known id (change_call c) (task_of id s.tasks) e h,
-  refused_change_by c s id e (same_refusal id c (task_of id s.tasks) e h),
-)
-
-pub refused_delete : (s : BoardState) (id : List ℕ) (e : Refusal) → RefusesTask s id call.Delete refusal.WrongStatus e
-    → (e ≢ refusal.NoMemory) × Answers s (request.Task id ask.Delete) (Err e) s
-refused_delete s id e h = (
-  task_known id call.Delete (task_of id s.tasks) e h,
-  refused_on s id (unless_allowed call.Delete refusal.WrongStatus) (does ask.Delete)
-      (task_of id s.tasks) e h,
-)
-
--- a number that is no signal's, of a task that is there
-pub no_signal :
-    (s : BoardState) (id : List ℕ) (number : ℕ) (e : ℕ × Task) → signal_of number ≡ None → IsAllowed s id call.State e
-    → RefusesKill s id number refusal.OutOfRange
-no_signal s id number e none is =
-    let at : task_of id s.tasks ≡ Some e.1 = ap (option_map (λ (x : ℕ × Task). x.1)) is.found in
-    let off : is_none (signal_of number) ≡ true = ap is_none none in
-    let named = is.named in
-    let own :
-    first_refusal (task_refusals id (own_refusals (ask.Kill number)) (Some e.1)) ≡ Some refusal.OutOfRange =
-    rw (named, off) refl in
-    ap (λ (o : Option Task). first_refusal (task_refusals id (own_refusals (ask.Kill number)) o)) at ∙ own
-
--- of a call that no status refuses, the refusals before a request's own
-pub no_task_by :
-    (id : List ℕ) (own : Task → Refusals) (o : Option Task) (e : Refusal)
-    → first_refusal (task_refusals id (unless_allowed call.State refusal.WrongStatus) o) ≡ Some e
-    → first_refusal (task_refusals id own o) ≡ Some e
-no_task_by id own None e h = h
-no_task_by id own (Some t) e h = by (not (is_id id)) h
-  where
-    by :
-        (b : Bool) → cond b (Some refusal.BadId) None ≡ Some e
-        → cond b (Some refusal.BadId) (first_refusal (own t)) ≡ Some e
-    by true g = g
-    by false g = absurd (none_is_not e g)
-
-pub no_task_to_kill :
-    (s : BoardState) (id : List ℕ) (number : ℕ) (e : Refusal) → RefusesTask s id call.State refusal.WrongStatus e
-    → RefusesKill s id number e
-no_task_to_kill s id number e h = no_task_by id (own_refusals (ask.Kill number)) (task_of id s.tasks) e h
-
-kill_known :
-    (id : List ℕ) (number : ℕ) (o : Option Task) (e : Refusal)
-    → first_refusal (task_refusals id (own_refusals (ask.Kill number)) o) ≡ Some e → e ≢ refusal.NoMemory
-kill_known id number None e h = not_memory (not (is_id id)) true refusal.NotFound e (λ x. cc) h
-kill_known id number (Some t) e h =
-    by (not (is_id id)) (is_none (signal_of number)) (not (allowed call.Kill t.status)) h
-  where
-    by :
-        (a b c : Bool)
-        → cond a (Some refusal.BadId) (cond b (Some refusal.OutOfRange) (cond c (Some refusal.WrongStatus) None))
-        ≡ Some e → e ≢ refusal.NoMemory
-    by true b c g is = cc
-    by false true c g is = cc
-    by false false true g is = cc
-    by false false false g is = cc
-
-pub refused_kill :
-    (s : BoardState) (id : List ℕ) (number : ℕ) (e : Refusal) → RefusesKill s id number e
-    → (e ≢ refusal.NoMemory) × Answers s (request.Task id (ask.Kill number)) (Err e) s
-refused_kill s id number e h = (
-  kill_known id number (task_of id s.tasks) e h,
-  refused_on s id (own_refusals (ask.Kill number)) (does (ask.Kill number)) (task_of id s.tasks) e h,
-)
 
 -- ---- breakpoints and steps
 

@@ -7,7 +7,7 @@ pub mod MarkLemmas
 pub mod StoreLemmas
 pub mod OpenedLemmas
 pub mod EffectLemmas
-pub mod OutputLemmas
+pub mod AskLemmas
 pub mod WaitingLemmas
 pub mod StoreChangeLemmas
 pub mod TextLemmas
@@ -20,7 +20,6 @@ pub mod LawLemmas
 pub mod MemoryLemmas
 pub mod AdvanceLemmas
 pub mod StepTurns
-pub mod PlaceLemmas
 pub mod HeldLemmas
 pub mod LoanStays
 pub mod ClaimLemmas

@@ -33,7 +33,6 @@ use task_requests::{Reply, Request};
 use wasm_ast::Refusal;
 
 mod applying;
-mod debugging;
 mod planning;
 
 /// The most tasks of a board.
@@ -114,7 +113,18 @@ impl Board {
         ensures err { OnErr result (result ≡ Err Refusal.NoMemory) }
         ensures quiet { takes_memory request ≡ false → IsOk result }
     {
-        let plan = self.plan(request)?;
+        // One exit for all arms: one in each would make the proof many times as long.
+        let plan = match request {
+            Request::Put { bytes } => self.prepare_put(bytes),
+            Request::PutText { text } => self.prepare_put_text(text),
+            Request::Remove { digest } => Ok(self.plan_remove(digest)),
+            Request::LeaseCreate { id } => self.prepare_lease_create(id),
+            Request::LeaseAdd { digest, id } => self.prepare_lease_add(digest, id),
+            Request::LeaseDelete { id } => Ok(self.plan_lease_delete(id)),
+            Request::Gc => self.prepare_gc(),
+            Request::Create { config, id } => self.prepare_create(config, id),
+            Request::Task { id, ask } => self.plan_ask(id, ask),
+        }?;
         Ok(Prepared { plan })
     }
 

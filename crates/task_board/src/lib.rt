@@ -10,7 +10,8 @@
 //! # The way of a request
 //!
 //! 1. `Board::prepare` finds the refusal, or makes a `Plan` (prepared.rt), for which it takes all memory.
-//!    board/planning.rt has a function for each request, board/debugging.rt those of a debugger.
+//!    board/planning.rt has a function for each request to the store and for a create. What is asked of a
+//!    task is prepared by the task itself, once it is found (asked.rt).
 //! 2. `Board::apply` makes the change of the plan and the reply (board/applying.rt). It cannot fail.
 //!
 //! # The way of a slice
@@ -26,6 +27,7 @@
 //! change the code, read board.rt and prepared.rt first. laws.rt has the laws of the whole.
 #![tactic(auto)]
 
+mod asked;
 mod board;
 mod change;
 mod checkout;

@@ -1,6 +1,5 @@
 -- The requests that change a task, in one.
 use Rattle.std.specs.Prelude.{ℕ, List, Bool, true, false}
-use Rattle.wasm_ast.specs.declared.refusal.Refusal.TheVariants as refusal
 use Rattle.task_lifecycle.specs.declared.lifecycle.TaskCall.{TaskCall}
 use Rattle.task_lifecycle.specs.declared.lifecycle.TaskCall.TheVariants as call
 use Rattle.task_lifecycle.specs.declared.status.Status.{Status}
@@ -9,13 +8,14 @@ use Rattle.task_board.specs.declared.change.Change.{Change}
 use Rattle.task_board.specs.declared.change.Change.TheVariants as change
 use Rattle.task_requests.specs.declared.request.Request.{Request}
 use Rattle.task_requests.specs.declared.request.Request.TheVariants as request
+use Rattle.task_requests.specs.declared.request.Ask.{Ask}
 use Rattle.task_requests.specs.declared.request.Ask.TheVariants as ask
 use Rattle.task_requests.specs.declared.request.Reply.{Reply}
 use Rattle.task_requests.specs.declared.request.Reply.TheVariants as reply
 use Rattle.content_leases.specs.Refusals.{Refusals}
 use Rattle.task_board.specs.BoardState.{Task}
 use Rattle.task_board.specs.Tasks.{started, paused, resumed, killed}
-use Rattle.task_board.specs.Refusals.{unless_allowed, own_refusals}
+use Rattle.task_board.specs.Refusals.{own_refusals}
 
 abbrev pub change_call : Change → TaskCall
 change_call change.Start = call.Start
@@ -30,11 +30,15 @@ enters change.Pause = false
 enters change.Resume = true
 enters (change.Kill signal) = false
 
+-- what is asked with it
+abbrev pub change_ask : Change → Ask
+change_ask change.Start = ask.Start
+change_ask change.Pause = ask.Pause
+change_ask change.Resume = ask.Resume
+change_ask (change.Kill signal) = ask.Kill (signal_number signal)
+
 abbrev pub change_request : Change → (id : List ℕ) → Request
-change_request change.Start id = request.Task id ask.Start
-change_request change.Pause id = request.Task id ask.Pause
-change_request change.Resume id = request.Task id ask.Resume
-change_request (change.Kill signal) id = request.Task id (ask.Kill (signal_number signal))
+change_request c id = request.Task id (change_ask c)
 
 abbrev pub change_reply : Change → (id : List ℕ) → Status → Reply
 change_reply change.Start id status = reply.Start id status
@@ -43,10 +47,7 @@ change_reply change.Resume id status = reply.Resume id status
 change_reply (change.Kill signal) id status = reply.Kill id status
 
 abbrev pub change_refusals : Change → Task → Refusals
-change_refusals change.Start t = unless_allowed call.Start refusal.WrongStatus t
-change_refusals change.Pause t = unless_allowed call.Pause refusal.WrongStatus t
-change_refusals change.Resume t = unless_allowed call.Resume refusal.WrongStatus t
-change_refusals (change.Kill signal) t = own_refusals (ask.Kill (signal_number signal)) t
+change_refusals c = own_refusals (change_ask c)
 
 -- the task after the change
 abbrev pub changed : Change → Task → Task

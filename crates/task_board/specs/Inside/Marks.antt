@@ -7,6 +7,7 @@ use Rattle.task_board.specs.declared.mark.Mark.{Mark}
 use Rattle.task_board.specs.declared.mark.Mark.TheVariants as mark
 use Rattle.task_requests.specs.declared.request.Request.{Request}
 use Rattle.task_requests.specs.declared.request.Request.TheVariants as request
+use Rattle.task_requests.specs.declared.request.Ask.{Ask}
 use Rattle.task_requests.specs.declared.request.Ask.TheVariants as ask
 use Rattle.task_requests.specs.declared.request.Reply.{Reply}
 use Rattle.task_requests.specs.declared.request.Reply.TheVariants as reply
@@ -19,17 +20,20 @@ abbrev pub mark_call : Mark → TaskCall
 mark_call (mark.Set p) = call.Break
 mark_call (mark.Remove p) = call.Unbreak
 
+-- what is asked with it
+abbrev pub mark_ask : Mark → Ask
+mark_ask (mark.Set p) = ask.Break p.func p.instr
+mark_ask (mark.Remove p) = ask.Unbreak p.func p.instr
+
 abbrev pub mark_request : Mark → (id : List ℕ) → Request
-mark_request (mark.Set p) id = request.Task id (ask.Break p.func p.instr)
-mark_request (mark.Remove p) id = request.Task id (ask.Unbreak p.func p.instr)
+mark_request m id = request.Task id (mark_ask m)
 
 abbrev pub mark_reply : Mark → (id : List ℕ) → Reply
 mark_reply (mark.Set p) id = reply.Break id
 mark_reply (mark.Remove p) id = reply.Unbreak id
 
 abbrev pub mark_refusals : Mark → Task → Refusals
-mark_refusals (mark.Set p) t = own_refusals (ask.Break p.func p.instr) t
-mark_refusals (mark.Remove p) t = own_refusals (ask.Unbreak p.func p.instr) t
+mark_refusals m = own_refusals (mark_ask m)
 
 -- breakpoints after it
 abbrev pub marked_places : Mark → List Place → List Place

@@ -1,38 +1,34 @@
 //! What requests are prepared as. Nothing that a call can see changes here.
 
-ghost use Rattle.std.specs.Prelude.{◌≡◌, ◌≢◌, [], Some, None, Ok, Err, IfOk, IsOk, option_map, false, length, ◌<◌, OnOk, IfErr};
+ghost use Rattle.std.specs.Prelude.{◌≡◌, ◌≢◌, [], Some, None, Ok, Err, IfOk, IsOk, option_map, false, ◌<◌, OnOk};
 ghost use Rattle.std.specs.Arc.{arc_value};
 ghost use Rattle.oci_config.specs.Processes.{config_of};
 ghost use Rattle.oci_config.specs.declared.process.ProcessConfig.{ProcessConfig as ProcessValue};
 ghost use Rattle.task_requests.specs.declared.request.Request.TheVariants as request;
 ghost use Rattle.task_board.specs.Refusals.{Openable, is_full, CannotOpen};
-ghost use Rattle.task_requests.specs.Memory.{asks_for_memory, takes_memory};
+ghost use Rattle.task_requests.specs.Memory.{asks_for_memory};
 ghost use Rattle.task_board.specs.Step.{Step};
 ghost use Rattle.task_board.specs.Inside.Machines.{IsMachine};
-ghost use Rattle.task_board.specs.Inside.Plans.{Plans, PlansTask, id_refusals, IsAllowed, RefusesTask, RefusesKill, RefusesOutput, TellsOutput};
+ghost use Rattle.task_board.specs.Inside.Plans.{Plans, PlansTask, id_refusals};
 ghost use Rattle.task_board.specs.Inside.OpenedModules.{IsOpen};
 ghost use Rattle.content_leases.specs.StoreState.{content_in};
 ghost use Rattle.task_requests.specs.declared.request.Ask.TheVariants as ask;
-ghost use Rattle.task_lifecycle.specs.Names.{signal_of};
 ghost use Rattle.content_leases.specs.Digests.{digest_of};
 ghost use Rattle.content_leases.specs.Refusals.{first_refusal};
 ghost use Rattle.wasm_ast.specs.declared.refusal.Refusal.{Refusal as Reason};
-ghost use Rattle.task_board.specs.Inside.Changes.{change_request};
 
 use crate::board::{Board, MAX_TASKS};
-use crate::change::Change;
 use crate::checkout::Shared;
 use crate::open::{instantiate, module_of};
 use crate::prepared::Plan;
 use crate::store_change::StoreChange;
 use crate::task::{Task, find_task, is_used, used_digests};
 use content_leases::{Members, Store, digest_of};
-use oci_config::{Process, ProcessConfig, Stream, read_config};
+use oci_config::{Process, ProcessConfig, read_config};
 use std::alloc::{AllocError, Global};
 use std::sync::Arc;
 use step_machine::{FlatModule, Machine};
-use task_lifecycle::{Signal, TaskCall};
-use task_requests::{Ask, Reply, Request, SharedBytes};
+use task_requests::{Ask, Request, SharedBytes};
 use text_assembler::assemble;
 use wasm_ast::{Bytes, Refusal, Sequence, Text, is_id};
 
@@ -47,46 +43,18 @@ fn shared(alloc: Global, bytes: Vec<u8>) -> Result<SharedBytes, AllocError>
 }
 
 impl Board {
-    // What a request is prepared as. Each arm gives what its function gives: an exit of its own in each would
-    // make the proof many times as long.
-    pub(crate) fn plan(&mut self, request: Request) -> Result<Plan, AllocError>
-        ensures same { (self.new.state ≡ self.old.state) × (self.new.waiting ≡ self.old.waiting) }
-        ensures ok { IfOk result (λ p. Plans self.new.state self.new.room request p) }
-        ensures quiet { takes_memory request ≡ false → IsOk result }
-    {
-        match request {
-            Request::Put { bytes } => self.prepare_put(bytes),
-            Request::PutText { text } => self.prepare_put_text(text),
-            Request::Remove { digest } => Ok(self.plan_remove(digest)),
-            Request::LeaseCreate { id } => self.prepare_lease_create(id),
-            Request::LeaseAdd { digest, id } => self.prepare_lease_add(digest, id),
-            Request::LeaseDelete { id } => Ok(self.plan_lease_delete(id)),
-            Request::Gc => self.prepare_gc(),
-            Request::Create { config, id } => self.prepare_create(config, id),
-            Request::Task { id, ask } => self.plan_ask(id, ask),
-        }
-    }
-
-    // What is asked of a task is prepared as this.
-    fn plan_ask(&self, id: Text, ask: Ask) -> Result<Plan, AllocError>
+    // What is asked of the task with an id is prepared as this.
+    pub(crate) fn plan_ask(&self, id: Text, ask: Ask) -> Result<Plan, AllocError>
         ensures ok { IfOk result
             (λ p. Plans self.now.state self.now.room (request.Task id ask) p) }
         ensures quiet { asks_for_memory ask ≡ false → IsOk result }
     {
-        match ask {
-            Ask::Start => Ok(self.plan_change(id, Change::Start)),
-            Ask::Pause => Ok(self.plan_change(id, Change::Pause)),
-            Ask::Resume => Ok(self.plan_change(id, Change::Resume)),
-            Ask::Kill { signal } => Ok(self.plan_kill(id, signal)),
-            Ask::Delete => Ok(self.plan_delete(id)),
-            Ask::State => Ok(self.plan_state(id)),
-            Ask::Wait => Ok(self.plan_wait(id)),
-            Ask::Output { stream } => self.plan_output(id, stream),
-            Ask::Break { func, place } => self.plan_break(id, func, place),
-            Ask::Unbreak { func, place } => self.plan_unbreak(id, func, place),
-            Ask::Step { count } => Ok(self.plan_step(id, count)),
-            Ask::Inspect => self.plan_inspect(id),
-            Ask::Peek { address, length } => { self.plan_peek(id, address, length) }
+        if !is_id(id.as_str()) {
+            return Ok(Plan::Refused(Refusal::BadId));
+        }
+        match find_task(&self.tasks, id.as_str()) {
+            Some((slot, task)) => task.plan(self.alloc, slot, id, ask),
+            None => Ok(Plan::Refused(Refusal::NotFound)),
         }
     }
 
@@ -99,7 +67,7 @@ impl Board {
     }
 
     // What a put is prepared as.
-    fn prepare_put(&mut self, bytes: SharedBytes) -> Result<Plan, AllocError>
+    pub(crate) fn prepare_put(&mut self, bytes: SharedBytes) -> Result<Plan, AllocError>
         ensures same { (self.new.state ≡ self.old.state) × (self.new.waiting ≡ self.old.waiting) }
         ensures ok { IfOk result
             (λ p. Plans self.new.state self.new.room (request.Put bytes) p) }
@@ -115,7 +83,7 @@ impl Board {
     }
 
     // What a put of a text is prepared as: a put of the bytes that it is assembled to.
-    fn prepare_put_text(&mut self, text: Text) -> Result<Plan, AllocError>
+    pub(crate) fn prepare_put_text(&mut self, text: Text) -> Result<Plan, AllocError>
         ensures same { (self.new.state ≡ self.old.state) × (self.new.waiting ≡ self.old.waiting) }
         ensures ok { IfOk result
             (λ p. Plans self.new.state self.new.room (request.PutText text) p) }
@@ -131,7 +99,7 @@ impl Board {
     }
 
     // What a removal of the content under a digest is prepared as.
-    fn plan_remove(&self, digest: Text) -> Plan
+    pub(crate) fn plan_remove(&self, digest: Text) -> Plan
         ensures { Plans self.now.state self.now.room (request.Remove digest) result }
     {
         let is_used = is_used(&self.tasks, digest.as_str());
@@ -150,7 +118,7 @@ impl Board {
     }
 
     // What a lease's creation is prepared as.
-    fn prepare_lease_create(&mut self, id: Text) -> Result<Plan, AllocError>
+    pub(crate) fn prepare_lease_create(&mut self, id: Text) -> Result<Plan, AllocError>
         ensures same { (self.new.state ≡ self.old.state) × (self.new.waiting ≡ self.old.waiting) }
         ensures ok { IfOk result
             (λ p. Plans self.new.state self.new.room (request.LeaseCreate id) p) }
@@ -165,7 +133,7 @@ impl Board {
     }
 
     // What an addition to a lease is prepared as.
-    fn prepare_lease_add(&self, digest: Text, id: Text) -> Result<Plan, AllocError>
+    pub(crate) fn prepare_lease_add(&self, digest: Text, id: Text) -> Result<Plan, AllocError>
         ensures { IfOk result
             (λ p. Plans self.now.state self.now.room (request.LeaseAdd digest id) p) }
     {
@@ -180,7 +148,7 @@ impl Board {
     }
 
     // What the end of a lease is prepared as.
-    fn plan_lease_delete(&self, id: Text) -> Plan
+    pub(crate) fn plan_lease_delete(&self, id: Text) -> Plan
         ensures { Plans self.now.state self.now.room (request.LeaseDelete id) result }
     {
         match self.store.refusal_of_lease_delete(id.as_str()) {
@@ -190,7 +158,7 @@ impl Board {
     }
 
     // What a removal of all contents that are not held is prepared as.
-    fn prepare_gc(&self) -> Result<Plan, AllocError>
+    pub(crate) fn prepare_gc(&self) -> Result<Plan, AllocError>
         ensures { IfOk result (λ p. Plans self.now.state self.now.room request.Gc p) }
     {
         let used = used_digests(self.alloc, &self.tasks)?;
@@ -319,7 +287,7 @@ impl Board {
     }
 
     // What a create is prepared as.
-    fn prepare_create(&mut self, config: Text, id: Text) -> Result<Plan, AllocError>
+    pub(crate) fn prepare_create(&mut self, config: Text, id: Text) -> Result<Plan, AllocError>
         ensures same { self.new ≡ self.old }
         ensures ok { IfOk result
             (λ p. Plans self.old.state self.old.room (request.Create config id) p) }
@@ -335,128 +303,6 @@ impl Board {
         match self.shared_content(process.module.as_str())? {
             Some(bytes) => self.prepare_opened(id, process, bytes),
             None => Ok(Plan::Refused(Refusal::NoContent)),
-        }
-    }
-
-    // The task with an id and its slot, for a call that its status allows. `BadId` if the id is
-    // malformed, `NotFound` if no task has it, `refused` if the call is not allowed.
-    pub(crate) fn entry_for(
-        &self,
-        id: &str,
-        call: TaskCall,
-        refused: Refusal,
-    ) -> Result<(usize, &Task), Refusal>
-        ensures ok { IfOk result (λ r. IsAllowed self.now.state id.now call (r.0, r.1.now)) }
-        ensures err { IfErr result (λ e. RefusesTask self.now.state id.now call refused e) }
-    {
-        if !is_id(id) {
-            return Err(Refusal::BadId);
-        }
-        let Some((slot, task)) = find_task(&self.tasks, id) else {
-            return Err(Refusal::NotFound);
-        };
-        if task.status().allows(call) {
-            Ok((slot, task))
-        } else {
-            Err(refused)
-        }
-    }
-
-    // What a request that changes a task is prepared as.
-    fn plan_change(&self, id: Text, change: Change) -> Plan
-        ensures { Plans self.now.state self.now.room (change_request change id) result }
-    {
-        match self.entry_for(id.as_str(), change.call(), Refusal::WrongStatus) {
-            Ok((slot, _task)) => Plan::Change { change, slot, id },
-            Err(refusal) => Plan::Refused(refusal),
-        }
-    }
-
-    // Why a kill by a number that is no signal's is refused: an id that is malformed or that no task has
-    // comes first.
-    fn refusal_of_signal(&self, id: &str, number: u64) -> Refusal
-        requires { signal_of number ≡ None }
-        ensures { RefusesKill self.now.state id.now number result }
-    {
-        match self.entry_for(id, TaskCall::State, Refusal::WrongStatus) {
-            Ok(_) => Refusal::OutOfRange,
-            Err(refusal) => refusal,
-        }
-    }
-
-    // What a kill by the signal with a number is prepared as.
-    fn plan_kill(&self, id: Text, number: u64) -> Plan
-        ensures { Plans self.now.state self.now.room (request.Task id (ask.Kill number)) result }
-    {
-        match Signal::from_number(number) {
-            Some(signal) => self.plan_change(id, Change::Kill(signal)),
-            None => Plan::Refused(self.refusal_of_signal(id.as_str(), number)),
-        }
-    }
-
-    // What a delete is prepared as.
-    fn plan_delete(&self, id: Text) -> Plan
-        ensures { Plans self.now.state self.now.room (request.Task id ask.Delete) result }
-    {
-        match self.entry_for(id.as_str(), TaskCall::Delete, Refusal::WrongStatus) {
-            Ok((slot, _task)) => Plan::Delete { slot, id },
-            Err(refusal) => Plan::Refused(refusal),
-        }
-    }
-
-    // What a question for the state of a task is prepared as.
-    fn plan_state(&self, id: Text) -> Plan
-        ensures { Plans self.now.state self.now.room (request.Task id ask.State) result }
-    {
-        match self.entry_for(id.as_str(), TaskCall::State, Refusal::WrongStatus) {
-            Ok((_, task)) => Plan::Answered(Reply::State(task.state(id))),
-            Err(refusal) => Plan::Refused(refusal),
-        }
-    }
-
-    // What a wait is prepared as.
-    fn plan_wait(&self, id: Text) -> Plan
-        ensures { Plans self.now.state self.now.room (request.Task id ask.Wait) result }
-    {
-        match self.entry_for(id.as_str(), TaskCall::Wait, Refusal::Busy) {
-            Ok((_, task)) => Plan::Answered(Reply::Wait(task.state(id))),
-            Err(refusal) => Plan::Refused(refusal),
-        }
-    }
-
-    // What the task with an id has written to the stream with a number. `BadId` if the id is malformed,
-    // `NotFound` if no task has it, `OutOfRange` if the number is no stream's, `Busy` if its slice is
-    // out.
-    fn output_of(&self, id: &str, number: u64) -> Result<&[u8], Refusal>
-        ensures ok { IfOk result (λ b. TellsOutput self.now.state id.now number b.now) }
-        ensures err { IfErr result (λ e. RefusesOutput self.now.state id.now number e) }
-    {
-        let (_slot, task) = match self.entry_for(id, TaskCall::State, Refusal::WrongStatus) {
-            Ok(found) => found,
-            Err(refusal) => return Err(refusal),
-        };
-        let Some(stream) = Stream::from_number(number) else {
-            return Err(Refusal::OutOfRange);
-        };
-        match task.output(stream) {
-            Some(bytes) => Ok(bytes),
-            None => Err(Refusal::Busy),
-        }
-    }
-
-    // What a question for the output of a task is prepared as. An error if a copy of it cannot be
-    // allocated.
-    fn plan_output(&self, id: Text, number: u64) -> Result<Plan, AllocError>
-        ensures { IfOk result
-            (λ p. Plans self.now.state self.now.room (request.Task id (ask.Output number)) p) }
-    {
-        match self.output_of(id.as_str(), number) {
-            Ok(written) => {
-                let size = written.len() as u64;
-                let bytes = Sequence::new(Vec::from_slice(self.alloc, written)?);
-                Ok(Plan::Answered(Reply::Output { bytes, id, size }))
-            }
-            Err(refusal) => Ok(Plan::Refused(refusal)),
         }
     }
 }

@@ -1,4 +1,4 @@
-use Rattle.std.proofs.Common.{◌≡◌, ◌∙◌, Some, sym, ap, rules}
+use Rattle.std.proofs.Common.{◌≡◌, ◌∙◌, Some, ap, rules}
 use Rattle.step_machine.specs.MachineView.{MachineView}
 use Rattle.task_board.specs.Inside.Shown.{task_of}
 use Rattle.task_board.proofs.TaskInvariant.{idle, ran}
