@@ -24,7 +24,7 @@ use Rattle.task_board.specs.BoardState.{Task, BoardState, entry_of, task_of}
 use Rattle.task_board.specs.BoardValue.{Room}
 use Rattle.task_board.specs.Refusals.{task_refusals, own_refusals}
 use Rattle.task_board.specs.Step.{with_left, does, Answers}
-use Rattle.task_board.specs.Inside.Changes.{change_call, change_ask}
+use Rattle.task_board.specs.Inside.Changes.{change_call, change_ask, IsPlain}
 use Rattle.task_board.specs.Inside.Marks.{mark_ask}
 use Rattle.task_board.specs.Inside.Plans.{RefusesOwn, IsAccepted, Names, CallPrepared, MarkPrepared, PlansAsk, Plans, place_refusals}
 use Rattle.task_board.proofs.EffectLemmas.{accepted_on, refused_on}
@@ -90,10 +90,6 @@ module _ (s : BoardState) (id : List ℕ) (a : Ask) where
             lent = h.4;
           }),
     )
-    planned room (plan.Step slot' count id') h = (
-      same (ask.Step count) id' h.0 h.2.1,
-      call (ask.Step count) slot' id' h.0 h.1 h.2,
-    )
     planned room (plan.Store c) h = absurd h
     planned room (plan.Create task id') h = absurd h
 
@@ -105,21 +101,24 @@ module _ (s : BoardState) (id : List ℕ) (a : Ask) where
 
 -- ---- a change, by the task's status
 
-pub change_accepted : (c : Change) (t : Task) → allowed (change_call c) t.status ≡ true → IsAccepted (change_ask c) t
-change_accepted (change.Kill signal.Kill) t can = rw can refl
-change_accepted (change.Kill signal.Terminate) t can = rw can refl
-change_accepted change.Start t can = rw can refl
-change_accepted change.Pause t can = rw can refl
-change_accepted change.Resume t can = rw can refl
+pub change_accepted :
+    (c : Change) (t : Task) → IsPlain c → allowed (change_call c) t.status ≡ true → IsAccepted (change_ask c) t
+change_accepted (change.Kill signal.Kill) t plain can = rw can refl
+change_accepted (change.Kill signal.Terminate) t plain can = rw can refl
+change_accepted change.Start t plain can = rw can refl
+change_accepted change.Pause t plain can = rw can refl
+change_accepted change.Resume t plain can = rw can refl
+change_accepted (change.Step count) t plain can = absurd plain
 
 pub change_refused :
-    (c : Change) (t : Task) → allowed (change_call c) t.status ≡ false
+    (c : Change) (t : Task) → IsPlain c → allowed (change_call c) t.status ≡ false
     → first_refusal (own_refusals (change_ask c) t) ≡ Some refusal.WrongStatus
-change_refused (change.Kill signal.Kill) t cannot = rw cannot refl
-change_refused (change.Kill signal.Terminate) t cannot = rw cannot refl
-change_refused change.Start t cannot = rw cannot refl
-change_refused change.Pause t cannot = rw cannot refl
-change_refused change.Resume t cannot = rw cannot refl
+change_refused (change.Kill signal.Kill) t plain cannot = rw cannot refl
+change_refused (change.Kill signal.Terminate) t plain cannot = rw cannot refl
+change_refused change.Start t plain cannot = rw cannot refl
+change_refused change.Pause t plain cannot = rw cannot refl
+change_refused change.Resume t plain cannot = rw cannot refl
+change_refused (change.Step count) t plain cannot = absurd plain
 
 -- ---- an instruction of a task
 

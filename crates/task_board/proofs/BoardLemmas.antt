@@ -1,5 +1,5 @@
 -- A board after a write in a slot and after an insert.
-use Rattle.std.proofs.Common.{slice_set, ◌≡◌, ℕ, ◌+◌, ◌≤◌, List, Bool, true, IsTrue, ◌↔◌, Option, Some, None, option_map, Ok, refl, sym, ap, ◌∙◌, subst, arith}
+use Rattle.std.proofs.Common.{slice_set, ◌≡◌, ℕ, ◌+◌, ◌≤◌, List, Bool, true, IsTrue, ◌↔◌, Option, Some, None, option_map, Ok, sym, ap, ◌∙◌, subst, arith}
 use Rattle.slab.specs.Slab.{Slab, entries, entries_from, get, with_value, Updates, HasRoomFor}
 use Rattle.task_board.specs.declared.board.Board.TheInside as board
 use Rattle.task_board.specs.declared.ticket.Ticket.{Ticket}
@@ -9,13 +9,13 @@ use Rattle.task_requests.specs.declared.request.Ask.TheVariants as ask
 use Rattle.task_requests.specs.declared.request.Reply.TheVariants as reply
 use Rattle.wasm_ast.specs.declared.refusal.Refusal.TheVariants as refusal
 use Rattle.task_lifecycle.specs.declared.lifecycle.TaskCall.TheVariants as call
-use Rattle.task_lifecycle.specs.declared.status.Status.TheVariants.{Created, Paused}
+use Rattle.task_lifecycle.specs.declared.status.Status.TheVariants.{Created}
 use Rattle.task_requests.specs.Limits.{max_budget}
 use Rattle.task_board.specs.BoardState.{Task, Entries, BoardState, task_in, entry_of, task_of, remove_task, with_task, without_task, with_new_task}
-use Rattle.task_board.specs.Tasks.{can_lend, lent, advanced, slice_turns, stepped, state_of}
+use Rattle.task_board.specs.Tasks.{can_lend, lent, advanced, slice_turns, state_of}
 use Rattle.content_leases.specs.Refusals.{Refusals, first_refusal}
-use Rattle.task_board.specs.Refusals.{unless_allowed, task_refusals, own_refusals}
-use Rattle.task_board.specs.Step.{Answer, Answers, does, taken, Returns}
+use Rattle.task_board.specs.Refusals.{unless_allowed, task_refusals}
+use Rattle.task_board.specs.Step.{Answers, does, taken, Returns}
 use Rattle.task_board.specs.Sound.{IsBoard}
 use Rattle.task_board.specs.Loans.{Lent, loan_of, FitsTask, Fits}
 use Rattle.task_board.specs.Tickets.{ticket_in, Lends}
@@ -33,7 +33,7 @@ use Rattle.task_board.specs.Inside.Shown.{board_state_of}
 use Rattle.task_board.proofs.EntryLemmas.{none_is_not, some_is, entry_at, named, in_slot, changed_in}
 use Rattle.task_board.proofs.SlabLemmas.{in_slab, changed, removed, inserted, count}
 use Rattle.task_board.proofs.MarkLemmas.{mark_allowed}
-use Rattle.task_board.proofs.EffectLemmas.{change_id, change_incarnation, accepted_on, change_answers, delete_answers, answers_sound, Alters, marks, takes_steps, altered_same, marked_idle, own_accepted, step_allowed, alter_keeps_sound, paused_only}
+use Rattle.task_board.proofs.EffectLemmas.{change_id, change_incarnation, accepted_on, change_answers, delete_answers, answers_sound, marked_idle, own_accepted, mark_keeps_sound}
 use Rattle.task_board.proofs.WaitingLemmas.{same_ticket, stay_changed, stay_more}
 use Rattle.task_board.proofs.StepLemmas.{task_named, sound_of, few_tasks, create_answers, lends_sound, takes, GoForward, StopFirst, returns, returned_sound}
 
@@ -120,7 +120,7 @@ call_there b own slot id sound p =
 -- what a change in a slot does
 pub record IsChangedThere (b : board.Inside) (c : Change) (slot : ℕ) (id : List ℕ) (new : Task) : Type 0 where
   pub answers :
-      Answers (board_state_of b) (change_request c id) (Ok (change_reply c id new.status))
+      Answers (board_state_of b) (change_request c id) (Ok (change_reply c id new))
       (board_state_of (with_write b slot new))
   pub ticket :
       running_ticket id (board_state_of (with_write b slot new)).tasks
@@ -143,13 +143,13 @@ changed_there b c slot id old new sound waits p here is =
     let name : p.task.id ≡ id = named id s.tasks (slot, p.task) p.found in
     let own =
     subst
-    (λ (x : List ℕ). Answers s (change_request c id) (Ok (change_reply c x (changed_by c p.task).status)) s')
+    (λ (x : List ℕ). Answers s (change_request c id) (Ok (change_reply c x (changed_by c p.task))) s')
     name done in
     let answers =
-    subst (λ (u : Task). Answers s (change_request c id) (Ok (change_reply c id u.status)) s') (sym by_task) own in
+    subst (λ (u : Task). Answers s (change_request c id) (Ok (change_reply c id u)) s') (sym by_task) own in
     let after =
     subst IsBoard leaves
-    (answers_sound s (change_request c id) (Ok (change_reply c id new.status)) s' sound answers) in
+    (answers_sound s (change_request c id) (Ok (change_reply c id new)) s' sound answers) in
     let own_id : id ≡ new.id = sym name ∙ (ap (λ (u : Task). u.id) (sym same) ∙ keeps) in
     let number :
     new.incarnation ≡ p.task.incarnation = ap (λ (u : Task). u.incarnation) by_task ∙ change_incarnation c p.task in
@@ -286,29 +286,7 @@ pub fits_here :
     → Fits l (board_state_of b).tasks → FitsTask l t
 fits_here b l t here f = subst (FitsTask l) (sym (same_there b l.slot t f.0 here f.1)) f.2
 
--- ---- breakpoints and steps
-
--- what a request that sets or removes a breakpoint, or is a step, does in a slot
-pub record IsAlteredThere (b : board.Inside) (q : Request) (r : Answer) (slot : ℕ) (new : Task) : Type 0 where
-  pub sound : IsBoard (board_state_of (with_write b slot new))
-  pub waiting : AreWaiting (board_state_of (with_write b slot new)).tasks b.waiting
-  pub answers : Answers (board_state_of b) q r (board_state_of (with_write b slot new))
-
-altered_there :
-    (b : board.Inside) (q : Request) (r : Answer) (slot : ℕ) (id : List ℕ) (old new : Task)
-    → IsBoard (board_state_of b) → AreWaiting (board_state_of b).tasks b.waiting
-    → task_of id (board_state_of b).tasks ≡ Some old → get b.tasks slot ≡ Some old → Alters q id old new
-    → ((s' : BoardState) → s' ≡ with_task (board_state_of b) new → Answers (board_state_of b) q r s')
-    → IsAlteredThere b q r slot new
-altered_there b q r slot id old new sound waits at here a answers =
-    let s = board_state_of b in
-    let same = altered_same q id old new a in
-    let leaves = written b slot old new sound here (sym same.same_id) in
-    record {
-      sound = subst IsBoard (sym leaves) (alter_keeps_sound s q id old new sound at a);
-      waiting = written_waits b slot old new sound waits here (sym same.same_id) same.number;
-      answers = answers (board_state_of (with_write b slot new)) leaves;
-    }
+-- ---- breakpoints
 
 -- the task that a request was prepared for is the one in the slot
 call_task :
@@ -350,12 +328,18 @@ mark_answers s id (mark.Set p) t s' at none is =
 mark_answers s id (mark.Remove p) t s' at none is =
     accepted_on s id (mark_refusals (mark.Remove p)) (does (mark_ask (mark.Remove p))) t s' at none is
 
+-- what a request that sets or removes a breakpoint does in a slot
+pub record IsMarkedThere (b : board.Inside) (m : Mark) (slot : ℕ) (id : List ℕ) (new : Task) : Type 0 where
+  pub sound : IsBoard (board_state_of (with_write b slot new))
+  pub waiting : AreWaiting (board_state_of (with_write b slot new)).tasks b.waiting
+  pub answers :
+      Answers (board_state_of b) (mark_request m id) (Ok (mark_reply m id)) (board_state_of (with_write b slot new))
+
 pub marked_there :
     (b : board.Inside) (m : Mark) (slot : ℕ) (id : List ℕ) (n : NewBreaks) (old new : Task)
     → IsBoard (board_state_of b) → AreWaiting (board_state_of b).tasks b.waiting
     → (p : MarkPrepared (board_state_of b) m slot id n) → get b.tasks slot ≡ Some old
-    → new ≡ record old { breaks = arc_value n.own }
-    → IsAlteredThere b (mark_request m id) (Ok (mark_reply m id)) slot new
+    → new ≡ record old { breaks = arc_value n.own } → IsMarkedThere b m slot id new
 marked_there b m slot id n old new sound waits p here is =
     let s = board_state_of b in
     let at = call_at b (mark_refusals m) slot id old sound p.call here in
@@ -366,36 +350,17 @@ marked_there b m slot id n old new sound waits p here is =
     is
     ∙ (ap (λ (bs : List Place). record old { breaks = bs }) p.own
     ∙ ap (λ (t : Task). record old { breaks = marked_places m t.breaks }) same) in
-    let alters : Alters (mark_request m id) id old new =
-    marks m (own_accepted id old (mark_refusals m) accepted) becomes in
-    altered_there b (mark_request m id) (Ok (mark_reply m id)) slot id old new sound waits at here alters
-    (λ s' leaves.
-    subst (λ (x : List ℕ). Answers s (mark_request m id) (Ok (mark_reply m x)) s') (task_named id s.tasks old at)
-    (mark_answers s id m old s' at accepted (leaves ∙ ap (with_task s) becomes)))
-
-pub stepped_there :
-    (b : board.Inside) (count slot : ℕ) (id : List ℕ) (old new : Task)
-    → IsBoard (board_state_of b) → AreWaiting (board_state_of b).tasks b.waiting
-    → (p : CallPrepared (board_state_of b) (own_refusals (ask.Step count)) slot id) → get b.tasks slot ≡ Some old
-    → new ≡ stepped old count
-    → IsAlteredThere b (request.Task id (ask.Step count)) (Ok (reply.Step (state_of new))) slot new
-stepped_there b count slot id old new sound waits p here is =
-    let s = board_state_of b in
-    let at = call_at b (own_refusals (ask.Step count)) slot id old sound p here in
-    let accepted = call_accepted b (own_refusals (ask.Step count)) slot id old sound p here in
-    let alters : Alters (request.Task id (ask.Step count)) id old new =
-    takes_steps count refl (step_allowed id old count accepted) is in
-    altered_there b (request.Task id (ask.Step count)) (Ok (reply.Step (state_of new))) slot id old new sound
-    waits at here alters
-    (λ s' leaves.
-    subst (λ (t : Task). Answers s (request.Task id (ask.Step count)) (Ok (reply.Step (state_of t))) s') (sym is)
-    (accepted_on s id (own_refusals (ask.Step count)) (does (ask.Step count)) old s' at accepted
-    (leaves ∙ ap (with_task s) is)))
-
-pub may_step :
-    (b : board.Inside) (count slot : ℕ) (id : List ℕ) (old : Task) → IsBoard (board_state_of b)
-    → (p : CallPrepared (board_state_of b) (own_refusals (ask.Step count)) slot id) → get b.tasks slot ≡ Some old
-    → old.status ≡ Paused
-may_step b count slot id old sound p here =
-    paused_only old.status
-    (step_allowed id old count (call_accepted b (own_refusals (ask.Step count)) slot id old sound p here))
+    let keeps : old.id ≡ new.id = sym (ap (λ (t : Task). t.id) becomes) in
+    let leaves = written b slot old new sound here keeps ∙ ap (with_task s) becomes in
+    record {
+      sound =
+          subst IsBoard (sym leaves)
+          (mark_keeps_sound s m id old sound at (own_accepted id old (mark_refusals m) accepted));
+      waiting =
+          written_waits b slot old new sound waits here keeps (ap (λ (t : Task). t.incarnation) becomes);
+      answers =
+          subst
+          (λ (x : List ℕ). Answers s (mark_request m id) (Ok (mark_reply m x)) (board_state_of (with_write b slot new)))
+          (task_named id s.tasks old at)
+          (mark_answers s id m old (board_state_of (with_write b slot new)) at accepted leaves);
+    }

@@ -26,17 +26,17 @@ use Rattle.content_leases.specs.Refusals.{Refusals, first_refusal, put_refusals,
 use Rattle.task_board.specs.BoardState.{Task, Entries, BoardState, used_by, with_store, entry_of, task_of, with_task, without_task}
 use Rattle.task_board.specs.declared.mark.Mark.{Mark}
 use Rattle.task_board.specs.declared.mark.Mark.TheVariants as mark
-use Rattle.task_board.specs.Tasks.{started, resumed, killed_while, killed_by, place_of, stepped, state_of}
+use Rattle.task_board.specs.Tasks.{started, resumed, killed_while, killed_by, place_of, state_of}
 use Rattle.task_board.specs.Refusals.{own_refusals, create_refusals, unless_allowed, task_refusals}
 use Rattle.task_board.specs.Step.{Answer, DecidedBy, OnStore, Puts, PutsText, refused, stored, Done, with_left, OnFound, OnTask, Creates, does, Answers}
 use Rattle.task_board.specs.Sound.{IsSound, IsBoard}
 use Rattle.task_board.specs.declared.ticket.Ticket.{Ticket}
 use Rattle.task_board.specs.Waiting.{waiting_after_call}
-use Rattle.task_board.specs.Inside.Changes.{change_call, change_request, change_reply, change_refusals, changed}
+use Rattle.task_board.specs.Inside.Changes.{change_call, change_ask, change_request, change_reply, change_refusals, changed}
 use Rattle.task_board.specs.Inside.Marks.{mark_call, mark_refusals, marked}
 use Rattle.task_board.specs.Inside.Plans.{IsQuestion}
 use Rattle.task_board.proofs.EntryLemmas.{none_is_not, some_is}
-use Rattle.task_board.proofs.MarkLemmas.{mark_allowed, marked_sound}
+use Rattle.task_board.proofs.MarkLemmas.{marked_sound}
 use Rattle.task_board.proofs.SoundLemmas.{stepped_sound, started_sound, paused_sound, resumed_sound, killed_sound, remove_sound}
 use Rattle.task_board.proofs.StepLemmas.{found, task_named, unchanged, sound_of, changed_sound, decided, none_first, not_true, create_leaves}
 use Rattle.task_board.proofs.StoreLemmas.{StoreEffect, puts, removes, leases, adds, ends, collects, store_sound}
@@ -63,6 +63,7 @@ pub change_id : (c : Change) (t : Task) → (changed c t).id ≡ t.id
 change_id change.Start t = refl
 change_id change.Pause t = refl
 change_id change.Resume t = refl
+change_id (change.Step count) t = refl
 change_id (change.Kill signal) t = by t.out
   where
     by : (o : Option ℕ) → (killed_while o signal t).id ≡ t.id
@@ -73,6 +74,7 @@ pub change_incarnation : (c : Change) (t : Task) → (changed c t).incarnation �
 change_incarnation change.Start t = refl
 change_incarnation change.Pause t = refl
 change_incarnation change.Resume t = refl
+change_incarnation (change.Step count) t = refl
 change_incarnation (change.Kill signal) t = by t.out
   where
     by : (o : Option ℕ) → (killed_while o signal t).incarnation ≡ t.incarnation
@@ -103,6 +105,13 @@ change_sound creates change.Start t h can = started_sound creates t h
 change_sound creates change.Pause t h can = paused_sound creates t h (running_only t.status can)
 change_sound creates change.Resume t h can = resumed_sound creates t h (paused_only t.status can)
 change_sound creates (change.Kill signal) t h can = killed_sound creates signal t h can
+change_sound creates (change.Step count) t h can = stepped_sound creates t count h
+
+-- a request's own refusals let it through
+pub own_accepted :
+    (id : List ℕ) (t : Task) (own : Task → Refusals) → first_refusal (task_refusals id own (Some t)) ≡ None
+    → first_refusal (own t) ≡ None
+own_accepted id t own h = (none_first (not (is_id id)) refusal.BadId (first_refusal (own t)) h).1
 
 one_accepted :
     (id : List ℕ) (t : Task) (c : TaskCall)
@@ -121,6 +130,10 @@ change_allowed change.Pause id t h = one_accepted id t call.Pause h
 change_allowed change.Resume id t h = one_accepted id t call.Resume h
 change_allowed (change.Kill signal.Kill) id t h = one_accepted id t call.Kill h
 change_allowed (change.Kill signal.Terminate) id t h = one_accepted id t call.Kill h
+change_allowed (change.Step count) id t h =
+    not_true (allowed call.Step t.status)
+    (none_first (not (allowed call.Step t.status)) refusal.WrongStatus _
+    (own_accepted id t (own_refusals (ask.Step count)) h)).0
 
 -- ---- answers to requests of one task
 
@@ -146,21 +159,23 @@ accepted_on s id own does t s' at none is =
     Option Refusal → Type 0 = λ x. DecidedBy x ((a ≡ Ok (does t).0) × (s' ≡ with_left s t (does t).1)) s a s' in
     subst (λ (o : Option Task). OnFound id own does o s a s') (sym at) (subst P (sym none) (refl, is))
 
+change_does : (c : Change) (t : Task) → does (change_ask c) t ≡ (change_reply c t.id (changed c t), Some (changed c t))
+change_does (change.Kill signal.Kill) t = refl
+change_does (change.Kill signal.Terminate) t = refl
+change_does change.Start t = refl
+change_does change.Pause t = refl
+change_does change.Resume t = refl
+change_does (change.Step count) t = refl
+
 -- the answer to a change that is made
 pub change_answers :
     (c : Change) (s : BoardState) (id : List ℕ) (t : Task) (s' : BoardState) → task_of id s.tasks ≡ Some t
     → first_refusal (task_refusals id (change_refusals c) (Some t)) ≡ None → s' ≡ with_task s (changed c t)
-    → Answers s (change_request c id) (Ok (change_reply c t.id (changed c t).status)) s'
-change_answers change.Start s id t s' at none is =
-    accepted_on s id (unless_allowed call.Start refusal.WrongStatus) (does ask.Start) t s' at none is
-change_answers change.Pause s id t s' at none is =
-    accepted_on s id (unless_allowed call.Pause refusal.WrongStatus) (does ask.Pause) t s' at none is
-change_answers change.Resume s id t s' at none is =
-    accepted_on s id (unless_allowed call.Resume refusal.WrongStatus) (does ask.Resume) t s' at none is
-change_answers (change.Kill signal.Kill) s id t s' at none is =
-    accepted_on s id (own_refusals (ask.Kill 9)) (does (ask.Kill 9)) t s' at none is
-change_answers (change.Kill signal.Terminate) s id t s' at none is =
-    accepted_on s id (own_refusals (ask.Kill 15)) (does (ask.Kill 15)) t s' at none is
+    → Answers s (change_request c id) (Ok (change_reply c t.id (changed c t))) s'
+change_answers c s id t s' at none is =
+    subst (λ (r : Reply). Answers s (change_request c id) (Ok r) s') (ap (λ (d : Done). d.0) (change_does c t))
+    (accepted_on s id (change_refusals c) (does (change_ask c)) t s' at none
+    (is ∙ ap (λ (d : Done). with_left s t d.1) (sym (change_does c t))))
 
 pub delete_answers : (s : BoardState) (id : List ℕ) (t : Task) (s' : BoardState) → task_of id s.tasks ≡ Some t
     → first_refusal (task_refusals id (unless_allowed call.Delete refusal.WrongStatus) (Some t)) ≡ None
@@ -170,34 +185,6 @@ delete_answers s id t s' at none is =
     accepted_on s id (unless_allowed call.Delete refusal.WrongStatus) (does ask.Delete) t s' at none is
 
 -- ---- breakpoints and steps
-
--- what a request to the task with an id that sets or removes a breakpoint, or is a step, makes of the task
-pub data Alters (q : Request) (id : List ℕ) (t t' : Task) : Type 0 where
-  marks : (m : Mark) → first_refusal (mark_refusals m t) ≡ None → t' ≡ marked m t → Alters q id t t'
-  takes_steps :
-      (count : ℕ) → q ≡ request.Task id (ask.Step count) → allowed call.Step t.status ≡ true → t' ≡ stepped t count
-      → Alters q id t t'
-
--- all but its breakpoints, its turns and its standing are as they were
-pub record IsSameTask (t t' : Task) : Type 0 where
-  pub same_id : t'.id ≡ t.id
-  pub number : t'.incarnation ≡ t.incarnation
-  pub same_process : t'.process ≡ t.process
-  pub same_bytes : t'.bytes ≡ t.bytes
-
-pub altered_same : (q : Request) (id : List ℕ) (t t' : Task) → Alters q id t t' → IsSameTask t t'
-altered_same q id t t' (marks m none is) = record {
-  same_id = ap (λ (x : Task). x.id) is;
-  number = ap (λ (x : Task). x.incarnation) is;
-  same_process = ap (λ (x : Task). x.process) is;
-  same_bytes = ap (λ (x : Task). x.bytes) is;
-}
-altered_same q id t t' (takes_steps count asked can is) = record {
-  same_id = ap (λ (x : Task). x.id) is;
-  number = ap (λ (x : Task). x.incarnation) is;
-  same_process = ap (λ (x : Task). x.process) is;
-  same_bytes = ap (λ (x : Task). x.bytes) is;
-}
 
 -- it is not out then
 marks_idle : (m : Mark) (status : Status) → allowed (mark_call m) status ≡ true → takes_turns status ≡ false
@@ -215,47 +202,12 @@ pub marked_idle :
     (creates : ℕ) (m : Mark) (t : Task) → IsSound creates t → allowed (mark_call m) t.status ≡ true → t.out ≡ None
 marked_idle creates m t h can = not_out t.out (takes_turns t.status) h.out (marks_idle m t.status can)
 
--- nor was it before
-steps_idle : (status : Status) → allowed call.Step status ≡ true → takes_turns status ≡ false
+pub steps_idle : (status : Status) → allowed call.Step status ≡ true → takes_turns status ≡ false
 steps_idle Created h = refl
 steps_idle Running h = cc
 steps_idle Pausing h = cc
 steps_idle Paused h = refl
 steps_idle Stopped h = refl
-
-pub was_idle :
-    (creates : ℕ) (q : Request) (id : List ℕ) (t t' : Task) → IsSound creates t → Alters q id t t' → t.out ≡ None
-was_idle creates q id t t' h (marks m none is) = marked_idle creates m t h (mark_allowed m t none)
-was_idle creates q id t t' h (takes_steps count asked can is) =
-    not_out t.out (takes_turns t.status) h.out (steps_idle t.status can)
-
-pub altered_idle :
-    (creates : ℕ) (q : Request) (id : List ℕ) (t t' : Task) → IsSound creates t → Alters q id t t' → t'.out ≡ None
-altered_idle creates q id t t' h (marks m none is) =
-    ap (λ (x : Task). x.out) is ∙ marked_idle creates m t h (mark_allowed m t none)
-altered_idle creates q id t t' h (takes_steps count asked can is) = ap (λ (x : Task). x.out) is
-
-pub altered_sound :
-    (creates : ℕ) (q : Request) (id : List ℕ) (t t' : Task) → IsSound creates t → Alters q id t t' → IsSound creates t'
-altered_sound creates q id t t' h (marks m none is) =
-    subst (IsSound creates) (sym is) (marked_sound creates m t h none)
-altered_sound creates q id t t' h (takes_steps count asked can is) =
-    subst (IsSound creates) (sym is) (stepped_sound creates t count h)
-
--- a request's own refusals let it through
-pub own_accepted :
-    (id : List ℕ) (t : Task) (own : Task → Refusals) → first_refusal (task_refusals id own (Some t)) ≡ None
-    → first_refusal (own t) ≡ None
-own_accepted id t own h = (none_first (not (is_id id)) refusal.BadId (first_refusal (own t)) h).1
-
-pub step_allowed :
-    (id : List ℕ) (t : Task) (count : ℕ)
-    → first_refusal (task_refusals id (own_refusals (ask.Step count)) (Some t)) ≡ None
-    → allowed call.Step t.status ≡ true
-step_allowed id t count h =
-    not_true (allowed call.Step t.status)
-    (none_first (not (allowed call.Step t.status)) refusal.WrongStatus _
-    (own_accepted id t (own_refusals (ask.Step count)) h)).0
 
 -- ---- what requests do
 
@@ -266,14 +218,14 @@ pub data Effect (s : BoardState) (q : Request) (s' : BoardState) : Type 0 where
       (config id : List ℕ) → (r : Answer) → first_refusal (create_refusals s config id) ≡ None
       → Creates s config id r s' → Effect s q s'
   changes :
-      (c : Change) → (id : List ℕ) → (t : Task) → task_of id s.tasks ≡ Some t → allowed (change_call c) t.status ≡ true
-      → s' ≡ with_task s (changed c t) → Effect s q s'
+      (c : Change) → (id : List ℕ) → (t : Task) → q ≡ change_request c id → task_of id s.tasks ≡ Some t
+      → allowed (change_call c) t.status ≡ true → s' ≡ with_task s (changed c t) → Effect s q s'
   deletes :
       (id : List ℕ) → (t : Task) → task_of id s.tasks ≡ Some t → allowed call.Delete t.status ≡ true
       → s' ≡ without_task s t.id → Effect s q s'
-  alters :
-      (id : List ℕ) → (t t' : Task) → task_of id s.tasks ≡ Some t → Alters q id t t' → s' ≡ with_task s t'
-      → Effect s q s'
+  marks :
+      (m : Mark) → (id : List ℕ) → (t : Task) → task_of id s.tasks ≡ Some t
+      → first_refusal (mark_refusals m t) ≡ None → s' ≡ with_task s (marked m t) → Effect s q s'
 
 effect_by :
     (s : BoardState) (q : Request) (s' : BoardState) (o : Option Refusal) (E : Type 0) → (o ≡ None → E → Effect s q s')
@@ -309,19 +261,24 @@ on_task_effect s q id own does (Some t) r s' on f =
 
 -- a kill by a number is one by its signal
 kill_effect :
-    (s : BoardState) (q : Request) (s' : BoardState) (id : List ℕ) (t : Task) (o : Option Signal)
+    (s : BoardState) (s' : BoardState) (id : List ℕ) (number : ℕ) (t : Task) (o : Option Signal) → signal_of number ≡ o
     → task_of id s.tasks ≡ Some t
     → first_refusal
     ((not (is_id id), refusal.BadId) ∷ (is_none o, refusal.OutOfRange)
     ∷ (not (allowed call.Kill t.status), refusal.WrongStatus) ∷ []) ≡ None
-    → s' ≡ with_task s (killed_by o t) → Effect s q s'
-kill_effect s q s' id t None at none is =
+    → s' ≡ with_task s (killed_by o t) → Effect s (request.Task id (ask.Kill number)) s'
+kill_effect s s' id number t None named at none is =
     let a = none_first (not (is_id id)) refusal.BadId _ none in
     absurd
     (true≢false
     (none_first true refusal.OutOfRange
     (first_refusal ((not (allowed call.Kill t.status), refusal.WrongStatus) ∷ [])) a.1).0)
-kill_effect s q s' id t (Some x) at none is = changes (change.Kill x) id t at (one_accepted id t call.Kill none) is
+kill_effect s s' id number t (Some x) named at none is =
+    let a = none_first (not (is_id id)) refusal.BadId _ none in
+    changes (change.Kill x) id t (ap (λ (n : ℕ). request.Task id (ask.Kill n)) (sym (signal_known number x named))) at
+    (not_true (allowed call.Kill t.status)
+    (none_first (not (allowed call.Kill t.status)) refusal.WrongStatus None a.1).0)
+    is
 
 put_effect :
     (s : BoardState) (q : Request) (bytes : List ℕ) (r : Answer) (s' : BoardState) → Puts s bytes r s' → Effect s q s'
@@ -340,20 +297,20 @@ ask_effect :
     (s s' : BoardState) (id : List ℕ) (k : Ask) (t : Task) → task_of id s.tasks ≡ Some t
     → first_refusal (task_refusals id (own_refusals k) (Some t)) ≡ None → s' ≡ with_left s t (does k t).1
     → Effect s (request.Task id k) s'
-ask_effect s s' id ask.Start t at none is = changes change.Start id t at (change_allowed change.Start id t none) is
-ask_effect s s' id ask.Pause t at none is = changes change.Pause id t at (change_allowed change.Pause id t none) is
-ask_effect s s' id ask.Resume t at none is = changes change.Resume id t at (change_allowed change.Resume id t none) is
+ask_effect s s' id ask.Start t at none is = changes change.Start id t refl at (change_allowed change.Start id t none) is
+ask_effect s s' id ask.Pause t at none is = changes change.Pause id t refl at (change_allowed change.Pause id t none) is
+ask_effect s s' id ask.Resume t at none is =
+    changes change.Resume id t refl at (change_allowed change.Resume id t none) is
 ask_effect s s' id (ask.Kill number) t at none is =
-    kill_effect s (request.Task id (ask.Kill number)) s' id t (signal_of number) at none is
+    kill_effect s s' id number t (signal_of number) refl at none is
 ask_effect s s' id ask.Delete t at none is = deletes id t at (one_accepted id t call.Delete none) is
 ask_effect s s' id (ask.Break func place) t at none is =
-    alters id t (marked (mark.Set (place_of func place)) t) at
-    (marks (mark.Set (place_of func place)) (own_accepted id t (own_refusals (ask.Break func place)) none) refl) is
+    marks (mark.Set (place_of func place)) id t at (own_accepted id t (own_refusals (ask.Break func place)) none) is
 ask_effect s s' id (ask.Unbreak func place) t at none is =
-    alters id t (marked (mark.Remove (place_of func place)) t) at
-    (marks (mark.Remove (place_of func place)) (own_accepted id t (own_refusals (ask.Unbreak func place)) none) refl) is
+    marks (mark.Remove (place_of func place)) id t at
+    (own_accepted id t (own_refusals (ask.Unbreak func place)) none) is
 ask_effect s s' id (ask.Step count) t at none is =
-    alters id t (stepped t count) at (takes_steps count refl (step_allowed id t count none) refl) is
+    changes (change.Step count) id t refl at (change_allowed (change.Step count) id t none) is
 ask_effect s s' id _ t at none is = nothing (is ∙ unchanged s id t at)
 
 pub effect_of : (s : BoardState) (q : Request) (r : Answer) (s' : BoardState) → Answers s q r s' → Effect s q s'
@@ -402,21 +359,19 @@ delete_keeps_sound s id t b at =
     let f = found id s.tasks t at in
     remove_sound s t.id f.0 t b (ap (λ (x : List ℕ). entry_of x s.tasks) (task_named id s.tasks t at) ∙ f.1)
 
-pub alter_keeps_sound :
-    (s : BoardState) (q : Request) (id : List ℕ) (t t' : Task) → IsBoard s → task_of id s.tasks ≡ Some t
-    → Alters q id t t' → IsBoard (with_task s t')
-alter_keeps_sound s q id t t' b at a =
-    let same = altered_same q id t t' a in
-    changed_sound s id t t' b at same.same_id same.number
-    (altered_sound s.creates q id t t' (sound_of s id t b at) a)
+pub mark_keeps_sound :
+    (s : BoardState) (m : Mark) (id : List ℕ) (t : Task) → IsBoard s → task_of id s.tasks ≡ Some t
+    → first_refusal (mark_refusals m t) ≡ None → IsBoard (with_task s (marked m t))
+mark_keeps_sound s m id t b at none =
+    changed_sound s id t (marked m t) b at refl refl (marked_sound s.creates m t (sound_of s id t b at) none)
 
 effect_sound : (s : BoardState) (q : Request) (s' : BoardState) → IsBoard s → Effect s q s' → IsBoard s'
 effect_sound s q s' b (nothing same) = subst IsBoard (sym same) b
 effect_sound s q s' b (stores new change is) = subst IsBoard (sym is) (store_sound s (used_by s.tasks) new b change)
 effect_sound s q s' b (enters config id r none made) = create_leaves s config id r s' b none made
-effect_sound s q s' b (changes c id t at can is) = subst IsBoard (sym is) (change_keeps_sound s c id t b at can)
+effect_sound s q s' b (changes c id t asked at can is) = subst IsBoard (sym is) (change_keeps_sound s c id t b at can)
 effect_sound s q s' b (deletes id t at can is) = subst IsBoard (sym is) (delete_keeps_sound s id t b at)
-effect_sound s q s' b (alters id t t' at a is) = subst IsBoard (sym is) (alter_keeps_sound s q id t t' b at a)
+effect_sound s q s' b (marks m id t at none is) = subst IsBoard (sym is) (mark_keeps_sound s m id t b at none)
 
 -- ---- questions
 

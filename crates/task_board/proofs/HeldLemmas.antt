@@ -8,6 +8,7 @@ use Rattle.content_leases.specs.StoreState.{StoreState, content_in, is_among, is
 use Rattle.task_board.specs.declared.change.Change.{Change}
 use Rattle.task_board.specs.declared.change.Change.TheVariants as change
 use Rattle.task_board.specs.Inside.Changes.{changed}
+use Rattle.task_board.specs.Inside.Marks.{marked}
 use Rattle.task_requests.specs.declared.request.Request.{Request}
 use Rattle.task_board.specs.BoardState.{Task, Entries, BoardState, empty, created_task, used_by, task_in, entry_of, task_of, put_task, change_task, remove_task}
 use Rattle.task_board.specs.Tasks.{killed_while, lent}
@@ -17,7 +18,7 @@ use Rattle.task_board.specs.Sound.{IsBoard}
 use Rattle.task_board.proofs.EntryLemmas.{none_is_not, some_is, by_slot, same_id, cond_true, cond_false, changed_from_old, IsChangedFrom, put_in, put_there, removed_there, removed_beside}
 use Rattle.task_board.proofs.StepLemmas.{found, task_named}
 use Rattle.task_board.proofs.StoreLemmas.{or_left, or_right, LeasedAreThere, held_stays, leased_are_there}
-use Rattle.task_board.proofs.EffectLemmas.{change_id, Effect, nothing, stores, enters, changes, deletes, alters, effect_of, altered_same}
+use Rattle.task_board.proofs.EffectLemmas.{change_id, Effect, nothing, stores, enters, changes, deletes, marks, effect_of}
 use Rattle.task_board.proofs.LawLemmas.{empty_sound, happens, happens_sound, taken_of}
 use Rattle.task_board.proofs.RunLemmas.{run_keeps}
 
@@ -42,9 +43,9 @@ effect_held s q s' (stores new change is) =
     λ digest bytes held h. ap (λ (x : BoardState). content_in x.store.contents digest) is
     ∙ held_stays (used_by s.tasks) s.store new change digest bytes held h
 effect_held s q s' (enters config id r none made) = same_store s s' (create_store s config id r s' made)
-effect_held s q s' (changes c id t at can is) = same_store s s' (ap (λ (x : BoardState). x.store) is)
+effect_held s q s' (changes c id t asked at can is) = same_store s s' (ap (λ (x : BoardState). x.store) is)
 effect_held s q s' (deletes id t at can is) = same_store s s' (ap (λ (x : BoardState). x.store) is)
-effect_held s q s' (alters id t t' at a is) = same_store s s' (ap (λ (x : BoardState). x.store) is)
+effect_held s q s' (marks m id t at none is) = same_store s s' (ap (λ (x : BoardState). x.store) is)
 
 return_held : (s : BoardState) (o : Option Task) (s' : BoardState) → Returns s o s' → HeldStay s s'
 return_held s None s' back = absurd back
@@ -132,6 +133,7 @@ change_process : (c : Change) (t : Task) → ((changed c t).process ≡ t.proces
 change_process change.Start t = (refl, refl)
 change_process change.Pause t = (refl, refl)
 change_process change.Resume t = (refl, refl)
+change_process (change.Step count) t = (refl, refl)
 change_process (change.Kill signal) t = by t.out
   where
     by : (o : Option ℕ) → ((killed_while o signal t).process ≡ t.process) × ((killed_while o signal t).bytes ≡ t.bytes)
@@ -181,16 +183,15 @@ effect_tasks s q s' b (stores new change is) all =
     subst (λ (x : BoardState). TasksHave x.store x.tasks) (sym is)
     (store_tasks s new (held_stays (used_by s.tasks) s.store new change) all)
 effect_tasks s q s' b (enters config id r none made) all = create_tasks s config id r s' made all
-effect_tasks s q s' b (changes c id t at can is) all =
+effect_tasks s q s' b (changes c id t asked at can is) all =
     let same = change_process c t in
     subst (λ (x : BoardState). TasksHave x.store x.tasks) (sym is)
     (task_changed s id t (changed c t) at (change_id c t) same.0 same.1 all)
 effect_tasks s q s' b (deletes id t at can is) all =
     subst (λ (x : BoardState). TasksHave x.store x.tasks) (sym is) (delete_tasks s id t b at all)
-effect_tasks s q s' b (alters id t t' at a is) all =
-    let same = altered_same q id t t' a in
+effect_tasks s q s' b (marks m id t at none is) all =
     subst (λ (x : BoardState). TasksHave x.store x.tasks) (sym is)
-    (task_changed s id t t' at same.same_id same.same_process same.same_bytes all)
+    (task_changed s id t (marked m t) at refl refl refl all)
 
 return_tasks :
     (s : BoardState) (id : List ℕ) (o : Option Task) (s' : BoardState) → task_of id s.tasks ≡ o → Returns s o s'
@@ -228,9 +229,9 @@ effect_leased s q s' (stores new change is) all =
     subst (λ (x : BoardState). LeasedAreThere x.store) (sym is)
     (leased_are_there (used_by s.tasks) s.store new change all)
 effect_leased s q s' (enters config id r none made) all = leased_same s s' (create_store s config id r s' made) all
-effect_leased s q s' (changes c id t at can is) all = leased_same s s' (ap (λ (x : BoardState). x.store) is) all
+effect_leased s q s' (changes c id t asked at can is) all = leased_same s s' (ap (λ (x : BoardState). x.store) is) all
 effect_leased s q s' (deletes id t at can is) all = leased_same s s' (ap (λ (x : BoardState). x.store) is) all
-effect_leased s q s' (alters id t t' at a is) all = leased_same s s' (ap (λ (x : BoardState). x.store) is) all
+effect_leased s q s' (marks m id t at none is) all = leased_same s s' (ap (λ (x : BoardState). x.store) is) all
 
 return_leased :
     (s : BoardState) (o : Option Task) (s' : BoardState) → Returns s o s' → LeasedAreThere s.store

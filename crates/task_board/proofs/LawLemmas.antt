@@ -41,14 +41,14 @@ use Rattle.task_board.specs.declared.change.Change.{Change}
 use Rattle.task_board.specs.declared.change.Change.TheVariants as change
 use Rattle.task_board.specs.declared.mark.Mark.{Mark}
 use Rattle.task_board.specs.declared.mark.Mark.TheVariants as mark
-use Rattle.task_board.specs.Inside.Changes.{change_call, changed}
+use Rattle.task_board.specs.Inside.Changes.{change_call, change_request, changed}
 use Rattle.task_board.specs.Inside.Marks.{mark_call, marked}
 use Rattle.task_board.specs.Moves.{Moves, stays, starts, pauses, resumes, is_killed, is_taken, returns, has_break, loses_break, steps, IsStepOf, Becomes, goes, remains}
 use Rattle.task_board.specs.Choices.{IsDetermined, AgreeOnRefusal, AgreeOnCreate}
 use Rattle.task_board.proofs.EntryLemmas.{none_is_not, some_is, by_slot, by_id, cond_true, cond_false, cond_is_true, cond_is_false, same_slot, other_slot, slot_away, named, in_slot, each_in, put_in, removed_there, removed_beside}
 use Rattle.task_board.proofs.MarkLemmas.{mark_allowed}
 use Rattle.task_board.proofs.StepLemmas.{found, task_named, sound_of, changed_sound, lent_sound}
-use Rattle.task_board.proofs.EffectLemmas.{change_id, Effect, nothing, stores, enters, changes, deletes, alters, effect_of, Alters, marks, takes_steps, altered_same, answers_sound}
+use Rattle.task_board.proofs.EffectLemmas.{change_id, Effect, nothing, stores, enters, changes, deletes, effect_of, marks, answers_sound}
 use Rattle.task_board.proofs.SoundLemmas.{advanced_sound}
 use Rattle.task_board.proofs.RunLemmas.{run_keeps}
 
@@ -220,25 +220,16 @@ change_moves : (c : Change) (t : Task) → allowed (change_call c) t.status ≡ 
 change_moves change.Start t can = starts can refl
 change_moves change.Pause t can = pauses can refl
 change_moves change.Resume t can = resumes can refl
+change_moves (change.Step count) t can = steps count can refl
 change_moves (change.Kill signal) t can = is_killed signal can refl
 
 killed_turns : (signal : Signal) (t : Task) (o : Option ℕ) → (killed_while o signal t).turns ≡ t.turns
 killed_turns signal t None = refl
 killed_turns signal t (Some n) = refl
 
-change_turns : (c : Change) (t : Task) → (changed c t).turns ≡ t.turns
-change_turns change.Start t = refl
-change_turns change.Pause t = refl
-change_turns change.Resume t = refl
-change_turns (change.Kill signal) t = killed_turns signal t t.out
-
 mark_moves : (m : Mark) (t : Task) → allowed (mark_call m) t.status ≡ true → Moves t (marked m t)
 mark_moves (mark.Set p) t can = has_break p can refl
 mark_moves (mark.Remove p) t can = loses_break p can refl
-
-alter_moves : (q : Request) (id : List ℕ) (t t' : Task) → Alters q id t t' → Moves t t'
-alter_moves q id t t' (marks m none is) = subst (Moves t) (sym is) (mark_moves m t (mark_allowed m t none))
-alter_moves q id t t' (takes_steps count asked can is) = steps count can is
 
 -- what becomes of a task; if it takes no turns, and the event is no step of it, its turns stay
 abbrev BecomesBy : Event → Task → Option Task → Type 0
@@ -249,12 +240,14 @@ BecomesBy e t o =
 abbrev Quiet : Event → Task → Task → Type 0
 Quiet e t t' = takes_turns t.status ≡ false → (IsStepOf e t → ⊥) → t'.turns ≡ t.turns
 
--- a breakpoint leaves the turns, and what adds turns is a step of the task
-alter_quiet :
-    (q : Request) (id : List ℕ) (t t' : Task) → t.id ≡ id → Alters q id t t' → Quiet (event.Call q) t t'
-alter_quiet q id t t' own (marks m none is) off other = ap (λ (x : Task). x.turns) is
-alter_quiet q id t t' own (takes_steps count asked can is) off other =
-    absurd (other (subst (λ (x : Request). IsStepOf (event.Call x) t) (sym asked) (sym own)))
+-- what adds turns is a step of the task
+change_quiet :
+    (c : Change) (id : List ℕ) (t : Task) → t.id ≡ id → Quiet (event.Call (change_request c id)) t (changed c t)
+change_quiet (change.Step count) id t own off other = absurd (other (sym own))
+change_quiet (change.Kill signal) id t own off other = killed_turns signal t t.out
+change_quiet change.Start id t own off other = refl
+change_quiet change.Pause id t own off other = refl
+change_quiet change.Resume id t own off other = refl
 
 module _ (e : Event) where
   abbrev AllMove : Entries → Entries → Type 0
@@ -341,16 +334,16 @@ module _ (e : Event) where
   effect_moves s q s' of rising (stores new change is) =
       subst (λ (x : BoardState). AllMove s.tasks x.tasks) (sym is) (all_stay s.tasks)
   effect_moves s q s' of rising (enters config id r none made) = create_moves s config id r s' made
-  effect_moves s q s' of rising (changes c id t at can is) =
+  effect_moves s q s' of rising (changes c id t asked at can is) =
       subst (λ (x : BoardState). AllMove s.tasks x.tasks) (sym is)
       (one_moves s id t (changed c t) rising at (change_id c t) (change_moves c t can)
-      (λ off other. change_turns c t))
+      (subst (λ (x : Event). Quiet x t (changed c t)) (sym (of ∙ ap event.Call asked))
+      (change_quiet c id t (task_named id s.tasks t at))))
   effect_moves s q s' of rising (deletes id t at can is) =
       subst (λ (x : BoardState). AllMove s.tasks x.tasks) (sym is) (one_goes s id t rising at can)
-  effect_moves s q s' of rising (alters id t t' at a is) =
+  effect_moves s q s' of rising (marks m id t at none is) =
       subst (λ (x : BoardState). AllMove s.tasks x.tasks) (sym is)
-      (one_moves s id t t' rising at (altered_same q id t t' a).same_id (alter_moves q id t t' a)
-      (subst (λ (x : Event). Quiet x t t') (sym of) (alter_quiet q id t t' (task_named id s.tasks t at) a)))
+      (one_moves s id t (marked m t) rising at refl (mark_moves m t (mark_allowed m t none)) (λ off other. refl))
 
   answers_move :
       (s : BoardState) (q : Request) (r : Answer) (s' : BoardState) → e ≡ event.Call q → AreRising (slots_of s.tasks)

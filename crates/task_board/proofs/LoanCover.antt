@@ -7,6 +7,8 @@ use Rattle.task_requests.specs.declared.request.Request.{Request}
 use Rattle.task_board.specs.declared.change.Change.{Change}
 use Rattle.task_board.specs.declared.change.Change.TheVariants as change
 use Rattle.task_board.specs.Inside.Changes.{changed}
+use Rattle.task_board.specs.Inside.Marks.{marked}
+use Rattle.task_board.proofs.MarkLemmas.{mark_allowed}
 use Rattle.task_board.specs.BoardState.{Task, Entries, BoardState, created_task, task_in, entry_of, task_of, put_task, change_task, remove_task, with_task}
 use Rattle.task_board.specs.Tasks.{killed_while, can_lend, lent}
 use Rattle.task_board.specs.Step.{Answer, Creates, Answers, is_budget, lends, taken, is_out, Returns}
@@ -16,7 +18,7 @@ use Rattle.task_board.specs.Tickets.{ticket_to, ticket_of, CanLend, Lends}
 use Rattle.task_board.specs.Inside.Covers.{IsFitting, FitsAt, NoneFits, SomeFits, Covered}
 use Rattle.task_board.proofs.EntryLemmas.{none_is_not, some_is, by_slot, entry_at, named, in_slot, change_in, changed_in, put_in, put_there, IsChangedIn, IsChangedFrom, changed_from_old, removed_there, removed_beside, cond_is_false}
 use Rattle.task_board.proofs.StepLemmas.{found, task_named, sound_of}
-use Rattle.task_board.proofs.EffectLemmas.{change_id, Effect, nothing, stores, enters, changes, deletes, alters, effect_of, altered_same, altered_idle}
+use Rattle.task_board.proofs.EffectLemmas.{change_id, Effect, nothing, stores, enters, changes, deletes, marks, effect_of, marked_idle}
 
 -- ---- what stays
 
@@ -85,6 +87,7 @@ out_before : (c : Change) (t : Task) (budget : ℕ) → (changed c t).out ≡ So
 out_before change.Start t budget h = absurd (none_is_not budget h)
 out_before change.Pause t budget h = h
 out_before change.Resume t budget h = h
+out_before (change.Step count) t budget h = absurd (none_is_not budget h)
 out_before (change.Kill signal) t budget h = by t.out refl h
   where
     by : (o : Option ℕ) → t.out ≡ o → (killed_while o signal t).out ≡ Some budget → t.out ≡ Some budget
@@ -98,6 +101,7 @@ loan_stays :
 loan_stays change.Start t l budget h fits = absurd (none_is_not budget h)
 loan_stays change.Pause t l budget h fits = fits
 loan_stays change.Resume t l budget h fits = fits
+loan_stays (change.Step count) t l budget h fits = absurd (none_is_not budget h)
 loan_stays (change.Kill signal) t l budget h fits = by t.out h
   where
     by : (o : Option ℕ) → (killed_while o signal t).out ≡ Some budget → FitsTask l (killed_while o signal t)
@@ -176,14 +180,14 @@ effect_covered ls s q s' b (nothing same) covered = same_covered ls s s' same co
 effect_covered ls s q s' b (stores new change is) covered =
     subst (λ (x : BoardState). Covered ls x.tasks) (sym is) covered
 effect_covered ls s q s' b (enters config id r none made) covered = create_covered ls s config id r s' made covered
-effect_covered ls s q s' b (changes c id t at can is) covered =
+effect_covered ls s q s' b (changes c id t asked at can is) covered =
     subst (λ (x : BoardState). Covered ls x.tasks) (sym is) (change_covered ls s c id t at covered)
 effect_covered ls s q s' b (deletes id t at can is) covered =
     subst (λ (x : BoardState). Covered ls x.tasks) (sym is) (delete_covered ls s id t b at covered)
-effect_covered ls s q s' b (alters id t t' at a is) covered =
+effect_covered ls s q s' b (marks m id t at none is) covered =
     subst (λ (x : BoardState). Covered ls x.tasks) (sym is)
-    (idle_covered ls s id t t' at (altered_same q id t t' a).same_id
-    (altered_idle s.creates q id t t' (sound_of s id t b at) a) covered)
+    (idle_covered ls s id t (marked m t) at refl
+    (marked_idle s.creates m t (sound_of s id t b at) (mark_allowed m t none)) covered)
 
 pub answers_covered :
     (ls : List Lent) (s : BoardState) (q : Request) (r : Answer) (s' : BoardState) → IsBoard s → Answers s q r s'

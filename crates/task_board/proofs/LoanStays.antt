@@ -4,6 +4,8 @@ use Rattle.task_board.specs.declared.change.Change.{Change}
 use Rattle.task_board.specs.declared.change.Change.TheVariants as change
 use Rattle.task_board.specs.declared.ticket.Ticket.{Ticket}
 use Rattle.task_board.specs.Inside.Changes.{change_call, changed}
+use Rattle.task_board.specs.Inside.Marks.{marked}
+use Rattle.task_board.proofs.MarkLemmas.{mark_allowed}
 use Rattle.task_lifecycle.specs.Lifecycle.{allowed, takes_turns, is_running}
 use Rattle.task_requests.specs.declared.request.Request.{Request}
 use Rattle.task_requests.specs.declared.event.Event.{Event}
@@ -18,7 +20,7 @@ use Rattle.task_board.specs.Loans.{Lent, FitsTask, Fits}
 use Rattle.task_board.specs.Tickets.{Lends}
 use Rattle.task_board.proofs.EntryLemmas.{none_is_not, some_is, by_slot, entry_at, in_slot, changed_in, put_in, IsChangedFrom, changed_from_old, removed_beside}
 use Rattle.task_board.proofs.StepLemmas.{found, task_named, sound_of}
-use Rattle.task_board.proofs.EffectLemmas.{change_id, created_only, stopped_only, Effect, nothing, stores, enters, changes, deletes, alters, effect_of, not_out, altered_same, was_idle}
+use Rattle.task_board.proofs.EffectLemmas.{change_id, created_only, stopped_only, Effect, nothing, stores, enters, changes, deletes, marks, effect_of, marked_idle, steps_idle, not_out}
 use Rattle.task_board.proofs.LawLemmas.{taken_of}
 use Rattle.task_board.proofs.LoanCover.{change_other}
 
@@ -84,6 +86,8 @@ loan_kept creates change.Start t l h can own =
     absurd (idle_unfit l t own (idle_in creates t h (ap takes_turns (created_only t.status can))))
 loan_kept creates change.Pause t l h can own = own
 loan_kept creates change.Resume t l h can own = own
+loan_kept creates (change.Step count) t l h can own =
+    absurd (idle_unfit l t own (idle_in creates t h (steps_idle t.status can)))
 loan_kept creates (change.Kill signal) t l h can own = by t.out own.1
   where
     by : (o : Option ℕ) → o ≡ Some l.budget → FitsTask l (killed_while o signal t)
@@ -112,17 +116,17 @@ effect_stays :
 effect_stays l s q s' b (nothing same) fit = same_board l s s' same fit
 effect_stays l s q s' b (stores new change is) fit = subst (λ (x : BoardState). Fits l x.tasks) (sym is) fit
 effect_stays l s q s' b (enters config id r none made) fit = create_stays l s config id r s' made fit
-effect_stays l s q s' b (changes c id t at can is) fit =
+effect_stays l s q s' b (changes c id t asked at can is) fit =
     subst (λ (x : BoardState). Fits l x.tasks) (sym is)
     (change_stays l s id t (changed c t) at (change_id c t)
     (loan_kept s.creates c t l (sound_of s id t b at) can) fit)
 effect_stays l s q s' b (deletes id t at can is) fit =
     let idle = idle_in s.creates t (sound_of s id t b at) (ap takes_turns (stopped_only t.status can)) in
     subst (λ (x : BoardState). Fits l x.tasks) (sym is) (delete_stays l s id t b at idle fit)
-effect_stays l s q s' b (alters id t t' at a is) fit =
-    let idle = was_idle s.creates q id t t' (sound_of s id t b at) a in
+effect_stays l s q s' b (marks m id t at none is) fit =
+    let idle = marked_idle s.creates m t (sound_of s id t b at) (mark_allowed m t none) in
     subst (λ (x : BoardState). Fits l x.tasks) (sym is)
-    (change_stays l s id t t' at (altered_same q id t t' a).same_id (λ own. absurd (idle_unfit l t own idle)) fit)
+    (change_stays l s id t (marked m t) at refl (λ own. absurd (idle_unfit l t own idle)) fit)
 
 pub answers_stay :
     (s : BoardState) (q : Request) (r : Answer) (s' : BoardState) (l : Lent) → IsBoard s → Answers s q r s'

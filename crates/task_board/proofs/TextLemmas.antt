@@ -9,8 +9,6 @@ use Rattle.wasm_binary.specs.Canonical.{canon, FitsLimits}
 use Rattle.text_assembler.specs.Modules.{Denotes, IsTooDeep, IsBadText}
 use Rattle.task_board.specs.declared.prepared.Plan.{Plan}
 use Rattle.task_board.specs.declared.prepared.Plan.TheVariants as plan
-use Rattle.task_board.specs.declared.change.Change.{Change}
-use Rattle.task_board.specs.declared.change.Change.TheVariants as change
 use Rattle.task_board.specs.declared.store_change.StoreChange.{StoreChange}
 use Rattle.task_board.specs.declared.store_change.StoreChange.TheVariants as store
 use Rattle.task_requests.specs.declared.request.Request.TheVariants as request
@@ -19,10 +17,6 @@ use Rattle.task_board.specs.BoardValue.{Room}
 use Rattle.task_board.specs.Texts.{IsAssembled, DenotesNone, CannotAssemble, bad_text, too_much, too_deep}
 use Rattle.task_board.specs.Step.{Answer, Puts, PutsText, refused, stored, Answers}
 use Rattle.task_board.specs.Choices.{AgreeOnText}
-use Rattle.task_board.specs.declared.mark.Mark.{Mark}
-use Rattle.task_board.specs.declared.mark.Mark.TheVariants as mark
-use Rattle.task_board.specs.Inside.Changes.{change_request}
-use Rattle.task_board.specs.Inside.Marks.{mark_request}
 use Rattle.task_board.specs.Inside.StoreChanges.{IsMadeFor}
 use Rattle.task_board.specs.Inside.Plans.{Plans}
 use Rattle.task_board.proofs.LawLemmas.{answers_same}
@@ -39,14 +33,6 @@ text_change text bytes (store.Put key given digest) is made =
     same_bytes a b h = cc
 text_change text bytes _ is made = cc
 
-no_change : (bytes : List ℕ) (c : Change) (id : List ℕ) → request.Put bytes ≡ change_request c id → ⊥
-no_change bytes change.Start id h = cc
-no_change bytes _ id h = cc
-
-no_mark : (bytes : List ℕ) (m : Mark) (id : List ℕ) → request.Put bytes ≡ mark_request m id → ⊥
-no_mark bytes (mark.Set p) id h = cc
-no_mark bytes (mark.Remove p) id h = cc
-
 -- what a put of the bytes of a text is prepared as, its put is prepared as
 text_plan :
     (s : BoardState) (room : Room) (text bytes : List ℕ) (p : Plan) → IsAssembled text bytes
@@ -55,10 +41,9 @@ text_plan s room text bytes (plan.Refused e) is h = (h.0, stored bytes is h.1)
 text_plan s room text bytes (plan.Answered reply) is h = absurd h.0
 text_plan s room text bytes (plan.Store c) is h = (text_change text bytes c is h.0, h.1)
 text_plan s room text bytes (plan.Create task id) is h = let asked = h.is in cc
-text_plan s room text bytes (plan.Change c slot id) is h = absurd (no_change bytes c id h.0)
+text_plan s room text bytes (plan.Change c slot id) is h = let asked = h.0 in cc
 text_plan s room text bytes (plan.Delete slot id) is h = let asked = h.0 in cc
-text_plan s room text bytes (plan.Breaks m slot id breaks) is h = absurd (no_mark bytes m id h.0)
-text_plan s room text bytes (plan.Step slot count id) is h = let asked = h.0 in cc
+text_plan s room text bytes (plan.Breaks m slot id breaks) is h = let asked = h.0 in cc
 
 module _ {E : Type 0} where
   pub text_plans :

@@ -6,7 +6,7 @@ ghost use Rattle.task_requests.specs.Memory.{asks_for_memory};
 ghost use Rattle.task_requests.specs.declared.request.Ask.TheVariants as ask;
 ghost use Rattle.task_board.specs.Refusals.{is_step};
 ghost use Rattle.task_board.specs.Tasks.{place_of};
-ghost use Rattle.task_board.specs.Inside.Changes.{change_ask};
+ghost use Rattle.task_board.specs.Inside.Changes.{change_ask, IsPlain};
 ghost use Rattle.task_board.specs.Inside.Marks.{mark_ask};
 ghost use Rattle.task_board.specs.Inside.Plans.{IsAccepted, PlansAsk, place_refusals};
 
@@ -59,8 +59,9 @@ impl Task {
         }
     }
 
-    // A change.
+    // A change that the task's status alone allows.
     fn plan_change(&self, slot: usize, id: Text, change: Change) -> Plan
+        requires { IsPlain change }
         ensures { PlansAsk self.now slot id (change_ask change) result }
     {
         if self.status().allows(change.call()) {
@@ -212,7 +213,11 @@ impl Task {
             return Plan::Refused(Refusal::WrongStatus);
         }
         if is_step(count) {
-            Plan::Step { slot, count, id }
+            Plan::Change {
+                change: Change::Step(count),
+                slot,
+                id,
+            }
         } else {
             Plan::Refused(Refusal::OutOfRange)
         }

@@ -152,7 +152,6 @@ impl Board {
                 id,
                 breaks,
             } => Ok(self.mark(mark, slot, id, breaks)),
-            Plan::Step { slot, count, id } => Ok(self.step(slot, count, id)),
         }
     }
 

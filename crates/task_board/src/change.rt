@@ -1,19 +1,19 @@
 //! What a request changes of a task.
 
 ghost use Rattle.std.specs.Prelude.{◌≡◌};
-ghost use Rattle.task_board.specs.Inside.Changes.{change_call, change_reply, enters};
+ghost use Rattle.task_board.specs.Inside.Changes.{change_call, enters};
 
-use task_lifecycle::{Signal, Status, TaskCall};
-use task_requests::Reply;
-use wasm_ast::Text;
+use task_lifecycle::{Signal, TaskCall};
 
 /// A change that a request makes of a task.
-#[derive(Clone, Copy, PartialEq, Eq, Debug)]
+#[derive(Clone, Copy)]
 pub enum Change {
     Start,
     Pause,
     Resume,
     Kill(Signal),
+    /// At most this many turns.
+    Step(u64),
 }
 
 impl Change {
@@ -26,6 +26,7 @@ impl Change {
             Change::Pause => TaskCall::Pause,
             Change::Resume => TaskCall::Resume,
             Change::Kill(_) => TaskCall::Kill,
+            Change::Step(_) => TaskCall::Step,
         }
     }
 
@@ -34,17 +35,5 @@ impl Change {
         ensures { result ≡ enters self }
     {
         matches!(self, Change::Start | Change::Resume)
-    }
-
-    /// What it is answered, if it leads to this status.
-    pub fn reply(self, id: Text, status: Status) -> Reply
-        ensures { result ≡ change_reply self id status }
-    {
-        match self {
-            Change::Start => Reply::Start { id, status },
-            Change::Pause => Reply::Pause { id, status },
-            Change::Resume => Reply::Resume { id, status },
-            Change::Kill(_) => Reply::Kill { id, status },
-        }
     }
 }

@@ -62,12 +62,6 @@ pub enum Plan {
         id: Text,
         breaks: NewBreaks,
     },
-    /// The task in a slot makes a step, and its id is answered.
-    Step {
-        slot: usize,
-        count: u64,
-        id: Text,
-    },
 }
 
 impl Plan {

@@ -1,22 +1,21 @@
 //! A task, and its machine while that is not checked out.
 
-ghost use Rattle.std.specs.Prelude.{◌≡◌, ◌≤◌, ◌+◌, option_map, ◌↔◌, IsTrue, Option, Some, None, IfSome, IfNone, IfOk, true, false, length, is_some};
+ghost use Rattle.std.specs.Prelude.{◌≡◌, option_map, ◌↔◌, IsTrue, Option, Some, None, IfSome, IfNone, IfOk, true, false, is_some};
 ghost use Rattle.std.specs.Arc.{arc_value};
 ghost use Rattle.slab.specs.Slab.{entries};
 ghost use Rattle.step_machine.specs.Instantiation.{ended};
 ghost use Rattle.step_machine.specs.Places.{has_place};
-ghost use Rattle.step_machine.specs.Slices.{at_break};
 ghost use Rattle.task_lifecycle.specs.Lifecycle.{allowed};
 ghost use Rattle.content_leases.specs.StoreState.{is_among};
 ghost use Rattle.task_board.specs.BoardState.{created_task, entry_of, used_by};
 ghost use Rattle.task_board.specs.Ended.{end_of};
-ghost use Rattle.task_board.specs.Loans.{Lent, loan_of, FitsTask};
+ghost use Rattle.task_board.specs.Loans.{loan_of, FitsTask};
 ghost use Rattle.task_board.specs.Refusals.{Openable};
 ghost use Rattle.task_board.specs.Tasks.{started, paused, resumed, first_signal, killed, place_of, advanced, slice_turns, can_lend, lent, stepped, state_of, output_of};
 ghost use Rattle.task_board.specs.Tickets.{ticket_if_running};
 ghost use Rattle.task_board.specs.Waiting.{is_present};
 ghost use Rattle.task_board.specs.Inside.Machines.{IsMachine};
-ghost use Rattle.task_board.specs.Inside.Changes.{change_call, changed};
+ghost use Rattle.task_board.specs.Inside.Changes.{change_call, change_reply, changed};
 
 use crate::change::Change;
 use crate::checkout::{Checkout, Shared};
@@ -30,7 +29,7 @@ use std::marker::Model;
 use std::sync::Arc;
 use step_machine::{Breaks, Machine};
 use task_lifecycle::{ExitRecord, Signal, Status};
-use task_requests::TaskState;
+use task_requests::{Reply, TaskState};
 use wasm_ast::{Place, Sequence, Text};
 use wasm_binary::laws::spells_one;
 
@@ -280,16 +279,27 @@ impl Task {
         self.signal = None;
     }
 
-    /// Changes it as its status allows.
-    pub fn change(&mut self, change: Change)
-        requires { allowed (change_call change) self.old.status ≡ true }
-        ensures { self.new ≡ changed change self.old }
+    /// Changes it as its status allows, and answers under its id.
+    pub fn change(&mut self, change: Change, id: Text) -> Reply
+        requires named { id ≡ self.old.id }
+        requires allowed { allowed (change_call change) self.old.status ≡ true }
+        ensures task { self.new ≡ changed change self.old }
+        ensures reply { result ≡ change_reply change id self.new }
     {
         match change {
             Change::Start => self.start(),
             Change::Pause => self.pause(),
             Change::Resume => self.resume(),
             Change::Kill(signal) => self.kill(signal),
+            Change::Step(count) => self.step(count),
+        }
+        let status = self.status;
+        match change {
+            Change::Start => Reply::Start { id, status },
+            Change::Pause => Reply::Pause { id, status },
+            Change::Resume => Reply::Resume { id, status },
+            Change::Kill(_) => Reply::Kill { id, status },
+            Change::Step(_) => Reply::Step(self.state(id)),
         }
     }
 

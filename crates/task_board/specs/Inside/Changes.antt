@@ -2,7 +2,6 @@
 use Rattle.std.specs.Prelude.{ℕ, List, Bool, true, false}
 use Rattle.task_lifecycle.specs.declared.lifecycle.TaskCall.{TaskCall}
 use Rattle.task_lifecycle.specs.declared.lifecycle.TaskCall.TheVariants as call
-use Rattle.task_lifecycle.specs.declared.status.Status.{Status}
 use Rattle.task_lifecycle.specs.Names.{signal_number}
 use Rattle.task_board.specs.declared.change.Change.{Change}
 use Rattle.task_board.specs.declared.change.Change.TheVariants as change
@@ -14,7 +13,7 @@ use Rattle.task_requests.specs.declared.request.Reply.{Reply}
 use Rattle.task_requests.specs.declared.request.Reply.TheVariants as reply
 use Rattle.content_leases.specs.Refusals.{Refusals}
 use Rattle.task_board.specs.BoardState.{Task}
-use Rattle.task_board.specs.Tasks.{started, paused, resumed, killed}
+use Rattle.task_board.specs.Tasks.{state_of, started, paused, resumed, killed, stepped}
 use Rattle.task_board.specs.Refusals.{own_refusals}
 
 abbrev pub change_call : Change → TaskCall
@@ -22,6 +21,12 @@ change_call change.Start = call.Start
 change_call change.Pause = call.Pause
 change_call change.Resume = call.Resume
 change_call (change.Kill signal) = call.Kill
+change_call (change.Step count) = call.Step
+
+-- the status of the task is all that decides whether it is made
+abbrev pub IsPlain : Change → Type 0
+IsPlain (change.Step count) = ⊥
+IsPlain other = Unit {0}
 
 -- it lets the task wait for a worker, if that is running afterwards
 abbrev pub enters : Change → Bool
@@ -29,6 +34,7 @@ enters change.Start = true
 enters change.Pause = false
 enters change.Resume = true
 enters (change.Kill signal) = false
+enters (change.Step count) = false
 
 -- what is asked with it
 abbrev pub change_ask : Change → Ask
@@ -36,15 +42,18 @@ change_ask change.Start = ask.Start
 change_ask change.Pause = ask.Pause
 change_ask change.Resume = ask.Resume
 change_ask (change.Kill signal) = ask.Kill (signal_number signal)
+change_ask (change.Step count) = ask.Step count
 
 abbrev pub change_request : Change → (id : List ℕ) → Request
 change_request c id = request.Task id (change_ask c)
 
-abbrev pub change_reply : Change → (id : List ℕ) → Status → Reply
-change_reply change.Start id status = reply.Start id status
-change_reply change.Pause id status = reply.Pause id status
-change_reply change.Resume id status = reply.Resume id status
-change_reply (change.Kill signal) id status = reply.Kill id status
+-- what is answered, under this id, with the task after the change
+abbrev pub change_reply : Change → (id : List ℕ) → Task → Reply
+change_reply change.Start id t = reply.Start id t.status
+change_reply change.Pause id t = reply.Pause id t.status
+change_reply change.Resume id t = reply.Resume id t.status
+change_reply (change.Kill signal) id t = reply.Kill id t.status
+change_reply (change.Step count) id t = reply.Step (record (state_of t) { id = id })
 
 abbrev pub change_refusals : Change → Task → Refusals
 change_refusals c = own_refusals (change_ask c)
@@ -55,3 +64,4 @@ changed change.Start t = started t
 changed change.Pause t = paused t
 changed change.Resume t = resumed t
 changed (change.Kill signal) t = killed signal t
+changed (change.Step count) t = stepped t count

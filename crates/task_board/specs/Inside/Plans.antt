@@ -101,8 +101,6 @@ PlansAsk t slot id a (plan.Delete slot' id') =
 PlansAsk t slot id a (plan.Breaks m slot' id' b) =
     (a ≡ mark_ask m) × IsAccepted a t × Names slot id slot' id'
     × (arc_value b.own ≡ marked_places m t.breaks) × (arc_value b.lent ≡ marked_places m t.breaks)
-PlansAsk t slot id a (plan.Step slot' count id') =
-    (a ≡ ask.Step count) × IsAccepted a t × Names slot id slot' id'
 PlansAsk t slot id a other = ⊥
 
 -- a request that leaves each task as it is
@@ -123,8 +121,6 @@ Plans s room r (plan.Delete slot id) =
     × CallPrepared s (unless_allowed call.Delete refusal.WrongStatus) slot id
 Plans s room r (plan.Breaks m slot id breaks) =
     (r ≡ mark_request m id) × MarkPrepared s m slot id breaks
-Plans s room r (plan.Step slot count id) =
-    (r ≡ request.Task id (ask.Step count)) × CallPrepared s (own_refusals (ask.Step count)) slot id
 
 abbrev pub refusal_in : Plan → Option Refusal
 refusal_in (plan.Refused e) = Some e

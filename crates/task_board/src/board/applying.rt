@@ -3,7 +3,7 @@
 ghost use Rattle.std.specs.Prelude.{◌≡◌, Some, None, Ok};
 ghost use Rattle.task_requests.specs.declared.request.Request.{Request as RequestValue};
 ghost use Rattle.task_requests.specs.declared.request.Request.TheVariants as request;
-ghost use Rattle.task_board.specs.Refusals.{unless_allowed, own_refusals};
+ghost use Rattle.task_board.specs.Refusals.{unless_allowed};
 ghost use Rattle.task_board.specs.Step.{Answers, Step};
 ghost use Rattle.task_board.specs.Tickets.{ticket_in};
 ghost use Rattle.task_board.specs.Waiting.{running_ticket, waiting_after_call};
@@ -62,9 +62,7 @@ impl Board {
         let Some(task) = self.tasks.get_mut(slot) else {
             unreachable!();
         };
-        task.change(change);
-        let status = task.status();
-        change.reply(id, status)
+        task.change(change, id)
     }
 
     // A ticket of the task in a slot, if that is running.
@@ -124,19 +122,5 @@ impl Board {
         };
         task.set_breaks(breaks);
         mark.reply(id)
-    }
-
-    // Lets the task in a slot make a step.
-    pub(crate) fn step(&mut self, slot: usize, count: u64, id: Text) -> Reply
-        requires { CallPrepared self.old.state (own_refusals (ask.Step count)) slot id }
-        ensures answers { Answers self.old.state
-            (request.Task id (ask.Step count)) (Ok result) self.new.state }
-        ensures waiting { self.new.waiting ≡ self.old.waiting }
-    {
-        let Some(task) = self.tasks.get_mut(slot) else {
-            unreachable!();
-        };
-        task.step(count);
-        Reply::Step(task.state(id))
     }
 }

@@ -1,17 +1,15 @@
-use Rattle.std.proofs.Common.{◌≡◌, ◌∙◌, Some, None, Ok, sym, ap, subst, rules}
+use Rattle.std.proofs.Common.{◌≡◌, ◌∙◌, Some, None, Ok, sym, subst, rules}
 use Rattle.slab.specs.Slab.{get}
-use Rattle.task_lifecycle.specs.declared.status.Status.{Status}
-use Rattle.task_lifecycle.specs.Lifecycle.{allowed}
 use Rattle.task_requests.specs.declared.request.Reply.{Reply}
-use Rattle.task_board.specs.BoardState.{Task}
 use Rattle.task_board.specs.BoardValue.{BoardValue}
 use Rattle.task_board.specs.Step.{Answers}
-use Rattle.task_board.specs.Inside.Changes.{change_call, change_request, change_reply, change_refusals}
+use Rattle.task_board.specs.Inside.Changes.{change_request, change_reply, change_refusals}
 use Rattle.task_board.specs.Inside.Plans.{CallPrepared}
 use Rattle.task_board.specs.Inside.Shown.{board_state_of}
-use Rattle.task_board.proofs.EntryLemmas.{none_is_not, some_is}
+use Rattle.task_board.proofs.EntryLemmas.{none_is_not}
+use Rattle.task_board.proofs.StepLemmas.{task_named}
 use Rattle.task_board.proofs.EffectLemmas.{change_allowed, answers_sound}
-use Rattle.task_board.proofs.BoardLemmas.{with_write, call_there, changed_there}
+use Rattle.task_board.proofs.BoardLemmas.{with_write, call_there, call_at, call_accepted, changed_there}
 use Rattle.task_board.proofs.board.Board.change.Goals as goal
 
 pub unreachable-requires : goal.unreachable-requires
@@ -22,15 +20,24 @@ unreachable-requires c =
     let none : get c.self.inside.tasks c.args.slot ≡ None = search rules in
     none_is_not p.task (sym none ∙ at)
 
-pub change-requires : goal.change-requires
-change-requires c =
+pub change-requires-clause-named : goal.change-requires-clause-named
+change-requires-clause-named c =
     let P : BoardValue → Type 0 = λ v. CallPrepared v.state (change_refusals c.args.change) c.args.slot c.args.id in
     let p = subst P (sym c.self.view_is) c.requires in
-    let at = call_there c.self.inside (change_refusals c.args.change) c.args.slot c.args.id c.self.invariant.sound p in
     let here : get c.self.inside.tasks c.args.slot ≡ Some c.in-Some.task.now = search rules in
-    let same = some_is p.task c.in-Some.task.now (sym at ∙ here) in
-    ap (λ (u : Task). allowed (change_call c.args.change) u.status) (sym same)
-    ∙ change_allowed c.args.change c.args.id p.task p.accepted
+    let at =
+    call_at c.self.inside (change_refusals c.args.change) c.args.slot c.args.id c.in-Some.task.now
+    c.self.invariant.sound p here in
+    sym (task_named c.args.id (board_state_of c.self.inside).tasks c.in-Some.task.now at)
+
+pub change-requires-clause-allowed : goal.change-requires-clause-allowed
+change-requires-clause-allowed c =
+    let P : BoardValue → Type 0 = λ v. CallPrepared v.state (change_refusals c.args.change) c.args.slot c.args.id in
+    let p = subst P (sym c.self.view_is) c.requires in
+    let here : get c.self.inside.tasks c.args.slot ≡ Some c.in-Some.task.now = search rules in
+    change_allowed c.args.change c.args.id c.in-Some.task.now
+    (call_accepted c.self.inside (change_refusals c.args.change) c.args.slot c.args.id c.in-Some.task.now
+    c.self.invariant.sound p here)
 
 pub invariant_of-self : goal.invariant_of-self
 invariant_of-self c =
@@ -39,14 +46,14 @@ invariant_of-self c =
     let here : get c.self.inside.tasks c.args.slot ≡ Some c.in-Some.task.now = search rules in
     let done =
     changed_there c.self.inside c.args.change c.args.slot c.args.id c.in-Some.task.now c.change.new.self
-    c.self.invariant.sound c.self.invariant.waiting p here c.change.ensures in
+    c.self.invariant.sound c.self.invariant.waiting p here c.change.ensures.task in
     record {
       opened = c.self.invariant.opened;
       tasks_room = c.self.invariant.tasks_room;
       waiting = done.waiting;
       sound =
           answers_sound (board_state_of c.self.inside) (change_request c.args.change c.args.id)
-          (Ok (change_reply c.args.change c.args.id c.change.new.self.status))
+          (Ok (change_reply c.args.change c.args.id c.change.new.self))
           (board_state_of (with_write c.self.inside c.args.slot c.change.new.self))
           c.self.invariant.sound done.answers;
     }
@@ -58,18 +65,14 @@ returns-clause-answers c =
     let here : get c.self.inside.tasks c.args.slot ≡ Some c.in-Some.task.now = search rules in
     let done =
     changed_there c.self.inside c.args.change c.args.slot c.args.id c.in-Some.task.now c.change.new.self
-    c.self.invariant.sound c.self.invariant.waiting p here c.change.ensures in
+    c.self.invariant.sound c.self.invariant.waiting p here c.change.ensures.task in
     let s' = board_state_of (with_write c.self.inside c.args.slot c.change.new.self) in
     let Q :
     BoardValue → Type 0 =
     λ v. Answers v.state (change_request c.args.change c.args.id)
-    (Ok (change_reply c.args.change c.args.id c.change.new.self.status)) s' in
-    let R :
-    Status → Type 0 =
-    λ x. Answers c.args.self.now.state (change_request c.args.change c.args.id)
-    (Ok (change_reply c.args.change c.args.id x)) s' in
+    (Ok (change_reply c.args.change c.args.id c.change.new.self)) s' in
     let T : Reply → Type 0 = λ x. Answers c.args.self.now.state (change_request c.args.change c.args.id) (Ok x) s' in
-    subst T (sym c.reply.ensures) (subst R (sym c.status-status.ensures) (subst Q c.self.view_is done.answers))
+    subst T (sym c.change.ensures.reply) (subst Q c.self.view_is done.answers)
 
 pub returns-clause-ticket : goal.returns-clause-ticket
 returns-clause-ticket c =
@@ -77,4 +80,4 @@ returns-clause-ticket c =
     let p = subst P (sym c.self.view_is) c.requires in
     let here : get c.self.inside.tasks c.args.slot ≡ Some c.in-Some.task.now = search rules in
     (changed_there c.self.inside c.args.change c.args.slot c.args.id c.in-Some.task.now c.change.new.self
-    c.self.invariant.sound c.self.invariant.waiting p here c.change.ensures).ticket
+    c.self.invariant.sound c.self.invariant.waiting p here c.change.ensures.task).ticket
