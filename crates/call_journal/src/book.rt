@@ -1,7 +1,6 @@
 //! The book: the board, its journal, which is in the first cells of a row, and the ledger.
 ghost use Rattle.std.specs.Prelude.{◌≡◌, ◌↔◌, ◌≢◌, ◌⊎◌, ◌+◌, ◌<◌, ◌≤◌, ◌==◌, [], ◌∷◌, ◌++◌, length, true, false, Err, None, IfOk, IfSome, IfNone, IsSome, IsOk, IfErr, OnErr};
 ghost use Rattle.call_journal.specs.Books.{is_due, is_full, is_idle, is_refused, is_journalled, HasCalled, IsUnchanged};
-ghost use Rattle.call_journal.specs.Records.{entry_on};
 ghost use Rattle.call_journal.specs.Replay.{IsReplay, IsLegal};
 ghost use Rattle.task_requests.specs.declared.request.Request.{Request as RequestValue};
 ghost use Rattle.task_requests.specs.declared.request.Request.TheVariants as request;
@@ -29,7 +28,7 @@ use crate::row::Row;
 use crate::runnable::Runnable;
 use crate::seat::Seat;
 use crate::seen::Seen;
-use std::alloc::{AllocError, Global};
+use std::alloc::Global;
 use std::marker::Model;
 use std::sync::ledger;
 use std::sync::ledger::{Blank, Share};
@@ -240,7 +239,11 @@ impl<R: Row> Book<R> {
         ensures err { OnErr result
             ((result ≡ Err Refusal.NoMemory) ⊎ (result ≡ Err Refusal.JournalFault)) }
     {
-        let entry = self.entry_of(number, &request)?;
+        let entry = Entry {
+            seat: number,
+            found: found(&self.board, &request),
+            request: copy(self.alloc, &request)?,
+        };
         let prepared = self.board.prepare(request)?;
         match self.add(cells, entry) {
             Ok(seen) => Ok((seen, prepared)),
@@ -249,19 +252,6 @@ impl<R: Row> Book<R> {
                 Err(refusal)
             }
         }
-    }
-
-    // The entry of a seat's call.
-    fn entry_of(&self, seat: u64, request: &Request) -> Result<Entry, AllocError>
-        ensures { IfOk result (λ e. e ≡ entry_on self.now.board seat request.now) }
-    {
-        let found = found(&self.board, request);
-        let request = copy(self.alloc, request)?;
-        Ok(Entry {
-            seat,
-            request,
-            found,
-        })
     }
 
     // Puts an entry into the next cell.

@@ -102,7 +102,14 @@ impl<R: Row> Seat<R> {
             return false;
         }
         self.seen.meet(journal);
-        !journal.has_call(cells, self.seen.len(), self.number)
+        for i in self.seen.len()..journal.len() {
+            if let Some(entry) = journal.entry(cells, i) {
+                if entry.seat == self.number {
+                    return false;
+                }
+            }
+        }
+        true
     }
 
     // The seat has made a call, which ends the journal.

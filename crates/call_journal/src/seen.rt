@@ -1,11 +1,11 @@
 //! What has been seen of a row.
-ghost use Rattle.std.specs.Prelude.{◌≡◌, ◌<◌, ◌≤◌, ◌==◌, ℕ, length, [], ◌∷◌, ◌++◌, Some, option_map, slice_get, IfSome, true, false};
+ghost use Rattle.std.specs.Prelude.{◌≡◌, ◌<◌, ◌≤◌, length, [], ◌∷◌, ◌++◌, Some, option_map, slice_get, IfSome};
 ghost use Rattle.std.specs.Ordering.{nat_cmp};
 ghost use Rattle.call_journal.specs.declared.entry.Entry.{Entry as EntryValue};
 ghost use Rattle.call_journal.specs.Fronts.{Begins};
 ghost use Rattle.call_journal.specs.Seats.{most_entries};
 
-use crate::cells::{Cells, MOST_ENTRIES};
+use crate::cells::Cells;
 use crate::entry::Entry;
 use crate::front::Front;
 use crate::row::Row;
@@ -89,26 +89,6 @@ impl<R: Row> Seen<R> {
             other.front.agrees(&self.front);
         }
         self.len.cmp(&other.len)
-    }
-
-    // Whether an entry from this index on is of the seat with a number.
-    pub(crate) fn has_call(&self, cells: &Cells, from: usize, number: u64) -> bool
-        requires { cells.now ≡ R.cells }
-        ensures none { result ≡ false → (i : ℕ) → (e : EntryValue) → from ≤ i
-            → slice_get self.now i ≡ Some e
-            → (e.seat == number) ≡ false }
-        ensures one { result ≡ true → (i : ℕ) × (e : EntryValue) × (from ≤ i)
-            × (slice_get self.now i ≡ Some e)
-            × ((e.seat == number) ≡ true) }
-    {
-        for i in from..self.len {
-            if let Some(entry) = self.entry(cells, i) {
-                if entry.seat == number {
-                    return true;
-                }
-            }
-        }
-        false
     }
 
     /// Fills the next cell, and has then seen its entry. None if the cell is filled.

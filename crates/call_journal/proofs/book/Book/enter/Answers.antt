@@ -1,9 +1,8 @@
-use Rattle.std.proofs.Common.{◌≡◌, ◌+◌, ◌<◌, List, length, sym, subst, ap, ◌∙◌, refl}
+use Rattle.std.proofs.Common.{◌+◌, ◌<◌, List, length, sym, subst, ap, ◌∙◌, refl}
 use Rattle.call_journal.specs.declared.entry.Entry.{Entry}
 use Rattle.call_journal.specs.Books.{BookValue, HasCalled}
-use Rattle.call_journal.specs.Records.{entry_on}
 use Rattle.call_journal.specs.Replay.{IsLegal}
-use Rattle.call_journal.specs.Seats.{Known, GoesOn, most_entries}
+use Rattle.call_journal.specs.Seats.{GoesOn, most_entries}
 use Rattle.call_journal.specs.Inside.Calls.{EndsWithCall, IsEntered}
 use Rattle.call_journal.proofs.BookLemmas.{counted, ends_call, few_more, goes_on, has_called, is_legal}
 use Rattle.call_journal.proofs.DeskLemmas.{answered_fit}

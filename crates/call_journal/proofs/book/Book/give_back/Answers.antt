@@ -2,10 +2,8 @@ use Rattle.std.proofs.Common.{◌∙◌, List, ap, sym, subst, true, refl, inl}
 use Rattle.std.specs.Prelude.{IsTrue}
 use Rattle.task_requests.specs.declared.event.Event.TheVariants as event
 use Rattle.task_requests.specs.declared.event.EventReply.TheVariants as answer
-use Rattle.task_board.specs.BoardState.{BoardState}
 use Rattle.task_board.specs.BoardValue.{BoardValue}
 use Rattle.task_board.specs.Loans.{Fits}
-use Rattle.task_board.specs.Step.{Step}
 use Rattle.call_journal.specs.Replay.{IsReplay}
 use Rattle.call_journal.specs.Books.{BookValue}
 use Rattle.call_journal.specs.Desks.{Spot, spot_names}

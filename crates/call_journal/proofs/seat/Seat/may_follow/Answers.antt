@@ -1,12 +1,10 @@
-use Rattle.std.proofs.Common.{◌≡◌, ◌≤◌, Bool, true, false, length, sym, ap, ◌∙◌, arith}
-use Rattle.std.specs.Prelude.{IsTrue, slice_get}
+use Rattle.std.proofs.Common.{◌≡◌, ◌<◌, ◌≤◌, ◌==◌, Some, true, false, length, sym, ap, subst, ◌∙◌, arith, rules}
+use Rattle.std.specs.Prelude.{slice_get}
+use Rattle.std.proofs.lemmas.Bool.Decides.{nat_tests}
+use Rattle.std.proofs.lemmas.Option.{slice_get_within}
 use Rattle.call_journal.specs.Fronts.{Begins}
 use Rattle.call_journal.proofs.SeatLemmas.{none_own, own_there}
 use Rattle.call_journal.proofs.seat.Seat.may_follow.Goals as goal
-
-no_call : (b : Bool) → IsTrue (mathlib.Core.Bool.not b) → b ≡ false
-no_call true h = cc
-no_call false h = mathlib.Core.Path.refl
 
 pub returns-clause-on : goal.returns-clause-on
 returns-clause-on g c h =
@@ -15,16 +13,18 @@ returns-clause-on g c h =
     omega (arith, c.len.ensures, c.len-2.ensures, c.if-len.false) in
     let b : Begins c.self.inside.seen c.args.journal.now = c.meet.ensures.first le in
     let none = none_own c.self.inside.number c.self.inside.seen b.0 (λ k e at p.
-    c.has_call.ensures.none (no_call c.has_call.result h) k e (omega (arith, at, c.len-3.ensures))
-    (ap (λ xs. slice_get xs k) (sym b.1) ∙ p)) in
+    let there : slice_get c.args.journal.now k ≡ Some e = ap (λ xs. slice_get xs k) (sym b.1) ∙ p in
+    let within = slice_get_within c.args.journal.now k e there in
+    let i : k < c.loop-i.i = omega (arith, within, c.loop-i-test.false, c.len-i-end.ensures) in
+    subst (λ s. (e.seat == s.number) ≡ false) (sym c.self.view_is)
+    (c.loop-i.invariant k e (subst (λ s. length s.history ≤ k) c.self.view_is at) i there)) in
     rw (← c.self.view_is) (record { rest = b.0; joins = b.1; none = none })
 
-is_call : (b : Bool) → mathlib.Core.Bool.not b ≡ false → b ≡ true
-is_call true h = mathlib.Core.Path.refl
-is_call false h = cc
-
-pub returns-clause-off : goal.returns-clause-off
-returns-clause-off g c h =
-    let one = c.has_call.ensures.one (is_call c.has_call.result h) in
-    rw (← c.self.view_is) (λ on. own_there c.self.inside.number c.self.inside.seen on.rest one.0 one.1
-    (omega (arith, one.2, c.len-3.ensures)) (ap (λ xs. slice_get xs one.0) on.joins ∙ one.3) one.4 on.none)
+pub returns-then-entry-self-clause-off : goal.returns-then-entry-self-clause-off
+returns-then-entry-self-clause-off g c h =
+    let e = c.in-Some.entry.now in
+    let there : slice_get c.args.journal.now c.loop-i.i ≡ Some e = search rules in
+    let is_own = c.if-entry-self.true in
+    let own : (e.seat == c.self.inside.number) ≡ true = grind (arith, nat_tests, is_own) in
+    rw (← c.self.view_is) (λ on. own_there c.self.inside.number c.self.inside.seen on.rest c.loop-i.i e
+    (omega (arith, c.loop-i.auto.i, c.len-i.ensures)) (ap (λ xs. slice_get xs c.loop-i.i) on.joins ∙ there) own on.none)
