@@ -99,7 +99,8 @@ impl Chunk {
         ensures bytes { OnOk result (Keeps (prepend_known self.old (R.remaining reader.old))
             (prepend_known self.new (R.remaining reader.new))) }
         ensures some { result ≡ Ok true → self.new ≢ [] }
-        ensures end { result ≡ Ok false → IsAtEnd (prepend_known self.new (R.remaining reader.new)) }
+        ensures end { result ≡ Ok false
+            → IsAtEnd (prepend_known self.new (R.remaining reader.new)) }
         ensures failed { result ≡ Err Stop.Stream → R.has_failed reader.new }
         ensures fault { result ≡ Err Stop.Stream
             → Keeps (prepend_known self.old (R.remaining reader.old)) (R.remaining reader.new) }
