@@ -75,7 +75,7 @@ fn sorted(mut list: Link, length: usize) -> Link {
 fn run(rounds: u32) -> u32 {
     let (mut list, mut state, mut sum) = (List::default(), 1u32, 0u32);
     for round in 0..rounds {
-        while list.length < 1500 {
+        while list.length < 1000 {
             state = state.wrapping_mul(1664525).wrapping_add(1013904223);
             list.push(state >> 10);
         }
@@ -87,4 +87,4 @@ fn run(rounds: u32) -> u32 {
     sum
 }
 
-program!(run(45));
+program!(run(70));
