@@ -1,20 +1,23 @@
 #!/usr/bin/env python3
 """Counts which sequences of instructions programs make how often, and chooses groups of them (superinstructions).
 
-    bench/sequences.py [MODULE..] [--half choosing|showing|both] [--top N] [--greedy K] [--branches none|last|through]
+    bench/sequences.py [MODULE..] [--half choosing|showing|both] [--top N]
+                       [--greedy K] [--branches none|last|through] [--spread N] [--show]
 
 Compiles the programs of a half of bench/corpus (`choosing`), or takes the modules that are named. Each is run by `jsc` (of
-Debian's libjavascriptcoregtk-4.0-bin, with its compilers) with a counter wherever instructions begin that are made together, so
-the counts are exact; cells.py has the words. A program of the corpus has to give its checksum.
+Debian's libjavascriptcoregtk-4.0-bin, with its compilers) with a counter wherever instructions begin that are made
+together, so the counts are exact; cells.py has the words. A program of the corpus has to give its checksum.
 
-Prints the N sequences (40) of two to six cells that cover most instructions in the mean over programs: that share, the largest
-share in one program, and in how many programs it is above 1 %. No cell of a sequence but the first is the target of a branch, and
-a branch inside it was not taken. Occurrences that overlap one of the same sequence are not counted.
+Prints the N sequences (40) of two to six cells that cover most instructions in the mean over programs: that share, the
+largest share in one program, and in how many programs it is above 1 %. No cell of a sequence but the first is the target of
+a branch, and a branch inside it was not taken. Of occurrences that overlap only the first counts.
 
-With --greedy, chooses K groups beside those of crates/flat_code/src/cell.rt, and prints for each the share of today's dispatches
-that is left with it and those before it, in the geometric mean over programs, and for each program how many dispatches for each
-cell are left with no group, today's groups and K more. A group is taken where it is the longest that fits. It may have a
-branch or a call at its end (`--branches last`), also untaken ones inside (`through`, the default), or none.
+With --greedy, chooses K groups beside those of crates/flat_code/src/cell.rt, and prints for each the share of today's
+dispatches that is left with it and those before it, in the geometric mean over programs. For each program it prints how many
+dispatches for each cell are left with no group, with today's and with K more. Where several groups fit, the longest is taken.
+A group may have untaken branches inside (`through`, the default), a branch or a call at its end alone (`last`), or none. With
+--spread, each group has to save half a percent of the dispatches of N programs. With --show, the programs of the other half
+are printed too, which had no part in the choice.
 """
 from __future__ import annotations
 
@@ -27,7 +30,7 @@ from collections import Counter
 
 from cells import LEAVING, NO_TURN, Cell, counted
 from corpus import corpus
-from groups import LONGEST, Chain, Choice, Group, Run
+from groups import LONGEST, Chain, Choice, Group, Groups, Run, groups_of_program
 
 JSC = ["jsc", os.path.join(corpus.FOLDER, "counts.js"), "--"]
 Shares = dict[Group, float]
@@ -85,13 +88,14 @@ def covered(run: Run) -> Shares:
 def print_table(runs: list[Run], top: int) -> None:
     """The sequences that cover most."""
     shares = [covered(run) for run in runs]
-    sums: Counter[Group] = Counter()
+    sums: dict[Group, float] = {}
     for each in shares:
-        sums.update(each)  # type: ignore[arg-type]
+        for group, share in each.items():
+            sums[group] = sums.get(group, 0) + share
     print(f"{'mean':>7} {'most':>7} {'>1 %':>5}   sequence")
-    for group, share in sums.most_common(top):
-        of_programs = [each.get(group, 0) for each in shares]
-        print(f"{share / len(runs):7.2%} {max(of_programs):7.2%} {sum(one > 0.01 for one in of_programs):5}   {' '.join(group)}")
+    for group in sorted(sums, key=lambda one: -sums[one])[:top]:
+        found = [each.get(group, 0) for each in shares]
+        print(f"{sums[group] / len(runs):7.2%} {max(found):7.2%} {sum(share > 0.01 for share in found):5}   {' '.join(group)}")
 
 
 def mean(ratios: list[float]) -> float:
@@ -99,10 +103,8 @@ def mean(ratios: list[float]) -> float:
     return math.exp(sum(map(math.log, ratios)) / len(ratios))
 
 
-def print_choice(runs: list[Run], count: int, branches: str) -> None:
-    """The groups that are chosen, and what they leave."""
-    choice = Choice(runs, branches)
-    none = [sum(sum(chain.counts) for chain in run.chains) for run in runs]
+def print_choice(choice: Choice, count: int) -> None:
+    """Chooses so many groups, and prints them."""
     today = choice.dispatches
     print(f"\n{len(choice.groups.all)} groups today. {'left':>10}   group chosen")
     for number in range(1, count + 1):
@@ -111,11 +113,19 @@ def print_choice(runs: list[Run], count: int, branches: str) -> None:
             break
         left = mean([now / before for now, before in zip(choice.dispatches, today)])
         print(f"{number:15} {left:10.4f}   {' '.join(group)}", flush=True)
+
+
+def print_left(runs: list[Run], chosen: Groups) -> None:
+    """For each program, the dispatches that are left."""
+    today = Groups(groups_of_program())
     print(f"\n{'program':<14} {'today':>7} {'chosen':>7} {'ratio':>7}   (dispatches for each cell)")
-    rows = [(run.name, before / cells, now / cells) for run, cells, before, now in zip(runs, none, today, choice.dispatches)]
+    rows = []
+    for run in runs:
+        cells = sum(sum(chain.counts) for chain in run.chains)
+        rows.append((run.name, today.dispatches_of(run) / cells, chosen.dispatches_of(run) / cells))
     rows.append(("geometric mean", mean([row[1] for row in rows]), mean([row[2] for row in rows])))
-    for name, before_, now_ in rows:
-        print(f"{name:<14} {before_:7.3f} {now_:7.3f} {now_ / before_:7.3f}")
+    for name, before, now in rows:
+        print(f"{name:<14} {before:7.3f} {now:7.3f} {now / before:7.3f}")
 
 
 def arguments() -> argparse.Namespace:
@@ -123,23 +133,35 @@ def arguments() -> argparse.Namespace:
     parser = argparse.ArgumentParser(description="Counts sequences of instructions, and chooses groups of them.")
     parser.add_argument("modules", nargs="*", metavar="MODULE")
     parser.add_argument("--half", choices=[*corpus.HALVES, "both"], default=corpus.HALVES[0])
-    parser.add_argument("--top", type=int, default=40)
+    parser.add_argument("--top", type=int, default=40, metavar="N")
     parser.add_argument("--greedy", type=int, default=0, metavar="K")
     parser.add_argument("--branches", choices=["none", "last", "through"], default="through")
+    parser.add_argument("--spread", type=int, default=1, metavar="N")
+    parser.add_argument("--show", action="store_true")
     return parser.parse_args()
+
+
+def runs_of(half: str, folder: str) -> list[Run]:
+    """What the programs of a half make."""
+    found = corpus.programs(None if half == "both" else half)
+    return [run_of(program.name, *corpus.compiled(program, folder), folder) for program in found]
 
 
 def main() -> None:
     asked = arguments()
     with tempfile.TemporaryDirectory() as folder:
         runs = [run_of(os.path.basename(module), module, None, folder) for module in asked.modules]
-        if not runs:
-            for program in corpus.programs(None if asked.half == "both" else asked.half):
-                runs.append(run_of(program.name, *corpus.compiled(program, folder), folder))
-    if asked.top:
-        print_table(runs, asked.top)
-    if asked.greedy:
-        print_choice(runs, asked.greedy, asked.branches)
+        runs = runs or runs_of(asked.half, folder)
+        if asked.top:
+            print_table(runs, asked.top)
+        if asked.greedy:
+            choice = Choice(runs, asked.branches, asked.spread)
+            print_choice(choice, asked.greedy)
+            print_left(runs, choice.groups)
+            for half in corpus.HALVES if asked.show else ():
+                if half != asked.half:
+                    print(f"\nthe half for {half}:", end="")
+                    print_left(runs_of(half, folder), choice.groups)
 
 
 if __name__ == "__main__":
