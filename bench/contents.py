@@ -10,15 +10,15 @@ EXPORTS = b"\x07\x0a\x01\x06_start\0\0"
 OPERATORS = (0x6A, 0x6B, 0x6C, 0x71, 0x72, 0x73, 0x74, 0x76, 0x77)
 
 
-def dropping(constants, sections):
+def dropping(constants: int, sections: bytes) -> bytes:
     """A module whose entry drops that number of constants: two instructions in three bytes."""
     body = b"\0" + b"\x41\0\x1a" * constants + b"\x0b"
     return HEADER + TYPES + FUNCS + sections + EXPORTS + b"\x0a" + sized(b"\x01" + sized(body))
 
 
-def numeric(size):
+def numeric(size: int) -> bytes:
     """A module whose entry has that many bytes of straight-line numeric code: four instructions in ten bytes or fewer."""
-    number, parts = 1, []
+    number, parts = 1, list[bytes]()
     while size > 0:
         number = (number * 69069 + 1) % (1 << 25)
         # local.get 0, i32.const, an operator, local.set 0

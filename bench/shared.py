@@ -5,7 +5,7 @@ import sys
 TOP = os.path.dirname(os.path.dirname(os.path.abspath(__file__)))
 
 
-def arguments(rounds):
+def arguments(rounds: int) -> tuple[str, int]:
     """The program and the number of rounds that `[PROGRAM] [--rounds N]` ask for; this number without it."""
     words = sys.argv[1:]
     if "--rounds" in words:
@@ -15,12 +15,12 @@ def arguments(rounds):
     return words[0] if words else os.path.join(TOP, "crates/wasm_shim/out/wasm_shim"), rounds
 
 
-def leb(number):
+def leb(number: int) -> bytes:
     groups = [number & 0x7F]
     while number := number >> 7:
         groups.append(number & 0x7F)
     return bytes(group | 0x80 for group in groups[:-1]) + bytes(groups[-1:])
 
 
-def sized(part):
+def sized(part: bytes) -> bytes:
     return leb(len(part)) + part
