@@ -54,7 +54,8 @@ static u32 run(u32 rounds) {
     for (u32 i = 0; i < 64; i++) values[(u8)letters[i]] = (u8)i;
     for (u32 i = 0; i < 256; i++) {
         crc_table[i] = i;
-        for (u32 k = 0; k < 8; k++) crc_table[i] = crc_table[i] & 1 ? crc_table[i] >> 1 ^ 0xC96C5795D7870F42ull : crc_table[i] >> 1;
+        for (u32 k = 0; k < 8; k++)
+            crc_table[i] = crc_table[i] & 1 ? crc_table[i] >> 1 ^ 0xC96C5795D7870F42ull : crc_table[i] >> 1;
     }
     for (u32 round = 0; round < rounds; round++) {
         u32 size = SIZE - round;

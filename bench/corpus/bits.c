@@ -1,4 +1,4 @@
-/* Counts and turns of bits: ones in four ways, leading and trailing zeros, reversal, gray codes, and the next number with as many ones. */
+/* Counts and turns of bits: ones in four ways, zeros at either end, reversal, gray codes, the next with as many ones. */
 #include "program.h"
 
 static u8 table[256];
@@ -53,7 +53,8 @@ static u32 run(u32 rounds) {
     for (u32 i = 0; i < rounds; i++) {
         x = x * 1664525u + 1013904223u;
         sum = sum * 5 + by_loop(x) + by_sums(x ^ i) + by_table(x + i) + (u32)__builtin_popcount(x * 3);
-        sum ^= reversed(x) + ungray(i ^ i >> 1) + log2_of(x | 1) + (u32)__builtin_clz(x | 1) + (u32)__builtin_ctz(x | 1u << 31);
+        sum ^= reversed(x) + ungray(i ^ i >> 1) + log2_of(x | 1);
+        sum ^= (u32)__builtin_clz(x | 1) + (u32)__builtin_ctz(x | 1u << 31);
         alike = alike > 0xffffff ? 0x1f : next_alike(alike);
         sum += alike;
     }

@@ -63,13 +63,15 @@ impl Parser<'_> {
         while let Some(sign @ (b'+' | b'-')) = self.peek() {
             self.at += 1;
             let other = self.product()?;
-            value = if sign == b'+' { value.checked_add(other) } else { value.checked_sub(other) }.ok_or(Fault::Overflow(self.at))?;
+            let next = if sign == b'+' { value.checked_add(other) } else { value.checked_sub(other) };
+            value = next.ok_or(Fault::Overflow(self.at))?;
         }
         Ok(value)
     }
 }
 
-const TEXTS: [&str; 6] = ["1 + 2 * (x - 3) / 2", "((a)) * (b + 17) - 4*c*c", "12345 * 99999 * x", "7 / (x - x)", "a + (b * ", "9*x/3+8*(7-(6-5))"];
+const TEXTS: [&str; 6] = ["1 + 2 * (x - 3) / 2", "((a)) * (b + 17) - 4*c*c", "12345 * 99999 * x", "7 / (x - x)", "a + (b * ",
+                           "9*x/3+8*(7-(6-5))"];
 
 fn run(rounds: i32) -> u32 {
     (0..rounds).fold(0u32, |sum, round| {

@@ -1,4 +1,4 @@
-/* Dates: days to years, months and days and back, days of the week, Easter, and texts by ISO 8601 that are written and read. */
+/* Dates: days to years, months and days and back, days of the week, Easter, and texts by ISO 8601. */
 #include "program.h"
 
 typedef struct { int year, month, day, hour, minute, second; } Time;

@@ -81,7 +81,8 @@ fn run(rounds: u32) -> u32 {
     (0..rounds).fold(0u32, |sum, round| {
         let values: Vec<u32> = (0..1500).map(|_| next(&mut state) % 5000).collect();
         let games = (0..8).fold(0u32, |sum, _| sum.wrapping_mul(7) ^ war(&mut state));
-        sum.wrapping_mul(31) ^ games ^ knight(24, (round as i32 % 24, 3)) ^ maxima(&values, 20) ^ circle(150, 7 + round as usize)
+        let last = circle(150, 7 + round as usize);
+        sum.wrapping_mul(31) ^ games ^ knight(24, (round as i32 % 24, 3)) ^ maxima(&values, 20) ^ last
     })
 }
 

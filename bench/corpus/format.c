@@ -79,8 +79,8 @@ static u32 run(u32 rounds) {
         size = 0;
         u64 wide = round * 0x9E3779B97F4A7C15ull;
         print("%5d|%-8u|%08x|%+d%%\n", (int)(round * 77) - 5000, round, round * 2654435761u, (int)round % 100);
-        print("%s: %-12s|%10.3s|%c %ld %lu %lx\n", words[round & 3], words[(round + 1) & 3], words[(round + 2) & 3], 'a' + (int)round % 26,
-              (long long)wide, wide >> 7, wide);
+        print("%s: %-12s|%10.3s|%c %ld %lu %lx\n", words[round & 3], words[(round + 1) & 3], words[(round + 2) & 3],
+              'a' + (int)round % 26, (long long)wide, wide >> 7, wide);
         for (u32 i = 0; i < size; i++) sum = (sum << 5 | sum >> 27) ^ (u8)out[i];
         for (const char *at = out; *at != '\n'; at++) sum += *at >= '0' && *at <= '9' ? digits_of(&at) : 1;
     }

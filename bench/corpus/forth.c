@@ -7,8 +7,8 @@ static const char *const source =
     ": fib dup 2 < if else dup 1 - fib swap 2 - fib + then ; "
     ": gcd begin dup while swap over mod repeat drop ; "
     ": sieve 100 begin dup 900 < while 1 over ! 1 + repeat drop "
-    "2 begin dup 30 < while dup 100 + @ if dup dup * begin dup 800 < while 0 over 100 + ! over + repeat drop then 1 + repeat drop "
-    "0 2 begin dup 800 < while swap over 100 + @ + swap 1 + repeat drop ; "
+    "2 begin dup 30 < while dup 100 + @ if dup dup * begin dup 800 < while 0 over 100 + ! over + repeat drop then "
+    "1 + repeat drop 0 2 begin dup 800 < while swap over 100 + @ + swap 1 + repeat drop ; "
     ": main 17 fib sieve 7919 104729 gcd 120 84 gcd + + + ; ";
 static const char *const names[] = {"", "+", "-", "*", "mod", "dup", "drop", "swap", "over", "rot", "@", "!", "<", "0="};
 

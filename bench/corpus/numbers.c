@@ -1,4 +1,4 @@
-/* Of whole numbers: Collatz, greatest common divisors, factors by Pollard, primes by Miller and Rabin, roots, and texts of them. */
+/* Of whole numbers: Collatz, greatest common divisors, factors by Pollard, primes by Miller and Rabin, and roots. */
 #include "program.h"
 
 static u32 collatz(u64 n) {

@@ -1,4 +1,4 @@
-/* Rings of messages between stations that take turns: a bank with tellers, a token ring, and a window with a running median. */
+/* Rings of messages between stations that take turns: a bank with tellers, a token ring, a running median. */
 #include "program.h"
 #define ROOM 256
 
@@ -81,7 +81,8 @@ static u32 medians(u32 samples, u32 state) {
 
 static u32 run(u32 rounds) {
     u32 sum = 0;
-    for (u32 round = 0; round < rounds; round++) sum = sum * 31 + (bank(20000, round) ^ token_ring(40000) ^ medians(10000, round));
+    for (u32 round = 0; round < rounds; round++)
+        sum = sum * 31 + (bank(20000, round) ^ token_ring(40000) ^ medians(10000, round));
     return sum;
 }
 

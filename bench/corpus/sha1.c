@@ -7,8 +7,10 @@ static u32 rotl(u32 x, u32 n) { return x << n | x >> (32 - n); }
 
 static void compress(Sha1 *s) {
     u32 w[80], a = s->h[0], b = s->h[1], c = s->h[2], d = s->h[3], e = s->h[4];
-    for (u32 i = 0; i < 16; i++)
-        w[i] = (u32)s->block[4 * i] << 24 | (u32)s->block[4 * i + 1] << 16 | (u32)s->block[4 * i + 2] << 8 | s->block[4 * i + 3];
+    for (u32 i = 0; i < 16; i++) {
+        const u8 *at = s->block + 4 * i;
+        w[i] = (u32)at[0] << 24 | (u32)at[1] << 16 | (u32)at[2] << 8 | at[3];
+    }
     for (u32 i = 16; i < 80; i++) w[i] = rotl(w[i - 3] ^ w[i - 8] ^ w[i - 14] ^ w[i - 16], 1);
     for (u32 i = 0; i < 80; i++) {
         u32 f, k;

@@ -64,7 +64,7 @@ fn shape(state: u32, depth: u32) -> Box<dyn Shape> {
     let (x, y, size) = ((state >> 8 & 63) as i32, (state >> 14 & 63) as i32, (state >> 20 & 15) as i32 + 1);
     match state >> 24 & 3 {
         0 | 1 => Box::new(Square { x, y, side: size }),
-        2 if depth > 0 => Box::new(Group { parts: (1..5).map(|i| shape(state.wrapping_mul(2654435761 + i), depth - 1)).collect() }),
+        2 if depth > 0 => Box::new(Group { parts: (1..5).map(|i| shape(state.wrapping_mul(77777 + i), depth - 1)).collect() }),
         _ => Box::new(Circle { x, y, radius: size }),
     }
 }

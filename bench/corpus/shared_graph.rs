@@ -1,4 +1,4 @@
-//! A graph of `Rc`, `Weak` and `RefCell`: tasks that wait for others, done in order, and a tree whose nodes know their parents.
+//! A graph of `Rc`, `Weak` and `RefCell`: tasks that wait for others, and a tree whose nodes know their parents.
 #[macro_use]
 mod program;
 
@@ -68,7 +68,8 @@ fn tree(count: usize, state: &mut u32) -> u32 {
         }
     }
     fn sum(node: &Leaf, depth: u32) -> u32 {
-        node.children.borrow().iter().fold(node.weight.get() ^ depth, |total, child| total.rotate_left(3) ^ sum(child, depth + 1))
+        let own = node.weight.get() ^ depth;
+        node.children.borrow().iter().fold(own, |total, child| total.rotate_left(3) ^ sum(child, depth + 1))
     }
     sum(&all[0], 0)
 }

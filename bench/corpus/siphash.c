@@ -54,7 +54,8 @@ static u32 run(u32 rounds) {
         size += digits(text + size, number * 77777u);
         u64 hash = siphash(text, size, 0x0706050403020100ull, 0x0f0e0d0c0b0a0908ull);
         u32 slot = (u32)hash & (SLOTS - 1);
-        for (u32 tries = 0; table[slot].count && table[slot].hash != hash && tries < 16; tries++) slot = (slot + 1) & (SLOTS - 1);
+        for (u32 tries = 0; table[slot].count && table[slot].hash != hash && tries < 16; tries++)
+            slot = (slot + 1) & (SLOTS - 1);
         table[slot].hash = hash;
         sum = sum * 31 + ++table[slot].count + (u32)(hash >> 40);
     }

@@ -34,8 +34,7 @@ static void insert(u32 key, u32 value) {
     if (at && nodes[at].key == key) nodes[at].value += value;
     if ((at && nodes[at].key == key) || !free_count) return;
     u32 node = unused[--free_count], levels = random_level();
-    nodes[node].key = key, nodes[node].value = value;
-    for (u32 level = 0; level < LEVELS; level++) nodes[node].next[level] = 0;
+    nodes[node] = (Node){.key = key, .value = value};
     for (u32 level = 0; level < levels; level++) {
         nodes[node].next[level] = nodes[before[level]].next[level];
         nodes[before[level]].next[level] = (unsigned short)node;
@@ -60,7 +59,7 @@ static void count(u32 key) {
         if (entry_count > slots && slots < 4096) {
             slots *= 2;
             for (u32 i = 0; i < slots; i++) heads[i] = 0;
-            for (u32 i = 1; i <= entry_count; i++) entries[i].next = heads[hash(entries[i].key)], heads[hash(entries[i].key)] = i;
+            for (u32 i = 1, h; h = hash(entries[i].key), i <= entry_count; i++) entries[i].next = heads[h], heads[h] = i;
         }
         entry = ++entry_count;
         entries[entry].key = key, entries[entry].value = 0;
@@ -80,7 +79,8 @@ static u32 run(u32 steps) {
         count(key);
         if (step % 64 == 0) {
             unsigned short before[LEVELS];
-            for (u32 at = path(key, before), left = 50; at && left > 0; at = nodes[at].next[0], left--) sum = sum * 31 + nodes[at].value;
+            u32 left = 50;
+            for (u32 at = path(key, before); at && left-- > 0; at = nodes[at].next[0]) sum = sum * 31 + nodes[at].value;
         }
     }
     for (u32 i = 1; i <= entry_count; i++) sum = sum * 31 + entries[i].value;

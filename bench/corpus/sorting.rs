@@ -41,7 +41,8 @@ fn run(rounds: u32) -> u32 {
         people.sort_by(|a, b| a.age.cmp(&b.age));
         sum ^= people.windows(2).filter(|two| two[0].age == two[1].age && two[0].number > two[1].number).count() as u32;
         people.sort_unstable();
-        sum = people.iter().step_by(10).fold(sum, |sum, person| sum.rotate_left(3) ^ u32::from(person.name[2]) ^ person.number);
+        let tenth = people.iter().step_by(10);
+        sum = tenth.fold(sum, |sum, person| sum.rotate_left(3) ^ u32::from(person.name[2]) ^ person.number);
         numbers.reverse();
         numbers.sort_unstable_by(|a, b| (a % 1000).cmp(&(b % 1000)).then(b.cmp(a)));
         sum ^= numbers[round as usize * 100 % numbers.len()];

@@ -80,7 +80,8 @@ fn run(rounds: u32) -> u32 {
         stream.iter().for_each(|byte| receiver.receive(*byte));
     }
     let counts = &receiver.counts;
-    counts.messages.iter().fold(receiver.sum, |sum, count| sum.wrapping_mul(31).wrapping_add(*count)) ^ counts.faults ^ counts.bytes
+    let sum = counts.messages.iter().fold(receiver.sum, |sum, count| sum.wrapping_mul(31).wrapping_add(*count));
+    sum ^ counts.faults ^ counts.bytes
 }
 
 program!(run(60));

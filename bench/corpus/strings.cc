@@ -69,14 +69,14 @@ static void count(Entry **root, const String &key) {
 }
 
 static u32 run(u32 rounds) {
-    static const char *const parts[] = {"sun", "moon", "light", "house", "fire", "works", "rain", "bow", "over", "man", "wood", "land", "s", "ed"};
+    static const char *const parts[] = {"sun", "moon", "light", "house", "fire", "works", "rain", "bow", "over", "man", "ed"};
     u32 sum = 0, state = 1;
     for (u32 round = 0; round < rounds; round++) {
         Entry *root = nullptr;
         String all;
         for (u32 i = 0; i < 500; i++) {
             String word;
-            for (u32 k = 0; k <= (state >> 20) % 5; k++) word += parts[(state = state * 1664525u + 1013904223u) % 9973 % 14];
+            for (u32 k = 0; k <= (state >> 20) % 5; k++) word += parts[(state = state * 1664525u + 1013904223u) % 9973 % 11];
             count(&root, word);
             if (all.size() > 900) all = word;
             all += word, all += ' ';

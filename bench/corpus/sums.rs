@@ -29,7 +29,8 @@ struct Sha256 {
 
 impl Sha256 {
     fn compress(&mut self, block: &[u8]) {
-        let mut w: Vec<u32> = block.chunks_exact(4).map(|word| u32::from_be_bytes(word.try_into().unwrap_or_default())).collect();
+        let words = block.chunks_exact(4).map(|word| u32::from_be_bytes(word.try_into().unwrap_or_default()));
+        let mut w: Vec<u32> = words.collect();
         for i in 16..64 {
             let (a, b) = (w[i - 15], w[i - 2]);
             let one = a.rotate_right(7) ^ a.rotate_right(18) ^ a >> 3;

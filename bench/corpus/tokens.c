@@ -7,11 +7,12 @@ static const char source[] =
     "    int total = 0x1F; // begins above\n    for (; list != NULL && limit-- > 0; list = list->next) {\n"
     "        if (list->value >= 100 || (list->flags & 3) == 2) { total += list->value << 2; continue; }\n"
     "        else while (total > 1000) total /= 10;\n        printf(\"%d \\\"items\\\"\\n\", total);\n"
-    "        switch (total % 7) { case 0: return -1; default: goto out; }\n    }\nout:\n    return total ^ 0xdeadbeef;\n}\n\ntypedef union { char bytes[8]; double number; } cell_t;\n";
+    "        switch (total % 7) { case 0: return -1; default: goto out; }\n    }\nout:\n    return total ^ 0xdeadbeef;\n}\n\n"
+    "typedef union { char bytes[8]; double number; } cell_t;\n";
 
 static const char *const keywords[] = {
-    "static", "int", "const", "struct", "unsigned", "long", "for", "if", "continue", "else", "while", "switch", "case", "return",
-    "break", "default", "goto", "typedef", "union", "char", "double",
+    "static", "int", "const", "struct", "unsigned", "long", "for", "if", "continue", "else", "while", "switch", "case",
+    "return", "break", "default", "goto", "typedef", "union", "char", "double",
 };
 static u8 slots[256];
 static u32 counts[6];

@@ -47,7 +47,8 @@ static u32 to_wide(u32 size, u32 *sum) {
         u32 byte = text[at++], tails = byte < 0xc0 ? 0 : byte < 0xe0 ? 1 : byte < 0xf0 ? 2 : 3;
         u32 point = tails ? byte & (0x3fu >> tails) : byte;
         for (; tails > 0; tails--) point = point << 6 | (text[at++] & 0x3f);
-        if ((point >= 'a' && point <= 'z') || (point >= 0xe0 && point <= 0xfe) || (point >= 0x3b1 && point <= 0x3c9)) point -= 32;
+        if ((point >= 'a' && point <= 'z') || (point >= 0xe0 && point <= 0xfe) || (point >= 0x3b1 && point <= 0x3c9))
+            point -= 32;
         *sum = *sum * 31 + point;
         if (point >= 0x10000) {
             wide[out++] = (unsigned short)(0xd7c0 + (point >> 10));
@@ -66,7 +67,8 @@ static u32 run(u32 rounds) {
         while (size < SIZE - 8) {
             state = state * 1664525u + 1013904223u;
             u32 kind = state >> 28, number = state >> 6 & 0xffff;
-            u32 point = kind < 9 ? 32 + number % 95 : kind < 12 ? 0xa0 + number % 0x700 : kind < 15 ? 0x3000 + number % 0x6000 : 0x1f300 + number % 700;
+            u32 first = kind < 9 ? 32 : kind < 12 ? 0xa0 : kind < 15 ? 0x3000 : 0x1f300;
+            u32 point = first + number % (kind < 9 ? 95 : kind < 12 ? 0x700 : kind < 15 ? 0x6000 : 700);
             size += put(text + size, point);
         }
         sum = sum * 31 + valid(size) + to_wide(size, &sum);

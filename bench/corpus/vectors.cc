@@ -64,7 +64,7 @@ template <typename T, typename Sum, typename Step> Sum folded(T *begin, T *end, 
     return sum;
 }
 
-struct Point { int x, y; u32 far() const { return (u32)(x * x + y * y); } };
+struct Point { int x, y; u32 order() const { return (u32)(x * x + y * y) << 8 | (u32)(x + 128); } };
 
 static u32 run(u32 rounds) {
     u32 sum = 0, state = 1;
@@ -78,11 +78,11 @@ static u32 run(u32 rounds) {
             points.push(Point{(int)(state >> 24) - 128, (int)(state >> 16 & 255) - 128});
             numbers.push(state % 1500 * 0x100000001ull);
         }
-        sort(points.begin(), points.end(), [](const Point &a, const Point &b) { return a.far() != b.far() ? a.far() < b.far() : a.x < b.x; });
+        sort(points.begin(), points.end(), [](const Point &a, const Point &b) { return a.order() < b.order(); });
         sort(numbers.begin(), numbers.end(), [round](u64 a, u64 b) { return (a ^ round) < (b ^ round); });
         numbers.shrink(unique(numbers.begin(), numbers.end(), [](u64 a, u64 b) { return a == b; }));
-        sum = folded(points.begin(), points.end(), sum, [](u32 s, const Point &p) { return s * 31 + (u32)p.x * 3 + (u32)p.y; });
-        sum = folded(numbers.begin(), numbers.end(), sum, [](u32 s, u64 n) { return (s << 3 | s >> 29) ^ (u32)(n >> 32); }) + numbers.size();
+        sum = folded(points.begin(), points.end(), sum, [](u32 s, Point p) { return s * 31 + (u32)p.x * 3 + (u32)p.y; });
+        sum = folded(numbers.begin(), numbers.end(), sum, [](u32 s, u64 n) { return s * 5 ^ (u32)(n >> 32); });
     }
     return sum;
 }

@@ -47,8 +47,9 @@ fn parse(line: &str) -> Option<Line<'_>> {
     let mut words = head.split_whitespace();
     let second = words.next()?.split(':').try_fold(0, |sum, part| part.parse::<u32>().ok().map(|number| sum * 60 + number))?;
     let level = words.next()?.parse().ok()?;
-    let fields = message.split(' ').filter_map(|word| word.split_once('=')).map(|(key, value)| (key, value.parse().unwrap_or(0)));
-    Some(Line { second, level, source: words.next()?, fields: fields.collect() })
+    let pairs = message.split(' ').filter_map(|word| word.split_once('='));
+    let fields = pairs.map(|(key, value)| (key, value.parse().unwrap_or(0))).collect();
+    Some(Line { second, level, source: words.next()?, fields })
 }
 
 fn run(rounds: u32) -> u32 {
