@@ -4,6 +4,7 @@ pub mod FirstByte
 pub mod ItemLoop
 pub mod IndexCounts
 pub mod ReadLoops
+pub mod CommonLemmas
 pub mod ReadSound
 pub mod InstrSound
 pub mod ItemSound

@@ -1,15 +1,16 @@
 //! Readers of instructions that have bodies, and of bodies (5.4).
 
-ghost use Rattle.std.specs.Prelude.{◌≡◌, ◌++◌, ◌∷◌, [], true, map, OnOk};
+ghost use Rattle.std.specs.Prelude.{◌≡◌, true, map};
 ghost use Rattle.wasm_ast.specs.View.{op_of};
 ghost use Rattle.wasm_binary.specs.Inside.Reading.{Gives, read_else, read_if, read_enclosed, read_nested, read_simple, opens_block, read_op, is_end, read_body, inner_of, read_expression};
 
+use crate::common::{add, add_common};
 use crate::fault::{Fault, ReadError, Spot, Wanted, What};
 use crate::numbers::{read_byte, skip_byte, strip_byte};
 use crate::opcodes::{BLOCK, ELSE, END, IF, LOOP};
 use crate::read_opcodes::read_simple;
 use crate::types::read_block_type;
-use std::alloc::{AllocError, Global};
+use std::alloc::Global;
 use wasm_ast::{BlockType, Body, Instr, MAX_NESTING, Simple};
 
 // The else arm of an `if` and its end, and the rest. The arm is empty if none is written.
@@ -131,21 +132,6 @@ fn is_end(bytes: &[u8]) -> bool
     strip_byte(END, bytes).is_some() || strip_byte(ELSE, bytes).is_some()
 }
 
-// A body begins with memory for this number of instructions. Many have no more, and a vector by
-// itself would begin with memory for twice as many.
-const FIRST_INSTRS: usize = 2;
-
-// Adds an instruction after all others.
-fn add(items: &mut Vec<Instr>, instr: Instr) -> Result<(), AllocError>
-    ensures { OnOk result (items.new.items ≡ items.old.items ++ instr ∷ []) }
-{
-    if items.is_empty() {
-        items.reserve_exact(FIRST_INSTRS)?;
-    }
-    items.push(instr)?;
-    Ok(())
-}
-
 // Instructions up to their end or to an else, and the rest from there. This many more blocks may
 // be open, so recursion is no deeper than that.
 #[cycle(read)]
@@ -158,9 +144,13 @@ fn read_body(alloc: Global, more: usize, bytes: &[u8]) -> Result<(Vec<Instr>, &[
         if is_end(rest) {
             return Ok((items, rest));
         }
-        let (instr, next) = read_instr(alloc, more, rest)?;
-        add(&mut items, instr)?;
-        rest = next;
+        if let Some(next) = add_common(&mut items, rest)? {
+            rest = next;
+        } else {
+            let (instr, next) = read_instr(alloc, more, rest)?;
+            add(&mut items, instr)?;
+            rest = next;
+        }
     }
     Err(ReadError::Fault(Fault::Bad, Spot::at(rest, INSTRUCTION)))
 }

@@ -15,6 +15,7 @@ use std::alloc::Global;
 use wasm_ast::{MAX_MODULE_BYTES, Module, Refusal};
 
 mod code;
+mod common;
 mod fault;
 mod immediates;
 mod instructions;

@@ -1,6 +1,6 @@
 use Rattle.validator.specs.Inside.FunctionContext.{context_of}
 use Rattle.validator.proofs.NeedLemmas.{lacks_none}
-use Rattle.validator.proofs.simple.check_simple.Goals as goal
+use Rattle.validator.proofs.simple.check_needs.Goals as goal
 
 pub returns-in-Err-clause-invalid : goal.returns-in-Err-clause-invalid
 returns-in-Err-clause-invalid c =
