@@ -2,19 +2,56 @@
 
 use crate::first_bytes::kind_of;
 use crate::hints::{field_hint, group_hint, word_hint};
-use crate::place::offset_at;
-use crate::shown::shown;
-use crate::token::{Token, token_at};
-use std::alloc::{AllocError, Global};
+use crate::texts::{Shown, Told};
+use std::alloc::Global;
 use std::str::from_utf8;
-
-const END: &str = "the end of the text: a group or a block is not closed";
+use text_assembler::readers::is_word_char;
 
 const EMPTY: &str = "the text is empty; that of a module is (module ..)";
 
-// What is said of the end of a text.
-fn end_reason(before: &str) -> &'static str {
-    if before.trim().is_empty() { EMPTY } else { END }
+const END: &str = "the end of the text: a group or a block is not closed";
+
+const OTHER: &str = "a character that no word, string or comment begins with";
+
+const NO_GROUP: &str = "a group that cannot be here";
+
+const NO_CLOSE: &str = "something is missing before it, or nothing is open";
+
+const NO_STRING: &str =
+    "a string that cannot be here, has a wrong character or escape, no end or no UTF-8, or touches a word";
+
+// The word at the front of a text, which may be empty, and what follows it.
+fn split_word(text: &str) -> (&str, &str) {
+    let bytes = text.as_bytes();
+    let end = bytes.iter().position(|byte| !is_word_char(*byte));
+    let end = end.unwrap_or(bytes.len());
+    (text.get(..end).unwrap_or(""), text.get(end..).unwrap_or(""))
+}
+
+// The string at the front of a text that begins with a quote, with its quotes if both are there.
+// Escaped quotes end it too.
+fn string_at(text: &str) -> &str {
+    match text.strip_prefix('"').and_then(|inside| inside.find('"')) {
+        Some(at) => text.get(..at.saturating_add(2)).unwrap_or(text),
+        None => text,
+    }
+}
+
+// How many bytes of the text are before the character at this line and column, both from 1; None if there is
+// no character.
+fn offset_at(text: &str, line: u64, column: u64) -> Option<usize> {
+    let mut here = (1u64, 1u64);
+    for (at, c) in text.char_indices() {
+        if here == (line, column) {
+            return Some(at);
+        }
+        here = if c == '\n' {
+            (here.0.saturating_add(1), 1)
+        } else {
+            (here.0, here.1.saturating_add(1))
+        };
+    }
+    None
 }
 
 // What is said of a word that the place names.
@@ -22,18 +59,10 @@ fn word_reason(before: &str, word: &str) -> &'static str {
     if before.trim().is_empty() {
         return "the text of a module begins with (module";
     }
-    if let Some(outside) = before.trim_end().strip_suffix('(') {
-        if let Some(hint) = group_hint(outside, word) {
-            return hint;
-        }
-    }
-    if let Some(hint) = word_hint(word) {
-        return hint;
-    }
-    match field_hint(before) {
-        Some(hint) => hint,
-        None => lone_reason(word),
-    }
+    let outside = before.trim_end().strip_suffix('(');
+    let hint = outside.and_then(|outside| group_hint(outside, word));
+    let hint = hint.or(word_hint(word)).or(field_hint(before));
+    hint.unwrap_or(lone_reason(word))
 }
 
 // What is said of a word that is written nowhere otherwise.
@@ -45,97 +74,47 @@ fn lone_reason(word: &str) -> &'static str {
     }
 }
 
-// What is said of a group that the place names.
-fn group_reason(before: &str, word: &str) -> &'static str {
-    match group_hint(before, word) {
-        Some(hint) => hint,
-        None => "a group that cannot be here",
-    }
-}
-
-// What is said of a parenthesis that closes a group.
-fn close_reason(before: &str) -> &'static str {
-    match field_hint(before) {
-        Some(hint) => hint,
-        None => "something is missing before it, or nothing is open",
-    }
-}
-
-// What is said of a string that the place names.
-fn string_reason(before: &str) -> &'static str {
-    match field_hint(before) {
-        Some(hint) => hint,
-        None =>
-            "a string that cannot be here, has a wrong character or escape, no end or no UTF-8, or touches a word",
-    }
-}
-
-// The token at the end of `before`, and what is said of it.
-fn token_text(alloc: Global, before: &str, token: Token<'_>) -> Result<String, AllocError> {
-    match token {
-        Token::End => String::from_str(alloc, end_reason(before)),
-        Token::Open(word) => {
-            let reason = group_reason(before, word);
-            let word = shown(alloc, word)?;
-            format!(in alloc; "`({word}`: {reason}")
+// The token at the front of a text, and what is said of it after the text before it.
+fn token_text(alloc: Global, before: &str, text: &str) -> Told {
+    let (word, rest) = split_word(text);
+    let hint = field_hint(before);
+    let (front, word, reason) = match text.as_bytes() {
+        [] if before.trim().is_empty() => return String::from_str(alloc, EMPTY),
+        [] => return String::from_str(alloc, END),
+        [b'(', b';', ..] => ("(", ";", "a comment without an end"),
+        [b'(', ..] => {
+            let word = split_word(text.get(1..).unwrap_or("").trim_start()).0;
+            ("(", word, group_hint(before, word).unwrap_or(NO_GROUP))
         }
-        Token::Word(word) => {
-            let reason = word_reason(before, word);
-            let word = shown(alloc, word)?;
-            format!(in alloc; "`{word}`: {reason}")
-        }
-        Token::Touching(word) => {
-            let word = shown(alloc, word)?;
-            format!(in alloc; "`{word}`: it touches the string after it")
-        }
-        Token::Text(string) => {
-            let reason = string_reason(before);
-            let string = shown(alloc, string)?;
-            format!(in alloc; "`{string}`: {reason}")
-        }
-        Token::Comment => String::from_str(alloc, "`(;`: a comment without an end"),
-        Token::Close => {
-            let reason = close_reason(before);
-            format!(in alloc; "`)`: {reason}")
-        }
-        Token::Other => String::from_str(
-            alloc,
-            "a character that no word, string or comment begins with",
-        ),
-    }
+        [b')', ..] => ("", ")", hint.unwrap_or(NO_CLOSE)),
+        [b'"', ..] => ("", string_at(text), hint.unwrap_or(NO_STRING)),
+        _ if word.is_empty() => return String::from_str(alloc, OTHER),
+        _ if rest.starts_with('"') => ("", word, "it touches the string after it"),
+        _ => ("", word, word_reason(before, word)),
+    };
+    format!(in alloc; "`{front}{}`: {reason}", Shown(word))
 }
 
 // Why a text has its fault at this line and column.
-fn why_utf8(alloc: Global, text: &str, line: u64, column: u64) -> Result<String, AllocError> {
-    let Some(at) = offset_at(text, line, column) else {
-        return String::from_str(alloc, end_reason(text));
-    };
+fn why_utf8(alloc: Global, text: &str, line: u64, column: u64) -> Told {
+    let at = offset_at(text, line, column).unwrap_or(text.len());
     let before = text.get(..at).unwrap_or("");
-    let here = text.get(at..).unwrap_or("");
-    token_text(alloc, before, token_at(here))
+    token_text(alloc, before, text.get(at..).unwrap_or(""))
 }
 
-// The first byte that is no UTF-8.
-fn why_no_utf8(alloc: Global, bytes: &[u8], offset: usize) -> Result<String, AllocError> {
-    match bytes.get(offset) {
-        Some(byte) => {
-            let byte = *byte;
-            format!(in alloc;
-                "byte 0x{byte:02x} at offset {offset} is no UTF-8; a binary module begins with 00"
-            )
-        }
-        None => Ok(String::new(alloc)),
-    }
-}
-
-/// Why a file that is not in the binary format denotes no module, with this place of its fault. An error only
-/// if memory runs out.
-pub fn why_text(alloc: Global, bytes: &[u8], line: u64, column: u64) -> Result<String, AllocError> {
+/// Why a file that is not in the binary format denotes no module, with this place of its fault.
+pub fn why_text(alloc: Global, bytes: &[u8], line: u64, column: u64) -> Told {
     if let Some(kind) = kind_of(bytes) {
         return String::from_str(alloc, kind);
     }
-    match from_utf8(bytes) {
-        Ok(text) => why_utf8(alloc, text, line, column),
-        Err(error) => why_no_utf8(alloc, bytes, error.valid_up_to()),
+    let offset = match from_utf8(bytes) {
+        Ok(text) => return why_utf8(alloc, text, line, column),
+        Err(error) => error.valid_up_to(),
+    };
+    match bytes.get(offset) {
+        Some(&byte) => format!(in alloc;
+            "byte 0x{byte:02x} at offset {offset} is no UTF-8; a binary module begins with 00"
+        ),
+        None => Ok(String::new(alloc)),
     }
 }

@@ -1,79 +1,46 @@
 //! How the text format of the profile writes what other assemblers take too.
 
 // Words after a parenthesis, each with what to write in its place.
-const GROUPS: &[(&str, &str)] = &[
-    (
-        "export",
-        "an export is a field of its own: (export \"f\" (func $f))",
-    ),
-    (
-        "import",
-        "an import is a field of its own, before functions, tables, memories and globals: (import \"m\" \"f\" (func (type $t)))",
-    ),
-    (
-        "param",
-        "a function names its type: (type $t (func (param i32))) and (func (type $t) (param i32) ..)",
-    ),
-    (
-        "result",
-        "a function names its type: (type $t (func (result i32))) and (func (type $t) (result i32) ..)",
-    ),
-    (
-        "local",
-        "a function names its type and then its locals, before its instructions: (func (type $t) (local i32) ..)",
-    ),
-    ("then", "arms are no groups: if .. else .. end"),
-    ("else", "arms are no groups: if .. else .. end"),
-    (
-        "data",
-        "a memory has its size, and data are a field: (memory 1) (data (offset i32.const 0) \"a\")",
-    ),
-    (
-        "elem",
-        "a table has its size, and elements are a field: (table 1 funcref) (elem (offset i32.const 0) $f)",
-    ),
-    (
-        "item",
-        "an element is the index of a function: (elem (offset i32.const 0) $f)",
-    ),
-    (
-        "ref.func",
-        "an element is the index of a function: (elem (offset i32.const 0) $f)",
-    ),
-];
+const GROUPS: &[(&str, &str)] = rows! {
+    "export" => "an export is a field of its own: (export \"f\" (func $f))";
+    "import" => "an import is a field of its own, before functions, tables, memories and globals: (import \"m\" \"f\" (func (type $t)))";
+    "param" => "a function names its type: (type $t (func (param i32))) and (func (type $t) (param i32) ..)";
+    "result" => "a function names its type: (type $t (func (result i32))) and (func (type $t) (result i32) ..)";
+    "local" => "a function names its type and then its locals, before its instructions: (func (type $t) (local i32) ..)";
+    "then" => "arms are no groups: if .. else .. end";
+    "else" => "arms are no groups: if .. else .. end";
+    "data" => "a memory has its size, and data are a field: (memory 1) (data (offset i32.const 0) \"a\")";
+    "elem" => "a table has its size, and elements are a field: (table 1 funcref) (elem (offset i32.const 0) $f)";
+    "item" => "an element is the index of a function: (elem (offset i32.const 0) $f)";
+    "ref.func" => "an element is the index of a function: (elem (offset i32.const 0) $f)";
+};
 
 // Words that are written otherwise.
-const OLD_WORDS: &[(&str, &str)] = &[
-    ("get_local", "it is written local.get"),
-    ("set_local", "it is written local.set"),
-    ("tee_local", "it is written local.tee"),
-    ("get_global", "it is written global.get"),
-    ("set_global", "it is written global.set"),
-    ("current_memory", "it is written memory.size"),
-    ("grow_memory", "it is written memory.grow"),
-    ("anyfunc", "it is written funcref"),
-];
+const OLD_WORDS: &[(&str, &str)] = rows! {
+    "get_local" => "it is written local.get";
+    "set_local" => "it is written local.set";
+    "tee_local" => "it is written local.tee";
+    "get_global" => "it is written global.get";
+    "set_global" => "it is written global.set";
+    "current_memory" => "it is written memory.size";
+    "grow_memory" => "it is written memory.grow";
+    "anyfunc" => "it is written funcref";
+};
 
 // How words begin that are outside the profile.
-const FRONTS: &[(&str, &str)] = &[
-    ("f32", "floats are outside the profile"),
-    ("f64", "floats are outside the profile"),
-    ("i32.trunc", "floats are outside the profile"),
-    ("i64.trunc", "floats are outside the profile"),
-    ("v128", "vectors of 128 bits are outside the profile"),
-    (
-        "memory.",
-        "of memory the profile has memory.size and memory.grow alone",
-    ),
-    ("data.", "bulk memory is outside the profile"),
-    (
-        "table.",
-        "reference types and bulk memory are outside the profile",
-    ),
-    ("ref.", "reference types are outside the profile"),
-    ("externref", "reference types are outside the profile"),
-    ("return_call", "tail calls are outside the profile"),
-];
+const FRONTS: &[(&str, &str)] = rows! {
+    "f32" => "floats are outside the profile";
+    "f64" => "floats are outside the profile";
+    "i32.trunc" => "floats are outside the profile";
+    "i64.trunc" => "floats are outside the profile";
+    "v128" => "vectors of 128 bits are outside the profile";
+    "memory." => "of memory the profile has memory.size and memory.grow alone";
+    "data." => "bulk memory is outside the profile";
+    "table." => "reference types and bulk memory are outside the profile";
+    "ref." => "reference types are outside the profile";
+    "externref" => "reference types are outside the profile";
+    "return_call" => "tail calls are outside the profile";
+};
 
 // Instructions whose words have no full stop.
 const CONTROL: &str =
@@ -82,102 +49,58 @@ const CONTROL: &str =
 const FOLDED: &str =
     "an instruction is not in parentheses: i32.const 1 i32.const 2 i32.add, and block .. end";
 
-const OFFSET: &str = "an offset is written (offset i32.const 0)";
-
 const NO_TYPE: &str =
     "a function names its type first: (type $t (func (param i32))) and (func (type $t) ..)";
 
-const NO_MODULE: &str = "fields are inside (module ..)";
-
 fn find(hints: &'static [(&'static str, &'static str)], word: &str) -> Option<&'static str> {
-    for (each, text) in hints {
-        if *each == word {
-            return Some(*text);
-        }
-    }
-    None
+    Some(hints.iter().find(|row| row.0 == word)?.1)
 }
 
 // What is said of words that begin like this one.
 fn find_front(word: &str) -> Option<&'static str> {
-    for (front, text) in FRONTS {
-        if word.starts_with(*front) {
-            return Some(*text);
-        }
-    }
-    None
+    Some(FRONTS.iter().find(|row| word.starts_with(row.0))?.1)
 }
 
-fn is_control(word: &str) -> bool {
-    CONTROL.split(' ').any(|each| each == word)
+// What is before the last parenthesis of a text, and after it; empty texts if it has none.
+fn last_group(text: &str) -> (&str, &str) {
+    text.rsplit_once('(').unwrap_or(("", ""))
 }
 
-// What is after the last parenthesis that is open at the end of a text; empty if one was closed after it.
-fn open_group(text: &str) -> &str {
-    let group = match text.rfind('(') {
-        Some(at) => text.get(at.saturating_add(1)..).unwrap_or(""),
-        None => "",
-    };
-    if group.contains(')') { "" } else { group }
-}
-
-// What is before the last parenthesis of a text.
-fn before_group(text: &str) -> &str {
-    match text.rfind('(') {
-        Some(at) => text.get(..at).unwrap_or(""),
-        None => "",
-    }
-}
-
-// The word of a group that has no more than ids after it.
-fn word_of_group(group: &str) -> &str {
+// The word of a group that is open at the end of a text, if no more than ids are after it; else empty.
+fn open_word(group: &str) -> &str {
     let mut words = group.split_whitespace();
     let first = words.next().unwrap_or("");
-    for word in words {
-        if !word.starts_with('$') {
-            return "";
-        }
-    }
-    first
+    let is_open = !group.contains(')') && words.all(|word| word.starts_with('$'));
+    if is_open { first } else { "" }
 }
 
 /// What has to be next, if this text ends where a field has to go on in one way.
 pub fn field_hint(text: &str) -> Option<&'static str> {
-    let outer = open_group(before_group(text)).trim_start();
-    if outer.starts_with("type") || outer.starts_with("export") {
+    let (before, group) = last_group(text);
+    let outer = last_group(before).1;
+    let is_outer = !outer.contains(')');
+    let outer = outer.trim_start();
+    if is_outer && (outer.starts_with("type") || outer.starts_with("export")) {
         return None;
     }
-    match word_of_group(open_group(text)) {
+    match open_word(group) {
         "func" => Some(NO_TYPE),
-        "data" | "elem" => Some(OFFSET),
+        "data" | "elem" => Some("an offset is written (offset i32.const 0)"),
         _ => None,
     }
 }
 
 /// How a word is written that is none of the profile.
 pub fn word_hint(word: &str) -> Option<&'static str> {
-    match find(OLD_WORDS, word) {
-        Some(text) => Some(text),
-        None => find_front(word),
-    }
+    find(OLD_WORDS, word).or(find_front(word))
 }
 
 /// How a group with this word is written, whose parenthesis follows this text.
 pub fn group_hint(before: &str, word: &str) -> Option<&'static str> {
     if !before.contains("(module") {
-        return Some(NO_MODULE);
+        return Some("fields are inside (module ..)");
     }
-    if let Some(text) = find(GROUPS, word) {
-        return Some(text);
-    }
-    if let Some(text) = field_hint(before) {
-        return Some(text);
-    }
-    if let Some(text) = word_hint(word) {
-        return Some(text);
-    }
-    if is_control(word) || word.contains('.') {
-        return Some(FOLDED);
-    }
-    None
+    let is_instr = word.contains('.') || CONTROL.split(' ').any(|each| each == word);
+    let hint = find(GROUPS, word).or(field_hint(before));
+    hint.or(word_hint(word)).or(is_instr.then_some(FOLDED))
 }

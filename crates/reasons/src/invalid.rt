@@ -4,20 +4,49 @@ ghost use Rattle.std.specs.Prelude.{IsTrue};
 ghost use Rattle.wasm_ast.specs.View.{op_of};
 ghost use Rattle.text_assembler.specs.Lines.{IsAligned};
 
-use crate::ends::{block_text, body_end_text};
+use crate::ends::{block_text, bodies_of, body_end_text};
 use crate::fields::find_field;
-use crate::find_instr::{Found, instr_at};
 use crate::module::module_of;
-use crate::operands::simple_text;
-use crate::shown::shown;
+use crate::operands::{Function, simple_text};
+use crate::texts::{Shown, Told};
 use std::alloc::{AllocError, Global};
 use text_assembler::instr_text;
 use validator::{Types, Unchecked};
-use wasm_ast::{Func, Instr, Module, Place, Simple};
+use wasm_ast::{Body, Instr, Module, Place, Simple};
 
 // How many instructions may be counted for the types before one: more would take longer than the
 // refusal itself.
 const MOST_COUNTED: u64 = 1 << 19;
+
+/// An instruction of a body, and how many blocks are open around it.
+type Found<'a> = (&'a Instr, u32);
+
+// The instruction with this number; None if there are no more than that many.
+fn instr_at<'a>(alloc: Global, body: &'a Body, at: u32) -> Result<Option<Found<'a>>, AllocError> {
+    // What is left of each body that is open, or is to be read after it, and how many are open around it.
+    let mut bodies = Vec::new(alloc);
+    bodies.push((body.as_slice(), 0u32))?;
+    let mut left = at;
+    for _ in 0..u64::MAX {
+        let Some((instrs, depth)) = bodies.pop() else {
+            return Ok(None);
+        };
+        if let Some((instr, rest)) = instrs.split_first() {
+            let Some(next) = left.checked_sub(1) else {
+                return Ok(Some((instr, depth)));
+            };
+            left = next;
+            bodies.push((rest, depth))?;
+            let [first, second] = bodies_of(instr);
+            for arm in [second, first] {
+                if let Some((_, body)) = arm {
+                    bodies.push((body.as_slice(), depth.saturating_add(1)))?;
+                }
+            }
+        }
+    }
+    Ok(None)
+}
 
 // Whether the exponent of an alignment is one that a text can have.
 fn is_aligned(instr: &Instr) -> bool
@@ -30,111 +59,84 @@ fn is_aligned(instr: &Instr) -> bool
 }
 
 // An instruction as text, of a `br_table` its first labels.
-fn text_of(alloc: Global, instr: &Instr) -> Result<String, AllocError> {
+fn text_of(alloc: Global, instr: &Instr) -> Told {
     if !is_aligned(instr) {
         return String::from_str(alloc, "an access whose alignment is over 2^31");
     }
-    let Ok(text) = instr_text(alloc, instr) else {
-        return Err(AllocError);
-    };
-    match instr {
-        Instr::Simple(Simple::BrTable(_, _)) => shown(alloc, text.as_str()),
-        _ => Ok(text),
+    match (instr_text(alloc, instr), instr) {
+        (Err(_), _) => Err(AllocError),
+        (Ok(text), Instr::Simple(Simple::BrTable(_, _))) => {
+            format!(in alloc; "{}", Shown(text.as_str()))
+        }
+        (Ok(text), _) => Ok(text),
     }
 }
 
-// Whether the types before an instruction are found in little time: the instructions before it are
-// counted again in each block that is open there.
-fn is_near(found: Found<'_>, place: u32) -> bool {
-    u64::from(place).saturating_mul(u64::from(found.depth)) <= MOST_COUNTED
-}
-
-// What is known before an instruction; nothing if that is not found in little time.
-fn types_there<'a>(
-    alloc: Global,
-    of: &'a Unchecked,
-    at: Place,
-    found: Found<'_>,
-) -> Result<Types<'a>, AllocError> {
-    if !is_near(found, at.instr) {
-        return Ok(Types::none(alloc));
+// What is known before an instruction; nothing if that is not found in little time: the
+// instructions before it are counted again in each block that is open there.
+fn types_there<'a>(of: Function<'a>, place: u32, depth: u32) -> Result<Types<'a>, AllocError> {
+    if u64::from(place).saturating_mul(u64::from(depth)) > MOST_COUNTED {
+        return Ok(Types::none(of.alloc));
     }
-    match of.types_before(alloc, at.func, at.instr)? {
-        Some(types) => Ok(types),
-        None => Ok(Types::none(alloc)),
-    }
+    let types = of.of.types_before(of.alloc, of.number, place)?;
+    Ok(types.unwrap_or(Types::none(of.alloc)))
 }
 
 // What is said of an instruction at fault at this place.
-fn instr_reason(
-    alloc: Global,
-    of: &Unchecked,
-    func: &Func,
-    at: Place,
-    found: Found<'_>,
-) -> Result<String, AllocError> {
-    let mut types = types_there(alloc, of, at, found)?;
-    match found.instr {
-        Instr::Simple(simple) => simple_text(alloc, of, func, at.func, &mut types, simple),
-        _ => block_text(alloc, of, at.func, &types, found.instr),
+fn instr_reason(of: Function<'_>, place: u32, found: Found<'_>) -> Told {
+    let mut types = types_there(of, place, found.1)?;
+    match found.0 {
+        Instr::Simple(simple) => simple_text(of, &mut types, simple),
+        instr => block_text(of, &types, instr),
     }
 }
 
 // What is said of a place of this function.
-fn body_text(alloc: Global, of: &Unchecked, func: &Func, at: Place) -> Result<String, AllocError> {
-    let number = at.func;
-    let place = at.instr;
-    match instr_at(&func.body, place) {
+fn body_text(of: Function<'_>, place: u32) -> Told {
+    let (alloc, number) = (of.alloc, of.number);
+    match instr_at(alloc, &of.func.body, place)? {
         Some(found) => {
-            let text = text_of(alloc, found.instr)?;
-            let reason = instr_reason(alloc, of, func, at, found)?;
+            let text = text_of(alloc, found.0)?;
+            let reason = instr_reason(of, place, found)?;
             format!(in alloc; "function {number}, instruction {place}, {text}: {reason}")
         }
         None => {
-            let reason = body_end_text(alloc, of, func, number)?;
+            let reason = body_end_text(of)?;
             format!(in alloc; "function {number}, after its last instruction: {reason}")
         }
     }
 }
 
-// The module's own function with this index, imports counted first.
-fn own_func(of: &Module, func: u32) -> Option<&Func> {
-    let own = (func as usize).checked_sub(of.imports.len())?;
-    of.funcs.as_slice().get(own)
-}
-
-// What is said of a place.
-fn place_text(alloc: Global, of: &Unchecked, at: Place) -> Result<String, AllocError> {
-    match own_func(of.module(), at.func) {
-        Some(func) => body_text(alloc, of, func, at),
+// What is said of a place, whose function counts imports first.
+fn place_text(alloc: Global, of: &Unchecked, at: Place) -> Told {
+    let own = (at.func as usize).checked_sub(of.module().imports.len());
+    match own.and_then(|own| of.module().funcs.as_slice().get(own)) {
+        Some(func) => body_text(
+            Function {
+                alloc,
+                of,
+                func,
+                number: at.func,
+            },
+            at.instr,
+        ),
         None => Ok(String::new(alloc)),
     }
 }
 
 // What is said of a fault outside the bodies.
-fn outside_text(alloc: Global, of: &Module) -> Result<String, AllocError> {
+fn outside_text(alloc: Global, of: &Module) -> Told {
     match find_field(alloc, of)? {
-        Some(fault) => {
-            let field = fault.field;
-            let number = fault.number;
-            let what = fault.what;
-            format!(in alloc; "{field} {number}: {what}")
-        }
+        Some((field, number, what)) => format!(in alloc; "{field} {number}: {what}"),
         None => Ok(String::new(alloc)),
     }
 }
 
-/// Why the module of a file is not valid, given the place of its fault, if it is in a body. An error only if
-/// memory runs out.
-pub fn why_invalid(alloc: Global, bytes: &[u8], at: Option<Place>) -> Result<String, AllocError> {
-    let Some(of) = module_of(alloc, bytes)? else {
-        return Ok(String::new(alloc));
-    };
-    match at {
-        Some(at) => {
-            let of = Unchecked::new(alloc, of)?;
-            place_text(alloc, &of, at)
-        }
-        None => outside_text(alloc, &of),
+/// Why the module of a file is not valid, given the place of its fault, if it is in a body.
+pub fn why_invalid(alloc: Global, bytes: &[u8], at: Option<Place>) -> Told {
+    match (module_of(alloc, bytes)?, at) {
+        (None, _) => Ok(String::new(alloc)),
+        (Some(of), None) => outside_text(alloc, &of),
+        (Some(of), Some(at)) => place_text(alloc, &Unchecked::new(alloc, of)?, at),
     }
 }

@@ -5,34 +5,32 @@
 //! readers that the refusal came from.
 #![tactic(auto)]
 
+/// Tables, a row a line: what a row is of, and its text.
+macro_rules! rows {
+    ($($($of:expr),+ => $text:expr;)*) => { &[$(($($of),+, $text)),*] };
+}
+
 mod bad_text;
 mod command_line;
 mod config;
-mod config_texts;
 mod ends;
 mod fields;
-mod find_instr;
 mod first_bytes;
-mod floats;
 mod hints;
 mod invalid;
 mod json;
-mod lacks;
 mod limits;
 mod line;
 mod located;
 mod module;
 mod operands;
 mod outside;
-mod place;
 mod process_texts;
 mod request;
 mod request_facts;
-mod shown;
 mod spelling;
 mod task;
-mod token;
-mod type_names;
+mod texts;
 
 use bad_text::why_text;
 pub use command_line::TaskWords;
@@ -43,21 +41,22 @@ use limits::why_limit;
 pub use line::{Lines, why_line};
 pub use request::{Contents, id_in, why_request};
 use spelling::why_bytes;
-use std::alloc::{AllocError, Global};
-use task::{Cause, why_task};
+use std::alloc::Global;
+use task::why_task;
+use texts::Told;
 use wasm_ast::Refusal;
 
 /// Why a file with these bytes is refused so, in one line without its line feed; an empty text if there is
 /// nothing to add to the refusal. An error only if memory runs out.
-pub fn why_file(alloc: Global, bytes: &[u8], refusal: Refusal) -> Result<String, AllocError> {
+pub fn why_file(alloc: Global, bytes: &[u8], refusal: Refusal) -> Told {
     match refusal {
         Refusal::BadModule => why_bytes(alloc, bytes),
         Refusal::Invalid(at) => why_invalid(alloc, bytes, at),
-        Refusal::Limit => why_limit(alloc, bytes, pages_under(None)),
+        Refusal::Limit => why_limit(alloc, bytes, pages_under(alloc, None)?, "--memory"),
         Refusal::BadText { line, column } => why_text(alloc, bytes, line, column),
-        Refusal::NoEntry => why_task(alloc, bytes, Cause::Entry),
-        Refusal::BadImport => why_task(alloc, bytes, Cause::Import),
-        Refusal::SegmentOutOfBounds => why_task(alloc, bytes, Cause::Segment),
+        Refusal::NoEntry | Refusal::BadImport | Refusal::SegmentOutOfBounds => {
+            why_task(alloc, bytes, refusal)
+        }
         _ => Ok(String::new(alloc)),
     }
 }
@@ -65,15 +64,10 @@ pub fn why_file(alloc: Global, bytes: &[u8], refusal: Refusal) -> Result<String,
 /// Why no task can be made of a file with these bytes and what a command line gives it, in one line
 /// without its line feed; an empty text if there is nothing to add to the refusal. An error only if
 /// memory runs out.
-pub fn why_run(
-    alloc: Global,
-    bytes: &[u8],
-    words: &TaskWords<'_>,
-    refusal: Refusal,
-) -> Result<String, AllocError> {
+pub fn why_run(alloc: Global, bytes: &[u8], words: &TaskWords<'_>, refusal: Refusal) -> Told {
     match refusal {
         Refusal::BadConfig => why_words(alloc, words),
-        Refusal::Limit => why_limit(alloc, bytes, pages_under(words.limit)),
+        Refusal::Limit => why_limit(alloc, bytes, pages_under(alloc, words.limit)?, "--memory"),
         _ => why_file(alloc, bytes, refusal),
     }
 }

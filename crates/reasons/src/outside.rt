@@ -11,31 +11,23 @@ const NO_INSTRUCTION: &str = "no instruction of the profile has this opcode";
 const EXCEPTIONS: &str = "exceptions are outside the profile";
 
 // What opcodes of one byte belong to of which the profile has none: the first, the last, and the name.
-const FEATURES: &[(u8, u8, &str)] = &[
-    (0x06, 0x0A, EXCEPTIONS),
-    (
-        0x12,
-        0x15,
-        "tail calls and calls of references are outside the profile",
-    ),
-    (0x18, 0x19, EXCEPTIONS),
-    (
-        0x1C,
-        0x1C,
-        "reference types are outside the profile; select is 1b",
-    ),
-    (0x1F, 0x1F, EXCEPTIONS),
-    (0x25, 0x26, "reference types are outside the profile"),
-    (0x2A, 0x2B, FLOATS),
-    (0x38, 0x39, FLOATS),
-    (0x43, 0x44, FLOATS),
-    (0x5B, 0x66, FLOATS),
-    (0x8B, 0xBF, FLOATS),
-    (0xD0, 0xD6, "references are outside the profile"),
-    (0xFB, 0xFB, "garbage collection is outside the profile"),
-    (0xFD, 0xFD, "vectors of 128 bits are outside the profile"),
-    (0xFE, 0xFE, "threads are outside the profile"),
-];
+const FEATURES: &[(u8, u8, &str)] = rows! {
+    0x06, 0x0A => EXCEPTIONS;
+    0x12, 0x15 => "tail calls and calls of references are outside the profile";
+    0x18, 0x19 => EXCEPTIONS;
+    0x1C, 0x1C => "reference types are outside the profile; select is 1b";
+    0x1F, 0x1F => EXCEPTIONS;
+    0x25, 0x26 => "reference types are outside the profile";
+    0x2A, 0x2B => FLOATS;
+    0x38, 0x39 => FLOATS;
+    0x43, 0x44 => FLOATS;
+    0x5B, 0x66 => FLOATS;
+    0x8B, 0xBF => FLOATS;
+    0xD0, 0xD6 => "references are outside the profile";
+    0xFB, 0xFB => "garbage collection is outside the profile";
+    0xFD, 0xFD => "vectors of 128 bits are outside the profile";
+    0xFE, 0xFE => "threads are outside the profile";
+};
 
 // Opcodes that stand alone, each with its word in the text format.
 const OPCODES: &[(u8, &str)] = &[
@@ -75,17 +67,12 @@ i64.trunc_sat_f32_s i64.trunc_sat_f32_u i64.trunc_sat_f64_s i64.trunc_sat_f64_u 
 data.drop memory.copy memory.fill table.init elem.drop table.copy table.grow table.size \
 table.fill";
 
-/// The first opcode of COMPARISONS.
-const FIRST_COMPARISON: u8 = 0x5B;
-
-/// The first opcode of OPERATORS.
-const FIRST_OPERATOR: u8 = 0x8B;
-
-/// Before the number of an instruction of NUMBERED.
-const PREFIX: u8 = 0xFC;
-
 /// How many of NUMBERED are of floats.
 const NUMBERED_FLOATS: u32 = 8;
+
+/// The names of sections, by their ids.
+const SECTIONS: &str =
+    "custom type import function table memory global export start element code data";
 
 // The word with this number, from 0 on.
 fn word_at(words: &'static str, number: usize) -> Option<&'static str> {
@@ -99,62 +86,30 @@ fn word_in(words: &'static str, first: u8, opcode: u8) -> Option<&'static str> {
 
 // The word of an opcode of one byte.
 fn word_of(opcode: u8) -> Option<&'static str> {
-    for (byte, word) in OPCODES {
-        if *byte == opcode {
-            return Some(*word);
-        }
-    }
-    match word_in(COMPARISONS, FIRST_COMPARISON, opcode) {
-        Some(word) => Some(word),
-        None => word_in(OPERATORS, FIRST_OPERATOR, opcode),
-    }
+    let alone = OPCODES.iter().find(|row| row.0 == opcode);
+    let alone = alone.map(|row| row.1);
+    alone
+        .or(word_in(COMPARISONS, 0x5B, opcode))
+        .or(word_in(OPERATORS, 0x8B, opcode))
 }
 
 // What an opcode of one byte belongs to.
 fn feature_of(opcode: u8) -> &'static str {
-    for (first, last, name) in FEATURES {
-        if *first <= opcode && opcode <= *last {
-            return *name;
-        }
-    }
-    NO_INSTRUCTION
+    let mut rows = FEATURES.iter();
+    let row = rows.find(|row| row.0 <= opcode && opcode <= row.1);
+    row.map_or(NO_INSTRUCTION, |row| row.2)
 }
 
-/// What is known of an instruction outside the profile.
-#[derive(Clone, Copy)]
-pub struct Outside {
-    /// Its word in the text format.
-    pub word: Option<&'static str>,
-    /// What it belongs to.
-    pub feature: &'static str,
-}
-
-// The instruction whose opcode is FC and the number here.
-fn numbered(bytes: &[u8]) -> Outside {
-    let Ok((number, _)) = read_u32(bytes) else {
-        return Outside {
-            word: None,
-            feature: NO_INSTRUCTION,
-        };
-    };
-    Outside {
-        word: word_at(NUMBERED, number as usize),
-        feature: if number < NUMBERED_FLOATS {
-            FLOATS
-        } else {
-            BULK_MEMORY
-        },
+/// The word in the text format, if it has one, of the instruction outside the profile of which this is the
+/// first byte of the opcode, and these bytes follow; and what it belongs to.
+pub fn find_outside(opcode: u8, bytes: &[u8]) -> (Option<&'static str>, &'static str) {
+    if opcode != 0xFC {
+        return (word_of(opcode), feature_of(opcode));
     }
-}
-
-/// The instruction of which this is the first byte of the opcode, and these bytes follow.
-pub fn find_outside(opcode: u8, bytes: &[u8]) -> Outside {
-    if opcode == PREFIX {
-        return numbered(bytes);
-    }
-    Outside {
-        word: word_of(opcode),
-        feature: feature_of(opcode),
+    match read_u32(bytes) {
+        Ok((number, _)) if number < NUMBERED_FLOATS => (word_at(NUMBERED, number as usize), FLOATS),
+        Ok((number, _)) => (word_at(NUMBERED, number as usize), BULK_MEMORY),
+        Err(_) => (None, NO_INSTRUCTION),
     }
 }
 
@@ -172,21 +127,9 @@ pub fn val_type_words(byte: u8) -> &'static str {
 /// The name of a section.
 pub fn section_name(id: u8) -> &'static str {
     match id {
-        0 => "custom",
-        1 => "type",
-        2 => "import",
-        3 => "function",
-        4 => "table",
-        5 => "memory",
-        6 => "global",
-        7 => "export",
-        8 => "start",
-        9 => "element",
-        10 => "code",
-        11 => "data",
         12 =>
             "data count, of bulk memory, which is outside the profile; feulgama lower translates it",
         13 => "tag, of exceptions, which are outside the profile",
-        _ => "none",
+        _ => word_at(SECTIONS, usize::from(id)).unwrap_or("none"),
     }
 }

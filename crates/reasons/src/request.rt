@@ -4,21 +4,18 @@ ghost use Rattle.std.specs.Prelude.{◌≡◌, ◌≢◌, [], IfOk, IfSome, stri
 ghost use Rattle.wasm_ast.specs.Identifiers.{is_id};
 
 use crate::config::why_config;
-use crate::json::{Parsed, parse};
-use crate::limits::{Cap, why_limit};
+use crate::json::parse;
+use crate::limits::why_limit;
 use crate::line::{Lines, why_line};
-use crate::request_facts::{Said, said_of};
-use crate::shown::shown;
+use crate::request_facts::said_of;
+use crate::texts::{Shown, Told, push_item};
 use crate::{bad_text, why_file};
-use oci_config::{Process, read_config};
-use request_lines::{Key, Op};
+use oci_config::read_config;
+use request_lines::{Key, MAX_LINE_BYTES, Op};
 use serde_json::Value;
 use std::alloc::{AllocError, Global};
 use std::str::from_utf8;
 use wasm_ast::{Refusal, is_digest, is_id};
-
-/// What is said of a line that is too long.
-const TOO_LONG: &str = "the line has more than 1048576 bytes, the limit";
 
 /// What is said if nothing else is known.
 const OTHER: &str = "as docs/PROTOCOL.md says of this number";
@@ -31,79 +28,57 @@ pub trait Contents {
 
 // The text that a request has under a key.
 fn text_at<'a>(request: &'a Value, key: &str) -> Option<&'a str> {
-    match request.get(key) {
-        Some(Value::String(text)) => Some(text.as_str()),
-        _ => None,
-    }
+    request.get(key)?.as_str()
 }
 
-// A value as a line shows it.
-fn value_text(alloc: Global, value: Option<&Value>) -> Result<String, AllocError> {
-    match value {
-        Some(Value::String(text)) => {
-            let text = shown(alloc, text.as_str())?;
-            format!(in alloc; "\"{text}\"")
-        }
-        Some(Value::Number(number)) => format!(in alloc; "{number}"),
-        _ => Ok(String::new(alloc)),
+// A key of a request, with its value.
+fn key_text(alloc: Global, request: &Value, key: &str) -> Told {
+    match request.get(key) {
+        Some(Value::String(text)) => format!(in alloc; "{key} \"{}\"", Shown(text.as_str())),
+        Some(Value::Number(number)) => format!(in alloc; "{key} {number}"),
+        _ => format!(in alloc; "{key} "),
     }
 }
 
 // These keys of a request, with their values.
-fn keys_text(alloc: Global, request: &Value, keys: &[Key]) -> Result<String, AllocError> {
+fn keys_text(alloc: Global, request: &Value, keys: &[Key]) -> Told {
     let mut text = String::new(alloc);
-    for (i, key) in keys.iter().enumerate() {
-        let value = value_text(alloc, request.get(key.name()))?;
-        text.push_str(if i == 0 { "" } else { ", " })?;
-        text.push_str(key.name())?;
-        text.push_str(" ")?;
-        text.push_str(value.as_str())?;
+    for key in keys {
+        let shown = key_text(alloc, request, key.name())?;
+        push_item(&mut text, ", ", shown.as_str())?;
     }
     Ok(text)
 }
 
-// What is said of a request, whose name is before it.
-fn said_text(alloc: Global, request: &Value, said: Said) -> Result<String, AllocError> {
-    let text = said.text;
-    if said.keys.is_empty() {
-        return String::from_str(alloc, text);
-    }
-    let keys = keys_text(alloc, request, said.keys)?;
-    format!(in alloc; "{keys}: {text}")
-}
-
 // What is said of a request by its name and the number of its refusal.
-fn why_known(
-    alloc: Global,
-    op: Op,
-    request: &Value,
-    refusal: Refusal,
-) -> Result<String, AllocError> {
+fn why_known(alloc: Global, op: Op, request: &Value, refusal: Refusal) -> Told {
     match said_of(op, refusal.number()) {
-        Some(said) => said_text(alloc, request, said),
         None => Ok(String::new(alloc)),
+        Some(([], text)) => String::from_str(alloc, text),
+        Some((keys, text)) => {
+            let keys = keys_text(alloc, request, keys)?;
+            format!(in alloc; "{keys}: {text}")
+        }
     }
 }
 
 // Which of a request's digest and id is malformed.
-fn why_names(alloc: Global, request: &Value) -> Result<String, AllocError> {
+fn why_names(alloc: Global, request: &Value) -> Told {
     match (text_at(request, "digest"), text_at(request, "id")) {
-        (Some(digest), _) if !is_digest(digest) => {
-            let digest = shown(alloc, digest)?;
-            format!(in alloc; "digest \"{digest}\": not sha256: and 64 digits 0-9 a-f after it")
-        }
-        (_, Some(id)) if !is_id(id) => {
-            let id = shown(alloc, id)?;
-            format!(in alloc;
-                "id \"{id}\": not 1 to 64 characters A-Z a-z 0-9 . _ -, the first a letter or a digit"
-            )
-        }
+        (Some(digest), _) if !is_digest(digest) => format!(in alloc;
+            "digest \"{}\": not sha256: and 64 digits 0-9 a-f after it",
+            Shown(digest)
+        ),
+        (_, Some(id)) if !is_id(id) => format!(in alloc;
+            "id \"{}\": not 1 to 64 characters A-Z a-z 0-9 . _ -, the first a letter or a digit",
+            Shown(id)
+        ),
         _ => Ok(String::new(alloc)),
     }
 }
 
 // Why the text of a put_text is refused.
-fn why_text(alloc: Global, request: &Value, refusal: Refusal) -> Result<String, AllocError> {
+fn why_text(alloc: Global, request: &Value, refusal: Refusal) -> Told {
     let Some(text) = text_at(request, "text") else {
         return Ok(String::new(alloc));
     };
@@ -116,105 +91,60 @@ fn why_text(alloc: Global, request: &Value, refusal: Refusal) -> Result<String, 
     }
 }
 
-// Why no task can be made of a content.
-fn why_content<C: Contents>(
-    alloc: Global,
-    process: &Process,
-    refusal: Refusal,
-    contents: &C,
-) -> Result<String, AllocError> {
-    let Some(bytes) = contents.bytes_under(alloc, process.module.as_str())? else {
-        return Ok(String::new(alloc));
+// Why no task can be made of the content that a config names.
+fn why_content<C: Contents>(alloc: Global, config: &str, refusal: Refusal, contents: &C) -> Told {
+    let process = match read_config(alloc, config.as_bytes()) {
+        Ok(process) => process,
+        Err(Refusal::NoMemory) => return Err(AllocError),
+        Err(_) => return Ok(String::new(alloc)),
     };
-    match refusal {
-        Refusal::Limit => {
-            let cap = Cap {
-                pages: u64::from(process.cap.pages()),
-                raised_by: "linux.resources.memory.limit",
-            };
-            why_limit(alloc, bytes.as_slice(), cap)
-        }
-        _ => why_file(alloc, bytes.as_slice(), refusal),
+    let most = u64::from(process.cap.pages());
+    let by = "linux.resources.memory.limit";
+    match contents.bytes_under(alloc, process.module.as_str())? {
+        None => Ok(String::new(alloc)),
+        Some(bytes) if refusal == Refusal::Limit => why_limit(alloc, bytes.as_slice(), most, by),
+        Some(bytes) => why_file(alloc, bytes.as_slice(), refusal),
     }
 }
 
-// Why a create is refused whose config is one: for the content, or else for what is known of it.
-fn why_process<C: Contents>(
-    alloc: Global,
-    request: &Value,
-    config: &str,
-    refusal: Refusal,
-    contents: &C,
-) -> Result<String, AllocError> {
-    let known = why_known(alloc, Op::Create, request, refusal)?;
-    if !known.is_empty() {
-        return Ok(known);
-    }
-    match read_config(alloc, config.as_bytes()) {
-        Ok(process) => why_content(alloc, &process, refusal, contents),
-        Err(Refusal::NoMemory) => Err(AllocError),
-        Err(_) => Ok(String::new(alloc)),
-    }
-}
-
-// Why a create is refused.
-fn why_create<C: Contents>(
-    alloc: Global,
-    request: &Value,
-    refusal: Refusal,
-    contents: &C,
-) -> Result<String, AllocError> {
+// Why a create is refused: for the config, for what is known of it, or else for the content.
+fn why_create<C: Contents>(alloc: Global, request: &Value, refusal: Refusal, contents: &C) -> Told {
     let Some(config) = text_at(request, "config") else {
         return Ok(String::new(alloc));
     };
-    match refusal {
-        Refusal::BadConfig => why_config(alloc, config),
-        _ => why_process(alloc, request, config, refusal, contents),
+    if refusal == Refusal::BadConfig {
+        return why_config(alloc, config);
+    }
+    let known = why_known(alloc, Op::Create, request, refusal)?;
+    if known.is_empty() {
+        why_content(alloc, config, refusal, contents)
+    } else {
+        Ok(known)
     }
 }
 
-// Why a request with this `op` is refused.
-fn why_op<C: Contents>(
-    alloc: Global,
-    op: Op,
-    request: &Value,
-    refusal: Refusal,
-    contents: &C,
-) -> Result<String, AllocError> {
-    match (refusal, op) {
+// Why a request is refused, after its name; an empty text if nothing is known.
+fn why_value<C: Contents>(alloc: Global, request: &Value, refusal: Refusal, contents: &C) -> Told {
+    let Some(op) = Op::with_word(text_at(request, "op").unwrap_or("")) else {
+        return Ok(String::new(alloc));
+    };
+    let why = match (refusal, op) {
         (Refusal::BadId, _) => why_names(alloc, request),
         (_, Op::PutText) => why_text(alloc, request, refusal),
         (_, Op::Create) => why_create(alloc, request, refusal, contents),
         _ => why_known(alloc, op, request, refusal),
-    }
-}
-
-// The same, after the name of the request; an empty text if nothing is known.
-fn why_value<C: Contents>(
-    alloc: Global,
-    request: &Value,
-    refusal: Refusal,
-    contents: &C,
-) -> Result<String, AllocError> {
-    let Some(op) = Op::with_word(text_at(request, "op").unwrap_or("")) else {
-        return Ok(String::new(alloc));
-    };
-    let why = why_op(alloc, op, request, refusal, contents)?;
+    }?;
     if why.is_empty() {
         return Ok(why);
     }
-    let word = op.word();
-    format!(in alloc; "{word}: {why}")
+    format!(in alloc; "{}: {why}", op.word())
 }
 
 // The JSON value of a line, if it is one.
 fn value_of(alloc: Global, line: &[u8]) -> Result<Option<Value>, AllocError> {
-    let Ok(text) = from_utf8(line) else {
-        return Ok(None);
-    };
-    match parse(alloc, text)? {
-        Parsed::Value(value) => Ok(Some(value)),
-        Parsed::Fault(_) => Ok(None),
+    match from_utf8(line) {
+        Ok(text) => Ok(parse(alloc, text)?.ok()),
+        Err(_) => Ok(None),
     }
 }
 
@@ -224,16 +154,14 @@ fn find_reason<C: Contents>(
     line: Option<&[u8]>,
     refusal: Refusal,
     contents: &C,
-) -> Result<String, AllocError> {
-    let Some(line) = line else {
-        return String::from_str(alloc, TOO_LONG);
-    };
-    if let Refusal::BadRequest = refusal {
-        return why_line(alloc, line, Lines::Requests);
-    }
-    match value_of(alloc, line)? {
-        Some(request) => why_value(alloc, &request, refusal, contents),
-        None => Ok(String::new(alloc)),
+) -> Told {
+    match (line, refusal) {
+        (None, _) => format!(in alloc; "the line has more than {MAX_LINE_BYTES} bytes, the limit"),
+        (Some(line), Refusal::BadRequest) => why_line(alloc, line, Lines::Requests),
+        (Some(line), _) => match value_of(alloc, line)? {
+            Some(request) => why_value(alloc, &request, refusal, contents),
+            None => Ok(String::new(alloc)),
+        },
     }
 }
 
@@ -245,7 +173,7 @@ pub fn why_request<C: Contents>(
     line: Option<&[u8]>,
     refusal: Refusal,
     contents: &C,
-) -> Result<String, AllocError>
+) -> Told
     ensures { IfOk result (λ s. string_bytes s ≢ []) }
 {
     let reason = find_reason(alloc, line, refusal, contents)?;
@@ -256,27 +184,16 @@ pub fn why_request<C: Contents>(
     }
 }
 
-// A copy of an id; None if the text is no id.
-fn id_of(alloc: Global, text: &str) -> Result<Option<String>, AllocError>
-    ensures { IfOk result (λ found. IfSome found (λ s. is_id (string_bytes s) ≡ true)) }
-{
-    if is_id(text) {
-        Ok(Some(String::from_str(alloc, text)?))
-    } else {
-        Ok(None)
-    }
-}
-
 /// The id that the request of a line names, if it names one that is well-formed. An error only if
 /// memory runs out.
 pub fn id_in(alloc: Global, line: &[u8]) -> Result<Option<String>, AllocError>
     ensures { IfOk result (λ found. IfSome found (λ s. is_id (string_bytes s) ≡ true)) }
 {
-    match value_of(alloc, line)? {
-        Some(request) => match text_at(&request, "id") {
-            Some(id) => id_of(alloc, id),
-            None => Ok(None),
-        },
-        None => Ok(None),
+    let Some(request) = value_of(alloc, line)? else {
+        return Ok(None);
+    };
+    match text_at(&request, "id") {
+        Some(id) if is_id(id) => Ok(Some(String::from_str(alloc, id)?)),
+        _ => Ok(None),
     }
 }

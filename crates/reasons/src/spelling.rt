@@ -3,6 +3,7 @@
 use crate::first_bytes::kind_of;
 use crate::located::{Located, locate};
 use crate::outside::{find_outside, section_name, val_type_words};
+use crate::texts::Told;
 use std::alloc::{AllocError, Global};
 use wasm_ast::{
     MAX_FUNCTIONS, MAX_LOCALS, MAX_MEMORY_PAGES, MAX_MODULE_BYTES, MAX_NESTING, MAX_RESULTS,
@@ -12,19 +13,22 @@ use wasm_binary::readers::{
     Limited, Number, PREAMBLE, ReadError, Spot, Wanted, What, Whole, read_module,
 };
 
+const ENTRIES: &str = "the entries that a table begins with";
+
+const LOCALS: &str = "the locals of a function, its parameters counted";
+
+const PAGES: &str = "the pages that a memory begins with";
+
 // A byte of the file.
-fn byte_place(alloc: Global, bytes: &[u8], offset: usize) -> Result<String, AllocError> {
+fn byte_place(alloc: Global, bytes: &[u8], offset: usize) -> Told {
     match bytes.get(offset) {
-        Some(byte) => {
-            let byte = *byte;
-            format!(in alloc; "byte 0x{byte:02x} at offset {offset}")
-        }
+        Some(&byte) => format!(in alloc; "byte 0x{byte:02x} at offset {offset}"),
         None => format!(in alloc; "the end of the file, at offset {offset}"),
     }
 }
 
 // Where a fault is: its byte, or the end of what is read there.
-fn place(alloc: Global, bytes: &[u8], offset: usize, spot: Spot) -> Result<String, AllocError> {
+fn place(alloc: Global, bytes: &[u8], offset: usize, spot: Spot) -> Told {
     if let What::Cut { .. } | What::Longer { .. } = spot.what {
         return format!(in alloc; "offset {offset}");
     }
@@ -35,52 +39,34 @@ fn place(alloc: Global, bytes: &[u8], offset: usize, spot: Spot) -> Result<Strin
 }
 
 // In which section and function a fault is.
-fn part(alloc: Global, located: Located) -> Result<String, AllocError> {
+fn part(alloc: Global, located: Located) -> Told {
     match (located.section, located.func) {
         (_, Some(func)) => format!(in alloc; ", function {func}"),
-        (Some(id), None) => {
-            let name = section_name(id);
-            format!(in alloc; ", section {id} ({name})")
-        }
+        (Some(id), None) => format!(in alloc; ", section {id} ({})", section_name(id)),
         (None, None) => Ok(String::new(alloc)),
     }
 }
 
 // What is said of the opcode here.
-fn opcode_text(alloc: Global, bytes: &[u8]) -> Result<String, AllocError> {
+fn opcode_text(alloc: Global, bytes: &[u8]) -> Told {
     let Some((opcode, rest)) = bytes.split_first() else {
         return Ok(String::new(alloc));
     };
-    let found = find_outside(*opcode, rest);
-    let feature = found.feature;
-    match found.word {
-        Some(word) => format!(in alloc; "{word}; {feature}"),
-        None => String::from_str(alloc, feature),
-    }
-}
-
-// What is said of the byte here, which is none of a value type.
-fn val_type_text(alloc: Global, bytes: &[u8]) -> Result<String, AllocError> {
-    match bytes.first() {
-        Some(byte) => String::from_str(alloc, val_type_words(*byte)),
-        None => String::from_str(alloc, "a value type is to be here: 7f (i32) or 7e (i64)"),
+    match find_outside(*opcode, rest) {
+        (Some(word), feature) => format!(in alloc; "{word}; {feature}"),
+        (None, feature) => String::from_str(alloc, feature),
     }
 }
 
 // What is said of the id here, of a section after the one with this id.
-fn section_text(alloc: Global, last: u8, bytes: &[u8]) -> Result<String, AllocError> {
-    let id = match bytes.first() {
-        Some(id) => *id,
-        None => 0,
-    };
+fn section_text(alloc: Global, last: u8, id: u8) -> Told {
     let name = section_name(id);
     if id > 11 {
-        format!(in alloc; "no section has this id ({name}); ids are 0 to 11")
-    } else {
-        format!(in alloc;
-            "section {id} ({name}) comes after section {last}; ids rise, each at most once"
-        )
+        return format!(in alloc; "no section has this id ({name}); ids are 0 to 11");
     }
+    format!(in alloc;
+        "section {id} ({name}) comes after section {last}; ids rise, each at most once"
+    )
 }
 
 // What is limited, and by how many.
@@ -88,36 +74,20 @@ fn limit_words(what: Limited) -> (&'static str, usize) {
     match what {
         Limited::Functions => ("the functions of a module, imports counted", MAX_FUNCTIONS),
         Limited::Results => ("the results of a function type", MAX_RESULTS),
-        Limited::Locals => (
-            "the locals of a function, its parameters counted",
-            MAX_LOCALS,
-        ),
-        Limited::TableEntries => (
-            "the entries that a table begins with",
-            MAX_TABLE_ENTRIES as usize,
-        ),
-        Limited::MemoryPages => (
-            "the pages that a memory begins with",
-            MAX_MEMORY_PAGES as usize,
-        ),
-    }
-}
-
-// What a number says of what is limited.
-fn limited_words(what: Limited) -> &'static str {
-    match what {
-        Limited::Functions => "a count of functions",
-        Limited::Results => "the count of results",
-        Limited::Locals => "how many locals of one type follow",
-        Limited::TableEntries => "the entries that a table begins with",
-        Limited::MemoryPages => "the pages that a memory begins with",
+        Limited::Locals => (LOCALS, MAX_LOCALS),
+        Limited::TableEntries => (ENTRIES, MAX_TABLE_ENTRIES as usize),
+        Limited::MemoryPages => (PAGES, MAX_MEMORY_PAGES as usize),
     }
 }
 
 // What a number is.
 fn number_words(number: Number) -> &'static str {
     match number {
-        Number::Limited(what) => limited_words(what),
+        Number::Limited(Limited::Functions) => "a count of functions",
+        Number::Limited(Limited::Results) => "the count of results",
+        Number::Limited(Limited::Locals) => "how many locals of one type follow",
+        Number::Limited(Limited::TableEntries) => ENTRIES,
+        Number::Limited(Limited::MemoryPages) => PAGES,
         Number::Types => "the count of types",
         Number::Items => "the count of what is in the section",
         Number::Bodies => "the count of bodies",
@@ -164,78 +134,66 @@ fn whole_words(whole: Whole) -> &'static str {
 }
 
 // What is said of functions and bodies.
-fn bodies_text(alloc: Global, funcs: usize, bodies: u32) -> Result<String, AllocError> {
+fn bodies_text(alloc: Global, funcs: usize, bodies: u32) -> Told {
     format!(in alloc;
         "of functions, {funcs} have a type (section 3) and {bodies} a body (section 10)"
     )
 }
 
-// What is said of a part that is longer than what is in it.
-fn longer_text(alloc: Global, whole: Whole, by: usize) -> Result<String, AllocError> {
-    let what = whole_words(whole);
-    if by == 1 {
-        return format!(in alloc; "{what} is 1 byte longer than what is in it");
-    }
-    format!(in alloc; "{what} is {by} bytes longer than what is in it")
-}
-
-// What is said of a limit that is passed.
-fn over_text(alloc: Global, what: Limited, found: u64) -> Result<String, AllocError> {
-    let (what, most) = limit_words(what);
-    format!(in alloc; "{what} are {found}, and the limit is {most}")
-}
-
 // What is said of sizes, counts and limits.
-fn count_text(alloc: Global, what: What) -> Result<String, AllocError> {
+fn count_text(alloc: Global, what: What) -> Told {
     match what {
-        What::Longer { whole, by } => longer_text(alloc, whole, by),
-        What::Cut { whole, size, left } => {
-            let what = whole_words(whole);
-            format!(in alloc; "{what} is to have {size} bytes, and {left} are left")
-        }
+        What::Longer { whole, by: 1 } => format!(in alloc;
+            "{} is 1 byte longer than what is in it",
+            whole_words(whole)
+        ),
+        What::Longer { whole, by } => format!(in alloc;
+            "{} is {by} bytes longer than what is in it",
+            whole_words(whole)
+        ),
+        What::Cut { whole, size, left } => format!(in alloc;
+            "{} is to have {size} bytes, and {left} are left",
+            whole_words(whole)
+        ),
         What::NoCode { funcs } => bodies_text(alloc, funcs, 0),
         What::Bodies { funcs, bodies } => bodies_text(alloc, funcs, bodies),
-        What::Indices { count, left } => {
-            format!(in alloc;
-                "there are to be {count} indices, a byte or more each, and the bytes left are {left}"
-            )
+        What::Indices { count, left } => format!(in alloc;
+            "there are to be {count} indices, a byte or more each, and the bytes left are {left}"
+        ),
+        What::Over { what, found } => {
+            let (what, most) = limit_words(what);
+            format!(in alloc; "{what} are {found}, and the limit is {most}")
         }
-        What::Over { what, found } => over_text(alloc, what, found),
-        What::TooDeep => {
-            let found = MAX_NESTING.saturating_add(1);
-            format!(in alloc;
-                "the blocks that are open at once are {found}, and the limit is {MAX_NESTING}"
-            )
-        }
+        What::TooDeep => format!(in alloc;
+            "the blocks that are open at once are {}, and the limit is {MAX_NESTING}",
+            MAX_NESTING.saturating_add(1)
+        ),
         _ => Ok(String::new(alloc)),
     }
 }
 
 // What is wrong where these bytes begin, after sections of which this is the largest id.
-fn what_text(alloc: Global, what: What, last: u8, bytes: &[u8]) -> Result<String, AllocError> {
+fn what_text(alloc: Global, what: What, last: u8, bytes: &[u8]) -> Told {
+    let first = bytes.first().copied();
     match what {
-        What::Wanted(wanted) => {
-            let what = wanted_words(wanted);
-            format!(in alloc; "to be here: {what}")
-        }
-        What::Number(number) => {
-            let what = number_words(number);
-            format!(in alloc; "to be here: {what}, a number of 32 bits")
-        }
-        What::Else => { String::from_str(alloc, "an else, and no if is open that has none yet") }
-        What::ValType => val_type_text(alloc, bytes),
+        What::Wanted(wanted) => format!(in alloc; "to be here: {}", wanted_words(wanted)),
+        What::Number(number) => format!(in alloc;
+            "to be here: {}, a number of 32 bits",
+            number_words(number)
+        ),
+        What::Else => String::from_str(alloc, "an else, and no if is open that has none yet"),
+        What::ValType => String::from_str(alloc, val_type_words(first.unwrap_or(0))),
         What::Opcode => opcode_text(alloc, bytes),
-        What::Section => section_text(alloc, last, bytes),
+        What::Section => section_text(alloc, last, first.unwrap_or(0)),
         _ => count_text(alloc, what),
     }
 }
 
 // The place and the reason of a fault in the sections of a module with these bytes.
-fn section_fault(alloc: Global, bytes: &[u8], spot: Spot) -> Result<String, AllocError> {
+fn section_fault(alloc: Global, bytes: &[u8], spot: Spot) -> Told {
     let offset = bytes.len().saturating_sub(spot.left);
     let here = bytes.get(offset..).unwrap_or(&[]);
-    let sections = bytes.get(PREAMBLE.len()..).unwrap_or(&[]);
-    let located = locate(sections, spot);
+    let located = locate(bytes.get(PREAMBLE.len()..).unwrap_or(&[]), spot);
     let place = place(alloc, bytes, offset, spot)?;
     let part = part(alloc, located)?;
     let what = what_text(alloc, spot.what, located.last, here)?;
@@ -243,44 +201,29 @@ fn section_fault(alloc: Global, bytes: &[u8], spot: Spot) -> Result<String, Allo
 }
 
 // Where these bytes have another byte than the preamble.
-fn preamble_text(alloc: Global, bytes: &[u8]) -> Result<String, AllocError> {
-    let offset = bytes
-        .iter()
-        .zip(PREAMBLE.iter())
-        .take_while(|pair| pair.0 == pair.1)
-        .count();
-    let place = byte_place(alloc, bytes, offset)?;
+fn preamble_text(alloc: Global, bytes: &[u8]) -> Told {
+    let pairs = bytes.iter().zip(PREAMBLE.iter());
+    let same = pairs.take_while(|pair| pair.0 == pair.1).count();
+    let place = byte_place(alloc, bytes, same)?;
     format!(in alloc; "{place}: a module begins with 00 61 73 6d 01 00 00 00")
 }
 
-// That there are too many bytes.
-fn size_text(alloc: Global) -> Result<String, AllocError> {
-    format!(in alloc;
-        "the file has more than {MAX_MODULE_BYTES} bytes; --strip-all of wasm-ld leaves out names and debugging information"
-    )
-}
-
 // Why bytes of no other kind have this fault.
-fn spot_text(alloc: Global, bytes: &[u8], spot: Spot) -> Result<String, AllocError> {
+fn spot_text(alloc: Global, bytes: &[u8], spot: Spot) -> Told {
     match spot.what {
-        What::Size => size_text(alloc),
+        What::Size => format!(in alloc;
+            "the file has more than {MAX_MODULE_BYTES} bytes; --strip-all of wasm-ld leaves out names and debugging information"
+        ),
         What::Preamble => preamble_text(alloc, bytes),
         _ => section_fault(alloc, bytes, spot),
     }
 }
 
-// What kind of file these bytes are, if they are of another one and not too many.
-fn other_kind(bytes: &[u8]) -> Option<&'static str> {
-    if bytes.len() > MAX_MODULE_BYTES {
-        return None;
-    }
-    kind_of(bytes)
-}
-
-/// Why these bytes encode no module, or pass a limit; empty if they do neither. An error if memory runs out.
-pub fn why_bytes(alloc: Global, bytes: &[u8]) -> Result<String, AllocError> {
-    if let Some(kind) = other_kind(bytes) {
-        return String::from_str(alloc, kind);
+/// Why these bytes encode no module, or pass a limit; empty if they do neither.
+pub fn why_bytes(alloc: Global, bytes: &[u8]) -> Told {
+    match kind_of(bytes) {
+        Some(kind) if bytes.len() <= MAX_MODULE_BYTES => return String::from_str(alloc, kind),
+        _ => {}
     }
     match read_module(alloc, bytes) {
         Ok(_) => Ok(String::new(alloc)),

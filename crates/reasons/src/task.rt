@@ -1,175 +1,102 @@
 //! Why no task can run a module.
 
 use crate::module::module_of;
-use crate::shown::shown;
-use std::alloc::{AllocError, Global};
+use crate::operands::{known, names};
+use crate::texts::{Shown, Told, or, push_item};
+use linear_memory::PAGE_BYTES;
+use std::alloc::Global;
 use wasi_calls::HostCall;
-use wasm_ast::{Body, Export, ExportKind, FuncType, Import, Instr, Module, Simple, ValType, Value};
+use wasm_ast::{Body, ExportKind, Import, Instr, Module, Refusal, Simple, ValType, Value};
 
-/// Bytes of a page.
-const PAGE_BYTES: u64 = 65_536;
+/// What is said of the functions of WASI that are no system calls here.
+const OTHERS: &str = " (feulgama lower answers the others)";
 
 // ---- 21
 
-// The first export of this name.
-fn export_named<'a>(of: &'a Module, name: &str) -> Option<&'a Export> {
-    for export in of.exports.as_slice() {
-        if export.name.as_str() == name {
-            return Some(export);
-        }
-    }
-    None
-}
-
 // Whether a function takes and gives nothing.
 fn is_bare(of: &Module, func: u32) -> bool {
-    match of.type_of(func) {
-        Some(found) => found.params.len() == 0 && found.results.len() == 0,
-        None => false,
-    }
-}
-
-// Why a module has no entry; None if it has one.
-fn no_entry(of: &Module) -> Option<&'static str> {
-    let Some(export) = export_named(of, "_start") else {
-        return Some("no function is exported as _start");
-    };
-    if export.kind != ExportKind::Func {
-        return Some("what is exported as _start is no function");
-    }
-    if !is_bare(of, export.index) {
-        return Some("the function that is exported as _start takes or gives values");
-    }
-    None
+    let found = of.type_of(func);
+    found.is_some_and(|found| found.params.len() == 0 && found.results.len() == 0)
 }
 
 // Why no task runs a module without an entry or a memory for its system calls. Names of exports differ in a
 // valid module, so one of the two holds.
-fn why_entry(alloc: Global, of: &Module) -> Result<String, AllocError> {
-    match no_entry(of) {
-        Some(reason) => String::from_str(alloc, reason),
-        None => String::from_str(
-            alloc,
-            "system calls that use memory are imported, and no memory is exported as memory",
-        ),
+fn no_entry(of: &Module) -> &'static str {
+    let mut exports = of.exports.as_slice().iter();
+    match exports.find(|export| export.name.as_str() == "_start") {
+        None => "no function is exported as _start",
+        Some(export) if export.kind != ExportKind::Func =>
+            "what is exported as _start is no function",
+        Some(export) if !is_bare(of, export.index) =>
+            "the function that is exported as _start takes or gives values",
+        Some(_) => "system calls that use memory are imported, and no memory is exported as memory",
     }
 }
 
 // ---- 22
 
-// The system call of this name.
-fn call_named(name: &str) -> Option<HostCall> {
-    for call in HostCall::all() {
-        if call.name() == name {
-            return Some(*call);
-        }
-    }
-    None
-}
-
-// The types of values, in parentheses.
-fn types_text(alloc: Global, types: &[ValType]) -> Result<String, AllocError> {
-    let mut text = String::from_str(alloc, "(")?;
-    for (i, each) in types.iter().enumerate() {
-        text.push_str(if i == 0 { "" } else { " " })?;
-        text.push_str(match each {
-            ValType::I32 => "i32",
-            ValType::I64 => "i64",
-        })?;
-    }
-    text.push_str(")")?;
-    Ok(text)
-}
-
 // A type as `(i32) to ()`.
-fn signature(alloc: Global, params: &[ValType], results: &[ValType]) -> Result<String, AllocError> {
-    let params = types_text(alloc, params)?;
-    let results = types_text(alloc, results)?;
-    format!(in alloc; "{params} to {results}")
+fn signature(alloc: Global, params: &[ValType], results: &[ValType]) -> Told {
+    let params = names(alloc, known(alloc, params)?.as_slice())?;
+    let results = names(alloc, known(alloc, results)?.as_slice())?;
+    format!(in alloc; "({params}) to ({results})")
 }
 
 // The names of all system calls.
-fn all_names(alloc: Global) -> Result<String, AllocError> {
+fn all_names(alloc: Global) -> Told {
     let mut names = String::new(alloc);
-    for (i, call) in HostCall::all().iter().enumerate() {
-        names.push_str(if i == 0 { "" } else { ", " })?;
-        names.push_str(call.name())?;
+    for call in HostCall::all() {
+        push_item(&mut names, ", ", call.name())?;
     }
     Ok(names)
 }
 
-// Whether a call has this type.
-fn has_type(call: HostCall, found: &FuncType) -> bool {
-    call.params() == found.params.as_slice() && call.results() == found.results.as_slice()
+// Whether an import is of the module of system calls.
+fn is_of_calls(import: &Import) -> bool {
+    import.module.as_str() == HostCall::module()
 }
 
 // The system call that an import names by module and name.
 fn named(import: &Import) -> Option<HostCall> {
-    if import.module.as_str() == HostCall::module() {
-        call_named(import.name.as_str())
-    } else {
-        None
-    }
+    let mut calls = HostCall::all().iter().copied();
+    calls.find(|call| is_of_calls(import) && call.name() == import.name.as_str())
 }
 
-// What an import is, if it is no system call or has another type.
+// Whether an import is a system call of its type.
 fn is_known(of: &Module, import: &Import) -> bool {
     match (named(import), of.type_with(import.type_index)) {
-        (Some(call), Some(found)) => has_type(call, found),
+        (Some(call), Some(found)) => {
+            call.params() == found.params.as_slice() && call.results() == found.results.as_slice()
+        }
         _ => false,
     }
 }
 
-// What can be done with a module that imports this other function.
-fn others_text(import: &Import) -> &'static str {
-    if import.module.as_str() == HostCall::module() {
-        " (feulgama lower answers the others)"
-    } else {
-        ""
-    }
-}
-
 // What there is in place of an import.
-fn known_text(alloc: Global, import: &Import) -> Result<String, AllocError> {
-    match named(import) {
-        Some(call) => {
-            let name = call.name();
-            let wanted = signature(alloc, call.params(), call.results())?;
-            format!(in alloc; "{name} is {wanted}")
-        }
-        None => {
-            let module = HostCall::module();
-            let names = all_names(alloc)?;
-            let others = others_text(import);
-            format!(in alloc; "of {module} there are {names}{others}")
-        }
+fn known_text(alloc: Global, import: &Import) -> Told {
+    if let Some(call) = named(import) {
+        let wanted = signature(alloc, call.params(), call.results())?;
+        return format!(in alloc; "{} is {wanted}", call.name());
     }
-}
-
-// The type of an import.
-fn import_type(alloc: Global, of: &Module, import: &Import) -> Result<String, AllocError> {
-    match of.type_with(import.type_index) {
-        Some(found) => signature(alloc, found.params.as_slice(), found.results.as_slice()),
-        None => Ok(String::new(alloc)),
-    }
+    let names = all_names(alloc)?;
+    let others = if is_of_calls(import) { OTHERS } else { "" };
+    format!(in alloc; "of {} there are {names}{others}", HostCall::module())
 }
 
 // What is said of an import that is no system call.
-fn import_text(
-    alloc: Global,
-    of: &Module,
-    number: usize,
-    import: &Import,
-) -> Result<String, AllocError> {
-    let module = shown(alloc, import.module.as_str())?;
-    let name = shown(alloc, import.name.as_str())?;
-    let found = import_type(alloc, of, import)?;
+fn import_text(alloc: Global, of: &Module, number: usize, import: &Import) -> Told {
+    let module = Shown(import.module.as_str());
+    let name = Shown(import.name.as_str());
+    let found = match of.type_with(import.type_index) {
+        Some(found) => signature(alloc, found.params.as_slice(), found.results.as_slice())?,
+        None => String::new(alloc),
+    };
     let known = known_text(alloc, import)?;
     format!(in alloc; "import {number}, {module} {name}, {found}: {known}")
 }
 
 // Why an import is refused.
-fn why_import(alloc: Global, of: &Module) -> Result<String, AllocError> {
+fn why_import(alloc: Global, of: &Module) -> Told {
     for (i, import) in of.imports.as_slice().iter().enumerate() {
         if !is_known(of, import) {
             return import_text(alloc, of, i, import);
@@ -180,27 +107,20 @@ fn why_import(alloc: Global, of: &Module) -> Result<String, AllocError> {
 
 // ---- 23
 
-// Where a segment begins.
-fn offset_of(offset: &Body) -> u64 {
-    match offset.as_slice() {
+// Where a segment with this offset and this many items ends.
+fn end_of(offset: &Body, count: usize) -> u64 {
+    let begin = match offset.as_slice() {
         [Instr::Simple(Simple::Const(Value::I32(number)))] => u64::from(*number),
         _ => 0,
-    }
-}
-
-// Where a segment ends that does not end within this size.
-fn end_over(offset: &Body, count: usize, size: u64) -> Option<u64> {
-    let end = offset_of(offset).saturating_add(count as u64);
-    if end > size { Some(end) } else { None }
-}
-
-fn why_element(alloc: Global, of: &Module) -> Result<String, AllocError> {
-    let size = match of.tables.as_slice().first() {
-        Some(table) => u64::from(table.min),
-        None => 0,
     };
+    begin.saturating_add(count as u64)
+}
+
+fn why_element(alloc: Global, of: &Module) -> Told {
+    let size = of.tables.as_slice().first().map_or(0, |table| table.min);
     for (i, each) in of.elements.as_slice().iter().enumerate() {
-        if let Some(end) = end_over(&each.offset, each.funcs.len(), size) {
+        let end = end_of(&each.offset, each.funcs.len());
+        if end > u64::from(size) {
             return format!(in alloc;
                 "element segment {i} ends at entry {end}, and the table begins with {size}"
             );
@@ -209,13 +129,16 @@ fn why_element(alloc: Global, of: &Module) -> Result<String, AllocError> {
     Ok(String::new(alloc))
 }
 
-fn why_data(alloc: Global, of: &Module) -> Result<String, AllocError> {
-    let size = match of.memories.as_slice().first() {
-        Some(memory) => u64::from(memory.min).saturating_mul(PAGE_BYTES),
-        None => 0,
-    };
+fn why_data(alloc: Global, of: &Module) -> Told {
+    let pages = of
+        .memories
+        .as_slice()
+        .first()
+        .map_or(0, |memory| memory.min);
+    let size = u64::from(pages).saturating_mul(PAGE_BYTES as u64);
     for (i, each) in of.segments.as_slice().iter().enumerate() {
-        if let Some(end) = end_over(&each.offset, each.bytes.len(), size) {
+        let end = end_of(&each.offset, each.bytes.len());
+        if end > size {
             return format!(in alloc;
                 "data segment {i} ends at byte {end}, and the memory begins with {size}"
             );
@@ -224,31 +147,14 @@ fn why_data(alloc: Global, of: &Module) -> Result<String, AllocError> {
     Ok(String::new(alloc))
 }
 
-fn why_segment(alloc: Global, of: &Module) -> Result<String, AllocError> {
-    let text = why_element(alloc, of)?;
-    if text.is_empty() {
-        why_data(alloc, of)
-    } else {
-        Ok(text)
-    }
-}
-
-/// Why a module cannot be instantiated as a task.
-#[derive(Clone, Copy, PartialEq, Eq, Debug)]
-pub enum Cause {
-    Entry,
-    Import,
-    Segment,
-}
-
-/// Why the module of a file cannot be instantiated as a task. An error only if memory runs out.
-pub fn why_task(alloc: Global, bytes: &[u8], cause: Cause) -> Result<String, AllocError> {
+/// Why the module of a file cannot be instantiated as a task, which is refused so.
+pub fn why_task(alloc: Global, bytes: &[u8], refusal: Refusal) -> Told {
     let Some(of) = module_of(alloc, bytes)? else {
         return Ok(String::new(alloc));
     };
-    match cause {
-        Cause::Entry => why_entry(alloc, &of),
-        Cause::Import => why_import(alloc, &of),
-        Cause::Segment => why_segment(alloc, &of),
+    match refusal {
+        Refusal::NoEntry => String::from_str(alloc, no_entry(&of)),
+        Refusal::BadImport => why_import(alloc, &of),
+        _ => or(why_element(alloc, &of), why_data(alloc, &of)),
     }
 }
