@@ -8,7 +8,7 @@ use Rattle.wasm_ast.specs.declared.instr.Instr.{Instr}
 use Rattle.wasm_ast.specs.declared.instr.Instr.TheVariants as tree
 use Rattle.wasm_ast.specs.declared.instr.Simple.{Simple}
 use Rattle.wasm_ast.specs.declared.instr.Simple.TheVariants as instr
-use Rattle.wasm_ast.specs.declared.instr.LocalOp.TheVariants as local
+use Rattle.wasm_ast.specs.declared.instr.LocalOp.{LocalOp}
 use Rattle.wasm_ast.specs.declared.operators.BinaryOp.{BinaryOp}
 use Rattle.wasm_ast.specs.declared.values.ValType.{ValType}
 use Rattle.wasm_ast.specs.declared.values.Value.TheVariants as value
@@ -32,26 +32,12 @@ where_nothing_is {A} o T is h = subst (λ (p : Option A). IfNone p T) is h
 
 -- an instruction without a body is read by its opcode
 module _ (inner : Inner) (bytes after rest : List ℕ) where
-  pub local_get :
-      (n : ℕ) → bytes ≡ 32 ∷ after → read_u32 after ≡ Ok (n, rest)
-      → read_op inner bytes ≡ Ok (simple (instr.Local local.Get n), rest)
-  unfolding read_op read_byte read_with_opcode opens_block read_simple read_as instruction_of find_opcode
-      read_immediates read_index with_index
-  local_get n is h = rw (is, h) refl
-
-  pub local_set :
-      (n : ℕ) → bytes ≡ 33 ∷ after → read_u32 after ≡ Ok (n, rest)
-      → read_op inner bytes ≡ Ok (simple (instr.Local local.Set n), rest)
-  unfolding read_op read_byte read_with_opcode opens_block read_simple read_as instruction_of find_opcode
-      read_immediates read_index with_index
-  local_set n is h = rw (is, h) refl
-
-  pub local_tee :
-      (n : ℕ) → bytes ≡ 34 ∷ after → read_u32 after ≡ Ok (n, rest)
-      → read_op inner bytes ≡ Ok (simple (instr.Local local.Tee n), rest)
-  unfolding read_op read_byte read_with_opcode opens_block read_simple read_as instruction_of find_opcode
-      read_immediates read_index with_index
-  local_tee n is h = rw (is, h) refl
+  pub on_local :
+      (b n : ℕ) (op : LocalOp) → bytes ≡ b ∷ after → opens_block b ≡ false
+      → instruction_of b ≡ Some (instr.Local op 0) → read_u32 after ≡ Ok (n, rest)
+      → read_op inner bytes ≡ Ok (simple (instr.Local op n), rest)
+  unfolding read_op read_byte read_with_opcode read_simple read_as read_immediates read_index with_index
+  on_local b n op is plain of h = rw (is, plain, of, h) refl
 
   pub const :
       (n : ℕ) → bytes ≡ 65 ∷ after → read_signed 32 after ≡ Ok (n, rest)

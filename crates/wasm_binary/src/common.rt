@@ -1,7 +1,7 @@
 //! The commonest instructions, read straight into a body. An instruction that is handed on is
 //! copied, which takes longer than to read it.
 
-ghost use Rattle.std.specs.Prelude.{◌≡◌, ◌++◌, ◌∷◌, [], ℕ, false, Some, Ok, OnOk, IfOk, IfSome, IfNone, map};
+ghost use Rattle.std.specs.Prelude.{◌≡◌, ◌++◌, ◌∷◌, [], ℕ, false, Some, Ok, IfOk, IfSome, IfNone, map};
 ghost use Rattle.wasm_ast.specs.Syntax.{Op};
 ghost use Rattle.wasm_ast.specs.View.{op_of};
 ghost use Rattle.wasm_ast.specs.declared.instr.Instr.TheVariants as tree;
@@ -14,22 +14,6 @@ use crate::opcodes;
 use std::alloc::AllocError;
 use wasm_ast::{BinaryOp, Instr, LocalOp, Simple, ValType, Value};
 
-// A body begins with memory for this number of instructions. Many have no more, and a vector by
-// itself would begin with memory for twice as many.
-const FIRST_INSTRS: usize = 2;
-
-/// Adds an instruction after all others.
-#[inline(always)]
-pub fn add(items: &mut Vec<Instr>, instr: Instr) -> Result<(), AllocError>
-    ensures { OnOk result (items.new.items ≡ items.old.items ++ instr ∷ []) }
-{
-    if items.is_empty() {
-        items.reserve_exact(FIRST_INSTRS)?;
-    }
-    items.push(instr)?;
-    Ok(())
-}
-
 // Adds an instruction without a body after all others, and gives the rest.
 #[inline(always)]
 fn add_simple<'a>(
@@ -41,7 +25,7 @@ fn add_simple<'a>(
         × (items.new.items ≡ items.old.items ++ tree.Simple simple ∷ []))) }
     ensures none { IfOk result (λ o. IfNone o ⊥) }
 {
-    add(items, Instr::Simple(simple))?;
+    items.push(Instr::Simple(simple))?;
     Ok(Some(rest))
 }
 

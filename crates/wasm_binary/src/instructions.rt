@@ -4,7 +4,7 @@ ghost use Rattle.std.specs.Prelude.{◌≡◌, true, map};
 ghost use Rattle.wasm_ast.specs.View.{op_of};
 ghost use Rattle.wasm_binary.specs.Inside.Reading.{Gives, read_else, read_if, read_enclosed, read_nested, read_simple, opens_block, read_op, is_end, read_body, inner_of, read_expression};
 
-use crate::common::{add, add_common};
+use crate::common::add_common;
 use crate::fault::{Fault, ReadError, Spot, Wanted, What};
 use crate::numbers::{read_byte, skip_byte, strip_byte};
 use crate::opcodes::{BLOCK, ELSE, END, IF, LOOP};
@@ -132,6 +132,10 @@ fn is_end(bytes: &[u8]) -> bool
     strip_byte(END, bytes).is_some() || strip_byte(ELSE, bytes).is_some()
 }
 
+// A body begins with memory for this number of instructions. Many have no more, and a vector by
+// itself would begin with memory for twice as many.
+const FIRST_INSTRS: usize = 2;
+
 // Instructions up to their end or to an else, and the rest from there. This many more blocks may
 // be open, so recursion is no deeper than that.
 #[cycle(read)]
@@ -139,6 +143,9 @@ fn read_body(alloc: Global, more: usize, bytes: &[u8]) -> Result<(Vec<Instr>, &[
     ensures { Gives (λ x. (map op_of x.0.items, x.1.now)) result (read_body more bytes.now) }
 {
     let mut items = Vec::new(alloc);
+    if !is_end(bytes) {
+        items.reserve_exact(FIRST_INSTRS)?;
+    }
     let mut rest = bytes;
     for _ in 0..bytes.len() {
         if is_end(rest) {
@@ -148,7 +155,7 @@ fn read_body(alloc: Global, more: usize, bytes: &[u8]) -> Result<(Vec<Instr>, &[
             rest = next;
         } else {
             let (instr, next) = read_instr(alloc, more, rest)?;
-            add(&mut items, instr)?;
+            items.push(instr)?;
             rest = next;
         }
     }

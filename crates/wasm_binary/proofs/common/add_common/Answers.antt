@@ -4,39 +4,42 @@ use Rattle.wasm_ast.specs.declared.instr.LocalOp.TheVariants as local
 use Rattle.wasm_ast.specs.declared.instr.Simple.TheVariants as instr
 use Rattle.wasm_ast.specs.declared.values.Value.TheVariants as value
 use Rattle.wasm_binary.specs.Inside.Reading.{opens_block, read_simple, read_as, instruction_of, comparison_of, arithmetic_of, find_opcode, read_immediates}
-use Rattle.wasm_binary.proofs.CommonLemmas.{if_there, of_what_is_there, local_get, local_set, local_tee, const, bare, operator, one_more}
+use Rattle.wasm_binary.proofs.CommonLemmas.{if_there, of_what_is_there, on_local, const, bare, operator, one_more}
 use Rattle.wasm_binary.proofs.common.add_common.Goals as goal
 
 pub returns-in-32-clause-some : goal.returns-in-32-clause-some
+unfolding opens_block instruction_of comparison_of arithmetic_of find_opcode
 returns-in-32-clause-some c =
     let split : c.args.bytes.now ≡ 32 ∷ c.in-Some.after.now = search rules in
     if_there c.add_local.result _ _
     (λ r p. (
       simple (instr.Local local.Get p.0),
       one_more _ _ (instr.Local local.Get p.0) p.2,
-      λ inner. local_get inner c.args.bytes.now c.in-Some.after.now r.now p.0 split p.1,
+      λ inner. on_local inner c.args.bytes.now c.in-Some.after.now r.now 32 p.0 local.Get split refl refl p.1,
     ))
     c.add_local.ensures.some
 
 pub returns-in-33-clause-some : goal.returns-in-33-clause-some
+unfolding opens_block instruction_of comparison_of arithmetic_of find_opcode
 returns-in-33-clause-some c =
     let split : c.args.bytes.now ≡ 33 ∷ c.in-Some.after.now = search rules in
     if_there c.add_local-in-33.result _ _
     (λ r p. (
       simple (instr.Local local.Set p.0),
       one_more _ _ (instr.Local local.Set p.0) p.2,
-      λ inner. local_set inner c.args.bytes.now c.in-Some.after.now r.now p.0 split p.1,
+      λ inner. on_local inner c.args.bytes.now c.in-Some.after.now r.now 33 p.0 local.Set split refl refl p.1,
     ))
     c.add_local-in-33.ensures.some
 
 pub returns-in-34-clause-some : goal.returns-in-34-clause-some
+unfolding opens_block instruction_of comparison_of arithmetic_of find_opcode
 returns-in-34-clause-some c =
     let split : c.args.bytes.now ≡ 34 ∷ c.in-Some.after.now = search rules in
     if_there c.add_local-in-34.result _ _
     (λ r p. (
       simple (instr.Local local.Tee p.0),
       one_more _ _ (instr.Local local.Tee p.0) p.2,
-      λ inner. local_tee inner c.args.bytes.now c.in-Some.after.now r.now p.0 split p.1,
+      λ inner. on_local inner c.args.bytes.now c.in-Some.after.now r.now 34 p.0 local.Tee split refl refl p.1,
     ))
     c.add_local-in-34.ensures.some
 
