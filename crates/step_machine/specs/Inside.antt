@@ -10,7 +10,7 @@ pub mod Simulates
 pub mod NextCells
 pub mod Standing
 pub mod Going
-pub mod Groups
+pub mod Superinstructions
 pub mod Ran
 pub mod UnderWay
 pub mod LocalThere

@@ -17,7 +17,7 @@
 //! on the stack (room.rt), with or without a look for breakpoints (watch.rt). The loop calls `step` in
 //! turn.rt once for each cell. `step` reads the cell and calls the function of its kind: do_values.rt,
 //! do_variables.rt, do_memory.rt, do_control.rt, do_calls.rt, do_system.rt. Superinstructions are in
-//! groups.rt and parts.rt. The ends of blocks and bodies, which take no turn, are in settle.rt.
+//! superinstructions.rt and parts.rt. The ends of blocks and bodies, which take no turn, are in settle.rt.
 //!
 //! All memory that turns need is allocated when the module is instantiated: instantiate.rt has the
 //! refusals, first_data.rt and store.rt the first store, start_up.rt the first frames.
@@ -46,7 +46,6 @@ mod first_data;
 mod flat_module;
 mod follows;
 mod frames;
-mod groups;
 mod host_calls;
 mod instantiate;
 mod kept;
@@ -60,6 +59,7 @@ mod run_loop;
 mod settle;
 mod start_up;
 mod store;
+mod superinstructions;
 mod turn;
 mod watch;
 pub mod worked;
