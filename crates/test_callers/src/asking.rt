@@ -1,11 +1,11 @@
 //! Calls of one caller, and what it has seen of the others'.
 
-use crate::fixtures::STATE;
 use call_journal::{Row, Seat, Shim};
 use request_lines::request_of;
 use std::alloc::Global;
 use std::sync::Wait;
 use task_requests::{Reply, Request};
+use test_streams::STATE;
 use wasm_ast::Refusal;
 
 /// Why a call was refused; None if it was accepted.

@@ -1,8 +1,6 @@
 //! Callers that sleep in a wait while the shim is closed.
 
-use crate::fixtures::STATE;
-use crate::readers::ChunkedReader;
-use crate::scripts::{repeated, side_by_side};
+use crate::scripts::side_by_side;
 use crate::stories::{Story, tell};
 use crate::waking::{ENDLESS_LINES, WAIT_LINE};
 use call_journal::{Row, Seat, Shim};
@@ -14,6 +12,7 @@ use std::sync::Wait;
 use std::test::Fail;
 use std::thread::Threads;
 use task_board::{ExitRecord, Reply};
+use test_streams::{ChunkedReader, STATE, repeated};
 use wasm_ast::{Refusal, Text};
 
 const CLOSED_LINE: &str = "{\"error\":\"Closed\",\"number\":19,\"ok\":false}\n";

@@ -2,8 +2,7 @@
 
 use crate::asking::{accepted, find_nothing, refused, seen_of};
 use crate::checks::{check_bytes, check_count};
-use crate::fixtures::{NOT_FOUND_LINE, STATE};
-use crate::scripts::{Told, repeated, side_by_side};
+use crate::scripts::{Told, side_by_side};
 use crate::stories::{Story, tell};
 use call_journal::{Row, Seat, Shim};
 use callers::{Answered, Caller};
@@ -14,6 +13,7 @@ use std::sync::Wait;
 use std::test::Fail;
 use std::thread::Threads;
 use task_requests::Request;
+use test_streams::{NOT_FOUND_LINE, STATE, repeated};
 use wasm_ast::Refusal;
 
 /// Stores three bytes.

@@ -1,10 +1,6 @@
 //! Live callers: how the lines of each ended is told once, and whether all ended well is known at the end.
 
-use crate::fixtures::STATE;
-use crate::readers::ChunkedReader;
-use crate::scripts::repeated;
 use crate::stories::{Story, tell};
-use crate::writers::FailingWriter;
 use call_journal::{Row, Seat, Shim};
 use callers::{Attended, Driven, InFlight, LiveCaller, Notes, Report, answer_live};
 use request_lines::Watched;
@@ -16,6 +12,7 @@ use std::test::Fail;
 use std::thread::Threads;
 use std::time::{Clock, Duration};
 use task_board::{ExitRecord, Reply};
+use test_streams::{ChunkedReader, FailingWriter, STATE, repeated};
 use wasm_ast::{Refusal, Text};
 
 /// What has been told of the lines of a caller.

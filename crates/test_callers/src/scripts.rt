@@ -1,25 +1,15 @@
 //! Callers in threads of their own, each with the lines of a script.
 
-use crate::readers::ChunkedReader;
 use call_journal::{Row, Shim};
 use callers::{Answered, Caller, Driven, NoNotes, answer_all};
 use request_lines::Watched;
 use std::alloc::Global;
 use std::sync::Wait;
 use std::thread::Threads;
+use test_streams::ChunkedReader;
 
 /// What a script was answered.
 pub type Told<'a, R> = Answered<R, Watched<ChunkedReader<'a>>, NoNotes>;
-
-/// The same line, `count` times. None if memory runs out.
-pub fn repeated(alloc: Global, line: &str, count: usize) -> Option<Vec<u8>> {
-    let mut lines = Vec::new(alloc);
-    for _ in 0..count {
-        lines.extend_from_slice(line.as_bytes()).ok()?;
-        lines.push(b'\n').ok()?;
-    }
-    Some(lines)
-}
 
 // A caller for each script.
 fn callers_of<'a, R: Row, W: Wait>(

@@ -13,11 +13,9 @@ use crate::storm::storm;
 use crate::waking::{Sleepers, waking};
 use crate::workers::{Ends, Meeting, ends_by_workers, large_output, run_by_two};
 use call_journal::{Cells, Desk, MOST_SEATS, Row, Shim};
-use callers::{Driven, NoNotes, Notes, drive};
-use request_lines::Watched;
+use callers::Driven;
 use slice_workers::OpenGate;
 use std::alloc::Global;
-use std::io::{Read, Write};
 use std::marker::Brand;
 use std::process::Abort;
 use std::sync::ledger::Blank;
@@ -134,49 +132,4 @@ pub fn tell<W: Threads + Wait + Clock + Abort + Copy + Send + Sync + 'static>(
     let is_told = told_of::<Brand, W>(rt, alloc, cells, desk, blank(), story)?;
     assert!(rt; is_told, "each call is answered as it should be");
     Ok(())
-}
-
-fn driven<J: Row, R: Read, W: Write, H: Wait, N: Notes>(
-    rt: &H,
-    alloc: Global,
-    cells: Cells,
-    desk: Desk,
-    blank: Blank,
-    reader: &mut R,
-    writer: &mut W,
-    notes: &mut N,
-) -> Result<Driven, Refusal>
-    requires row { cells ≡ J.cells }
-    requires places { spot_names desk ≡ J.slots }
-    requires idle { AreIdle desk }
-    requires name { blank.name ≡ J.name }
-    requires parts { (blank.parts ≡ J.parts) × (blank.parts ≡ most_seats + 1) }
-{
-    let shim: Shim<J> = Shim::new(alloc, cells, desk, blank)?;
-    let seat = shim.seat(rt).ok_or(Refusal::NoMemory)?;
-    let (mut from, mut to) = (Watched::new(reader), Watched::new(writer));
-    let (_, driven) = drive(rt, alloc, &shim, seat, &mut from, &mut to, notes);
-    Ok(driven)
-}
-
-/// Answers the lines of a reader by a shim of its own. How they ended.
-pub fn drives<R: Read, W: Write, H: Wait>(
-    rt: &H,
-    alloc: Global,
-    reader: &mut R,
-    writer: &mut W,
-) -> Result<Driven, Refusal> {
-    drives_noted(rt, alloc, reader, writer, &mut NoNotes)
-}
-
-/// The same, and tells notes of the lines.
-pub fn drives_noted<R: Read, W: Write, H: Wait, N: Notes>(
-    rt: &H,
-    alloc: Global,
-    reader: &mut R,
-    writer: &mut W,
-    notes: &mut N,
-) -> Result<Driven, Refusal> {
-    let (cells, desk) = (cells(alloc)?, desk(alloc)?);
-    driven::<Brand, R, W, H, N>(rt, alloc, cells, desk, blank(), reader, writer, notes)
 }

@@ -3,7 +3,6 @@
 
 use crate::asking::{accepted, refused, seen_of};
 use crate::checks::check_count;
-use crate::fixtures::STATE;
 use crate::scripts::{Told, side_by_side};
 use crate::stories::{Story, tell};
 use call_journal::{Entry, Row, Seat, Shim};
@@ -14,6 +13,7 @@ use std::sync::Wait;
 use std::test::Fail;
 use std::thread::Threads;
 use task_requests::{Ask, Request};
+use test_streams::STATE;
 use wasm_ast::{Refusal, Text};
 
 /// How often a caller makes the calls of a round of one task and then of the other.

@@ -1,7 +1,6 @@
 //! Callers that sleep in a wait, and what wakes them.
 
-use crate::fixtures::STATE;
-use crate::scripts::{Told, repeated, side_by_side};
+use crate::scripts::{Told, side_by_side};
 use crate::stories::{Story, tell};
 use call_journal::{Row, Shim};
 use slice_workers::with_workers;
@@ -10,6 +9,7 @@ use std::process::Abort;
 use std::sync::Wait;
 use std::test::Fail;
 use std::thread::Threads;
+use test_streams::{STATE, repeated};
 
 /// What another caller asks while two wait for a task that never ends, and how they are answered then.
 #[derive(Clone, Copy)]

@@ -1,7 +1,6 @@
 //! Workers in threads: each runs tasks, and slices of two tasks are run at the same time.
 
 use crate::checks::check_bytes;
-use crate::fixtures::{RUN_ANSWERS, RUN_LINES};
 use crate::scripts::side_by_side;
 use crate::stories::{Story, tell};
 use call_journal::{Row, Shim};
@@ -15,6 +14,7 @@ use std::thread;
 use std::thread::Threads;
 use std::time::Clock;
 use task_board::{ExitRecord, Loan};
+use test_streams::{RUN_ANSWERS, RUN_LINES};
 
 /// A caller starts two tasks and waits for both, while two workers run them by a gate. None if its
 /// lines come to no end.

@@ -1,16 +1,16 @@
 //! Long lines of a caller: each has its answer, and the line after it is answered as ever.
 
 use crate::checks::check_text;
-use crate::fixtures::{BAD_ID_LINE, BAD_REQUEST_LINE, NOT_FOUND_LINE, STATE};
-use crate::readers::ChunkedReader;
-use crate::stories::drives;
-use crate::writers::FailingWriter;
+use crate::driven::drives;
 use callers::Driven;
 use std::alloc::{AllocError, Global};
 use std::process::Abort;
 use std::str::from_utf8;
 use std::sync::Wait;
 use std::test::Fail;
+use test_streams::{
+    BAD_ID_LINE, BAD_REQUEST_LINE, ChunkedReader, FailingWriter, NOT_FOUND_LINE, STATE,
+};
 
 /// A long line and its answer.
 struct LongLine {

@@ -1,5 +1,7 @@
 //! Lines and their answers, which many tests share.
 
+use std::alloc::Global;
+
 /// Stores a module whose entry calls `proc_exit` with 7; creates a task, waits for it, ends and deletes it
 /// before it has run; and a line that is no request.
 pub const SIX_LINES: &str =
@@ -57,3 +59,13 @@ pub const BAD_REQUEST_LINE: &str = "{\"error\":\"BadRequest\",\"number\":1,\"ok\
 pub const BAD_ID_LINE: &str = "{\"error\":\"BadId\",\"number\":2,\"ok\":false}\n";
 
 pub const NOT_FOUND_LINE: &str = "{\"error\":\"NotFound\",\"number\":4,\"ok\":false}\n";
+
+/// The same line, `count` times. None if memory runs out.
+pub fn repeated(alloc: Global, line: &str, count: usize) -> Option<Vec<u8>> {
+    let mut lines = Vec::new(alloc);
+    for _ in 0..count {
+        lines.extend_from_slice(line.as_bytes()).ok()?;
+        lines.push(b'\n').ok()?;
+    }
+    Some(lines)
+}

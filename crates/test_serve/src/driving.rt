@@ -1,16 +1,16 @@
 //! Streams of one caller that fail, that give a byte at a time, and that wait for an answer.
 
 use crate::checks::{check_bytes, check_count};
-use crate::fixtures::{SIX_ANSWERS, SIX_LINES};
-use crate::readers::{ChunkedReader, PoliteReader};
-use crate::stories::drives;
-use crate::writers::{CountingWriter, FailingWriter};
+use crate::driven::drives;
 use callers::Driven;
 use std::alloc::Global;
 use std::cell::Cell;
 use std::process::Abort;
 use std::sync::Wait;
 use std::test::Fail;
+use test_streams::{
+    ChunkedReader, CountingWriter, FailingWriter, PoliteReader, SIX_ANSWERS, SIX_LINES,
+};
 
 // Asserts how the lines ended.
 fn check_end(rt: &impl Abort, at: usize, found: Driven, wanted: Driven) {

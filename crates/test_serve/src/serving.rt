@@ -1,9 +1,5 @@
 //! `serve` over memory: its replies in their order, what it says on standard error, and its status.
 
-use crate::fixtures::{BAD_REQUEST_LINE, NOT_FOUND_LINE, STATE};
-use crate::readers::ChunkedReader;
-use crate::scripts::repeated;
-use crate::writers::FailingWriter;
 use serve_command::{Wanted, Work, serve};
 use shim_log::{Format, Moment, Outlet};
 use std::alloc::{AllocError, Global};
@@ -15,6 +11,9 @@ use std::sync::{Mutex, Wait};
 use std::test::Fail;
 use std::thread::Threads;
 use std::time::Clock;
+use test_streams::{
+    BAD_REQUEST_LINE, ChunkedReader, FailingWriter, NOT_FOUND_LINE, STATE, repeated,
+};
 
 /// A text that several threads write.
 #[derive(Clone, Copy)]

@@ -1,10 +1,7 @@
 //! What notes are told of the lines of a caller: each answer before its reply is written, and each end.
 
 use crate::checks::{check_bytes, check_count};
-use crate::fixtures::{SIX_ANSWERS, SIX_LINES};
-use crate::readers::ChunkedReader;
-use crate::stories::drives_noted;
-use crate::writers::CountingWriter;
+use crate::driven::drives_noted;
 use call_journal::{Row, Seat, Shim};
 use callers::{Driven, Notes};
 use request_lines::line_of;
@@ -14,6 +11,7 @@ use std::process::Abort;
 use std::sync::Wait;
 use std::test::Fail;
 use task_board::{ExitRecord, Reply};
+use test_streams::{ChunkedReader, CountingWriter, SIX_ANSWERS, SIX_LINES};
 use wasm_ast::{Refusal, Text};
 
 /// Starts the task that the first two of `SIX_LINES` create, and waits for it: the caller runs it to its end.
