@@ -61,6 +61,8 @@ pub mod OperandsThere
 pub mod BaseKept
 pub mod LoopCells
 pub mod LoopRoom
+pub mod LoopHead
+pub mod MachineRuns
 pub mod FreeCells
 pub mod SliceLemmas
 pub mod SliceCuts

@@ -1,11 +1,10 @@
 //! System calls, which are made in the turn of their call (4.4.7).
 
-ghost use Rattle.std.specs.Prelude.{◌≡◌, length, ◌≤◌, suc, ◌≢◌, ◌+◌, ◌<◌, ◌∷◌, ◌^◌, None, Some, [], is_some, map};
+ghost use Rattle.std.specs.Prelude.{◌≡◌, length, ◌≢◌, ◌+◌, ◌<◌, ◌∷◌, ◌^◌, None, Some, [], is_some, map};
 ghost use Rattle.wasm_ast.specs.declared.values.ValType.TheVariants.{I32};
 ghost use Rattle.wasm_ast.specs.Types.{type_of};
-ghost use Rattle.oci_config.specs.Processes.{config_of};
 ghost use Rattle.wasi_calls.specs.HostCalls.{host_type};
-ghost use Rattle.wasi_calls.specs.SystemCalls.{state_of, host};
+ghost use Rattle.wasi_calls.specs.SystemCalls.{host};
 ghost use Rattle.step_machine.specs.declared.kept.Kept.{Kept as KeptValue};
 ghost use Rattle.step_machine.specs.Limits.{max_values};
 ghost use Rattle.step_machine.specs.Inside.FlatState.{call_system, made_with, leaves, host_answered};

@@ -1,6 +1,6 @@
 //! Whether a module can be instantiated as a task (4.5.4).
 
-ghost use Rattle.std.specs.Prelude.{◌≡◌, ◌&&◌, ◌+◌, ◌*◌, nat_le, ℕ, IfOk, OnOk, None, Some, Err, length, option_copied, true};
+ghost use Rattle.std.specs.Prelude.{◌≡◌, ◌&&◌, ◌+◌, ◌*◌, nat_le, ℕ, IfOk, OnOk, None, Some, Err, length, true};
 ghost use Rattle.linear_memory.specs.Memory.{Memory, is_inside, page_bytes};
 ghost use Rattle.wasm_ast.specs.Limits.{is_within as within_limits};
 ghost use Rattle.wasm_ast.specs.Types.{func_types};

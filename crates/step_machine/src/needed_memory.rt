@@ -1,7 +1,6 @@
 //! Whether a module exports the memory that its system calls need.
 
 ghost use Rattle.std.specs.Prelude.{◌≡◌, ◌||◌, not};
-ghost use Rattle.wasi_calls.specs.HostCalls.{host_calls};
 ghost use Rattle.step_machine.specs.Instantiation.{uses_memory, names_one, needs_memory, is_memory, exports_memory};
 
 use wasi_calls::HostCall;

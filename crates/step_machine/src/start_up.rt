@@ -1,6 +1,6 @@
 //! The first function is invoked (4.5.4, 4.5.5).
 
-ghost use Rattle.std.specs.Prelude.{◌≡◌, ◌∷◌, ◌++◌, [], ℕ, Some, map, option_to_list};
+ghost use Rattle.std.specs.Prelude.{◌≡◌, ◌∷◌, ◌++◌, [], Some, map, option_to_list};
 ghost use Rattle.wasm_ast.specs.declared.module.Module.{Module as ModuleValue};
 ghost use Rattle.flat_code.specs.Layout.{cells_of};
 ghost use Rattle.flat_code.specs.FlatCode.{flat_of};

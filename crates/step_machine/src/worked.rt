@@ -4,7 +4,7 @@ ghost use Rattle.std.specs.Prelude.{◌≡◌, ℕ, ◌+◌, ◌<◌, ◌≤◌,
 ghost use Rattle.wasm_ast.specs.declared.values.ValType.TheVariants as type;
 ghost use Rattle.wasm_ast.specs.declared.values.Value.{Value};
 ghost use Rattle.wasm_ast.specs.declared.values.Value.TheVariants.{I32, I64};
-ghost use Rattle.wasm_ast.specs.declared.instr.BlockType.TheVariants.{Empty, One, Index};
+ghost use Rattle.wasm_ast.specs.declared.instr.BlockType.TheVariants.{Empty, Index};
 ghost use Rattle.wasm_ast.specs.declared.trap.Trap.TheVariants as trap;
 ghost use Rattle.wasm_ast.specs.Syntax.{Op, block, loop, if', Ops, stop, next, ops_of};
 ghost use Rattle.oci_config.specs.declared.process.ProcessConfig.{ProcessConfig};

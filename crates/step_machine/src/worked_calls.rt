@@ -1,6 +1,6 @@
 //! Worked modules that make system calls. Each function has a contract and no body.
 
-ghost use Rattle.std.specs.Prelude.{◌≡◌, ◌∷◌, [], ℕ, List, length, codes, true, false, Some, None, slice_get};
+ghost use Rattle.std.specs.Prelude.{◌≡◌, ◌∷◌, [], List, length, codes, true, Some, None, slice_get};
 ghost use Rattle.wasm_ast.specs.declared.values.ValType.TheVariants as type;
 ghost use Rattle.wasm_ast.specs.declared.values.Value.{Value};
 ghost use Rattle.wasm_ast.specs.declared.values.Value.TheVariants.{I32};

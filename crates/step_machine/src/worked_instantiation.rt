@@ -1,7 +1,7 @@
 //! Worked modules, instantiated: what their tasks begin with, and why they may be refused. Each function has
 //! a contract and no body.
 
-ghost use Rattle.std.specs.Prelude.{◌≡◌, List, [], ◌∷◌, true, false, Some, None};
+ghost use Rattle.std.specs.Prelude.{◌≡◌, [], ◌∷◌, true, false, Some, None};
 ghost use Rattle.wasm_ast.specs.declared.values.Value.TheVariants.{I32};
 ghost use Rattle.wasm_ast.specs.declared.refusal.Refusal.TheVariants as refusal;
 ghost use Rattle.linear_memory.specs.Memory.{new_memory};
