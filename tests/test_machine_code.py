@@ -9,7 +9,7 @@ import subprocess
 from suite.places import built, need
 
 # The files of what is to be a part of the loop.
-INNER = ("step_machine::parts::", "step_machine::superinstructions::", "step_machine::turn::")
+INNER = ("step_machine::actions::", "step_machine::parts::", "step_machine::superinstructions::", "step_machine::turn::")
 
 
 def functions_of_turns(names: str) -> list[str]:

@@ -17,7 +17,8 @@
 //! on the stack (room.rt), with or without a look for breakpoints (watch.rt). The loop calls `step` in
 //! turn.rt once for each cell. `step` reads the cell and calls the function of its kind: do_values.rt,
 //! do_variables.rt, do_memory.rt, do_control.rt, do_calls.rt, do_system.rt. Superinstructions are in
-//! superinstructions.rt and parts.rt. The ends of blocks and bodies, which take no turn, are in settle.rt.
+//! superinstructions.rt, what follows in them in parts.rt and actions.rt. The ends of blocks and bodies,
+//! which take no turn, are in settle.rt.
 //!
 //! All memory that turns need is allocated when the module is instantiated: instantiate.rt has the
 //! refusals, first_data.rt and store.rt the first store, start_up.rt the first frames.
@@ -30,6 +31,7 @@
 //! Sections are those of the WebAssembly Core Specification 1.0.
 #![tactic(auto)]
 
+mod actions;
 mod breaks;
 mod callee;
 mod callees;
