@@ -29,7 +29,8 @@ pub fn long_lines_are_no_requests()
 /// is never answered that its task is busy.
 pub fn waits_are_never_busy()
     ensures { (was : Known) (line : List ℕ) (a : Answer) (now : Known) (id : List ℕ)
-        → IsAnswered was line a now → IsRequest line (request.Task id ask.Wait) → a ≢ Err refusal.Busy }
+        → IsAnswered was line a now → IsRequest line (request.Task id ask.Wait)
+        → a ≢ Err refusal.Busy }
 {
     one_event_to_a_line();
     requests_are_events();

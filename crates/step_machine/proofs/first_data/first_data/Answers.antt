@@ -53,7 +53,7 @@ returns-clause-holds c =
       limited = c.start_up-end.ensures.limit ∙ c.in_ok-at.ensures;
       stopped =
           c.start_up-end.ensures.stopped m p c.process_ranged.ensures (ap config_of c.in_ok-kept.ensures.process) facts
-          c.cells.ensures c.callees.ensures start c.requires.entry stored;
+          c.cells.ensures.cells c.callees.ensures start c.requires.entry stored;
     }
 
 pub returns-clause-process : goal.returns-clause-process
