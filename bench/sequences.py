@@ -2,7 +2,7 @@
 """Counts which sequences of instructions programs make how often, and chooses groups of them (superinstructions).
 
     bench/sequences.py [MODULE..] [--half choosing|showing|both] [--top N]
-                       [--greedy K] [--branches none|last|through] [--spread N] [--show]
+                       [--greedy K] [--branches none|last|through] [--longest N] [--rows] [--spread N] [--show]
 
 Compiles the programs of a half of bench/corpus (`choosing`), or takes the modules that are named. Each is run by `jsc` (of
 Debian's libjavascriptcoregtk-4.0-bin, with its compilers) with a counter wherever instructions begin that are made
@@ -15,9 +15,10 @@ a branch, and a branch inside it was not taken. Of occurrences that overlap only
 With --greedy, chooses K groups beside those of crates/flat_code/src/cell.rt, and prints for each the share of today's
 dispatches that is left with it and those before it, in the geometric mean over programs. For each program it prints how many
 dispatches for each cell are left with no group, with today's and with K more. Where several groups fit, the longest is taken.
-A group may have untaken branches inside (`through`, the default), a branch or a call at its end alone (`last`), or none. With
---spread, each group has to save half a percent of the dispatches of N programs. With --show, the programs of the other half
-are printed too, which had no part in the choice.
+A group may have untaken branches inside (`through`, the default), a branch or a call at its end alone (`last`), or none, and
+N cells (--longest, 6). With --rows, it is what a row of the machine's table can be: a local, a constant or a `pass`, and then
+what changes the innermost frame alone. With --spread, each group has to save half a percent of the dispatches of N programs.
+With --show, the programs of the other half are printed too, which had no part in the choice.
 """
 from __future__ import annotations
 
@@ -30,7 +31,7 @@ from collections import Counter
 
 from cells import LEAVING, NO_TURN, Cell, counted
 from corpus import corpus
-from groups import LONGEST, Chain, Choice, Group, Groups, Run, groups_of_program
+from groups import LONGEST, Asked, Chain, Choice, Group, Groups, Run, groups_of_program
 
 JSC = ["jsc", os.path.join(corpus.FOLDER, "counts.js"), "--"]
 Shares = dict[Group, float]
@@ -136,6 +137,8 @@ def arguments() -> argparse.Namespace:
     parser.add_argument("--top", type=int, default=40, metavar="N")
     parser.add_argument("--greedy", type=int, default=0, metavar="K")
     parser.add_argument("--branches", choices=["none", "last", "through"], default="through")
+    parser.add_argument("--longest", type=int, default=LONGEST, metavar="N")
+    parser.add_argument("--rows", action="store_true")
     parser.add_argument("--spread", type=int, default=1, metavar="N")
     parser.add_argument("--show", action="store_true")
     return parser.parse_args()
@@ -155,7 +158,7 @@ def main() -> None:
         if asked.top:
             print_table(runs, asked.top)
         if asked.greedy:
-            choice = Choice(runs, asked.branches, asked.spread)
+            choice = Choice(runs, Asked(asked.branches, asked.longest, asked.rows), asked.spread)
             print_choice(choice, asked.greedy)
             print_left(runs, choice.groups)
             for half in corpus.HALVES if asked.show else ():
