@@ -12,7 +12,7 @@ Prints the N sequences (40) of two to six cells that cover most instructions in 
 largest share in one program, and in how many programs it is above 1 %. No cell of a sequence but the first is the target of
 a branch, and a branch inside it was not taken. Of occurrences that overlap only the first counts.
 
-With --greedy, chooses K groups beside those of crates/flat_code/src/cell.rt, and prints for each the share of today's
+With --greedy, chooses K groups beside those of crates/flat_code/src/opcode.rt, and prints for each the share of today's
 dispatches that is left with it and those before it, in the geometric mean over programs. For each program it prints how many
 dispatches for each cell are left with no group, with today's and with K more. Where several groups fit, the longest is taken.
 A group may have untaken branches inside (`through`, the default), a branch or a call at its end alone (`last`), or none, and

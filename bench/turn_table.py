@@ -19,7 +19,7 @@ import os
 
 from shared import TOP, arguments
 
-CELLS = os.path.join(TOP, "crates/flat_code/src/cell.rt")
+OPCODES = os.path.join(TOP, "crates/flat_code/src/opcode.rt")
 ROWS = (("local.get", "LocalGet"), ("local.set", "LocalSet"), ("local.tee", "LocalTee"), ("i32.const", "Const32"),
         ("i32.add", "I32Add"), ("i32.load", "LoadI32"), ("i32.store", "StoreI32"), ("block", "Pass"),
         ("br_if, goes on", "ShortJumpIf"), ("br_if, branches", "ShortJumpIf"), ("br", "ShortJump"), ("call", "Call"),
@@ -33,11 +33,11 @@ LARGE = 100
 
 
 def variants():
-    """The names of the cells, in the order of their tags."""
-    with open(CELLS, encoding="utf-8") as file:
+    """The names of the opcodes, in the order of their numbers."""
+    with open(OPCODES, encoding="utf-8") as file:
         text = file.read()
-    body = text[text.index("pub enum Cell {"):]
-    return re.findall(r"^    (\w+)(?:\([^)]*\))?,", body[:body.index("\n}")], re.M)
+    body = text[text.index("pub enum Opcode {"):]
+    return re.findall(r"^    (\w+),", body[:body.index("\n}")], re.M)
 
 
 def functions(program):
