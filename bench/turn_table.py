@@ -8,7 +8,8 @@ breakpoints. An arm's way is the shortest one from its entry in the table to the
 instructions; calls count as 100, so that a way with a call is taken only where there is no other. It prints, for each way,
 its machine instructions, how many of them load, store and branch, and how many of the branches are taken on that way, the
 jump through the table included. `br_if` has two ways. Of branches it reads those that keep no operand, which have their
-target in their cell; `return` is a branch and the end of a body, which takes no turn.
+target in their cell; `return` is a branch and the end of a body, which takes no turn. Before that it says whether the head of
+the loop lies in one line of 64 bytes.
 No program is run, so what the processor makes of the code does not show.
 """
 import heapq
@@ -30,6 +31,8 @@ LINE = re.compile(r"^\s*([0-9a-f]+):\s+(\S+)\s*(.*?)\s*(?:#\s*([0-9a-f]+) .*)?$"
 # A branch that is made reads its height, two bytes at offset 2 of its cell.
 TARGET = re.compile(r"movzw[lq] 0x2\(")
 LARGE = 100
+# A head that crosses a line of the processor's costs a tenth of the speed and more.
+LINE_BYTES = 64
 
 
 def variants():
@@ -148,6 +151,16 @@ def counted(code, path):
     return len(path), loads, stores, jumps, taken
 
 
+def head_of(code, table):
+    """The addresses where the head of the loop begins, which is where the arms jump back to, and where it ends."""
+    ends = [index for index in range(len(code)) if is_dispatch(code, index, table)]
+    jumps = [it[2].split()[0] for it in code if is_jump(it[1]) and it[2] and not it[2].startswith("*")]
+    begin = end = ends[0]
+    while begin > 0 and jumps.count("%x" % code[begin][0]) < 2:
+        begin -= 1
+    return code[begin][0], code[end + 1][0] if end + 1 < len(code) else code[end][0]
+
+
 def main():
     program, _ = arguments(0)
     names, data = variants(), read_only(program)
@@ -159,6 +172,9 @@ def main():
         if not entries:
             continue
         print("%s: %d machine instructions, %d arms" % (name, len(code), len(names)))
+        begin, end = head_of(code, table)
+        print("the head of the loop: %d bytes, %s of 64 bytes" % (
+            end - begin, "in one line" if begin // LINE_BYTES == (end - 1) // LINE_BYTES else "across two lines"))
         print("%-16s %12s %6s %6s %9s %6s" % ("", "instructions", "loads", "stores", "branches", "taken"))
         for row, cell in ROWS:
             branches = {"br_if, goes on": False, "br_if, branches": True}.get(row)

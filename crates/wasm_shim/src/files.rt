@@ -67,6 +67,7 @@ fn write_digits(rt: &HostRuntime, name: &str, line: &[u8]) -> u8 {
 /// Carries out a command that reads a file, or none. The status of the program. An `asm -o` writes
 /// the bytes of the module to that file; of a refused module nothing is written, and the file is
 /// left as it is.
+#[inline(never)]
 pub fn carry_out(rt: &HostRuntime, command: &Command) -> u8 {
     let bytes = match bytes_for(rt, command) {
         Ok(bytes) => bytes,
