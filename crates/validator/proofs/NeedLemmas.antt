@@ -22,7 +22,7 @@ use Rattle.validator.specs.declared.needs.Taken.{Taken}
 use Rattle.validator.specs.declared.needs.Taken.TheVariants as taken
 use Rattle.validator.specs.Typing.{Context, on_top, Replaces, GlobalTyped, Accesses, IsLabel, SimpleTyped}
 use Rattle.validator.specs.PlaceTypes.{Stack, IsOwn}
-use Rattle.validator.specs.Needs.{LacksTable, LacksIndirect, LacksGlobal, LacksAccess, Lacks, AreOnTop, IsThereFor, GoesOn}
+use Rattle.validator.specs.Inside.Needs.{LacksTable, LacksIndirect, LacksGlobal, LacksAccess, Lacks, AreOnTop, IsThereFor, GoesOn}
 use Rattle.validator.specs.Inside.Algorithm.{and_then, replaced, leaves, after_i32, drops, joins, start, check_simple, check_ops}
 use Rattle.validator.specs.Inside.Effects.{step_of, Does, AreTaken, Tells}
 use Rattle.validator.proofs.StackMatching.{Sound, Exact, passes, some_types, replaced_sound, replaced_exact, Takes, leaves_sound, leaves_exact, AfterI32, after_i32_sound, after_i32_exact}

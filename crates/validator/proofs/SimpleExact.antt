@@ -21,7 +21,7 @@ use Rattle.wasm_ast.specs.Limits.{are_all}
 use Rattle.validator.specs.Typing.{Context, on_top, Replaces, LocalTyped, GlobalTyped, Accesses, source_of, target_of, SimpleTyped}
 use Rattle.validator.specs.PlaceTypes.{Stack, IsOf, Matches}
 use Rattle.validator.specs.declared.needs.Lack.{Lack}
-use Rattle.validator.specs.Needs.{DoesTake, LacksOther, LacksTable}
+use Rattle.validator.specs.Inside.Needs.{DoesTake, LacksOther, LacksTable}
 use Rattle.validator.specs.Inside.Algorithm.{and_then, can_be, pop_any, with_types, replaced, nowhere, leaves, after_i32, drops, join, joins, joins_next, check_local, is_variable, check_global, takes_types, is_label, is_some_there, applies, branches, call_indirect, with_memory, access, check_simple}
 use Rattle.validator.proofs.StackMatching.{Sound, Exact, both, passed, passes, given, gives, all_same, themselves, can_be_of, of_can_be, pop_any_sound, pop_any_exact, some_type, some_types, replaced_sound, replaced_exact, Takes, leaves_sound, leaves_exact, AfterI32, after_i32_sound, after_i32_exact}
 

@@ -10,3 +10,4 @@ pub mod ModuleTests
 pub mod Packed
 pub mod Periods
 pub mod Labels
+pub mod Needs

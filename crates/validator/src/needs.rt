@@ -4,7 +4,7 @@ ghost use Rattle.std.specs.Prelude.{◌≡◌, ◌≤◌, ◌&&◌, ◌^◌, ◌
 ghost use Rattle.wasm_ast.specs.declared.values.ValType.{ValType as ValTypeValue};
 ghost use Rattle.wasm_ast.specs.Limits.{are_all};
 ghost use Rattle.wasm_ast.specs.Types.{func_types};
-ghost use Rattle.validator.specs.Needs.{Lacks, LacksLabel, LacksTable, LacksOther, LacksFunction, LacksIndirect, LacksLocal, LacksGlobal, LacksMemory, LacksAccess};
+ghost use Rattle.validator.specs.Inside.Needs.{Lacks, LacksLabel, LacksTable, LacksOther, LacksFunction, LacksIndirect, LacksLocal, LacksGlobal, LacksMemory, LacksAccess};
 ghost use Rattle.validator.specs.Inside.Algorithm.{is_label, is_some_there, branch, branch_if, branch_table, call, call_indirect, local_op, global_op, check_global, check_simple};
 ghost use Rattle.validator.specs.Inside.FunctionContext.{context_of, locals_of, func_type_of};
 ghost use Rattle.validator.specs.Inside.Effects.{Does, Tells, AreTaken};

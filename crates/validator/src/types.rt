@@ -2,7 +2,7 @@
 
 ghost use Rattle.std.specs.Prelude.{◌≡◌, ◌∷◌, [], OnOk, IfOk, IfErr, MatchOption, None, Some, option_copied, slice_get, length, reverse, false};
 ghost use Rattle.validator.specs.PlaceTypes.{Stack, Known};
-ghost use Rattle.validator.specs.Needs.{Lacks};
+ghost use Rattle.validator.specs.Inside.Needs.{Lacks};
 ghost use Rattle.validator.specs.Inside.Algorithm.{check_simple};
 ghost use Rattle.validator.specs.Inside.Effects.{Does};
 ghost use Rattle.validator.specs.Inside.FunctionContext.{context_of};

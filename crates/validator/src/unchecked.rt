@@ -6,7 +6,7 @@ ghost use Rattle.wasm_ast.specs.declared.values.FuncType.{FuncType as FuncTypeVa
 ghost use Rattle.wasm_ast.specs.declared.module.Func.{Func as FuncValue};
 ghost use Rattle.validator.specs.PlaceTypes.{Point, IsOwn, ReachesAt, Matches, MatchPoint};
 ghost use Rattle.validator.specs.SequenceTypes.{LeadsIn};
-ghost use Rattle.validator.specs.Needs.{LacksIn, IsThereFor, GoesOn};
+ghost use Rattle.validator.specs.Inside.Needs.{LacksIn, IsThereFor, GoesOn};
 ghost use Rattle.validator.specs.Inside.Algorithm.{start, check_ops};
 ghost use Rattle.validator.specs.Inside.FunctionContext.{context_of};
 

@@ -1,6 +1,6 @@
 use Rattle.std.proofs.Common.{List, sym, subst, ◌∙◌}
 use Rattle.wasm_ast.specs.declared.values.ValType.{ValType}
-use Rattle.validator.specs.Needs.{LacksOther}
+use Rattle.validator.specs.Inside.Needs.{LacksOther}
 use Rattle.validator.proofs.SimpleExact.{table_lacks}
 use Rattle.validator.proofs.needs.of_branch_table.Goals as goal
 
