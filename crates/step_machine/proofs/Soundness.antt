@@ -14,7 +14,7 @@ use Rattle.wasm_ast.specs.Limits.{is_within}
 use Rattle.wasm_ast.specs.Ranged.{Ranged}
 use Rattle.validator.specs.Typing.{ValidModule}
 use Rattle.linear_memory.specs.Memory.{Memory, page_bytes}
-use Rattle.flat_code.specs.FlatCode.{Cell, does, pass, unless, jump, jump_if, jump_by, call, call_indirect, skip, leave, Line}
+use Rattle.flat_code.specs.Inside.FlatCode.{Cell, does, pass, unless, jump, jump_if, jump_by, call, call_indirect, skip, leave, Line}
 use Rattle.oci_config.specs.declared.process.ProcessConfig.{ProcessConfig}
 use Rattle.step_machine.specs.declared.ends.End.{End}
 use Rattle.step_machine.specs.declared.ends.End.TheVariants as end

@@ -2,8 +2,8 @@
 
 ghost use Rattle.std.specs.Prelude.{◌≡◌, ◌∷◌, ◌++◌, [], Some, map, option_to_list};
 ghost use Rattle.wasm_ast.specs.declared.module.Module.{Module as ModuleValue};
-ghost use Rattle.flat_code.specs.Layout.{cells_of};
-ghost use Rattle.flat_code.specs.FlatCode.{flat_of};
+ghost use Rattle.flat_code.specs.Inside.Layout.{cells_of};
+ghost use Rattle.flat_code.specs.Inside.FlatCode.{flat_of};
 ghost use Rattle.oci_config.specs.declared.process.ProcessConfig.{ProcessConfig};
 ghost use Rattle.oci_config.specs.Processes.{config_of};
 ghost use Rattle.step_machine.specs.Limits.{max_values};
