@@ -1,5 +1,5 @@
 -- The bytes of the binary format (5.3 to 5.5), each by name.
-use Rattle.std.specs.Prelude.{ℕ, List, [], ◌∷◌}
+use Rattle.std.specs.Prelude.{ℕ, ◌+◌, List, [], ◌∷◌}
 use Rattle.wasm_ast.specs.declared.values.ValType.{ValType}
 use Rattle.wasm_ast.specs.declared.values.ValType.TheVariants as type
 use Rattle.wasm_ast.specs.declared.values.Value.TheVariants as value
@@ -75,8 +75,6 @@ else_byte = 0x05
 abbrev pub end_byte : ℕ
 end_byte = 0x0B
 
--- ---- instructions without bodies (5.4.1 to 5.4.5)
-
 -- what is done with a local (5.4.3)
 abbrev pub local_byte : LocalOp → ℕ
 local_byte local.Get = 0x20
@@ -118,28 +116,23 @@ abbrev pub test_byte : ValType → TestOp → ℕ
 test_byte type.I32 test.Eqz = 0x45
 test_byte type.I64 test.Eqz = 0x50
 
--- comparisons (5.4.5)
+-- comparisons of i32 (5.4.5)
+abbrev pub narrow_compare_byte : RelationOp → ℕ
+narrow_compare_byte relation.Eq = 0x46
+narrow_compare_byte relation.Ne = 0x47
+narrow_compare_byte relation.LtS = 0x48
+narrow_compare_byte relation.LtU = 0x49
+narrow_compare_byte relation.GtS = 0x4A
+narrow_compare_byte relation.GtU = 0x4B
+narrow_compare_byte relation.LeS = 0x4C
+narrow_compare_byte relation.LeU = 0x4D
+narrow_compare_byte relation.GeS = 0x4E
+narrow_compare_byte relation.GeU = 0x4F
+
+-- comparisons (5.4.5): those of i64 are in the same order, from 0x51
 abbrev pub compare_byte : ValType → RelationOp → ℕ
-compare_byte type.I32 relation.Eq = 0x46
-compare_byte type.I32 relation.Ne = 0x47
-compare_byte type.I32 relation.LtS = 0x48
-compare_byte type.I32 relation.LtU = 0x49
-compare_byte type.I32 relation.GtS = 0x4A
-compare_byte type.I32 relation.GtU = 0x4B
-compare_byte type.I32 relation.LeS = 0x4C
-compare_byte type.I32 relation.LeU = 0x4D
-compare_byte type.I32 relation.GeS = 0x4E
-compare_byte type.I32 relation.GeU = 0x4F
-compare_byte type.I64 relation.Eq = 0x51
-compare_byte type.I64 relation.Ne = 0x52
-compare_byte type.I64 relation.LtS = 0x53
-compare_byte type.I64 relation.LtU = 0x54
-compare_byte type.I64 relation.GtS = 0x55
-compare_byte type.I64 relation.GtU = 0x56
-compare_byte type.I64 relation.LeS = 0x57
-compare_byte type.I64 relation.LeU = 0x58
-compare_byte type.I64 relation.GeS = 0x59
-compare_byte type.I64 relation.GeU = 0x5A
+compare_byte type.I32 op = narrow_compare_byte op
+compare_byte type.I64 op = narrow_compare_byte op + 0x0B
 
 -- operators with one operand (5.4.5)
 abbrev pub unary_byte : ValType → UnaryOp → ℕ
@@ -150,38 +143,28 @@ unary_byte type.I64 unary.Clz = 0x79
 unary_byte type.I64 unary.Ctz = 0x7A
 unary_byte type.I64 unary.Popcnt = 0x7B
 
--- operators with two operands (5.4.5)
+-- operators of i32 with two operands (5.4.5)
+abbrev pub narrow_binary_byte : BinaryOp → ℕ
+narrow_binary_byte binary.Add = 0x6A
+narrow_binary_byte binary.Sub = 0x6B
+narrow_binary_byte binary.Mul = 0x6C
+narrow_binary_byte binary.DivS = 0x6D
+narrow_binary_byte binary.DivU = 0x6E
+narrow_binary_byte binary.RemS = 0x6F
+narrow_binary_byte binary.RemU = 0x70
+narrow_binary_byte binary.And = 0x71
+narrow_binary_byte binary.Or = 0x72
+narrow_binary_byte binary.Xor = 0x73
+narrow_binary_byte binary.Shl = 0x74
+narrow_binary_byte binary.ShrS = 0x75
+narrow_binary_byte binary.ShrU = 0x76
+narrow_binary_byte binary.Rotl = 0x77
+narrow_binary_byte binary.Rotr = 0x78
+
+-- operators with two operands (5.4.5): those of i64 are in the same order, from 0x7C
 abbrev pub binary_byte : ValType → BinaryOp → ℕ
-binary_byte type.I32 binary.Add = 0x6A
-binary_byte type.I32 binary.Sub = 0x6B
-binary_byte type.I32 binary.Mul = 0x6C
-binary_byte type.I32 binary.DivS = 0x6D
-binary_byte type.I32 binary.DivU = 0x6E
-binary_byte type.I32 binary.RemS = 0x6F
-binary_byte type.I32 binary.RemU = 0x70
-binary_byte type.I32 binary.And = 0x71
-binary_byte type.I32 binary.Or = 0x72
-binary_byte type.I32 binary.Xor = 0x73
-binary_byte type.I32 binary.Shl = 0x74
-binary_byte type.I32 binary.ShrS = 0x75
-binary_byte type.I32 binary.ShrU = 0x76
-binary_byte type.I32 binary.Rotl = 0x77
-binary_byte type.I32 binary.Rotr = 0x78
-binary_byte type.I64 binary.Add = 0x7C
-binary_byte type.I64 binary.Sub = 0x7D
-binary_byte type.I64 binary.Mul = 0x7E
-binary_byte type.I64 binary.DivS = 0x7F
-binary_byte type.I64 binary.DivU = 0x80
-binary_byte type.I64 binary.RemS = 0x81
-binary_byte type.I64 binary.RemU = 0x82
-binary_byte type.I64 binary.And = 0x83
-binary_byte type.I64 binary.Or = 0x84
-binary_byte type.I64 binary.Xor = 0x85
-binary_byte type.I64 binary.Shl = 0x86
-binary_byte type.I64 binary.ShrS = 0x87
-binary_byte type.I64 binary.ShrU = 0x88
-binary_byte type.I64 binary.Rotl = 0x89
-binary_byte type.I64 binary.Rotr = 0x8A
+binary_byte type.I32 op = narrow_binary_byte op
+binary_byte type.I64 op = narrow_binary_byte op + 0x12
 
 -- conversions (5.4.5; the last five are of Core 2.0, 5.4.7)
 abbrev pub convert_byte : ConvertOp → ℕ
@@ -194,7 +177,7 @@ convert_byte convert.I64From8S = 0xC2
 convert_byte convert.I64From16S = 0xC3
 convert_byte convert.I64From32S = 0xC4
 
--- the opcode of an instruction without a body
+-- the opcode of an instruction without a body (5.4.1 to 5.4.5)
 abbrev pub opcode : Simple → ℕ
 opcode Unreachable = 0x00
 opcode Nop = 0x01
@@ -224,9 +207,7 @@ opcode (Convert op) = convert_byte op
 abbrev pub reserved_byte : ℕ
 reserved_byte = 0x00
 
--- ---- what is imported or exported (5.5.5, 5.5.10)
-
--- functions, tables, memories and globals
+-- what is imported or exported (5.5.5, 5.5.10)
 abbrev pub kind_byte : ExportKind → ℕ
 kind_byte kinds.Func = 0x00
 kind_byte kinds.Table = 0x01
@@ -271,8 +252,6 @@ code_section = 10
 abbrev pub data_section : ℕ
 data_section = 11
 
--- ---- modules (5.5.15)
-
--- the magic number and the version
+-- the magic number and the version (5.5.15)
 abbrev pub preamble : List ℕ
 preamble = 0x00 ∷ 0x61 ∷ 0x73 ∷ 0x6D ∷ 0x01 ∷ 0x00 ∷ 0x00 ∷ 0x00 ∷ []
