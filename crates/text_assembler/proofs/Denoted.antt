@@ -6,7 +6,8 @@ use Rattle.wasm_ast.specs.declared.module.Func.{Func}
 use Rattle.wasm_ast.specs.declared.module.Global as declared_global
 use Rattle.wasm_ast.specs.declared.module.Element.{Element}
 use Rattle.wasm_ast.specs.declared.module.Segment.{Segment}
-use Rattle.wasm_ast.specs.Limits.{Within, FuncWithin, NestsWithin, ops_depth, max_nesting}
+use Rattle.wasm_ast.specs.Limits.{Within, FuncWithin, ops_depth, max_nesting}
+use Rattle.wasm_ast.proofs.LimitLemmas.{NestsWithin}
 use Rattle.text_assembler.specs.declared.fault.Fault.{Fault}
 use Rattle.text_assembler.specs.declared.fault.Fault.TheVariants.{Malformed, TooDeep}
 use Rattle.std.specs.Prelude.{IfErr}

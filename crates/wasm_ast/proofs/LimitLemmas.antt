@@ -1,5 +1,5 @@
 -- The test of the limits decides them.
-use Rattle.std.proofs.Common.{◌≡◌, ◌+◌, ◌<◌, ◌&&◌, ◌∙◌, List, [], ◌∷◌, All, ℕ, Bool, true, false, arith, refl, sym, ap, drop, get_or, length}
+use Rattle.std.proofs.Common.{◌≡◌, ◌+◌, ◌<◌, ◌≤◌, nat_le, ◌&&◌, ◌∙◌, List, [], ◌∷◌, All, ℕ, Bool, true, false, arith, refl, sym, ap, drop, get_or, length}
 use Rattle.std.proofs.lemmas.List.{drop_more}
 use Rattle.std.proofs.lemmas.Bool.Decides.{nat_tests}
 use Rattle.std.proofs.lemmas.List.Elements.{All-cons, All-nil, All-head, All-tail}
@@ -11,7 +11,28 @@ use Rattle.wasm_ast.specs.declared.module.Global.{Global}
 use Rattle.wasm_ast.specs.declared.module.Element.{Element}
 use Rattle.wasm_ast.specs.declared.module.Segment.{Segment}
 use Rattle.wasm_ast.specs.Syntax.{Ops}
-use Rattle.wasm_ast.specs.Limits.{max_table_entries, max_memory_pages, TypeWithin, FuncWithin, MinWithin, NestsWithin, Within, is_type_within, is_func_within, is_min_within, nests_within, are_all, is_within}
+use Rattle.wasm_ast.specs.Limits.{ops_depth, max_results, max_nesting, max_table_entries, max_memory_pages, FuncWithin, Within, is_func_within, are_all, is_within}
+
+abbrev pub TypeWithin : FuncType → Type 0
+TypeWithin t = length t.results ≤ max_results
+
+-- the first size of a table or a memory
+abbrev pub MinWithin : (most : ℕ) → Limits → Type 0
+MinWithin most l = l.min ≤ most
+
+-- an expression outside the functions
+abbrev pub NestsWithin : Ops → Type 0
+NestsWithin os = ops_depth os ≤ max_nesting
+
+-- the same as tests
+abbrev pub is_type_within : FuncType → Bool
+is_type_within t = nat_le (length t.results) max_results
+
+abbrev pub is_min_within : (most : ℕ) → Limits → Bool
+is_min_within most l = nat_le l.min most
+
+abbrev pub nests_within : Ops → Bool
+nests_within os = nat_le (ops_depth os) max_nesting
 
 type_within : (t : FuncType) → is_type_within t ≡ true → TypeWithin t
 type_within t h = grind (arith, nat_tests)

@@ -57,35 +57,21 @@ params_in (Some t) = length t.params
 abbrev pub params_of : List FuncType → ℕ → ℕ
 params_of types i = params_in (slice_get types i)
 
-abbrev pub TypeWithin : FuncType → Type 0
-TypeWithin t = length t.results ≤ max_results
-
 pub record FuncWithin (types : List FuncType) (f : Func) : Type 0 where
   pub locals : params_of types f.type_index + length f.locals ≤ max_locals
   pub nesting : ops_depth f.body ≤ max_nesting
 
--- the first size of a table or a memory
-abbrev pub MinWithin : (most : ℕ) → Limits → Type 0
-MinWithin most l = l.min ≤ most
-
--- an expression outside the functions
-abbrev pub NestsWithin : Ops → Type 0
-NestsWithin os = ops_depth os ≤ max_nesting
-
 pub record Within (m : Module) : Type 0 where
-  pub types : All TypeWithin m.types
+  pub types : All (λ t. length t.results ≤ max_results) m.types
   pub functions : length m.imports + length m.funcs ≤ max_functions
   pub funcs : All (FuncWithin m.types) m.funcs
-  pub tables : All (MinWithin max_table_entries) m.tables
-  pub memories : All (MinWithin max_memory_pages) m.memories
-  pub globals : All (λ g. NestsWithin g.init) m.globals
-  pub elements : All (λ e. NestsWithin e.offset) m.elements
-  pub segments : All (λ s. NestsWithin s.offset) m.segments
+  pub tables : All (λ l. l.min ≤ max_table_entries) m.tables
+  pub memories : All (λ l. l.min ≤ max_memory_pages) m.memories
+  pub globals : All (λ g. ops_depth g.init ≤ max_nesting) m.globals
+  pub elements : All (λ e. ops_depth e.offset ≤ max_nesting) m.elements
+  pub segments : All (λ s. ops_depth s.offset ≤ max_nesting) m.segments
 
 -- the same as a test
-abbrev pub is_type_within : FuncType → Bool
-is_type_within t = nat_le (length t.results) max_results
-
 abbrev pub is_func_within : List FuncType → Func → Bool
 is_func_within types f =
     nat_le (params_of types f.type_index + length f.locals) max_locals
@@ -95,19 +81,13 @@ abbrev pub are_all : {X : Type 0} → (X → Bool) → List X → Bool
 are_all test [] = true
 are_all test (x ∷ xs) = test x && are_all test xs
 
-abbrev pub is_min_within : (most : ℕ) → Limits → Bool
-is_min_within most l = nat_le l.min most
-
-abbrev pub nests_within : Ops → Bool
-nests_within os = nat_le (ops_depth os) max_nesting
-
 abbrev pub is_within : Module → Bool
 is_within m =
-    are_all is_type_within m.types
+    are_all (λ (t : FuncType). nat_le (length t.results) max_results) m.types
     && nat_le (length m.imports + length m.funcs) max_functions
     && are_all (is_func_within m.types) m.funcs
-    && are_all (is_min_within max_table_entries) m.tables
-    && are_all (is_min_within max_memory_pages) m.memories
-    && are_all (λ (g : Global). nests_within g.init) m.globals
-    && are_all (λ (e : Element). nests_within e.offset) m.elements
-    && are_all (λ (s : Segment). nests_within s.offset) m.segments
+    && are_all (λ (l : Limits). nat_le l.min max_table_entries) m.tables
+    && are_all (λ (l : Limits). nat_le l.min max_memory_pages) m.memories
+    && are_all (λ (g : Global). nat_le (ops_depth g.init) max_nesting) m.globals
+    && are_all (λ (e : Element). nat_le (ops_depth e.offset) max_nesting) m.elements
+    && are_all (λ (s : Segment). nat_le (ops_depth s.offset) max_nesting) m.segments

@@ -1,7 +1,7 @@
 //! Modules (2.5).
 
 ghost use Rattle.std.specs.Prelude.{◌≡◌, ◌+◌, All, nat_le, length};
-ghost use Rattle.wasm_ast.specs.Limits.{max_nesting, max_locals, params_of, is_type_within, is_func_within, is_min_within, nests_within, are_all, is_within};
+ghost use Rattle.wasm_ast.specs.Limits.{ops_depth, max_results, max_nesting, max_locals, params_of, is_func_within, are_all, is_within};
 ghost use Rattle.wasm_ast.specs.Ranged.{Ranged, RangedImport, RangedFunc, RangedLimits, RangedGlobal, RangedElement, RangedSegment, RangedExport, RangedStart, AreTexts, HasImportTexts, HasExportText};
 
 use crate::instr::Body;
@@ -286,7 +286,7 @@ fn params_of(types: &[FuncType], index: u32) -> usize
 }
 
 fn are_types_within(types: &[FuncType]) -> bool
-    ensures { result ≡ are_all is_type_within types.now }
+    ensures { result ≡ are_all (λ t. nat_le (length t.results) max_results) types.now }
 {
     for func_type in types {
         if func_type.results.len() > MAX_RESULTS {
@@ -344,7 +344,7 @@ fn are_funcs_ranged_within(types: &[FuncType], funcs: &[Func]) -> bool
 }
 
 fn are_mins_within(most: u32, limits: &[Limits]) -> bool
-    ensures { result ≡ are_all (is_min_within most) limits.now }
+    ensures { result ≡ are_all (λ l. nat_le l.min most) limits.now }
 {
     for limit in limits {
         if limit.min > most {
@@ -355,7 +355,7 @@ fn are_mins_within(most: u32, limits: &[Limits]) -> bool
 }
 
 fn are_globals_within(globals: &[Global]) -> bool
-    ensures { result ≡ are_all (λ g. nests_within g.init) globals.now }
+    ensures { result ≡ are_all (λ g. nat_le (ops_depth g.init) max_nesting) globals.now }
 {
     for global in globals {
         if !global.init.fits_depth(MAX_NESTING) {
@@ -366,7 +366,7 @@ fn are_globals_within(globals: &[Global]) -> bool
 }
 
 fn are_elements_within(elements: &[Element]) -> bool
-    ensures { result ≡ are_all (λ e. nests_within e.offset) elements.now }
+    ensures { result ≡ are_all (λ e. nat_le (ops_depth e.offset) max_nesting) elements.now }
 {
     for element in elements {
         if !element.offset.fits_depth(MAX_NESTING) {
@@ -377,7 +377,7 @@ fn are_elements_within(elements: &[Element]) -> bool
 }
 
 fn are_segments_within(segments: &[Segment]) -> bool
-    ensures { result ≡ are_all (λ s. nests_within s.offset) segments.now }
+    ensures { result ≡ are_all (λ s. nat_le (ops_depth s.offset) max_nesting) segments.now }
 {
     for segment in segments {
         if !segment.offset.fits_depth(MAX_NESTING) {

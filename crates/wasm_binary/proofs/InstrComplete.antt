@@ -7,7 +7,8 @@ use Rattle.wasm_ast.specs.declared.instr.MemArg.{MemArg}
 use Rattle.wasm_ast.specs.declared.instr.Simple.{Simple}
 use Rattle.wasm_ast.specs.declared.instr.Simple.TheVariants.{Unreachable, Nop, Br, BrIf, BrTable, Return, Call, CallIndirect, Drop, Select, Local, Global, Load, Store, MemorySize, MemoryGrow, Const, Unary, Binary, Test, Compare, Convert}
 use Rattle.wasm_ast.specs.Syntax.{Op, simple, block, loop, if', Ops, stop, next, ops_of}
-use Rattle.wasm_ast.specs.Limits.{depth, ops_depth, NestsWithin}
+use Rattle.wasm_ast.specs.Limits.{depth, ops_depth}
+use Rattle.wasm_ast.proofs.LimitLemmas.{NestsWithin}
 use Rattle.wasm_binary.specs.Numbers.{IsU32}
 use Rattle.wasm_binary.specs.Opcodes.{opcode, reserved_byte, block_byte, loop_byte, if_byte, else_byte, end_byte}
 use Rattle.wasm_binary.specs.Grammar.{AreItems, IsBlockType, IsMemArg, AreImmediates, IsOp, AreOps, IsExpression}

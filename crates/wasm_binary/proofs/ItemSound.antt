@@ -10,7 +10,8 @@ use Rattle.wasm_ast.specs.declared.module.Mutability.TheVariants as mutability
 use Rattle.wasm_ast.specs.declared.module.ExportKind.TheVariants as kinds
 use Rattle.wasm_ast.specs.declared.module.Func.{Func}
 use Rattle.wasm_ast.specs.Syntax.{Ops}
-use Rattle.wasm_ast.specs.Limits.{max_locals, max_table_entries, max_memory_pages, params_of, FuncWithin, MinWithin, NestsWithin}
+use Rattle.wasm_ast.specs.Limits.{max_locals, max_table_entries, max_memory_pages, params_of, FuncWithin}
+use Rattle.wasm_ast.proofs.LimitLemmas.{MinWithin, NestsWithin}
 use Rattle.wasm_binary.specs.Numbers.{IsU32}
 use Rattle.wasm_binary.specs.Opcodes.{table_type_byte, mutability_byte, kind_byte}
 use Rattle.wasm_binary.specs.Grammar.{Form, AreItems, IsVector, IsRun, locals_of, AreLocals, IsExpression, IsCode, IsEntry, IsImport, IsTable, IsMemory, IsGlobal, IsExport, IsStart, IsElement, IsSegment, indices_of}

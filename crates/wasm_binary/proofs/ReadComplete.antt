@@ -11,7 +11,8 @@ use Rattle.wasm_ast.specs.declared.values.FuncType.{FuncType}
 use Rattle.wasm_ast.specs.declared.instr.BlockType.{BlockType}
 use Rattle.wasm_ast.specs.declared.instr.BlockType.TheVariants.{Empty, One, Index}
 use Rattle.wasm_ast.specs.declared.module.Limits.{Limits}
-use Rattle.wasm_ast.specs.Limits.{max_results, TypeWithin, MinWithin}
+use Rattle.wasm_ast.specs.Limits.{max_results}
+use Rattle.wasm_ast.proofs.LimitLemmas.{TypeWithin, MinWithin}
 use Rattle.wasm_binary.specs.declared.fault.Fault.{Fault}
 use Rattle.wasm_binary.specs.declared.fault.Fault.TheVariants.{Bad, Over}
 use Rattle.wasm_binary.specs.Numbers.{IsUnsigned, IsLastSigned, IsSigned, IsU32}

@@ -8,7 +8,8 @@ use Rattle.std.proofs.lemmas.List.{take-append-drop, length-take-le, nil_from_le
 use Rattle.std.proofs.lemmas.Str.{IsUtf8-from_is_utf8}
 use Rattle.wasm_ast.specs.declared.values.ValType.TheVariants as type
 use Rattle.wasm_ast.specs.declared.instr.BlockType.TheVariants.{Empty, One, Index}
-use Rattle.wasm_ast.specs.Limits.{max_results, TypeWithin, MinWithin}
+use Rattle.wasm_ast.specs.Limits.{max_results}
+use Rattle.wasm_ast.proofs.LimitLemmas.{TypeWithin, MinWithin}
 use Rattle.wasm_binary.specs.declared.fault.Fault.{Fault}
 use Rattle.wasm_binary.specs.declared.fault.Fault.TheVariants.{Bad, Over}
 use Rattle.wasm_binary.specs.Numbers.{IsLastUnsigned, IsUnsigned, IsLastSigned, IsSigned, IsU32}
