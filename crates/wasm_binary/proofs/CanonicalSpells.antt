@@ -634,79 +634,65 @@ canon_spells m ranged texts fits =
     let r2 = f ++ r3 in
     let r1 = i ++ r2 in
     let funcs = recursion_from_All RangedFunc m.funcs ranged.funcs in
-    let to_types : UpToTypes (canon m) m r1 = record {
-      sections = t ++ r1;
-      from_types = t ++ r1;
-      begins = ap (λ (xs : List ℕ). preamble ++ xs) (in_order t i f tb me g x st e c d);
-      customs = ([], refl);
-      types =
-          section_spells type_section IsFuncType canon_func_type (λ t. Unit {0}) func_type_spells func_type_some m.types
-          r1 (all_func_types m.types) few.types;
-    } in
-    let to_imports : UpToImports (canon m) m r2 = record {
-      from_imports = r1;
-      before = to_types;
-      imports =
-          section_spells import_section IsImport canon_import (λ i. RangedImport i × HasImportTexts i) import_spells
+    let to_types : UpToTypes (canon m) m r1 = (
+      t ++ r1,
+      (t ++ r1, ap (λ (xs : List ℕ). preamble ++ xs) (in_order t i f tb me g x st e c d), ([], refl)),
+      section_spells type_section IsFuncType canon_func_type (λ t. Unit {0}) func_type_spells func_type_some m.types
+          r1 (all_func_types m.types) few.types,
+    ) in
+    let to_imports : UpToImports (canon m) m r2 = (
+      r1,
+      to_types,
+      section_spells import_section IsImport canon_import (λ i. RangedImport i × HasImportTexts i) import_spells
           import_some m.imports r2
           (all_both RangedImport HasImportTexts m.imports (recursion_from_All RangedImport m.imports ranged.imports)
-          (recursion_from_All HasImportTexts m.imports texts.imports)) few.imports;
-    } in
-    let to_functions : UpToFunctions (canon m) m r3 = record {
-      from_functions = r2;
-      before = to_imports;
-      functions =
-          section_spells function_section numbers.IsU32 canon_number (λ n. n < 2 ^ 32) index_spells (unsigned_some 9)
-          (indices_of m.funcs) r3 (all_indices m.funcs funcs) few.functions;
-    } in
-    let to_tables : UpToTables (canon m) m r4 = record {
-      from_tables = r3;
-      before = to_functions;
-      tables =
-          section_spells table_section IsTable canon_table RangedLimits table_spells table_some m.tables r4
-          (recursion_from_All RangedLimits m.tables ranged.tables) few.tables;
-    } in
-    let to_memories : UpToMemories (canon m) m r5 = record {
-      from_memories = r4;
-      before = to_tables;
-      memories =
-          section_spells memory_section IsMemory canon_limits RangedLimits memory_spells memory_some m.memories r5
-          (recursion_from_All RangedLimits m.memories ranged.memories) few.memories;
-    } in
-    let to_globals : UpToGlobals (canon m) m r6 = record {
-      from_globals = r5;
-      before = to_memories;
-      globals =
-          section_spells global_section IsGlobal canon_global RangedGlobal global_spells global_some m.globals r6
-          (recursion_from_All RangedGlobal m.globals ranged.globals) few.globals;
-    } in
-    let to_exports : UpToExports (canon m) m r7 = record {
-      from_exports = r6;
-      before = to_globals;
-      exports =
-          section_spells export_section IsExport canon_export (λ e. RangedExport e × HasExportText e) export_spells
+          (recursion_from_All HasImportTexts m.imports texts.imports)) few.imports,
+    ) in
+    let to_functions : UpToFunctions (canon m) m r3 = (
+      r2,
+      to_imports,
+      section_spells function_section numbers.IsU32 canon_number (λ n. n < 2 ^ 32) index_spells (unsigned_some 9)
+          (indices_of m.funcs) r3 (all_indices m.funcs funcs) few.functions,
+    ) in
+    let to_tables : UpToTables (canon m) m r4 = (
+      r3,
+      to_functions,
+      section_spells table_section IsTable canon_table RangedLimits table_spells table_some m.tables r4
+          (recursion_from_All RangedLimits m.tables ranged.tables) few.tables,
+    ) in
+    let to_memories : UpToMemories (canon m) m r5 = (
+      r4,
+      to_tables,
+      section_spells memory_section IsMemory canon_limits RangedLimits memory_spells memory_some m.memories r5
+          (recursion_from_All RangedLimits m.memories ranged.memories) few.memories,
+    ) in
+    let to_globals : UpToGlobals (canon m) m r6 = (
+      r5,
+      to_memories,
+      section_spells global_section IsGlobal canon_global RangedGlobal global_spells global_some m.globals r6
+          (recursion_from_All RangedGlobal m.globals ranged.globals) few.globals,
+    ) in
+    let to_exports : UpToExports (canon m) m r7 = (
+      r6,
+      to_globals,
+      section_spells export_section IsExport canon_export (λ e. RangedExport e × HasExportText e) export_spells
           export_some m.exports r7
           (all_both RangedExport HasExportText m.exports (recursion_from_All RangedExport m.exports ranged.exports)
-          (recursion_from_All HasExportText m.exports texts.exports)) few.exports;
-    } in
-    let to_start : UpToStart (canon m) m r8 = record {
-      from_start = r7;
-      before = to_exports;
-      start = start_spells m.start r8 ranged.start few.start;
-    } in
-    let to_elements : UpToElements (canon m) m r9 = record {
-      from_elements = r8;
-      before = to_start;
-      elements =
-          section_spells element_section IsElement canon_element RangedElement element_spells element_some m.elements r9
-          (recursion_from_All RangedElement m.elements ranged.elements) few.elements;
-    } in
-    let to_codes : UpToCodes (canon m) m r10 = record {
-      from_codes = r9;
-      before = to_elements;
-      codes = section_spells code_section IsEntry canon_entry Known entry_spells entry_some m.funcs r10
-          (all_known m.types m.funcs funcs (recursion_from_All (FuncWithin m.types) m.funcs fits.0.funcs)) few.codes;
-    } in
+          (recursion_from_All HasExportText m.exports texts.exports)) few.exports,
+    ) in
+    let to_start : UpToStart (canon m) m r8 = (r7, to_exports, start_spells m.start r8 ranged.start few.start) in
+    let to_elements : UpToElements (canon m) m r9 = (
+      r8,
+      to_start,
+      section_spells element_section IsElement canon_element RangedElement element_spells element_some m.elements r9
+          (recursion_from_All RangedElement m.elements ranged.elements) few.elements,
+    ) in
+    let to_codes : UpToCodes (canon m) m r10 = (
+      r9,
+      to_elements,
+      section_spells code_section IsEntry canon_entry Known entry_spells entry_some m.funcs r10
+          (all_known m.types m.funcs funcs (recursion_from_All (FuncWithin m.types) m.funcs fits.0.funcs)) few.codes,
+    ) in
     record {
       from_segments = r10;
       before = to_codes;

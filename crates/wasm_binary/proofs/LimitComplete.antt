@@ -385,15 +385,15 @@ types_over sections from_types customs h =
 
 imports_over :
     (bytes : List ℕ) (m : Module) (rest : List ℕ) (t : UpToTypes bytes m rest)
-    → InSection import_section (NumberOver max_functions 0) rest → IsOver (read_head true t.sections)
+    → InSection import_section (NumberOver max_functions 0) rest → IsOver (read_head true t.1.0)
 unfolding read_head
 imports_over bytes m rest t h =
     let above1 : Above 1 rest = in_section_above 2 1 (NumberOver max_functions 0) rest h (omega arith) in
     let above0 :
-    Above 0 t.from_types = above_of 1 0 IsFuncType m.types t.from_types rest t.types above1 (omega arith) in
-    over_then t.from_types (skip_customs t.sections) _ (all_customs_complete t.sections t.from_types t.customs above0)
-    (over_then (m.types, rest) (read_section 1 (read_vector (read_func_type true)) t.from_types) _
-    (types_complete true m t.from_types rest t.types above1)
+    Above 0 t.0 = above_of 1 0 IsFuncType m.types t.0 rest t.2 above1 (omega arith) in
+    over_then t.0 (skip_customs t.1.0) _ (all_customs_complete t.1.0 t.0 t.1.2 above0)
+    (over_then (m.types, rest) (read_section 1 (read_vector (read_func_type true)) t.0) _
+    (types_complete true m t.0 rest t.2 above1)
     (over_first (read_section 2 (read_bounded true max_functions 0 read_import) rest) _
     (section_over 2 (NumberOver max_functions 0) (read_bounded true max_functions 0 read_import)
     (bounded_over max_functions 0 read_import) rest h)))
@@ -401,22 +401,22 @@ imports_over bytes m rest t h =
 too_many :
     (bytes : List ℕ) (m : Module) (rest : List ℕ) (i : UpToImports bytes m rest)
     → InSection function_section (NumberOver max_functions (length m.imports)) rest
-    → IsOver (read_head true i.before.sections)
+    → IsOver (read_head true i.1.1.0)
 unfolding read_head
 too_many bytes m rest i h =
-    let t : UpToTypes bytes m i.from_imports = i.before in
+    let t : UpToTypes bytes m i.0 = i.1 in
     let above2 :
     Above 2 rest = in_section_above 3 2 (NumberOver max_functions (length m.imports)) rest h (omega arith) in
     let above1 :
-    Above 1 i.from_imports = above_of 2 1 IsImport m.imports i.from_imports rest i.imports above2 (omega arith) in
+    Above 1 i.0 = above_of 2 1 IsImport m.imports i.0 rest i.2 above2 (omega arith) in
     let above0 :
-    Above 0 t.from_types =
-    above_of 1 0 IsFuncType m.types t.from_types i.from_imports t.types above1 (omega arith) in
-    over_then t.from_types (skip_customs t.sections) _ (all_customs_complete t.sections t.from_types t.customs above0)
-    (over_then (m.types, i.from_imports) (read_section 1 (read_vector (read_func_type true)) t.from_types) _
-    (types_complete true m t.from_types i.from_imports t.types above1)
-    (over_then (m.imports, rest) (read_section 2 (read_bounded true max_functions 0 read_import) i.from_imports) _
-    (imports_complete true m i.from_imports rest i.imports above2)
+    Above 0 t.0 =
+    above_of 1 0 IsFuncType m.types t.0 i.0 t.2 above1 (omega arith) in
+    over_then t.0 (skip_customs t.1.0) _ (all_customs_complete t.1.0 t.0 t.1.2 above0)
+    (over_then (m.types, i.0) (read_section 1 (read_vector (read_func_type true)) t.0) _
+    (types_complete true m t.0 i.0 t.2 above1)
+    (over_then (m.imports, rest) (read_section 2 (read_bounded true max_functions 0 read_import) i.0) _
+    (imports_complete true m i.0 rest i.2 above2)
     (over_first (read_section 3 (read_bounded true max_functions (length m.imports) read_u32) rest) _
     (section_over 3 (NumberOver max_functions (length m.imports))
     (read_bounded true max_functions (length m.imports) read_u32)
@@ -427,10 +427,10 @@ too_many bytes m rest i h =
 -- the sections up to the functions are read, and those after them are over a limit
 stores_fail :
     (bytes : List ℕ) (m : Module) (rest : List ℕ) (f : UpToFunctions bytes m rest) → Above 3 rest
-    → IsOver (read_stores true rest) → IsOver (read_sections true f.before.before.sections)
+    → IsOver (read_stores true rest) → IsOver (read_sections true f.1.1.1.0)
 unfolding read_sections
 stores_fail bytes m rest f above h =
-    over_then (head_of_module m, rest) (read_head true f.before.before.sections) _
+    over_then (head_of_module m, rest) (read_head true f.1.1.1.0) _
     (head_complete true bytes m rest f above) (over_first (read_stores true rest) _ h)
 
 abbrev TablesOver : List ℕ → Type 0
@@ -450,7 +450,7 @@ SegmentsOver = InVector IsSegment (λ _ _. OffsetOver)
 
 tables_fail :
     (bytes : List ℕ) (m : Module) (rest : List ℕ) (f : UpToFunctions bytes m rest)
-    → InSection table_section TablesOver rest → IsOver (read_sections true f.before.before.sections)
+    → InSection table_section TablesOver rest → IsOver (read_sections true f.1.1.1.0)
 unfolding read_stores
 tables_fail bytes m rest f h =
     stores_fail bytes m rest f (in_section_above 4 3 TablesOver rest h (omega arith))
@@ -461,14 +461,14 @@ tables_fail bytes m rest f h =
 
 memories_fail :
     (bytes : List ℕ) (m : Module) (rest : List ℕ) (t : UpToTables bytes m rest)
-    → InSection memory_section MemoriesOver rest → IsOver (read_sections true t.before.before.before.sections)
+    → InSection memory_section MemoriesOver rest → IsOver (read_sections true t.1.1.1.1.0)
 unfolding read_stores
 memories_fail bytes m rest t h =
     let above4 : Above 4 rest = in_section_above 5 4 MemoriesOver rest h (omega arith) in
-    stores_fail bytes m t.from_tables t.before
-    (above_of 4 3 IsTable m.tables t.from_tables rest t.tables above4 (omega arith))
-    (over_then (m.tables, rest) (read_section 4 (read_vector (read_size true true)) t.from_tables) _
-    (tables_complete true m t.from_tables rest t.tables above4)
+    stores_fail bytes m t.0 t.1
+    (above_of 4 3 IsTable m.tables t.0 rest t.2 above4 (omega arith))
+    (over_then (m.tables, rest) (read_section 4 (read_vector (read_size true true)) t.0) _
+    (tables_complete true m t.0 rest t.2 above4)
     (over_first (read_section 5 (read_vector (read_size false true)) rest) _
     (section_over 5 MemoriesOver (read_vector (read_size false true))
     (vector_over IsMemory (MinWithin max_memory_pages) MemoryOver (read_size false true) (memory_complete true)
@@ -476,19 +476,19 @@ memories_fail bytes m rest t h =
 
 globals_fail :
     (bytes : List ℕ) (m : Module) (rest : List ℕ) (t : UpToMemories bytes m rest)
-    → InSection global_section GlobalsOver rest → IsOver (read_sections true t.before.before.before.before.sections)
+    → InSection global_section GlobalsOver rest → IsOver (read_sections true t.1.1.1.1.1.0)
 unfolding read_stores
 globals_fail bytes m rest t h =
     let above5 : Above 5 rest = in_section_above 6 5 GlobalsOver rest h (omega arith) in
     let above4 :
-    Above 4 t.from_memories =
-    above_of 5 4 IsMemory m.memories t.from_memories rest t.memories above5 (omega arith) in
-    stores_fail bytes m t.before.from_tables t.before.before
-    (above_of 4 3 IsTable m.tables t.before.from_tables t.from_memories t.before.tables above4 (omega arith))
-    (over_then (m.tables, t.from_memories) (read_section 4 (read_vector (read_size true true)) t.before.from_tables) _
-    (tables_complete true m t.before.from_tables t.from_memories t.before.tables above4)
-    (over_then (m.memories, rest) (read_section 5 (read_vector (read_size false true)) t.from_memories) _
-    (memories_complete true m t.from_memories rest t.memories above5)
+    Above 4 t.0 =
+    above_of 5 4 IsMemory m.memories t.0 rest t.2 above5 (omega arith) in
+    stores_fail bytes m t.1.0 t.1.1
+    (above_of 4 3 IsTable m.tables t.1.0 t.0 t.1.2 above4 (omega arith))
+    (over_then (m.tables, t.0) (read_section 4 (read_vector (read_size true true)) t.1.0) _
+    (tables_complete true m t.1.0 t.0 t.1.2 above4)
+    (over_then (m.memories, rest) (read_section 5 (read_vector (read_size false true)) t.0) _
+    (memories_complete true m t.0 rest t.2 above5)
     (over_first (read_section 6 (read_vector (read_global true)) rest) _
     (section_over 6 GlobalsOver (read_vector (read_global true))
     (vector_over IsGlobal (λ (g : Global). NestsWithin g.init) GlobalOver (read_global true) (global_complete true)
@@ -497,31 +497,31 @@ globals_fail bytes m rest t h =
 -- the sections up to the globals are read
 middle_fail :
     (bytes : List ℕ) (m : Module) (rest : List ℕ) (g : UpToGlobals bytes m rest) → Above 6 rest
-    → IsOver (read_middle true rest) → IsOver (read_sections true g.before.before.before.before.before.sections)
+    → IsOver (read_middle true rest) → IsOver (read_sections true g.1.1.1.1.1.1.0)
 unfolding read_sections
 middle_fail bytes m rest g above h =
-    over_then (head_of_module m, g.before.before.from_tables)
-    (read_head true g.before.before.before.before.before.sections) _
-    (head_complete true bytes m g.before.before.from_tables g.before.before.before
+    over_then (head_of_module m, g.1.1.0)
+    (read_head true g.1.1.1.1.1.1.0) _
+    (head_complete true bytes m g.1.1.0 g.1.1.1
     (stores_above bytes m rest g above))
-    (over_then (stores_of_module m, rest) (read_stores true g.before.before.from_tables) _
+    (over_then (stores_of_module m, rest) (read_stores true g.1.1.0) _
     (stores_complete true bytes m rest g above) (over_first (read_middle true rest) _ h))
 
 elements_fail :
     (bytes : List ℕ) (m : Module) (rest : List ℕ) (s : UpToStart bytes m rest)
     → InSection element_section ElementsOver rest
-    → IsOver (read_sections true s.before.before.before.before.before.before.before.sections)
+    → IsOver (read_sections true s.1.1.1.1.1.1.1.1.0)
 unfolding read_middle
 elements_fail bytes m rest s h =
     let above8 : Above 8 rest = in_section_above 9 8 ElementsOver rest h (omega arith) in
     let above7 :
-    Above 7 s.from_start = part_above 8 7 IsStart None s.from_start m.start rest s.start above8 (omega arith) in
-    middle_fail bytes m s.before.from_exports s.before.before
-    (above_of 7 6 IsExport m.exports s.before.from_exports s.from_start s.before.exports above7 (omega arith))
-    (over_then (m.exports, s.from_start) (read_section 7 (read_vector read_export) s.before.from_exports) _
-    (exports_complete m s.before.from_exports s.from_start s.before.exports above7)
-    (over_then (m.start, rest) (read_part 8 read_start None s.from_start) _
-    (start_section_complete m s.from_start rest s.start above8)
+    Above 7 s.0 = part_above 8 7 IsStart None s.0 m.start rest s.2 above8 (omega arith) in
+    middle_fail bytes m s.1.0 s.1.1
+    (above_of 7 6 IsExport m.exports s.1.0 s.0 s.1.2 above7 (omega arith))
+    (over_then (m.exports, s.0) (read_section 7 (read_vector read_export) s.1.0) _
+    (exports_complete m s.1.0 s.0 s.1.2 above7)
+    (over_then (m.start, rest) (read_part 8 read_start None s.0) _
+    (start_section_complete m s.0 rest s.2 above8)
     (over_first (read_section 9 (read_vector (read_element true)) rest) _
     (section_over 9 ElementsOver (read_vector (read_element true))
     (vector_over IsElement (λ (e : Element). NestsWithin e.offset) OffsetOver (read_element true)
@@ -537,25 +537,25 @@ after_middle m rest =
 after_elements :
     (bytes : List ℕ) (m : Module) (rest : List ℕ) (e : UpToElements bytes m rest) → Above 9 rest
     → IsOver (after_middle m rest)
-    → IsOver (read_sections true e.before.before.before.before.before.before.before.before.sections)
+    → IsOver (read_sections true e.1.1.1.1.1.1.1.1.1.0)
 unfolding read_sections
 after_elements bytes m rest e above h =
-    let g : UpToGlobals bytes m e.before.before.from_exports = e.before.before.before in
-    let above6 : Above 6 e.before.before.from_exports = middle_above bytes m rest e above in
-    over_then (head_of_module m, g.before.before.from_tables)
-    (read_head true g.before.before.before.before.before.sections) _
-    (head_complete true bytes m g.before.before.from_tables g.before.before.before
-    (stores_above bytes m e.before.before.from_exports g above6))
-    (over_then (stores_of_module m, e.before.before.from_exports) (read_stores true g.before.before.from_tables) _
-    (stores_complete true bytes m e.before.before.from_exports g above6)
-    (over_then (middle_of_module m, rest) (read_middle true e.before.before.from_exports) _
+    let g : UpToGlobals bytes m e.1.1.0 = e.1.1.1 in
+    let above6 : Above 6 e.1.1.0 = middle_above bytes m rest e above in
+    over_then (head_of_module m, g.1.1.0)
+    (read_head true g.1.1.1.1.1.1.0) _
+    (head_complete true bytes m g.1.1.0 g.1.1.1
+    (stores_above bytes m e.1.1.0 g above6))
+    (over_then (stores_of_module m, e.1.1.0) (read_stores true g.1.1.0) _
+    (stores_complete true bytes m e.1.1.0 g above6)
+    (over_then (middle_of_module m, rest) (read_middle true e.1.1.0) _
     (middle_complete true bytes m rest e above) h))
 
 code_fails :
     (P : (params : ℕ) → List ℕ → Type 0) → CodeFails P
     → (bytes : List ℕ) (m : Module) (rest : List ℕ) (e : UpToElements bytes m rest)
     → InSection code_section (InVector IsEntry (EntryOver P m)) rest
-    → IsOver (read_sections true e.before.before.before.before.before.before.before.before.sections)
+    → IsOver (read_sections true e.1.1.1.1.1.1.1.1.1.0)
 unfolding read_funcs
 code_fails P each bytes m rest e h =
     after_elements bytes m rest e (in_section_above 10 9 (InVector IsEntry (EntryOver P m)) rest h (omega arith))
@@ -567,13 +567,13 @@ code_fails P each bytes m rest e h =
 segments_fail :
     (bytes : List ℕ) (m : Module) (rest : List ℕ) (c : UpToCodes bytes m rest)
     → InSection data_section SegmentsOver rest
-    → IsOver (read_sections true c.before.before.before.before.before.before.before.before.before.sections)
+    → IsOver (read_sections true c.1.1.1.1.1.1.1.1.1.1.0)
 unfolding read_last
 segments_fail bytes m rest c h =
     let above10 : Above 10 rest = in_section_above 11 10 SegmentsOver rest h (omega arith) in
-    after_elements bytes m c.from_codes c.before
-    (above_of 10 9 IsEntry m.funcs c.from_codes rest c.codes above10 (omega arith))
-    (over_then (m.funcs, rest) (read_funcs true m.types (indices_of m.funcs) c.from_codes) _
+    after_elements bytes m c.0 c.1
+    (above_of 10 9 IsEntry m.funcs c.0 rest c.2 above10 (omega arith))
+    (over_then (m.funcs, rest) (read_funcs true m.types (indices_of m.funcs) c.0) _
     (funcs_complete true bytes m rest c above10)
     (over_first (read_last true rest) _ (over_first (read_section 11 (read_vector (read_segment true)) rest) _
     (section_over 11 SegmentsOver (read_vector (read_segment true))
@@ -591,36 +591,36 @@ after_preamble bytes sections e h false =
     over_then sections (strip_preamble bytes) _ (preamble_complete bytes sections e) h
 
 begun :
-    (bytes : List ℕ) (m : Module) (rest : List ℕ) (t : UpToTypes bytes m rest) → IsOver (read_sections true t.sections)
+    (bytes : List ℕ) (m : Module) (rest : List ℕ) (t : UpToTypes bytes m rest) → IsOver (read_sections true t.1.0)
     → IsOver (read_module true bytes)
 unfolding read_module
-begun bytes m rest t h = after_preamble bytes t.sections t.begins h (ltb max_module_bytes (length bytes))
+begun bytes m rest t h = after_preamble bytes t.1.0 t.1.1 h (ltb max_module_bytes (length bytes))
 
 pub read_over : (bytes : List ℕ) → limits.Over bytes → read_module true bytes ≡ Err Over
 unfolding read_module
 read_over bytes (too_many_bytes h) = rw (lt-ltb max_module_bytes (length bytes) h) refl
-read_over bytes (too_many_results sections from_types begins customs h) =
-    after_preamble bytes sections begins (head_fails sections (types_over sections from_types customs h))
+read_over bytes (too_many_results m rest p h) =
+    after_preamble bytes p.0 p.1 (head_fails p.0 (types_over p.0 rest p.2 h))
     (ltb max_module_bytes (length bytes))
 read_over bytes (too_many_imports m rest t h) =
-    begun bytes m rest t (head_fails t.sections (imports_over bytes m rest t h))
+    begun bytes m rest t (head_fails t.1.0 (imports_over bytes m rest t h))
 read_over bytes (too_many_functions m rest i h) =
-    begun bytes m i.from_imports i.before (head_fails i.before.sections (too_many bytes m rest i h))
+    begun bytes m i.0 i.1 (head_fails i.1.1.0 (too_many bytes m rest i h))
 read_over bytes (table_too_large m rest f h) =
-    begun bytes m f.before.from_imports f.before.before (tables_fail bytes m rest f h)
+    begun bytes m f.1.0 f.1.1 (tables_fail bytes m rest f h)
 read_over bytes (memory_too_large m rest t h) =
-    begun bytes m t.before.before.from_imports t.before.before.before (memories_fail bytes m rest t h)
+    begun bytes m t.1.1.0 t.1.1.1 (memories_fail bytes m rest t h)
 read_over bytes (global_too_deep m rest t h) =
-    begun bytes m t.before.before.before.from_imports t.before.before.before.before (globals_fail bytes m rest t h)
+    begun bytes m t.1.1.1.0 t.1.1.1.1 (globals_fail bytes m rest t h)
 read_over bytes (element_too_deep m rest s h) =
-    let i = s.before.before.before.before.before.before in
-    begun bytes m i.from_imports i.before (elements_fail bytes m rest s h)
+    let i = s.1.1.1.1.1.1 in
+    begun bytes m i.0 i.1 (elements_fail bytes m rest s h)
 read_over bytes (too_many_locals m rest e h) =
-    let i = e.before.before.before.before.before.before.before in
-    begun bytes m i.from_imports i.before (code_fails LocalsOver locals_fail bytes m rest e h)
+    let i = e.1.1.1.1.1.1.1 in
+    begun bytes m i.0 i.1 (code_fails LocalsOver locals_fail bytes m rest e h)
 read_over bytes (code_too_deep m rest e h) =
-    let i = e.before.before.before.before.before.before.before in
-    begun bytes m i.from_imports i.before (code_fails BlocksOver blocks_fail bytes m rest e h)
+    let i = e.1.1.1.1.1.1.1 in
+    begun bytes m i.0 i.1 (code_fails BlocksOver blocks_fail bytes m rest e h)
 read_over bytes (segment_too_deep m rest c h) =
-    let i = c.before.before.before.before.before.before.before.before in
-    begun bytes m i.from_imports i.before (segments_fail bytes m rest c h)
+    let i = c.1.1.1.1.1.1.1.1 in
+    begun bytes m i.0 i.1 (segments_fail bytes m rest c h)

@@ -158,26 +158,26 @@ pub head_complete :
     → Complete
     (limited ≡ true
     → AllByRecursion TypeWithin m.types × (length m.imports + length (indices_of m.funcs) ≤ max_functions))
-    (head_of_module m, rest) (read_head limited f.before.before.sections)
+    (head_of_module m, rest) (read_head limited f.1.1.1.0)
 unfolding read_head
 head_complete limited bytes m rest f above =
-    let i : UpToImports bytes m f.from_functions = f.before in
-    let t : UpToTypes bytes m i.from_imports = i.before in
+    let i : UpToImports bytes m f.0 = f.1 in
+    let t : UpToTypes bytes m i.0 = i.1 in
     let above2 :
-    Above 2 f.from_functions =
-    above_of 3 2 IsU32 (indices_of m.funcs) f.from_functions rest f.functions above (omega arith) in
+    Above 2 f.0 =
+    above_of 3 2 IsU32 (indices_of m.funcs) f.0 rest f.2 above (omega arith) in
     let above1 :
-    Above 1 i.from_imports =
-    above_of 2 1 IsImport m.imports i.from_imports f.from_functions i.imports above2 (omega arith) in
+    Above 1 i.0 =
+    above_of 2 1 IsImport m.imports i.0 f.0 i.2 above2 (omega arith) in
     let above0 :
-    Above 0 t.from_types =
-    above_of 1 0 IsFuncType m.types t.from_types i.from_imports t.types above1 (omega arith) in
-    complete_then _ (all_customs_complete t.sections t.from_types t.customs above0)
-    (complete_then _ (types_complete limited m t.from_types i.from_imports t.types above1)
-    (complete_then _ (imports_complete limited m i.from_imports f.from_functions i.imports above2)
+    Above 0 t.0 =
+    above_of 1 0 IsFuncType m.types t.0 i.0 t.2 above1 (omega arith) in
+    complete_then _ (all_customs_complete t.1.0 t.0 t.1.2 above0)
+    (complete_then _ (types_complete limited m t.0 i.0 t.2 above1)
+    (complete_then _ (imports_complete limited m i.0 f.0 i.2 above2)
     (complete_then _
     (functions_section limited function_section (length m.imports) IsU32 read_u32 index_complete
-    (indices_of m.funcs) f.from_functions rest f.functions above)
+    (indices_of m.funcs) f.0 rest f.2 above)
     (complete_ok refl)
     (λ w l. (w l).1))
     (λ w l. let few = (w l).1 in omega arith))
@@ -254,70 +254,70 @@ middle_of_module m = record { exports = m.exports; start = m.start; elements = m
 
 pub stores_above :
     (bytes : List ℕ) (m : Module) (rest : List ℕ) (g : UpToGlobals bytes m rest) → Above 6 rest
-    → Above 3 g.before.before.from_tables
+    → Above 3 g.1.1.0
 stores_above bytes m rest g above =
     let above5 :
-    Above 5 g.from_globals = above_of 6 5 IsGlobal m.globals g.from_globals rest g.globals above (omega arith) in
+    Above 5 g.0 = above_of 6 5 IsGlobal m.globals g.0 rest g.2 above (omega arith) in
     let above4 :
-    Above 4 g.before.from_memories =
-    above_of 5 4 IsMemory m.memories g.before.from_memories g.from_globals g.before.memories above5 (omega arith) in
-    above_of 4 3 IsTable m.tables g.before.before.from_tables g.before.from_memories g.before.before.tables
+    Above 4 g.1.0 =
+    above_of 5 4 IsMemory m.memories g.1.0 g.0 g.1.2 above5 (omega arith) in
+    above_of 4 3 IsTable m.tables g.1.1.0 g.1.0 g.1.1.2
     above4 (omega arith)
 
 pub stores_complete :
     (limited : Bool) (bytes : List ℕ) (m : Module) (rest : List ℕ) (g : UpToGlobals bytes m rest) → Above 6 rest
-    → Complete (Fits limited m) (stores_of_module m, rest) (read_stores limited g.before.before.from_tables)
+    → Complete (Fits limited m) (stores_of_module m, rest) (read_stores limited g.1.1.0)
 unfolding read_stores
 stores_complete limited bytes m rest g above =
     let above5 :
-    Above 5 g.from_globals = above_of 6 5 IsGlobal m.globals g.from_globals rest g.globals above (omega arith) in
+    Above 5 g.0 = above_of 6 5 IsGlobal m.globals g.0 rest g.2 above (omega arith) in
     let above4 :
-    Above 4 g.before.from_memories =
-    above_of 5 4 IsMemory m.memories g.before.from_memories g.from_globals g.before.memories above5 (omega arith) in
+    Above 4 g.1.0 =
+    above_of 5 4 IsMemory m.memories g.1.0 g.0 g.1.2 above5 (omega arith) in
     complete_then _
-    (tables_complete limited m g.before.before.from_tables g.before.from_memories g.before.before.tables above4)
-    (complete_then _ (memories_complete limited m g.before.from_memories g.from_globals g.before.memories above5)
-    (complete_then _ (globals_complete limited m g.from_globals rest g.globals above) (complete_ok refl) (λ w. w))
+    (tables_complete limited m g.1.1.0 g.1.0 g.1.1.2 above4)
+    (complete_then _ (memories_complete limited m g.1.0 g.0 g.1.2 above5)
+    (complete_then _ (globals_complete limited m g.0 rest g.2 above) (complete_ok refl) (λ w. w))
     (λ w. w)) (λ w. w)
 
 pub middle_above :
     (bytes : List ℕ) (m : Module) (rest : List ℕ) (e : UpToElements bytes m rest) → Above 9 rest
-    → Above 6 e.before.before.from_exports
+    → Above 6 e.1.1.0
 middle_above bytes m rest e above =
     let above8 :
-    Above 8 e.from_elements =
-    above_of 9 8 IsElement m.elements e.from_elements rest e.elements above (omega arith) in
+    Above 8 e.0 =
+    above_of 9 8 IsElement m.elements e.0 rest e.2 above (omega arith) in
     let above7 :
-    Above 7 e.before.from_start =
-    part_above 8 7 IsStart None e.before.from_start m.start e.from_elements e.before.start above8 (omega arith) in
-    above_of 7 6 IsExport m.exports e.before.before.from_exports e.before.from_start e.before.before.exports
+    Above 7 e.1.0 =
+    part_above 8 7 IsStart None e.1.0 m.start e.0 e.1.2 above8 (omega arith) in
+    above_of 7 6 IsExport m.exports e.1.1.0 e.1.0 e.1.1.2
     above7 (omega arith)
 
 pub middle_complete :
     (limited : Bool) (bytes : List ℕ) (m : Module) (rest : List ℕ) (e : UpToElements bytes m rest) → Above 9 rest
-    → Complete (Fits limited m) (middle_of_module m, rest) (read_middle limited e.before.before.from_exports)
+    → Complete (Fits limited m) (middle_of_module m, rest) (read_middle limited e.1.1.0)
 unfolding read_middle
 middle_complete limited bytes m rest e above =
     let above8 :
-    Above 8 e.from_elements =
-    above_of 9 8 IsElement m.elements e.from_elements rest e.elements above (omega arith) in
+    Above 8 e.0 =
+    above_of 9 8 IsElement m.elements e.0 rest e.2 above (omega arith) in
     let above7 :
-    Above 7 e.before.from_start =
-    part_above 8 7 IsStart None e.before.from_start m.start e.from_elements e.before.start above8 (omega arith) in
-    complete_then _ (exports_complete m e.before.before.from_exports e.before.from_start e.before.before.exports above7)
-    (complete_then _ (start_section_complete m e.before.from_start e.from_elements e.before.start above8)
-    (complete_then _ (elements_complete limited m e.from_elements rest e.elements above) (complete_ok refl) (λ w. w))
+    Above 7 e.1.0 =
+    part_above 8 7 IsStart None e.1.0 m.start e.0 e.1.2 above8 (omega arith) in
+    complete_then _ (exports_complete m e.1.1.0 e.1.0 e.1.1.2 above7)
+    (complete_then _ (start_section_complete m e.1.0 e.0 e.1.2 above8)
+    (complete_then _ (elements_complete limited m e.0 rest e.2 above) (complete_ok refl) (λ w. w))
     always) always
 
 pub funcs_complete :
     (limited : Bool) (bytes : List ℕ) (m : Module) (rest : List ℕ) (c : UpToCodes bytes m rest) → Above 10 rest
-    → Complete (Fits limited m) (m.funcs, rest) (read_funcs limited m.types (indices_of m.funcs) c.from_codes)
+    → Complete (Fits limited m) (m.funcs, rest) (read_funcs limited m.types (indices_of m.funcs) c.0)
 unfolding read_funcs
 funcs_complete limited bytes m rest c above =
     complete_then _
     (part_complete code_section (IsVector IsEntry) (limited ≡ true → AllByRecursion (FuncWithin m.types) m.funcs)
     (read_codes limited m.types (indices_of m.funcs)) [] m.funcs
-    (λ part k. codes_complete limited m.types m.funcs part [] k) c.from_codes rest c.codes above)
+    (λ part k. codes_complete limited m.types m.funcs part [] k) c.0 rest c.2 above)
     (complete_need (eq-eqb (length m.funcs) (length (indices_of m.funcs)) (sym (length_indices m.funcs)))
     (complete_ok refl))
     (λ w l. recursion_from_All (FuncWithin m.types) m.funcs (w l).funcs)
@@ -336,22 +336,22 @@ last_complete limited bytes m s =
 sections_complete :
     (limited : Bool) (bytes : List ℕ) (m : Module) (s : Spells bytes m)
     → Complete (Fits limited m) m
-    (read_sections limited s.before.before.before.before.before.before.before.before.before.before.sections)
+    (read_sections limited s.before.1.1.1.1.1.1.1.1.1.1.0)
 unfolding read_sections
 sections_complete limited bytes m s =
     let c : UpToCodes bytes m s.from_segments = s.before in
-    let e : UpToElements bytes m c.from_codes = c.before in
-    let g : UpToGlobals bytes m e.before.before.from_exports = e.before.before.before in
+    let e : UpToElements bytes m c.0 = c.1 in
+    let g : UpToGlobals bytes m e.1.1.0 = e.1.1.1 in
     let above10 :
     Above 10 s.from_segments = above_of 11 10 IsSegment m.segments s.from_segments [] s.segments tt (omega arith) in
     let above9 :
-    Above 9 c.from_codes =
-    above_of 10 9 IsEntry m.funcs c.from_codes s.from_segments c.codes above10 (omega arith) in
-    let above6 : Above 6 e.before.before.from_exports = middle_above bytes m c.from_codes e above9 in
-    let above3 : Above 3 g.before.before.from_tables = stores_above bytes m e.before.before.from_exports g above6 in
-    complete_then _ (head_complete limited bytes m g.before.before.from_tables g.before.before.before above3)
-    (complete_then _ (stores_complete limited bytes m e.before.before.from_exports g above6)
-    (complete_then _ (middle_complete limited bytes m c.from_codes e above9)
+    Above 9 c.0 =
+    above_of 10 9 IsEntry m.funcs c.0 s.from_segments c.2 above10 (omega arith) in
+    let above6 : Above 6 e.1.1.0 = middle_above bytes m c.0 e above9 in
+    let above3 : Above 3 g.1.1.0 = stores_above bytes m e.1.1.0 g above6 in
+    complete_then _ (head_complete limited bytes m g.1.1.0 g.1.1.1 above3)
+    (complete_then _ (stores_complete limited bytes m e.1.1.0 g above6)
+    (complete_then _ (middle_complete limited bytes m c.0 e above9)
     (complete_then _ (funcs_complete limited bytes m s.from_segments c above10)
     (complete_then _ (last_complete limited bytes m s) (complete_ok refl) (λ w. w)) (λ w. w)) (λ w. w)) (λ w. w))
     (λ w l. let few = (w l).functions in
@@ -362,7 +362,7 @@ pub read_complete :
     → Complete (limited ≡ true → Within m × (length bytes ≤ max_module_bytes)) m (read_module limited bytes)
 unfolding read_module
 read_complete limited bytes m s =
-    let t = s.before.before.before.before.before.before.before.before.before.before in
+    let t = s.before.1.1.1.1.1.1.1.1.1 in
     complete_within (λ w. unlimited limited max_module_bytes (length bytes) (λ l. (w l).1))
-    (complete_then _ (preamble_complete bytes t.sections t.begins)
+    (complete_then _ (preamble_complete bytes t.1.0 t.1.1)
     (complete_weaker (sections_complete limited bytes m s) (λ w l. (w l).0)) always)

@@ -182,35 +182,27 @@ head_sound bytes sections h0 = sound_then (all_customs_sound sections) (λ from_
     from_types) (λ types h2.
     let up1 :
     (m : Module) → m.types ≡ types.0 → UpToTypes bytes m types.1 =
-    λ m e.
-    record {
-      sections = sections;
-      from_types = from_types;
-      begins = h0;
-      customs = h1;
-      types = subst (λ xs. IsSection type_section IsFuncType from_types xs types.1) (sym e) h2.0;
-    } in
+    λ m e. (
+      from_types,
+      (sections, h0, h1),
+      subst (λ xs. IsSection type_section IsFuncType from_types xs types.1) (sym e) h2.0,
+    ) in
     sound_then
     (functions_section_sound import_section 0 IsImport read_import import_sound (omega arith) types.1)
     (λ imports h3.
     let up2 :
     (m : Module) → m.types ≡ types.0 → m.imports ≡ imports.0 → UpToImports bytes m imports.1 =
     λ m e f.
-    record {
-      from_imports = types.1;
-      before = up1 m e;
-      imports = subst (λ xs. IsSection import_section IsImport types.1 xs imports.1) (sym f) h3.0;
-    } in
+    (types.1, up1 m e, subst (λ xs. IsSection import_section IsImport types.1 xs imports.1) (sym f) h3.0) in
     sound_then
     (functions_section_sound function_section (length imports.0) IsU32 read_u32 u32_sound (omega (arith, h3.1))
     imports.1) (λ indices h4.
     sound_ok (record { types = types.0; imports = imports.0; indices = indices.0 }, indices.1) (
-      (λ m e.
-          record {
-            from_functions = imports.1;
-            before = up2 m e.0 e.1;
-            functions = subst (λ xs. IsSection function_section IsU32 imports.1 xs indices.1) (sym e.2) h4.0;
-          }),
+      (λ m e. (
+        imports.1,
+        up2 m e.0 e.1,
+        subst (λ xs. IsSection function_section IsU32 imports.1 xs indices.1) (sym e.2) h4.0,
+      )),
       h2.1,
       h4.1,
     ))
@@ -218,7 +210,7 @@ head_sound bytes sections h0 = sound_then (all_customs_sound sections) (λ from_
     nothing_between in too_many_functions m imports.1 (up2 m refl refl) q))
     (λ q. let m : Module = module_with (record { types = types.0; imports = []; indices = [] }) no_stores
     nothing_between in too_many_imports m types.1 (up1 m refl) q))
-    (λ q. too_many_results sections from_types h0 h1 q)) never
+    (λ q. too_many_results (module_with empty_head no_stores nothing_between) from_types (sections, h0, h1) q)) never
 
 stores_sound :
     (bytes : List ℕ) (h : Head × List ℕ) → HeadRead bytes h
@@ -231,33 +223,23 @@ stores_sound bytes h hh =
     let up4 :
     (m : Module) → HasHead h.0 m → m.tables ≡ tables.0 → UpToTables bytes m tables.1 =
     λ m e f.
-    record {
-      from_tables = h.1;
-      before = hh.0 m e;
-      tables = subst (λ xs. IsSection table_section IsTable h.1 xs tables.1) (sym f) h4.0;
-    } in
+    (h.1, hh.0 m e, subst (λ xs. IsSection table_section IsTable h.1 xs tables.1) (sym f) h4.0) in
     sound_then
     (vector_section_sound memory_section IsMemory (MinWithin max_memory_pages) MemoryOver (read_size false true)
     memory_sound tables.1) (λ memories h5.
     let up5 :
     (m : Module) → HasHead h.0 m → m.tables ≡ tables.0 → m.memories ≡ memories.0 → UpToMemories bytes m memories.1 =
     λ m e f g.
-    record {
-      from_memories = tables.1;
-      before = up4 m e f;
-      memories = subst (λ xs. IsSection memory_section IsMemory tables.1 xs memories.1) (sym g) h5.0;
-    } in
+    (tables.1, up4 m e f, subst (λ xs. IsSection memory_section IsMemory tables.1 xs memories.1) (sym g) h5.0) in
     sound_then
     (vector_section_sound global_section IsGlobal (λ g. NestsWithin g.init) GlobalOver (read_global true)
     global_sound memories.1) (λ globals h6.
     sound_ok (record { tables = tables.0; memories = memories.0; globals = globals.0 }, globals.1) (
-      (λ m e f.
-          record {
-            from_globals = memories.1;
-            before = up5 m e f.0 f.1;
-            globals =
-                subst (λ xs. IsSection global_section IsGlobal memories.1 xs globals.1) (sym f.2) h6.0;
-          }),
+      (λ m e f. (
+        memories.1,
+        up5 m e f.0 f.1,
+        subst (λ xs. IsSection global_section IsGlobal memories.1 xs globals.1) (sym f.2) h6.0,
+      )),
       (h4.1, h5.1, h6.1),
     ))
     (λ q. let s : Stored = record { tables = tables.0; memories = memories.0; globals = [] }
@@ -278,26 +260,20 @@ middle_sound bytes h s hs =
     sound_then (part_sound start_section IsStart (λ _. ⊥) read_start None start_sound exports.1) (λ start h8.
     let up8 :
     (m : Module) → HasHead h m → HasStores s.0 m → m.exports ≡ exports.0 → m.start ≡ start.0
-    → UpToStart bytes m start.1 = λ m a b e f. record {
-      from_start = exports.1;
-      before =
-          record {
-            from_exports = s.1;
-            before = hs.0 m a b;
-            exports = subst (λ xs. IsSection export_section IsExport s.1 xs exports.1) (sym e) h7;
-          };
-      start = subst (λ x. IsPart start_section IsStart None exports.1 x start.1) (sym f) h8;
-    } in
+    → UpToStart bytes m start.1 = λ m a b e f. (
+      exports.1,
+      (s.1, hs.0 m a b, subst (λ xs. IsSection export_section IsExport s.1 xs exports.1) (sym e) h7),
+      subst (λ x. IsPart start_section IsStart None exports.1 x start.1) (sym f) h8,
+    ) in
     sound_then
     (vector_section_sound element_section IsElement (λ e. NestsWithin e.offset) OffsetOver (read_element true)
     element_sound start.1) (λ elements h9.
     sound_ok (record { exports = exports.0; start = start.0; elements = elements.0 }, elements.1) (
-      (λ m a b e.
-          record {
-            from_elements = start.1;
-            before = up8 m a b e.0 e.1;
-            elements = subst (λ xs. IsSection element_section IsElement start.1 xs elements.1) (sym e.2) h9.0;
-          }),
+      (λ m a b e. (
+        start.1,
+        up8 m a b e.0 e.1,
+        subst (λ xs. IsSection element_section IsElement start.1 xs elements.1) (sym e.2) h9.0,
+      )),
       h9.1,
     ))
     (λ q. let b : Between = record { exports = exports.0; start = start.0; elements = [] }
@@ -370,11 +346,7 @@ funcs_sound bytes h s b hb =
     let codes = codes_with h.types h.indices b.1 funcs.0 funcs.1 h10 (eqb-true (length funcs.0) (length h.indices) k) in
     sound_ok funcs (
       (λ m e f g is.
-          record {
-            from_codes = b.1;
-            before = hb.0 m e f g;
-            codes = subst (λ xs. IsSection code_section IsEntry b.1 xs funcs.1) (sym is) codes.0;
-          }),
+          (b.1, hb.0 m e f g, subst (λ xs. IsSection code_section IsEntry b.1 xs funcs.1) (sym is) codes.0)),
       codes.1,
     )))
     (codes_over bytes h s b hb)

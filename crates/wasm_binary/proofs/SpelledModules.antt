@@ -130,49 +130,49 @@ funcs_below (f ∷ fs) a b = ((a.0, b.0), funcs_below fs a.1 b.1)
 pub spelled_ranged : (bytes : List ℕ) (m : Module) → Spells bytes m → Ranged m
 spelled_ranged bytes m s =
     let c : UpToCodes bytes m s.from_segments = s.before in
-    let e : UpToElements bytes m c.from_codes = c.before in
-    let st : UpToStart bytes m e.from_elements = e.before in
-    let x : UpToExports bytes m st.from_start = st.before in
-    let g : UpToGlobals bytes m x.from_exports = x.before in
-    let me : UpToMemories bytes m g.from_globals = g.before in
-    let t : UpToTables bytes m me.from_memories = me.before in
-    let f : UpToFunctions bytes m t.from_tables = t.before in
-    let i : UpToImports bytes m f.from_functions = f.before in
+    let e : UpToElements bytes m c.0 = c.1 in
+    let st : UpToStart bytes m e.0 = e.1 in
+    let x : UpToExports bytes m st.0 = st.1 in
+    let g : UpToGlobals bytes m x.0 = x.1 in
+    let me : UpToMemories bytes m g.0 = g.1 in
+    let t : UpToTables bytes m me.0 = me.1 in
+    let f : UpToFunctions bytes m t.0 = t.1 in
+    let i : UpToImports bytes m f.0 = f.1 in
     record {
       imports =
           All-from_recursion RangedImport m.imports
           (section_all import_section IsImport RangedImport (λ i part rest h. u32_below i.type_index h.2 rest h.6)
-          m.imports i.from_imports f.from_functions i.imports);
+          m.imports i.0 f.0 i.2);
       funcs = All-from_recursion RangedFunc m.funcs (funcs_below m.funcs
-          (section_all function_section numbers.IsU32 ranged.IsU32 u32_below (indices_of m.funcs) f.from_functions
-          t.from_tables f.functions)
+          (section_all function_section numbers.IsU32 ranged.IsU32 u32_below (indices_of m.funcs) f.0
+          t.0 f.2)
           (section_all code_section IsEntry (λ f. RangedOps f.body)
-          (λ f part rest h. ops_below f.body h.4.0 (end_byte ∷ []) h.4.2) m.funcs c.from_codes
-          s.from_segments c.codes));
+          (λ f part rest h. ops_below f.body h.4.0 (end_byte ∷ []) h.4.2) m.funcs c.0
+          s.from_segments c.2));
       tables =
           All-from_recursion RangedLimits m.tables
           (section_all table_section IsTable RangedLimits (λ l part rest h. limits_below l h.0 rest h.2) m.tables
-          t.from_tables me.from_memories t.tables);
+          t.0 me.0 t.2);
       memories =
           All-from_recursion RangedLimits m.memories
-          (section_all memory_section IsMemory RangedLimits limits_below m.memories me.from_memories
-          g.from_globals me.memories);
+          (section_all memory_section IsMemory RangedLimits limits_below m.memories me.0
+          g.0 me.2);
       globals =
           All-from_recursion RangedGlobal m.globals
           (section_all global_section IsGlobal RangedGlobal
-          (λ g part rest h. ops_below g.init h.1 (end_byte ∷ rest) h.4) m.globals g.from_globals
-          x.from_exports g.globals);
+          (λ g part rest h. ops_below g.init h.1 (end_byte ∷ rest) h.4) m.globals g.0
+          x.0 g.2);
       exports =
           All-from_recursion RangedExport m.exports
           (section_all export_section IsExport RangedExport (λ e part rest h. u32_below e.index h.1 rest h.4)
-          m.exports x.from_exports st.from_start x.exports);
-      start = start_below m.start st.from_start e.from_elements st.start;
+          m.exports x.0 st.0 x.2);
+      start = start_below m.start st.0 e.0 st.2;
       elements = All-from_recursion RangedElement m.elements (section_all element_section IsElement RangedElement
           (λ e part rest h. (
             u32_below e.table part h.0 h.2,
             ops_below e.offset h.0 (end_byte ∷ h.1) h.3,
             indices_below e.funcs h.1 rest h.4,
-          )) m.elements e.from_elements c.from_codes e.elements);
+          )) m.elements e.0 c.0 e.2);
       segments = All-from_recursion RangedSegment m.segments (section_all data_section IsSegment RangedSegment
           (λ d part rest h. (u32_below d.memory part h.0 h.2, ops_below d.offset h.0 (end_byte ∷ h.1) h.3)) m.segments
           s.from_segments [] s.segments);
@@ -184,4 +184,4 @@ spelled_locals bytes m s =
     let c : UpToCodes bytes m s.from_segments = s.before in
     All-from_recursion (λ f. length f.locals < 2 ^ 32) m.funcs
     (section_all code_section IsEntry (λ f. length f.locals < 2 ^ 32) (λ f part rest h. h.4.1.3) m.funcs
-    c.from_codes s.from_segments c.codes)
+    c.0 s.from_segments c.2)

@@ -233,58 +233,44 @@ indices_of = map (λ f. f.type_index)
 -- The front of a module, up to and with a section. It fixes the fields of m that it names; the others may
 -- be anything. Custom sections may come anywhere.
 
-pub record UpToTypes (bytes : List ℕ) (m : Module) (rest : List ℕ) : Type 0 where
-  pub sections : List ℕ
-  pub from_types : List ℕ
-  pub begins : bytes ≡ preamble ++ sections
-  pub customs : AreCustom sections from_types
-  pub types : IsSection type_section IsFuncType from_types m.types rest
+-- the first, and then the next, of one module
+abbrev pub Then : Form Module → Form Module → Form Module
+Then IsFirst IsNext bytes m rest = (from : List ℕ) × IsFirst bytes m from × IsNext from m rest
 
-pub record UpToImports (bytes : List ℕ) (m : Module) (rest : List ℕ) : Type 0 where
-  pub from_imports : List ℕ
-  pub before : UpToTypes bytes m from_imports
-  pub imports : IsSection import_section IsImport from_imports m.imports rest
+-- the preamble, and custom sections
+abbrev pub UpToPreamble : Form Module
+UpToPreamble bytes m rest = (from : List ℕ) × (bytes ≡ preamble ++ from) × AreCustom from rest
+
+abbrev pub UpToTypes : Form Module
+UpToTypes = Then UpToPreamble (λ from m. IsSection type_section IsFuncType from m.types)
+
+abbrev pub UpToImports : Form Module
+UpToImports = Then UpToTypes (λ from m. IsSection import_section IsImport from m.imports)
 
 -- the function section has the functions' types, and the code section the rest of them
-pub record UpToFunctions (bytes : List ℕ) (m : Module) (rest : List ℕ) : Type 0 where
-  pub from_functions : List ℕ
-  pub before : UpToImports bytes m from_functions
-  pub functions : IsSection function_section IsU32 from_functions (indices_of m.funcs) rest
+abbrev pub UpToFunctions : Form Module
+UpToFunctions = Then UpToImports (λ from m. IsSection function_section IsU32 from (indices_of m.funcs))
 
-pub record UpToTables (bytes : List ℕ) (m : Module) (rest : List ℕ) : Type 0 where
-  pub from_tables : List ℕ
-  pub before : UpToFunctions bytes m from_tables
-  pub tables : IsSection table_section IsTable from_tables m.tables rest
+abbrev pub UpToTables : Form Module
+UpToTables = Then UpToFunctions (λ from m. IsSection table_section IsTable from m.tables)
 
-pub record UpToMemories (bytes : List ℕ) (m : Module) (rest : List ℕ) : Type 0 where
-  pub from_memories : List ℕ
-  pub before : UpToTables bytes m from_memories
-  pub memories : IsSection memory_section IsMemory from_memories m.memories rest
+abbrev pub UpToMemories : Form Module
+UpToMemories = Then UpToTables (λ from m. IsSection memory_section IsMemory from m.memories)
 
-pub record UpToGlobals (bytes : List ℕ) (m : Module) (rest : List ℕ) : Type 0 where
-  pub from_globals : List ℕ
-  pub before : UpToMemories bytes m from_globals
-  pub globals : IsSection global_section IsGlobal from_globals m.globals rest
+abbrev pub UpToGlobals : Form Module
+UpToGlobals = Then UpToMemories (λ from m. IsSection global_section IsGlobal from m.globals)
 
-pub record UpToExports (bytes : List ℕ) (m : Module) (rest : List ℕ) : Type 0 where
-  pub from_exports : List ℕ
-  pub before : UpToGlobals bytes m from_exports
-  pub exports : IsSection export_section IsExport from_exports m.exports rest
+abbrev pub UpToExports : Form Module
+UpToExports = Then UpToGlobals (λ from m. IsSection export_section IsExport from m.exports)
 
-pub record UpToStart (bytes : List ℕ) (m : Module) (rest : List ℕ) : Type 0 where
-  pub from_start : List ℕ
-  pub before : UpToExports bytes m from_start
-  pub start : IsPart start_section IsStart None from_start m.start rest
+abbrev pub UpToStart : Form Module
+UpToStart = Then UpToExports (λ from m. IsPart start_section IsStart None from m.start)
 
-pub record UpToElements (bytes : List ℕ) (m : Module) (rest : List ℕ) : Type 0 where
-  pub from_elements : List ℕ
-  pub before : UpToStart bytes m from_elements
-  pub elements : IsSection element_section IsElement from_elements m.elements rest
+abbrev pub UpToElements : Form Module
+UpToElements = Then UpToStart (λ from m. IsSection element_section IsElement from m.elements)
 
-pub record UpToCodes (bytes : List ℕ) (m : Module) (rest : List ℕ) : Type 0 where
-  pub from_codes : List ℕ
-  pub before : UpToElements bytes m from_codes
-  pub codes : IsSection code_section IsEntry from_codes m.funcs rest
+abbrev pub UpToCodes : Form Module
+UpToCodes = Then UpToElements (λ from m. IsSection code_section IsEntry from m.funcs)
 
 -- the bytes are a module's
 pub record Spells (bytes : List ℕ) (m : Module) : Type 0 where

@@ -2,7 +2,7 @@
 -- number, a sum or a depth over a limit of modules. Nothing is asked of what follows that number.
 -- The sizes of the section and of the body that contain it are not checked: what counts is within
 -- them and within the bytes.
-use Rattle.std.specs.Prelude.{◌≡◌, ℕ, zero, suc, ◌+◌, ◌<◌, List, ◌∷◌, ◌++◌, length, take, Some, slice_get, ◌⊎◌}
+use Rattle.std.specs.Prelude.{◌≡◌, ℕ, zero, suc, ◌+◌, ◌<◌, List, ◌∷◌, length, take, Some, slice_get, ◌⊎◌}
 use Rattle.wasm_ast.specs.declared.values.ValType.{ValType}
 use Rattle.wasm_ast.specs.declared.instr.BlockType.{BlockType}
 use Rattle.wasm_ast.specs.declared.module.Mutability.{Mutability}
@@ -11,8 +11,8 @@ use Rattle.wasm_ast.specs.declared.module.Module.{Module}
 use Rattle.wasm_ast.specs.Syntax.{Ops}
 use Rattle.wasm_ast.specs.Limits.{max_module_bytes, max_functions, max_locals, max_results, max_nesting, max_table_entries, max_memory_pages, params_of}
 use Rattle.wasm_binary.specs.Numbers.{IsU32}
-use Rattle.wasm_binary.specs.Opcodes.{preamble, func_type_byte, min_byte, min_max_byte, table_type_byte, mutability_byte, block_byte, loop_byte, if_byte, else_byte, type_section, import_section, function_section, table_section, memory_section, global_section, element_section, code_section, data_section}
-use Rattle.wasm_binary.specs.Grammar.{Form, AreItems, IsVector, IsValType, IsFuncType, IsBlockType, AreOps, IsRun, locals_of, AreLocals, IsEntry, IsTable, IsMemory, IsGlobal, IsElement, IsSegment, AreCustom, indices_of, UpToTypes, UpToImports, UpToFunctions, UpToTables, UpToMemories, UpToStart, UpToElements, UpToCodes}
+use Rattle.wasm_binary.specs.Opcodes.{func_type_byte, min_byte, min_max_byte, table_type_byte, mutability_byte, block_byte, loop_byte, if_byte, else_byte, type_section, import_section, function_section, table_section, memory_section, global_section, element_section, code_section, data_section}
+use Rattle.wasm_binary.specs.Grammar.{Form, AreItems, IsVector, IsValType, IsFuncType, IsBlockType, AreOps, IsRun, locals_of, AreLocals, IsEntry, IsTable, IsMemory, IsGlobal, IsElement, IsSegment, indices_of, UpToPreamble, UpToTypes, UpToImports, UpToFunctions, UpToTables, UpToMemories, UpToStart, UpToElements, UpToCodes}
 
 -- ---- places that are read before they are whole
 
@@ -118,10 +118,8 @@ EntryOver IsCodeOver m count funcs bytes =
 
 pub data Over (bytes : List ℕ) : Type 0 where
   too_many_bytes : max_module_bytes < length bytes → Over bytes
-  -- after the preamble and custom sections
-  too_many_results : (sections from_types : List ℕ) → bytes ≡ preamble ++ sections
-      → AreCustom sections from_types
-      → InSection type_section (InVector IsFuncType (λ _ _. ResultsOver)) from_types → Over bytes
+  too_many_results : (m : Module) (rest : List ℕ) → UpToPreamble bytes m rest
+      → InSection type_section (InVector IsFuncType (λ _ _. ResultsOver)) rest → Over bytes
   too_many_imports : (m : Module) (rest : List ℕ) → UpToTypes bytes m rest
       → InSection import_section (NumberOver max_functions 0) rest → Over bytes
   -- with the imports
