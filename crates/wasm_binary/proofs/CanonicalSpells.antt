@@ -28,7 +28,7 @@ use Rattle.wasm_ast.specs.Limits.{max_module_bytes, max_locals, FuncWithin}
 use Rattle.wasm_binary.specs.Numbers as numbers
 use Rattle.wasm_binary.specs.Opcodes.{mutability_byte, kind_byte, reserved_byte, else_byte, end_byte, type_section, import_section, function_section, table_section, memory_section, global_section, export_section, start_section, element_section, code_section, data_section, preamble}
 use Rattle.wasm_binary.specs.Grammar.{Form, AreItems, IsVector, IsSized, AreBytes, IsName, IsValType, IsFuncType, IsBlockType, AreSizes, IsLimits, IsMemArg, AreImmediates, IsOp, AreOps, IsExpression, IsRun, locals_of, IsCode, IsEntry, IsImport, IsTable, IsGlobal, IsExport, IsStart, IsElement, IsSegment, IsMemory, IsPart, IsSection, AreLocals, indices_of, UpToTypes, UpToImports, UpToFunctions, UpToTables, UpToMemories, UpToGlobals, UpToExports, UpToStart, UpToElements, UpToCodes, Spells}
-use Rattle.wasm_binary.specs.Canonical.{canon_number, canon_vector, canon_sized, canon_name, canon_val_type, canon_func_type, canon_block_type, canon_max, limits_byte, canon_limits, canon_mem_arg, canon_immediates, canon_op, canon_ops, runs_of, canon_run, canon_code, canon_entry, canon_expression, canon_import, canon_table, canon_global, canon_export, canon_element, canon_segment, canon_section, canon_start, canon_front, canon_stores, canon_middle, canon, FitsLimits}
+use Rattle.wasm_binary.specs.Canonical.{canon_number, canon_vector, canon_sized, canon_name, canon_val_type, canon_func_type, canon_block_type, canon_max, limits_byte, canon_limits, canon_mem_arg, canon_immediates, canon_op, canon_ops, runs_of, canon_run, canon_code, canon_entry, canon_expression, canon_import, canon_table, canon_global, canon_export, canon_element, canon_segment, canon_section, canon_start, canon, FitsLimits}
 use Rattle.wasm_binary.proofs.Powers.{small}
 use Rattle.wasm_binary.proofs.LocalRuns.{locals_runs}
 use Rattle.wasm_binary.proofs.CanonicalNumbers.{number_spells, unsigned_some, signed_spells}
@@ -540,10 +540,16 @@ start_spells (Some f) rest h few =
 
 in_order :
     (t i f tb me g x st e c d : List ℕ)
-    → (t ++ i ++ f) ++ (tb ++ me ++ g) ++ (x ++ st ++ e) ++ c ++ d
+    → t ++ i ++ f ++ tb ++ me ++ g ++ x ++ st ++ e ++ c ++ d
     ≡ t ++ (i ++ (f ++ (tb ++ (me ++ (g ++ (x ++ (st ++ (e ++ (c ++ (d ++ []))))))))))
 in_order t i f tb me g x st e c d =
-    sym (append-nil ((t ++ i ++ f) ++ (tb ++ me ++ g) ++ (x ++ st ++ e) ++ c ++ d)) ∙ simp append_assoc
+    sym (append-nil (t ++ i ++ f ++ tb ++ me ++ g ++ x ++ st ++ e ++ c ++ d)) ∙ simp append_assoc
+
+in_groups :
+    (t i f tb me g x st e c d : List ℕ)
+    → t ++ i ++ f ++ tb ++ me ++ g ++ x ++ st ++ e ++ c ++ d
+    ≡ (t ++ i ++ f) ++ (tb ++ me ++ g) ++ (x ++ st ++ e) ++ c ++ d
+in_groups t i f tb me g x st e c d = simp append_assoc
 
 -- each part of an encoding that is short enough is so too
 record Short (m : Module) : Type 0 where
@@ -591,7 +597,9 @@ short m few =
     let e = canon_section element_section canon_element m.elements in
     let c = canon_section code_section canon_entry m.funcs in
     let d = canon_section data_section canon_segment m.segments in
-    let parts = five_short (canon_front m) (canon_stores m) (canon_middle m) c d max_module_bytes few in
+    let grouped =
+    subst (λ (xs : List ℕ). length (preamble ++ xs) ≤ max_module_bytes) (in_groups t i f tb me g x st e c d) few in
+    let parts = five_short (t ++ i ++ f) (tb ++ me ++ g) (x ++ st ++ e) c d max_module_bytes grouped in
     let front = three_short t i f max_module_bytes parts.0 in
     let stores = three_short tb me g max_module_bytes parts.1 in
     let middle = three_short x st e max_module_bytes parts.2 in

@@ -201,30 +201,17 @@ abbrev pub canon_start : Option ℕ → List ℕ
 canon_start None = []
 canon_start (Some func) = start_section ∷ canon_sized (canon_number func)
 
--- types, imports and the types of functions
-abbrev pub canon_front : Module → List ℕ
-canon_front m =
-    canon_section type_section canon_func_type m.types
-    ++ canon_section import_section canon_import m.imports
-    ++ canon_section function_section canon_number (indices_of m.funcs)
-
--- tables, memories and globals
-abbrev pub canon_stores : Module → List ℕ
-canon_stores m =
-    canon_section table_section canon_table m.tables
-    ++ canon_section memory_section canon_limits m.memories
-    ++ canon_section global_section canon_global m.globals
-
--- exports, start function and element segments
-abbrev pub canon_middle : Module → List ℕ
-canon_middle m =
-    canon_section export_section canon_export m.exports ++ canon_start m.start
-    ++ canon_section element_section canon_element m.elements
-
 -- in rising order of ids
 abbrev pub canon : Module → List ℕ
 canon m =
-    preamble ++ canon_front m ++ canon_stores m ++ canon_middle m
+    preamble ++ canon_section type_section canon_func_type m.types
+    ++ canon_section import_section canon_import m.imports
+    ++ canon_section function_section canon_number (indices_of m.funcs)
+    ++ canon_section table_section canon_table m.tables
+    ++ canon_section memory_section canon_limits m.memories
+    ++ canon_section global_section canon_global m.globals
+    ++ canon_section export_section canon_export m.exports ++ canon_start m.start
+    ++ canon_section element_section canon_element m.elements
     ++ canon_section code_section canon_entry m.funcs
     ++ canon_section data_section canon_segment m.segments
 

@@ -2,9 +2,9 @@
 
 ghost use Rattle.std.specs.Prelude.{◌≡◌, ◌++◌, ◌∷◌, List, length, IfOk, OnOk};
 ghost use Rattle.std.specs.List.{flat_map};
-ghost use Rattle.wasm_binary.specs.Opcodes.{mutability_byte, table_section};
+ghost use Rattle.wasm_binary.specs.Opcodes.{mutability_byte, type_section, import_section, function_section, table_section, memory_section, global_section, export_section, element_section};
 ghost use Rattle.wasm_binary.specs.Grammar.{indices_of};
-ghost use Rattle.wasm_binary.specs.Canonical.{canon_number, canon_vector, canon_sized, canon_limits, canon_table, canon_global, canon_element, canon_segment, canon_start, canon_section, canon_front, canon_stores, canon_middle, canon};
+ghost use Rattle.wasm_binary.specs.Canonical.{canon_number, canon_vector, canon_sized, canon_func_type, canon_limits, canon_import, canon_table, canon_global, canon_export, canon_element, canon_segment, canon_start, canon_section, canon};
 
 use crate::opcodes::{
     CODE_SECTION, CONST, DATA_SECTION, ELEMENT_SECTION, EXPORT_SECTION, FUNCTION_SECTION,
@@ -122,7 +122,10 @@ fn put_start(alloc: Global, out: &mut Vec<u8>, start: Option<u32>) -> Result<(),
 }
 
 fn put_front(alloc: Global, out: &mut Vec<u8>, module: &Module) -> Result<(), AllocError>
-    ensures { OnOk result (out.new.items ≡ out.old.items ++ canon_front «module».now) }
+    ensures { OnOk result (out.new.items ≡ out.old.items
+        ++ canon_section type_section canon_func_type «module».now.types
+        ++ canon_section import_section canon_import «module».now.imports
+        ++ canon_section function_section canon_number (indices_of «module».now.funcs)) }
 {
     put_section(alloc, out, TYPE_SECTION, module.types.as_slice())?;
     put_section(alloc, out, IMPORT_SECTION, module.imports.as_slice())?;
@@ -131,7 +134,10 @@ fn put_front(alloc: Global, out: &mut Vec<u8>, module: &Module) -> Result<(), Al
 }
 
 fn put_stores(alloc: Global, out: &mut Vec<u8>, module: &Module) -> Result<(), AllocError>
-    ensures { OnOk result (out.new.items ≡ out.old.items ++ canon_stores «module».now) }
+    ensures { OnOk result (out.new.items ≡ out.old.items
+        ++ canon_section table_section canon_table «module».now.tables
+        ++ canon_section memory_section canon_limits «module».now.memories
+        ++ canon_section global_section canon_global «module».now.globals) }
 {
     put_table_section(alloc, out, module.tables.as_slice())?;
     put_section(alloc, out, MEMORY_SECTION, module.memories.as_slice())?;
@@ -139,7 +145,10 @@ fn put_stores(alloc: Global, out: &mut Vec<u8>, module: &Module) -> Result<(), A
 }
 
 fn put_middle(alloc: Global, out: &mut Vec<u8>, module: &Module) -> Result<(), AllocError>
-    ensures { OnOk result (out.new.items ≡ out.old.items ++ canon_middle «module».now) }
+    ensures { OnOk result (out.new.items ≡ out.old.items
+        ++ canon_section export_section canon_export «module».now.exports
+        ++ canon_start «module».now.start
+        ++ canon_section element_section canon_element «module».now.elements) }
 {
     put_section(alloc, out, EXPORT_SECTION, module.exports.as_slice())?;
     put_start(alloc, out, module.start)?;
