@@ -8,14 +8,14 @@ ghost use Rattle.wasm_ast.specs.declared.refusal.Refusal.TheVariants as refusal;
 ghost use Rattle.linear_memory.specs.Memory.{page_bytes, max_pages};
 ghost use Rattle.oci_config.specs.Limits.{default_pages};
 ghost use Rattle.oci_config.specs.Processes.{config_of};
-ghost use Rattle.oci_config.specs.Config.{version_at, directory_at, module_at, pages_in, cap_at, process_of, process_read, are_arguments_alone, process_with};
+ghost use Rattle.oci_config.specs.Config.{version_at, directory_at, module_at, pages_in, cap_at, process_of, process_read};
 ghost use Rattle.oci_config.specs.Setup.{are_taken, pages_under, process_under};
 ghost use Rattle.oci_config.specs.Inside.Parts.{part_of, pages_at, outline};
 
 use crate::page_cap::PageCap;
 use crate::process::{Output, Process};
 use crate::properties::{are_texts, begins, has_float, is_plain, object_at, part_at, text_at};
-use crate::texts::{are_arguments_alone, are_taken, texts_at};
+use crate::texts::{are_taken, texts_at};
 use linear_memory::{MAX_PAGES, PAGE_BYTES};
 use serde_json::Value;
 use std::alloc::{AllocError, Global};
@@ -236,25 +236,6 @@ pub fn read_config(alloc: Global, bytes: &[u8]) -> Result<Process, Refusal>
         Some(process) => Ok(process),
         None => Err(Refusal::BadConfig),
     }
-}
-
-/// The process that has these arguments alone, before it has written anything: it has no environment and no
-/// limit on its memory, and no config names its module. `BadConfig` exactly if there is none or there are
-/// more than 64, if one holds U+0000, or if they take more than 65,536 bytes with one more for each;
-/// `NoMemory` if memory runs out.
-pub fn process_with(alloc: Global, args: Vec<Text>) -> Result<Process, Refusal>
-    ensures process { IfOk result (λ p. config_of p ≡ process_with args.items) }
-    ensures nothing_written { IfOk result (λ p. (p.out ≡ []) × (p.err ≡ [])) }
-    ensures taken { OnOk result (are_arguments_alone args.items ≡ true) }
-    ensures bad { result ≡ Err refusal.BadConfig → are_arguments_alone args.items ≡ false }
-    ensures err { OnErr result
-        ((result ≡ Err refusal.BadConfig) ⊎ (result ≡ Err refusal.NoMemory)) }
-{
-    if !are_arguments_alone(args.as_slice()) {
-        return Err(Refusal::BadConfig);
-    }
-    let process = new_process(alloc, "", args, Vec::new(alloc), default_pages())?;
-    Ok(process)
 }
 
 /// The process that has these arguments, this environment and, if there is a limit, at most this number of

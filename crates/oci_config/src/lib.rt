@@ -9,7 +9,7 @@ mod stream;
 mod texts;
 pub mod worked;
 
-pub use config::{process_under, process_with, read_config};
+pub use config::{process_under, read_config};
 pub use page_cap::PageCap;
 pub use process::{Output, Process, ProcessConfig};
 pub use stream::Stream;

@@ -1,10 +1,10 @@
 //! The properties of a JSON value, and tests on them.
 
-ghost use Rattle.std.specs.Prelude.{◌≡◌, option_map};
+ghost use Rattle.std.specs.Prelude.{◌≡◌, ◌==◌, option_map};
 ghost use Rattle.std.specs.List.{list_any};
 ghost use Rattle.serde_json.specs.View.{view, items_view, members_view};
 ghost use Rattle.serde_json.specs.Written.{has_float, items_have_float, members_have_float};
-ghost use Rattle.oci_config.specs.Config.{text_at, object_at, part_at, begins, is_nul, is_plain, are_texts};
+ghost use Rattle.oci_config.specs.Config.{text_at, object_at, part_at, begins, is_plain, are_texts};
 ghost use Rattle.oci_config.specs.Inside.Parts.{part_of};
 
 use serde_json::{Map, Value};
@@ -65,7 +65,7 @@ pub fn begins(text: &str, front: &str) -> bool
 }
 
 fn has_nul(bytes: &[u8]) -> bool
-    ensures { result ≡ list_any is_nul bytes.now }
+    ensures { result ≡ list_any (λ byte. byte == 0) bytes.now }
 {
     bytes.iter().any(|byte| *byte == 0)
 }

@@ -1,11 +1,12 @@
 //! The arguments and the environment of a process.
 
-ghost use Rattle.std.specs.Prelude.{◌≡◌, ◌+◌, ◌<◌, option_map, IfOk, IfSome, IfNone, nat_le};
+ghost use Rattle.std.specs.Prelude.{◌≡◌, ◌+◌, ◌<◌, option_map, IfOk, IfSome, IfNone, nat_le, ◌==◌};
 ghost use Rattle.std.specs.List.{list_any, list_all};
 ghost use Rattle.serde_json.specs.View.{view, items_view};
 ghost use Rattle.oci_config.specs.Limits.{max_text_bytes};
-ghost use Rattle.oci_config.specs.Config.{is_plain, is_equals_sign, is_entry, texts_in, bytes_of, are_arguments, are_arguments_alone, args_at, are_entries, entries_in, env_at, texts_at};
+ghost use Rattle.oci_config.specs.Config.{is_plain, is_entry, texts_in, bytes_of, are_arguments, args_at, are_entries, entries_in, env_at};
 ghost use Rattle.oci_config.specs.Setup.{are_taken};
+ghost use Rattle.oci_config.specs.Inside.Parts.{texts_at};
 
 use crate::properties::is_plain;
 use serde_json::Value;
@@ -67,7 +68,7 @@ fn args_at(alloc: Global, process: &Value) -> Result<Option<Vec<Text>>, AllocErr
 }
 
 fn has_equals_sign(bytes: &[u8]) -> bool
-    ensures { result ≡ list_any is_equals_sign bytes.now }
+    ensures { result ≡ list_any (λ byte. byte == 61) bytes.now }
 {
     bytes.iter().any(|byte| *byte == b'=')
 }
@@ -147,13 +148,6 @@ fn fit(args: &[Text], env: &[Text]) -> bool
         Some(left) => bytes_left(env, left).is_some(),
         None => false,
     }
-}
-
-/// Whether a process without an environment may have these arguments.
-pub fn are_arguments_alone(texts: &[Text]) -> bool
-    ensures { result ≡ are_arguments_alone texts.now }
-{
-    are_arguments(texts) && bytes_left(texts, MAX_TEXT_BYTES).is_some()
 }
 
 /// Whether a process may have these arguments with this environment.

@@ -11,7 +11,7 @@
 ghost use Rattle.std.specs.Prelude.{◌≡◌, [], IfOk};
 
 use label_machine::{Control, LabelMachine};
-use oci_config::{Process, Stream, process_with};
+use oci_config::{Process, Stream, process_under};
 use request_lines::{line_of, no_memory_line};
 use std::alloc::{AllocError, Global};
 use std::io;
@@ -39,7 +39,7 @@ fn arguments(alloc: Global) -> Result<Vec<Text>, AllocError> {
 fn process(alloc: Global) -> Result<Process, Refusal>
     ensures { IfOk result (λ p. (p.out ≡ []) × (p.err ≡ [])) }
 {
-    process_with(alloc, arguments(alloc)?)
+    process_under(alloc, arguments(alloc)?, Vec::new(alloc), None)
 }
 
 // How a machine has ended.

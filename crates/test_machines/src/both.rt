@@ -4,7 +4,7 @@ ghost use Rattle.std.specs.Prelude.{◌≡◌, [], IfOk};
 
 use crate::programs::{AFTER, BEFORE, PROGRAMS, Program};
 use label_machine::{Control, LabelMachine};
-use oci_config::{Process, Stream, process_with};
+use oci_config::{Process, Stream, process_under};
 use std::alloc::Global;
 use std::process::Abort;
 use std::test::Fail;
@@ -29,7 +29,7 @@ fn process(alloc: Global) -> Result<Process, Fail>
 {
     let mut args = Vec::new(alloc);
     args.push(Text::from_str(alloc, "a")?)?;
-    Ok(process_with(alloc, args)?)
+    Ok(process_under(alloc, args, Vec::new(alloc), None)?)
 }
 
 /// Asserts what a machine has come to.
