@@ -1,8 +1,13 @@
 -- Words that are looked up in one list after the other.
-use Rattle.std.proofs.Common.{◌≡◌, ℕ, List, [], ◌∷◌, ◌++◌, Option, Some, None, Bool, true, false, bytes_eq, if◌then◌else◌, refl, ap, ◌∙◌}
+use Rattle.std.proofs.Common.{◌≡◌, ℕ, List, [], ◌∷◌, ◌++◌, map, Option, Some, None, Bool, true, false, bytes_eq, if◌then◌else◌, refl, ap, ◌∙◌}
+use Rattle.wasm_binary.specs.Tables.{all_conversions}
 use Rattle.text_assembler.specs.declared.keyword.Keyword.{Keyword}
+use Rattle.text_assembler.specs.declared.keyword.Keyword.TheVariants as keyword
 use Rattle.wasm_ast.specs.declared.values.ValType.TheVariants as type
-use Rattle.text_assembler.specs.Words.{keyword_word, find_word, keyword_of, controls, accesses, numerics, conversions}
+use Rattle.text_assembler.specs.Words.{keyword_word, find_word, keyword_of, controls, accesses, numerics}
+
+abbrev pub conversions : List Keyword
+conversions = map keyword.Convert all_conversions
 
 abbrev pub or_else : Option Keyword → Option Keyword → Option Keyword
 or_else None other = other

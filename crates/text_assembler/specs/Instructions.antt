@@ -106,7 +106,7 @@ with_digits (Some digits) other ts = small_number digits.0 >>= λ n. Ok (n, digi
 unfoldable pub read_option : (prefix : List ℕ) → (other : ℕ) → Reader ℕ
 read_option prefix other ts = with_digits (digits_after prefix ts) other ts
 
--- offset and alignment (6.5.4): this number of bytes where none is written
+-- offset and alignment (6.5.5): this number of bytes where none is written
 unfoldable pub read_mem_arg : (natural : ℕ) → Reader MemArg
 read_mem_arg natural ts = do
   offset ← read_option (codes "offset=") 0 ts
@@ -150,7 +150,7 @@ read_immediates s locals labels (keyword.Test t op) ts = Ok (instr.Test t op, ts
 read_immediates s locals labels (keyword.Compare t op) ts = Ok (instr.Compare t op, ts)
 read_immediates s locals labels (keyword.Convert op) ts = Ok (instr.Convert op, ts)
 
--- ---- blocks (6.5.1)
+-- ---- blocks (6.5.2)
 
 -- nothing, or `( result t )`; or the use of a type, whose parameters have no identifiers (Core 2.0, 6.5.2)
 unfoldable pub read_block_type : Scopes → Reader BlockType

@@ -4,7 +4,6 @@
 use Rattle.std.specs.Prelude.{ℕ, ◌-◌, ◌^◌, ◌<◌, List, [], ◌++◌, length, codes, decimal, nat_lt, ◌==◌, if◌then◌else◌, Result}
 use Rattle.std.specs.List.{flat_map}
 use Rattle.wasm_ast.specs.declared.values.Value.TheVariants.{I32, I64}
-use Rattle.wasm_ast.specs.declared.values.ValType.TheVariants as type
 use Rattle.wasm_ast.specs.declared.instr.BlockType.{BlockType}
 use Rattle.wasm_ast.specs.declared.instr.BlockType.TheVariants.{Empty, One, Index}
 use Rattle.wasm_ast.specs.declared.instr.MemArg.{MemArg}
@@ -12,6 +11,7 @@ use Rattle.wasm_ast.specs.declared.instr.Simple.{Simple}
 use Rattle.wasm_ast.specs.declared.instr.Simple.TheVariants as instr
 use Rattle.wasm_ast.specs.Syntax.{Op, simple, block, loop, if'}
 use Rattle.wasm_ast.specs.Access.{load_bytes, store_bytes}
+use Rattle.wasm_ast.specs.Types.{type_of}
 use Rattle.wasm_ast.specs.Numerals.{signed}
 use Rattle.text_assembler.specs.declared.keyword.Keyword.{Keyword}
 use Rattle.text_assembler.specs.declared.keyword.Keyword.TheVariants as keyword
@@ -42,8 +42,7 @@ keyword_for (instr.Load op at) = keyword.Load op
 keyword_for (instr.Store op at) = keyword.Store op
 keyword_for instr.MemorySize = keyword.MemorySize
 keyword_for instr.MemoryGrow = keyword.MemoryGrow
-keyword_for (instr.Const (I32 n)) = keyword.Const type.I32
-keyword_for (instr.Const (I64 n)) = keyword.Const type.I64
+keyword_for (instr.Const v) = keyword.Const (type_of v)
 keyword_for (instr.Unary t op) = keyword.Unary t op
 keyword_for (instr.Binary t op) = keyword.Binary t op
 keyword_for (instr.Test t op) = keyword.Test t op
@@ -118,7 +117,5 @@ IsWritten s (if' type then_arm else_arm) = IsWrittenType s type
 
 -- what is read of a line as an instruction, in these scopes and with these labels, where bodies are read so
 abbrev pub read_instr_line :
-    Scopes → (locals : Ids) → Result Bodies Fault → (labels : Ids) → List ℕ
-    → Result (Op × Tokens) Fault
-read_instr_line s locals inner labels line =
-    tokens_of line >>= λ ts. read_op s locals inner labels ts
+    Scopes → (locals : Ids) → Result Bodies Fault → (labels : Ids) → List ℕ → Result (Op × Tokens) Fault
+read_instr_line s locals inner labels line = tokens_of line >>= read_op s locals inner labels

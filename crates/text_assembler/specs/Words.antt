@@ -2,23 +2,17 @@
 use Rattle.std.specs.Prelude.{ℕ, List, [], ◌∷◌, ◌++◌, map, codes, Option, Some, None, bytes_eq, if◌then◌else◌}
 use Rattle.wasm_ast.specs.declared.values.ValType.{ValType}
 use Rattle.wasm_ast.specs.declared.values.ValType.TheVariants as type
-use Rattle.wasm_ast.specs.declared.instr.LocalOp.{LocalOp}
 use Rattle.wasm_ast.specs.declared.instr.LocalOp.TheVariants as local
-use Rattle.wasm_ast.specs.declared.instr.GlobalOp.{GlobalOp}
 use Rattle.wasm_ast.specs.declared.instr.GlobalOp.TheVariants as global
-use Rattle.wasm_ast.specs.declared.operators.LoadOp.{LoadOp}
 use Rattle.wasm_ast.specs.declared.operators.LoadOp.TheVariants as load
-use Rattle.wasm_ast.specs.declared.operators.StoreOp.{StoreOp}
 use Rattle.wasm_ast.specs.declared.operators.StoreOp.TheVariants as store
 use Rattle.wasm_ast.specs.declared.operators.UnaryOp.{UnaryOp}
 use Rattle.wasm_ast.specs.declared.operators.UnaryOp.TheVariants as unary
 use Rattle.wasm_ast.specs.declared.operators.BinaryOp.{BinaryOp}
 use Rattle.wasm_ast.specs.declared.operators.BinaryOp.TheVariants as binary
-use Rattle.wasm_ast.specs.declared.operators.TestOp.{TestOp}
 use Rattle.wasm_ast.specs.declared.operators.TestOp.TheVariants as test
 use Rattle.wasm_ast.specs.declared.operators.RelationOp.{RelationOp}
 use Rattle.wasm_ast.specs.declared.operators.RelationOp.TheVariants as relation
-use Rattle.wasm_ast.specs.declared.operators.ConvertOp.{ConvertOp}
 use Rattle.wasm_ast.specs.declared.operators.ConvertOp.TheVariants as convert
 use Rattle.wasm_binary.specs.Tables.{all_loads, all_stores, all_unary, all_binary, all_relations, all_conversions}
 use Rattle.text_assembler.specs.declared.keyword.Keyword.{Keyword}
@@ -29,49 +23,12 @@ abbrev pub type_word : ValType → List ℕ
 type_word type.I32 = codes "i32"
 type_word type.I64 = codes "i64"
 
--- what is done with a local, and with a global (6.5.3)
-abbrev pub local_word : LocalOp → List ℕ
-local_word local.Get = codes "local.get"
-local_word local.Set = codes "local.set"
-local_word local.Tee = codes "local.tee"
-
--- what is done with a global
-abbrev pub global_word : GlobalOp → List ℕ
-global_word global.Get = codes "global.get"
-global_word global.Set = codes "global.set"
-
--- loads (6.5.4)
-abbrev pub load_word : LoadOp → List ℕ
-load_word load.I32 = codes "i32.load"
-load_word load.I64 = codes "i64.load"
-load_word load.I32From8S = codes "i32.load8_s"
-load_word load.I32From8U = codes "i32.load8_u"
-load_word load.I32From16S = codes "i32.load16_s"
-load_word load.I32From16U = codes "i32.load16_u"
-load_word load.I64From8S = codes "i64.load8_s"
-load_word load.I64From8U = codes "i64.load8_u"
-load_word load.I64From16S = codes "i64.load16_s"
-load_word load.I64From16U = codes "i64.load16_u"
-load_word load.I64From32S = codes "i64.load32_s"
-load_word load.I64From32U = codes "i64.load32_u"
-
--- stores (6.5.4)
-abbrev pub store_word : StoreOp → List ℕ
-store_word store.I32 = codes "i32.store"
-store_word store.I64 = codes "i64.store"
-store_word store.I32To8 = codes "i32.store8"
-store_word store.I32To16 = codes "i32.store16"
-store_word store.I64To8 = codes "i64.store8"
-store_word store.I64To16 = codes "i64.store16"
-store_word store.I64To32 = codes "i64.store32"
-
--- operators, tests and comparisons, after the type and a dot (6.5.5)
+-- operators and comparisons, after the type and a dot (6.5.6)
 abbrev pub unary_word : UnaryOp → List ℕ
 unary_word unary.Clz = codes "clz"
 unary_word unary.Ctz = codes "ctz"
 unary_word unary.Popcnt = codes "popcnt"
 
--- operators with two operands
 abbrev pub binary_word : BinaryOp → List ℕ
 binary_word binary.Add = codes "add"
 binary_word binary.Sub = codes "sub"
@@ -89,11 +46,6 @@ binary_word binary.ShrU = codes "shr_u"
 binary_word binary.Rotl = codes "rotl"
 binary_word binary.Rotr = codes "rotr"
 
--- tests
-abbrev pub test_word : TestOp → List ℕ
-test_word test.Eqz = codes "eqz"
-
--- comparisons
 abbrev pub relation_word : RelationOp → List ℕ
 relation_word relation.Eq = codes "eq"
 relation_word relation.Ne = codes "ne"
@@ -106,21 +58,12 @@ relation_word relation.LeU = codes "le_u"
 relation_word relation.GeS = codes "ge_s"
 relation_word relation.GeU = codes "ge_u"
 
--- conversions (6.5.5; the last five are of Core 2.0, 6.5.8)
-abbrev pub convert_word : ConvertOp → List ℕ
-convert_word convert.Wrap = codes "i32.wrap_i64"
-convert_word convert.ExtendS = codes "i64.extend_i32_s"
-convert_word convert.ExtendU = codes "i64.extend_i32_u"
-convert_word convert.I32From8S = codes "i32.extend8_s"
-convert_word convert.I32From16S = codes "i32.extend16_s"
-convert_word convert.I64From8S = codes "i64.extend8_s"
-convert_word convert.I64From16S = codes "i64.extend16_s"
-convert_word convert.I64From32S = codes "i64.extend32_s"
-
 -- the word of an operator on this type
 abbrev pub typed : ValType → List ℕ → List ℕ
 typed t name = type_word t ++ codes "." ++ name
 
+-- control (6.5.2), parametric (6.5.3), variable (6.5.4), memory (6.5.5) and numeric instructions (6.5.6); the last
+-- five are of Core 2.0 (6.5.8)
 abbrev pub keyword_word : Keyword → List ℕ
 keyword_word keyword.Unreachable = codes "unreachable"
 keyword_word keyword.Nop = codes "nop"
@@ -132,18 +75,45 @@ keyword_word keyword.Call = codes "call"
 keyword_word keyword.CallIndirect = codes "call_indirect"
 keyword_word keyword.Drop = codes "drop"
 keyword_word keyword.Select = codes "select"
+keyword_word (keyword.Local local.Get) = codes "local.get"
+keyword_word (keyword.Local local.Set) = codes "local.set"
+keyword_word (keyword.Local local.Tee) = codes "local.tee"
+keyword_word (keyword.Global global.Get) = codes "global.get"
+keyword_word (keyword.Global global.Set) = codes "global.set"
+keyword_word (keyword.Load load.I32) = codes "i32.load"
+keyword_word (keyword.Load load.I64) = codes "i64.load"
+keyword_word (keyword.Load load.I32From8S) = codes "i32.load8_s"
+keyword_word (keyword.Load load.I32From8U) = codes "i32.load8_u"
+keyword_word (keyword.Load load.I32From16S) = codes "i32.load16_s"
+keyword_word (keyword.Load load.I32From16U) = codes "i32.load16_u"
+keyword_word (keyword.Load load.I64From8S) = codes "i64.load8_s"
+keyword_word (keyword.Load load.I64From8U) = codes "i64.load8_u"
+keyword_word (keyword.Load load.I64From16S) = codes "i64.load16_s"
+keyword_word (keyword.Load load.I64From16U) = codes "i64.load16_u"
+keyword_word (keyword.Load load.I64From32S) = codes "i64.load32_s"
+keyword_word (keyword.Load load.I64From32U) = codes "i64.load32_u"
+keyword_word (keyword.Store store.I32) = codes "i32.store"
+keyword_word (keyword.Store store.I64) = codes "i64.store"
+keyword_word (keyword.Store store.I32To8) = codes "i32.store8"
+keyword_word (keyword.Store store.I32To16) = codes "i32.store16"
+keyword_word (keyword.Store store.I64To8) = codes "i64.store8"
+keyword_word (keyword.Store store.I64To16) = codes "i64.store16"
+keyword_word (keyword.Store store.I64To32) = codes "i64.store32"
 keyword_word keyword.MemorySize = codes "memory.size"
 keyword_word keyword.MemoryGrow = codes "memory.grow"
-keyword_word (keyword.Local op) = local_word op
-keyword_word (keyword.Global op) = global_word op
-keyword_word (keyword.Load op) = load_word op
-keyword_word (keyword.Store op) = store_word op
 keyword_word (keyword.Const t) = typed t (codes "const")
 keyword_word (keyword.Unary t op) = typed t (unary_word op)
 keyword_word (keyword.Binary t op) = typed t (binary_word op)
-keyword_word (keyword.Test t op) = typed t (test_word op)
+keyword_word (keyword.Test t test.Eqz) = typed t (codes "eqz")
 keyword_word (keyword.Compare t op) = typed t (relation_word op)
-keyword_word (keyword.Convert op) = convert_word op
+keyword_word (keyword.Convert convert.Wrap) = codes "i32.wrap_i64"
+keyword_word (keyword.Convert convert.ExtendS) = codes "i64.extend_i32_s"
+keyword_word (keyword.Convert convert.ExtendU) = codes "i64.extend_i32_u"
+keyword_word (keyword.Convert convert.I32From8S) = codes "i32.extend8_s"
+keyword_word (keyword.Convert convert.I32From16S) = codes "i32.extend16_s"
+keyword_word (keyword.Convert convert.I64From8S) = codes "i64.extend8_s"
+keyword_word (keyword.Convert convert.I64From16S) = codes "i64.extend16_s"
+keyword_word (keyword.Convert convert.I64From32S) = codes "i64.extend32_s"
 
 -- control, variables and the size of memory
 abbrev pub controls : List Keyword
@@ -163,11 +133,8 @@ numerics t =
     keyword.Const t ∷ map (keyword.Unary t) all_unary ++ map (keyword.Binary t) all_binary
     ++ keyword.Test t test.Eqz ∷ map (keyword.Compare t) all_relations
 
-abbrev pub conversions : List Keyword
-conversions = map keyword.Convert all_conversions
-
 abbrev pub keywords : List Keyword
-keywords = controls ++ accesses ++ numerics type.I32 ++ numerics type.I64 ++ conversions
+keywords = controls ++ accesses ++ numerics type.I32 ++ numerics type.I64 ++ map keyword.Convert all_conversions
 
 -- the first of these whose word this is
 unfoldable pub find_word : List Keyword → List ℕ → Option Keyword

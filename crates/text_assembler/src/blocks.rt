@@ -1,4 +1,4 @@
-//! Instructions with bodies, and sequences of instructions (6.5.1, 6.5.6).
+//! Instructions with bodies, and sequences of instructions (6.5.2, 6.5.8).
 
 ghost use Rattle.std.specs.Prelude.{◌≡◌, [], ◌∷◌, map, IfOk, codes, Ok};
 ghost use Rattle.wasm_ast.specs.View.{op_of};

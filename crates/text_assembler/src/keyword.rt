@@ -1,8 +1,10 @@
 //! The words of instructions without bodies (6.5).
 
-ghost use Rattle.std.specs.Prelude.{◌≡◌, Some};
+ghost use Rattle.std.specs.Prelude.{◌≡◌, Some, map};
 ghost use Rattle.wasm_ast.specs.declared.values.ValType.TheVariants as type;
-ghost use Rattle.text_assembler.specs.Words.{local_word, global_word, load_word, store_word, unary_word, binary_word, test_word, relation_word, convert_word, typed, keyword_word, accesses, controls, conversions, numerics, find_word, keyword_of};
+ghost use Rattle.wasm_binary.specs.Tables.{all_conversions};
+ghost use Rattle.text_assembler.specs.declared.keyword.Keyword.TheVariants as keyword;
+ghost use Rattle.text_assembler.specs.Words.{unary_word, binary_word, relation_word, typed, keyword_word, accesses, controls, numerics, find_word, keyword_of};
 
 use wasm_ast::{
     BinaryOp, ConvertOp, GlobalOp, LoadOp, LocalOp, RelationOp, StoreOp, TestOp, UnaryOp, ValType,
@@ -36,7 +38,7 @@ pub enum Keyword {
 }
 
 fn local_word(op: LocalOp) -> &'static str
-    ensures { result.now ≡ local_word op }
+    ensures { result.now ≡ keyword_word (keyword.Local op) }
 {
     match op {
         LocalOp::Get => "local.get",
@@ -46,7 +48,7 @@ fn local_word(op: LocalOp) -> &'static str
 }
 
 fn global_word(op: GlobalOp) -> &'static str
-    ensures { result.now ≡ global_word op }
+    ensures { result.now ≡ keyword_word (keyword.Global op) }
 {
     match op {
         GlobalOp::Get => "global.get",
@@ -55,7 +57,7 @@ fn global_word(op: GlobalOp) -> &'static str
 }
 
 fn load_word(op: LoadOp) -> &'static str
-    ensures { result.now ≡ load_word op }
+    ensures { result.now ≡ keyword_word (keyword.Load op) }
 {
     match op {
         LoadOp::I32 => "i32.load",
@@ -74,7 +76,7 @@ fn load_word(op: LoadOp) -> &'static str
 }
 
 fn store_word(op: StoreOp) -> &'static str
-    ensures { result.now ≡ store_word op }
+    ensures { result.now ≡ keyword_word (keyword.Store op) }
 {
     match op {
         StoreOp::I32 => "i32.store",
@@ -88,7 +90,7 @@ fn store_word(op: StoreOp) -> &'static str
 }
 
 fn convert_word(op: ConvertOp) -> &'static str
-    ensures { result.now ≡ convert_word op }
+    ensures { result.now ≡ keyword_word (keyword.Convert op) }
 {
     match op {
         ConvertOp::Wrap => "i32.wrap_i64",
@@ -343,7 +345,7 @@ fn numeric_of(t: ValType, word: &[u8]) -> Option<Keyword>
 }
 
 fn conversion_of(word: &[u8]) -> Option<Keyword>
-    ensures { result ≡ find_word conversions word.now }
+    ensures { result ≡ find_word (map keyword.Convert all_conversions) word.now }
 {
     let keywords = [
         Keyword::Convert(ConvertOp::Wrap),

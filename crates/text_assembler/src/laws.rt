@@ -83,7 +83,7 @@ pub fn numbers_are_read()
     ensures over { small_number (codes "4294967296") ≡ Err Malformed }
 {}
 
-/// Constants at each bound and beyond it (6.5.5).
+/// Constants at each bound and beyond it (6.5.6).
 #[tactic(auto, unfolding(crate::specs::Numbers::constant, crate::specs::Numbers::number, crate::specs::Numbers::more_digits, crate::specs::Numbers::with_digit))]
 pub fn constants_are_read()
     ensures unsigned { constant 32 (codes "4294967295") ≡ Ok 4294967295 }

@@ -1,4 +1,4 @@
-//! Instructions without bodies (6.5.1 to 6.5.5).
+//! Instructions without bodies (6.5.2 to 6.5.6).
 
 ghost use Rattle.std.specs.Prelude.{◌≡◌, ◌<◌, option_map};
 ghost use Rattle.wasm_ast.specs.Access.{load_bytes, store_bytes};
