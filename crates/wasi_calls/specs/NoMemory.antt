@@ -1,5 +1,4 @@
--- The memory that a call is given, if the module has one. A module without a memory has one of no
--- bytes.
+-- The memory that a call is given, if the module has one. A module without a memory has one of no bytes.
 use Rattle.std.specs.Prelude.{◌⊎◌, Option, Some, None}
 use Rattle.std.proofs.Common.{inl, inr}
 use Rattle.std.specs.Borrow.{MutBor}
