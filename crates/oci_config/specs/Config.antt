@@ -39,7 +39,8 @@ abbrev pub object_at : (key : List ℕ) → Data → Option Data
 object_at key d = get key d >>= object_of
 
 -- an optional property: what it says where it is present, else what goes for a missing one
-abbrev pub optional : {A : Type 0} → Option Data → (missing : A) → (present : Data → Option A) → Option A
+abbrev pub optional :
+    {A : Type 0} → Option Data → (missing : A) → (present : Data → Option A) → Option A
 optional None missing present = Some missing
 optional (Some d) missing present = present d
 
@@ -86,18 +87,21 @@ version_at config = text_at (codes "ociVersion") config >>= demand (begins (code
 
 -- the working directory: an absolute path without U+0000
 abbrev pub directory_at : (process : Data) → Option (List ℕ)
-directory_at process = text_at (codes "cwd") process >>= demand (λ cwd. begins (codes "/") cwd && is_plain cwd)
+directory_at process =
+    text_at (codes "cwd") process >>= demand (λ cwd. begins (codes "/") cwd && is_plain cwd)
 
 -- 1 to 64 texts without U+0000
 abbrev pub are_arguments : List (List ℕ) → Bool
-are_arguments texts = nat_le 1 (length texts) && nat_le (length texts) max_args && list_all is_plain texts
+are_arguments texts =
+    nat_le 1 (length texts) && nat_le (length texts) max_args && list_all is_plain texts
 
 abbrev pub args_at : (process : Data) → Option (List (List ℕ))
 args_at process = get (codes "args") process >>= as_array >>= texts_in >>= demand are_arguments
 
 -- at most 64 texts without U+0000, each with = after at least one character
 abbrev pub are_entries : List (List ℕ) → Bool
-are_entries texts = nat_le (length texts) max_entries && list_all is_plain texts && list_all is_entry texts
+are_entries texts =
+    nat_le (length texts) max_entries && list_all is_plain texts && list_all is_entry texts
 
 abbrev pub entries_in : (list : Data) → Option (List (List ℕ))
 entries_in list = as_array list >>= texts_in >>= demand are_entries

@@ -9,7 +9,8 @@ use Rattle.oci_config.specs.Config.{bytes_of, are_arguments, are_entries}
 
 -- a process may have these arguments with this environment
 abbrev pub are_taken : (args env : List (List ℕ)) → Bool
-are_taken args env = are_arguments args && are_entries env && nat_le (bytes_of args + bytes_of env) max_text_bytes
+are_taken args env =
+    are_arguments args && are_entries env && nat_le (bytes_of args + bytes_of env) max_text_bytes
 
 -- the most pages of a memory under a limit in bytes, if there is one
 abbrev pub pages_under : (limit : Option ℕ) → ℕ
@@ -18,4 +19,5 @@ pages_under (Some bytes) = min (bytes / page_bytes) max_pages
 
 -- what the process is configured with: no config names its module, so its digest is empty
 abbrev pub process_under : (args env : List (List ℕ)) → (limit : Option ℕ) → ProcessConfig
-process_under args env limit = record { «module» = []; args = args; env = env; cap = pages_under limit }
+process_under args env limit =
+    record { «module» = []; args = args; env = env; cap = pages_under limit }

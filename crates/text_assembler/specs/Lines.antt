@@ -117,5 +117,6 @@ IsWritten s (if' type then_arm else_arm) = IsWrittenType s type
 
 -- what is read of a line as an instruction, in these scopes and with these labels, where bodies are read so
 abbrev pub read_instr_line :
-    Scopes → (locals : Ids) → Result Bodies Fault → (labels : Ids) → List ℕ → Result (Op × Tokens) Fault
+    Scopes → (locals : Ids) → Result Bodies Fault → (labels : Ids) → List ℕ
+    → Result (Op × Tokens) Fault
 read_instr_line s locals inner labels line = tokens_of line >>= read_op s locals inner labels

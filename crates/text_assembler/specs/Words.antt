@@ -62,8 +62,8 @@ relation_word relation.GeU = codes "ge_u"
 abbrev pub typed : ValType → List ℕ → List ℕ
 typed t name = type_word t ++ codes "." ++ name
 
--- control (6.5.2), parametric (6.5.3), variable (6.5.4), memory (6.5.5) and numeric instructions (6.5.6); the last
--- five are of Core 2.0 (6.5.8)
+-- control (6.5.2), parametric (6.5.3), variable (6.5.4), memory (6.5.5) and numeric instructions
+-- (6.5.6); the last five are of Core 2.0 (6.5.8)
 abbrev pub keyword_word : Keyword → List ℕ
 keyword_word keyword.Unreachable = codes "unreachable"
 keyword_word keyword.Nop = codes "nop"
@@ -134,7 +134,9 @@ numerics t =
     ++ keyword.Test t test.Eqz ∷ map (keyword.Compare t) all_relations
 
 abbrev pub keywords : List Keyword
-keywords = controls ++ accesses ++ numerics type.I32 ++ numerics type.I64 ++ map keyword.Convert all_conversions
+keywords =
+    controls ++ accesses ++ numerics type.I32 ++ numerics type.I64
+    ++ map keyword.Convert all_conversions
 
 -- the first of these whose word this is
 unfoldable pub find_word : List Keyword → List ℕ → Option Keyword

@@ -1,5 +1,6 @@
--- The system calls of WASI snapshot_preview1 that this profile has: the module that they are imported from, their
--- names, and their types as function imports of a WebAssembly module (wasi_snapshot_preview1.witx).
+-- The system calls of WASI snapshot_preview1 that this profile has: the module that they are
+-- imported from, their names, and their types as function imports of a WebAssembly module
+-- (wasi_snapshot_preview1.witx).
 use Rattle.std.specs.Prelude.{ℕ, List, [], ◌∷◌, codes}
 use Rattle.wasm_ast.specs.declared.values.ValType.TheVariants.{I32}
 use Rattle.wasm_ast.specs.declared.values.FuncType.{FuncType}
@@ -10,7 +11,8 @@ abbrev pub host_module : List ℕ
 host_module = codes "wasi_snapshot_preview1"
 
 abbrev pub host_calls : List HostCall
-host_calls = ArgsSizesGet ∷ ArgsGet ∷ EnvironSizesGet ∷ EnvironGet ∷ FdWrite ∷ ProcExit ∷ SchedYield ∷ []
+host_calls =
+    ArgsSizesGet ∷ ArgsGet ∷ EnvironSizesGet ∷ EnvironGet ∷ FdWrite ∷ ProcExit ∷ SchedYield ∷ []
 
 abbrev pub host_name : HostCall → List ℕ
 host_name ArgsSizesGet = codes "args_sizes_get"

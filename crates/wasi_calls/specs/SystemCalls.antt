@@ -1,6 +1,6 @@
 -- What the system calls of WASI snapshot_preview1 do (wasi_snapshot_preview1.witx, and typenames.witx for the
--- types). If a range is not inside memory, the answer is the error number `fault`, and nothing is written. A call
--- reads all that it reads before it writes.
+-- types). If a range is not inside memory, the answer is the error number `fault`, and nothing is
+-- written. A call reads all that it reads before it writes.
 use Rattle.std.specs.Prelude.{ℕ, zero, suc, ◌+◌, ◌*◌, ◌-◌, ◌==◌, List, [], ◌∷◌, ◌++◌, length, take, nat_lt, Bool, ◌&&◌, if◌then◌else◌, Option, Some, None}
 use Rattle.std.specs.List.{flat_map, list_all}
 use Rattle.wasm_ast.specs.declared.values.Value.{Value}
@@ -78,7 +78,8 @@ pub record Buffer : Type 0 where
   pub size : ℕ
 
 abbrev pub buffer_at : Memory → (address : ℕ) → Buffer
-buffer_at m a = record { address = little_endian (range m a 4); size = little_endian (range m (a + 4) 4) }
+buffer_at m a =
+    record { address = little_endian (range m a 4); size = little_endian (range m (a + 4) 4) }
 
 -- the bytes of a $ciovec
 abbrev pub buffer_bytes : ℕ
@@ -106,13 +107,18 @@ pub record Written : Type 0 where
 abbrev pub room : (stream : List ℕ) → ℕ
 room stream = max_output - length stream
 
--- of the bytes asked as many as there is room for are appended, from the front, and their number is written at q;
--- if bytes are asked and there is no room, nothing changes
+-- of the bytes asked as many as there is room for are appended, from the front, and their number is
+-- written at q; if bytes are asked and there is no room, nothing changes
 abbrev pub append : Memory → (stream : List ℕ) → (asked : List ℕ) → (q : ℕ) → Written
 append m stream asked q =
     let taken = take (room stream) asked in
-    if nat_lt 0 (length asked) && room stream == 0 then record { number = nospc; memory = m; stream = stream }
-    else record { number = success; memory = with_range m q (word (length taken)); stream = stream ++ taken }
+    if nat_lt 0 (length asked) && room stream == 0
+    then record { number = nospc; memory = m; stream = stream }
+    else record {
+      number = success;
+      memory = with_range m q (word (length taken));
+      stream = stream ++ taken;
+    }
 
 -- n buffers, which are told at p, are written to a stream
 abbrev pub write_stream : Memory → (stream : List ℕ) → (p n q : ℕ) → Written
@@ -123,7 +129,8 @@ write_stream m stream p n q =
 
 -- ---- all calls
 
--- what a call works on: the memory of the module, and what has been written to standard output and standard error
+-- what a call works on: the memory of the module, and what has been written to standard output and
+-- standard error
 pub record HostState : Type 0 where
   pub memory : Memory
   pub out : List ℕ
@@ -141,10 +148,12 @@ abbrev pub done_put : HostState → Put → HostDone
 done_put s w = record { answer = end.Value w.number; state = record s { memory = w.memory } }
 
 abbrev pub done_out : HostState → Written → HostDone
-done_out s w = record { answer = end.Value w.number; state = record s { memory = w.memory; out = w.stream } }
+done_out s w =
+    record { answer = end.Value w.number; state = record s { memory = w.memory; out = w.stream } }
 
 abbrev pub done_err : HostState → Written → HostDone
-done_err s w = record { answer = end.Value w.number; state = record s { memory = w.memory; err = w.stream } }
+done_err s w =
+    record { answer = end.Value w.number; state = record s { memory = w.memory; err = w.stream } }
 
 -- file descriptor 1 is standard output, and 2 is standard error
 abbrev pub fd_write : HostState → (fd p n q : ℕ) → HostDone

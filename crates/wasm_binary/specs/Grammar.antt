@@ -249,7 +249,8 @@ UpToImports = Then UpToTypes (λ from m. IsSection import_section IsImport from 
 
 -- the function section has the functions' types, and the code section the rest of them
 abbrev pub UpToFunctions : Form Module
-UpToFunctions = Then UpToImports (λ from m. IsSection function_section IsU32 from (indices_of m.funcs))
+UpToFunctions =
+    Then UpToImports (λ from m. IsSection function_section IsU32 from (indices_of m.funcs))
 
 abbrev pub UpToTables : Form Module
 UpToTables = Then UpToFunctions (λ from m. IsSection table_section IsTable from m.tables)
