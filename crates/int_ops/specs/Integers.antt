@@ -1,7 +1,7 @@
 -- Operations on integers as functions on whole numbers below 2^N (4.3.2). The width w says N, as `bits w`;
 -- a signed reading subtracts 2^N from the upper half.
 use Rattle.std.specs.Prelude.{ℕ, ◌+◌, ◌-◌, ◌*◌, ◌/◌, ◌%◌, ◌^◌, ◌==◌, nat_lt, nat_le, not, ℤ, pos, int_lt, int_le, int_div, int_rem, bit_and, bit_or, bit_xor, count_ones, Bool, if◌then◌else◌, Result, Ok, Err}
-use Rattle.std.specs.Int.{Width, w32, w64, cast_signed, cast_unsigned, int_shr, leading_zeros, trailing_zeros, rotate_left, rotate_right}
+use Rattle.std.specs.Int.{Width, w8, w16, w32, w64, cast_signed, cast_unsigned, int_shr, leading_zeros, trailing_zeros, rotate_left, rotate_right}
 use mir.Val.{bits}
 use Rattle.wasm_ast.specs.declared.trap.Trap.{Trap}
 use Rattle.wasm_ast.specs.declared.trap.Trap.TheVariants.{IntegerDivideByZero, IntegerOverflow}
@@ -11,6 +11,8 @@ use Rattle.wasm_ast.specs.declared.operators.BinaryOp.{BinaryOp}
 use Rattle.wasm_ast.specs.declared.operators.BinaryOp.TheVariants.{Add, Sub, Mul, DivS, DivU, RemS, RemU, And, Or, Xor, Shl, ShrS, ShrU, Rotl, Rotr}
 use Rattle.wasm_ast.specs.declared.operators.TestOp.{TestOp}
 use Rattle.wasm_ast.specs.declared.operators.TestOp.TheVariants.{Eqz}
+use Rattle.wasm_ast.specs.declared.operators.ConvertOp.{ConvertOp}
+use Rattle.wasm_ast.specs.declared.operators.ConvertOp.TheVariants.{Wrap, ExtendS, ExtendU, I32From8S, I32From16S, I64From8S, I64From16S, I64From32S}
 use Rattle.wasm_ast.specs.declared.operators.RelationOp.{RelationOp}
 use Rattle.wasm_ast.specs.declared.operators.RelationOp.TheVariants.{Eq, Ne, LtS, LtU, GtS, GtU, LeS, LeU, GeS, GeU}
 
@@ -82,3 +84,14 @@ extend_u a = a
 -- the low bits, read as signed, in the width w (Core 2.0, 4.3.2)
 abbrev pub extend_low : (low w : Width) → ℕ → ℕ
 extend_low low w a = unsigned w (signed low (a % 2 ^ bits low))
+
+-- what a conversion gives for a number (4.4.1)
+abbrev pub converted : ConvertOp → ℕ → ℕ
+converted Wrap a = wrap a
+converted ExtendS a = extend_s a
+converted ExtendU a = extend_u a
+converted I32From8S a = extend_low w8 w32 a
+converted I32From16S a = extend_low w16 w32 a
+converted I64From8S a = extend_low w8 w64 a
+converted I64From16S a = extend_low w16 w64 a
+converted I64From32S a = extend_low w32 w64 a

@@ -2,19 +2,11 @@
 use Rattle.std.specs.Prelude.{ℕ, Bool, if◌then◌else◌, Result, Ok, Err}
 use Rattle.std.specs.Int.{w32, w64}
 use Rattle.wasm_ast.specs.declared.trap.Trap.{Trap}
-use Rattle.wasm_ast.specs.declared.values.ValType.{ValType}
-use Rattle.wasm_ast.specs.declared.values.ValType.TheVariants as type
 use Rattle.wasm_ast.specs.declared.values.Value.{Value}
 use Rattle.wasm_ast.specs.declared.values.Value.TheVariants.{I32, I64}
 use Rattle.wasm_ast.specs.declared.operators.UnaryOp.{UnaryOp}
 use Rattle.wasm_ast.specs.declared.operators.TestOp.{TestOp}
-use Rattle.wasm_ast.specs.declared.operators.ConvertOp.{ConvertOp}
-use Rattle.wasm_ast.specs.declared.operators.ConvertOp.TheVariants.{Wrap, ExtendS, ExtendU, I32From8S, I32From16S, I64From8S, I64From16S, I64From32S}
 use Rattle.int_ops.specs.Integers.{unary, test}
-
-abbrev pub type_of : Value → ValType
-type_of (I32 a) = type.I32
-type_of (I64 a) = type.I64
 
 -- a truth value: 1 or 0
 abbrev pub truth : Bool → Value
@@ -35,14 +27,3 @@ value_32 (Err t) = Err t
 abbrev pub value_64 : Result ℕ Trap → Result Value Trap
 value_64 (Ok a) = Ok (I64 a)
 value_64 (Err t) = Err t
-
--- the type of what is converted
-abbrev pub source_of : ConvertOp → ValType
-source_of Wrap = type.I64
-source_of ExtendS = type.I32
-source_of ExtendU = type.I32
-source_of I32From8S = type.I32
-source_of I32From16S = type.I32
-source_of I64From8S = type.I64
-source_of I64From16S = type.I64
-source_of I64From32S = type.I64

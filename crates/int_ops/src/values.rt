@@ -1,9 +1,10 @@
 //! The operators on values (4.4.1).
 
 ghost use Rattle.std.specs.Prelude.{◌≡◌, ℕ, Ok};
-ghost use Rattle.std.specs.Int.{w8, w16, w32, w64};
-ghost use Rattle.int_ops.specs.Integers.{binary, compare, wrap, extend_s, extend_u, extend_low};
-ghost use Rattle.int_ops.specs.Values.{type_of, truth, unary_value, test_value, value_32, value_64, source_of};
+ghost use Rattle.std.specs.Int.{w32, w64};
+ghost use Rattle.wasm_ast.specs.Types.{type_of, value_of, source_of, target_of};
+ghost use Rattle.int_ops.specs.Integers.{binary, compare, converted};
+ghost use Rattle.int_ops.specs.Values.{truth, unary_value, test_value, value_32, value_64};
 
 use crate::conversions::{
     extend_s, extend_u, extend8_32, extend8_64, extend16_32, extend16_64, extend32_64, wrap,
@@ -72,22 +73,8 @@ pub fn compare(op: RelationOp, first: Value, second: Value) -> Result<Value, Tra
 /// The operand in the other width, or by the sign of its low bits; never a trap.
 pub fn convert(op: ConvertOp, operand: Value) -> Result<Value, Trap>
     requires { type_of operand ≡ source_of op }
-    ensures wrap { (a : ℕ) → op ≡ ConvertOp.Wrap → operand ≡ Value.I64 a
-        → result ≡ Ok (Value.I32 (wrap a)) }
-    ensures extend_s { (a : ℕ) → op ≡ ConvertOp.ExtendS → operand ≡ Value.I32 a
-        → result ≡ Ok (Value.I64 (extend_s a)) }
-    ensures extend_u { (a : ℕ) → op ≡ ConvertOp.ExtendU → operand ≡ Value.I32 a
-        → result ≡ Ok (Value.I64 (extend_u a)) }
-    ensures i32_from_8 { (a : ℕ) → op ≡ ConvertOp.I32From8S → operand ≡ Value.I32 a
-        → result ≡ Ok (Value.I32 (extend_low w8 w32 a)) }
-    ensures i32_from_16 { (a : ℕ) → op ≡ ConvertOp.I32From16S → operand ≡ Value.I32 a
-        → result ≡ Ok (Value.I32 (extend_low w16 w32 a)) }
-    ensures i64_from_8 { (a : ℕ) → op ≡ ConvertOp.I64From8S → operand ≡ Value.I64 a
-        → result ≡ Ok (Value.I64 (extend_low w8 w64 a)) }
-    ensures i64_from_16 { (a : ℕ) → op ≡ ConvertOp.I64From16S → operand ≡ Value.I64 a
-        → result ≡ Ok (Value.I64 (extend_low w16 w64 a)) }
-    ensures i64_from_32 { (a : ℕ) → op ≡ ConvertOp.I64From32S → operand ≡ Value.I64 a
-        → result ≡ Ok (Value.I64 (extend_low w32 w64 a)) }
+    ensures converts { (a : ℕ) → operand ≡ value_of (source_of op) a
+        → result ≡ Ok (value_of (target_of op) (converted op a)) }
 {
     match (op, operand) {
         (ConvertOp::Wrap, Value::I64(a)) => Ok(Value::I32(wrap(a))),

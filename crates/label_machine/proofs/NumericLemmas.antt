@@ -7,7 +7,6 @@ use Rattle.wasm_ast.specs.declared.values.ValType.{ValType}
 use Rattle.wasm_ast.specs.declared.values.ValType.TheVariants as type
 use Rattle.wasm_ast.specs.declared.trap.Trap.{Trap}
 use Rattle.wasm_ast.specs.declared.operators.ConvertOp.{ConvertOp}
-use Rattle.wasm_ast.specs.declared.operators.ConvertOp.TheVariants.{Wrap, ExtendS, ExtendU, I32From8S, I32From16S, I64From8S, I64From16S, I64From32S}
 use Rattle.int_ops.specs.Values.{value_32, value_64}
 use Rattle.step_machine.specs.Effects.{Env, Effect, no_rule, number_of, with_number, take_one, take_two, give_number, convert, select, branch_if}
 use Rattle.label_machine.specs.Inside.Effects.{gives_or_traps, HasNoI32}
@@ -41,14 +40,7 @@ takes_none (I32 n ∷ vs) h go_on = absurd h
 takes_none (I64 n ∷ vs) h go_on = refl
 
 pub converts_none : (env : Env) (op : ConvertOp) → convert env [] op ≡ no_rule
-converts_none env Wrap = refl
-converts_none env ExtendS = refl
-converts_none env ExtendU = refl
-converts_none env I32From8S = refl
-converts_none env I32From16S = refl
-converts_none env I64From8S = refl
-converts_none env I64From16S = refl
-converts_none env I64From32S = refl
+converts_none env op = refl
 
 pub selects_by_none : (env : Env) (vs : List Value) → HasNoI32 vs → select env vs ≡ no_rule
 selects_by_none env [] h = refl

@@ -1,11 +1,11 @@
 //! What branches and indirect calls come to (4.4.5).
 
-ghost use Rattle.std.specs.Prelude.{◌≡◌, List, Some, slice_get};
+ghost use Rattle.std.specs.Prelude.{◌≡◌, List, Some, slice_get, unwrap_or};
 ghost use Rattle.flat_code.specs.TypeClasses.{is_of_type};
 ghost use Rattle.wasm_ast.specs.declared.values.Value.{Value as AnyValue};
 ghost use Rattle.oci_config.specs.declared.process.ProcessConfig.{ProcessConfig};
 ghost use Rattle.step_machine.specs.Program.{type_of_function, functions, program};
-ghost use Rattle.step_machine.specs.Effects.{Env, branch_if, branch_by, call_indirect, call_entry, label_for};
+ghost use Rattle.step_machine.specs.Effects.{Env, branch_if, branch_by, call_indirect, call_entry};
 ghost use Rattle.label_machine.specs.Inside.Effects.{effect_of};
 
 use crate::callee::{Callee, function_at};
@@ -30,7 +30,7 @@ pub fn branch_if(operands: &mut Pile<Value>, label: u32) -> Effect
 
 /// The label with this index, or the other.
 fn label_for(labels: &[u32], index: u32, other: u32) -> u32
-    ensures { result ≡ label_for (slice_get labels.now index) other }
+    ensures { result ≡ unwrap_or (slice_get labels.now index) other }
 {
     match labels.get(index as usize) {
         Some(label) => *label,

@@ -24,12 +24,12 @@ use Rattle.wasm_ast.specs.declared.operators.BinaryOp.{BinaryOp}
 use Rattle.wasm_ast.specs.declared.operators.BinaryOp.TheVariants.{Add, Sub, Mul, DivS, DivU, RemS, RemU, And, Or, Xor, Shl, ShrS, ShrU, Rotl, Rotr}
 use Rattle.wasm_ast.specs.declared.operators.LoadOp.{LoadOp}
 use Rattle.wasm_ast.specs.declared.operators.LoadOp.TheVariants as load
-use Rattle.wasm_ast.specs.Types.{type_of}
+use Rattle.wasm_ast.specs.Types.{type_of, value_of}
 use Rattle.wasm_ast.specs.Ranged.{RangedValue}
 use Rattle.wasm_ast.specs.Access.{load_type, load_bytes, is_sign_extended}
 use Rattle.int_ops.specs.Integers as integers
 use Rattle.linear_memory.specs.Memory.{Memory, range, with_range, little_endian, low_bytes}
-use Rattle.step_machine.specs.Effects.{width_of, value_of, sign_extended, loaded_value}
+use Rattle.step_machine.specs.Effects.{width_of, sign_extended, loaded_value}
 use Rattle.step_machine.specs.Inside.FlatState.{word_of, narrow}
 
 -- below 2^N, for N bits

@@ -1,6 +1,6 @@
 -- What a task has written stays: a reduction leaves an output stream as it is, or appends to it.
 use Rattle.std.proofs.Common.{◌≡◌, ℕ, zero, suc, ◌+◌, ◌*◌, ◌==◌, ◌&&◌, List, [], ◌∷◌, ◌++◌, append-nil, append_assoc, Bool, true, false, cond, Option, Some, None, Result, Ok, Err, refl, sym, ap, ◌∙◌, subst}
-use Rattle.std.specs.Prelude.{slice_get}
+use Rattle.std.specs.Prelude.{slice_get, unwrap_or}
 use Rattle.wasm_ast.specs.declared.values.Value.{Value}
 use Rattle.wasm_ast.specs.declared.values.Value.TheVariants.{I32, I64}
 use Rattle.wasm_ast.specs.declared.values.ValType.{ValType}
@@ -9,7 +9,6 @@ use Rattle.wasm_ast.specs.declared.values.FuncType.{FuncType}
 use Rattle.wasm_ast.specs.declared.trap.Trap.{Trap}
 use Rattle.wasm_ast.specs.declared.trap.Trap.TheVariants as trap
 use Rattle.wasm_ast.specs.declared.operators.ConvertOp.{ConvertOp}
-use Rattle.wasm_ast.specs.declared.operators.ConvertOp.TheVariants.{Wrap, ExtendS, ExtendU, I32From8S, I32From16S, I64From8S, I64From16S, I64From32S}
 use Rattle.wasm_ast.specs.declared.operators.LoadOp.{LoadOp}
 use Rattle.wasm_ast.specs.declared.operators.StoreOp.{StoreOp}
 use Rattle.wasm_ast.specs.declared.instr.LocalOp.{LocalOp}
@@ -20,10 +19,10 @@ use Rattle.wasm_ast.specs.declared.instr.Simple.{Simple}
 use Rattle.wasm_ast.specs.declared.instr.Simple.TheVariants as instr
 use Rattle.wasm_ast.specs.declared.module.Module.{Module}
 use Rattle.wasm_ast.specs.Syntax.{Op, simple, block, loop, if', Ops}
-use Rattle.wasm_ast.specs.Types.{block_type}
+use Rattle.wasm_ast.specs.Types.{block_type, value_of, source_of, target_of}
 use Rattle.wasm_ast.specs.Access.{load_bytes, store_type, store_bytes}
-use Rattle.std.specs.Int.{w8, w16, w32, w64}
 use Rattle.int_ops.specs.Integers as integers
+use Rattle.int_ops.specs.Values.{truth}
 use Rattle.flat_code.specs.TypeClasses.{is_of_type}
 use Rattle.linear_memory.specs.Memory.{Memory, is_inside, range, with_range, low_bytes, grown, grow_result}
 use Rattle.oci_config.specs.declared.process.ProcessConfig.{ProcessConfig}
@@ -37,7 +36,7 @@ use Rattle.wasi_calls.specs.SystemCalls.{buffer_bytes, buffers_at, are_inside, g
 use Rattle.wasi_calls.specs.SystemCalls as system
 use Rattle.step_machine.specs.Program.{type_of_function, Function, host, own, unknown, Program, program}
 use Rattle.step_machine.specs.Configuration.{Store, Target, Tree, seq, Items, done, more, Item, plain, label, frame, enter, invoke, branch, ret, State, running, exited, trapped, stuck, Configuration, is_halted, is_settled}
-use Rattle.step_machine.specs.Effects.{Env, Effect, gives, becomes, halts, with_number, take_one, take_two, give_number, convert, select, value_of, width_of, truth, loaded_value, load, store, with_memory, grow, grow_answer, label_for, traps, give_value, give_locals, use_local, give_globals, use_global, branch_if, call_entry, simple_effect, enter_block, enter_loop, choose, effect}
+use Rattle.step_machine.specs.Effects.{Env, Effect, gives, becomes, halts, with_number, take_one, take_two, give_number, convert, select, width_of, loaded_value, load, store, with_memory, grow, grow_answer, traps, give_value, give_locals, use_local, give_globals, use_global, branch_if, call_entry, simple_effect, enter_block, enter_loop, choose, effect}
 use Rattle.step_machine.specs.Reduction.{Reduced, to, ends, by_effect, at_label, at_frame, host_state, with_host_state, answered, by_host, call_function, reduce, reduce_item, of_reduced, step_state, step}
 use Rattle.step_machine.specs.Limits.{last_turn}
 use Rattle.step_machine.specs.Turns.{settle, turn, numbered, from, state_weight}
@@ -161,14 +160,7 @@ module _ (env : Env) where
       (traps trap.IndirectCallTypeMismatch) tt refl
 
   converted : (vs : List Value) (op : ConvertOp) → Kept env (convert env vs op)
-  converted vs Wrap = pushed type.I64 vs (λ a. I32 (integers.wrap a))
-  converted vs ExtendS = pushed type.I32 vs (λ a. I64 (integers.extend_s a))
-  converted vs ExtendU = pushed type.I32 vs (λ a. I64 (integers.extend_u a))
-  converted vs I32From8S = pushed type.I32 vs (λ a. I32 (integers.extend_low w8 w32 a))
-  converted vs I32From16S = pushed type.I32 vs (λ a. I32 (integers.extend_low w16 w32 a))
-  converted vs I64From8S = pushed type.I64 vs (λ a. I64 (integers.extend_low w8 w64 a))
-  converted vs I64From16S = pushed type.I64 vs (λ a. I64 (integers.extend_low w16 w64 a))
-  converted vs I64From32S = pushed type.I64 vs (λ a. I64 (integers.extend_low w32 w64 a))
+  converted vs op = pushed (source_of op) vs (λ a. value_of (target_of op) (integers.converted op a))
 
   abbrev outside : Effect
   outside = traps trap.OutOfBoundsMemoryAccess
@@ -219,7 +211,7 @@ module _ (env : Env) where
   simple_kept p vs (instr.Br l) = tt
   simple_kept p vs (instr.BrIf l) = branched vs l
   simple_kept p vs (instr.BrTable ls l) =
-      taken type.I32 vs (λ i rest. becomes rest (branch (label_for (slice_get ls i) l))) (λ i rest. tt)
+      taken type.I32 vs (λ i rest. becomes rest (branch (unwrap_or (slice_get ls i) l))) (λ i rest. tt)
   simple_kept p vs instr.Return = tt
   simple_kept p vs (instr.Call f) = tt
   simple_kept p vs (instr.CallIndirect k) =

@@ -15,10 +15,10 @@ use Rattle.wasm_ast.specs.declared.instr.Simple.TheVariants as instr
 use Rattle.wasm_ast.specs.declared.module.Mutability.{Mutability}
 use Rattle.wasm_ast.specs.declared.module.Mutability.TheVariants as mutability
 use Rattle.wasm_ast.specs.declared.module.Global.{Global}
-use Rattle.wasm_ast.specs.Types.{type_of, type_at}
+use Rattle.wasm_ast.specs.Types.{type_of, type_at, source_of, target_of}
 use Rattle.wasm_ast.specs.Access.{load_type, load_bytes, store_type, store_bytes}
 use Rattle.wasm_ast.specs.Limits.{are_all}
-use Rattle.validator.specs.Typing.{Context, on_top, Replaces, LocalTyped, GlobalTyped, Accesses, source_of, target_of, SimpleTyped}
+use Rattle.validator.specs.Typing.{Context, on_top, Replaces, LocalTyped, GlobalTyped, Accesses, SimpleTyped}
 use Rattle.validator.specs.PlaceTypes.{Stack, IsOf, Matches}
 use Rattle.validator.specs.declared.needs.Lack.{Lack}
 use Rattle.validator.specs.Inside.Needs.{DoesTake, LacksOther, LacksTable}

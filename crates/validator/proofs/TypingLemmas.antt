@@ -11,9 +11,9 @@ use Rattle.wasm_ast.specs.declared.instr.Simple.{Simple}
 use Rattle.wasm_ast.specs.declared.instr.Simple.TheVariants as instr
 use Rattle.wasm_ast.specs.declared.module.Global.{Global}
 use Rattle.wasm_ast.specs.Syntax.{Op, simple, block, loop, if', Ops, stop, next, ops_of}
-use Rattle.wasm_ast.specs.Types.{type_of}
+use Rattle.wasm_ast.specs.Types.{type_of, source_of, target_of}
 use Rattle.wasm_ast.specs.Access.{load_type, store_type}
-use Rattle.validator.specs.Typing.{Context, on_top, Replaces, Applies, LocalTyped, GlobalTyped, source_of, target_of, SimpleTyped, Typed, OpTyped}
+use Rattle.validator.specs.Typing.{Context, on_top, Replaces, Applies, LocalTyped, GlobalTyped, SimpleTyped, Typed, OpTyped}
 
 -- ---- parts
 

@@ -2,10 +2,8 @@
 -- of modules.
 use Rattle.std.specs.Prelude.{◌≡◌, ◌≢◌, ℕ, ◌+◌, ◌<◌, ◌≤◌, ◌^◌, List, [], ◌∷◌, ◌++◌, reverse, length, map, All, Option, Some, None, slice_get}
 use Rattle.wasm_ast.specs.declared.values.ValType.{ValType}
-use Rattle.wasm_ast.specs.declared.values.ValType.TheVariants.{I32, I64}
+use Rattle.wasm_ast.specs.declared.values.ValType.TheVariants.{I32}
 use Rattle.wasm_ast.specs.declared.values.FuncType.{FuncType}
-use Rattle.wasm_ast.specs.declared.operators.ConvertOp.{ConvertOp}
-use Rattle.wasm_ast.specs.declared.operators.ConvertOp.TheVariants.{Wrap, ExtendS, ExtendU, I32From8S, I32From16S, I64From8S, I64From16S, I64From32S}
 use Rattle.wasm_ast.specs.declared.instr.LocalOp.{LocalOp}
 use Rattle.wasm_ast.specs.declared.instr.LocalOp.TheVariants as local
 use Rattle.wasm_ast.specs.declared.instr.GlobalOp.{GlobalOp}
@@ -22,7 +20,7 @@ use Rattle.wasm_ast.specs.declared.module.ExportKind.{ExportKind}
 use Rattle.wasm_ast.specs.declared.module.ExportKind.TheVariants as kind
 use Rattle.wasm_ast.specs.declared.module.Module.{Module}
 use Rattle.wasm_ast.specs.Syntax.{Op, simple, block, loop, if', Ops, stop, next}
-use Rattle.wasm_ast.specs.Types.{type_of, block_type, func_types, type_at}
+use Rattle.wasm_ast.specs.Types.{type_of, source_of, target_of, block_type, func_types, type_at}
 use Rattle.wasm_ast.specs.Access.{load_type, load_bytes, store_type, store_bytes}
 
 -- what instructions are typed under (3.1.1): the module's types, its functions' types (nothing for an
@@ -71,26 +69,6 @@ GlobalTyped global.Set g old new =
 -- there is a memory, and the alignment is at most the number of bytes that are accessed (3.3.4)
 abbrev pub Accesses : Context → (align bytes : ℕ) → Type 0
 Accesses c align bytes = (0 < length c.memories) × (2 ^ align ≤ bytes)
-
-abbrev pub source_of : ConvertOp → ValType
-source_of Wrap = I64
-source_of ExtendS = I32
-source_of ExtendU = I32
-source_of I32From8S = I32
-source_of I32From16S = I32
-source_of I64From8S = I64
-source_of I64From16S = I64
-source_of I64From32S = I64
-
-abbrev pub target_of : ConvertOp → ValType
-target_of Wrap = I32
-target_of ExtendS = I64
-target_of ExtendU = I64
-target_of I32From8S = I32
-target_of I32From16S = I32
-target_of I64From8S = I64
-target_of I64From16S = I64
-target_of I64From32S = I64
 
 -- this label takes these types
 abbrev pub IsLabel : Context → (ts : List ValType) → (label : ℕ) → Type 0

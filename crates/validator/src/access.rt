@@ -1,9 +1,8 @@
 //! What instructions of memory access (2.4.4), and the types of values and conversions.
 
 ghost use Rattle.std.specs.Prelude.{◌≡◌, ◌≤◌, ◌^◌, nat_le};
-ghost use Rattle.wasm_ast.specs.Types.{type_of};
+ghost use Rattle.wasm_ast.specs.Types.{type_of, source_of, target_of};
 ghost use Rattle.wasm_ast.specs.Access.{load_type, load_bytes, store_type, store_bytes};
-ghost use Rattle.validator.specs.Typing.{source_of, target_of};
 
 use wasm_ast::{ConvertOp, LoadOp, StoreOp, ValType, Value};
 

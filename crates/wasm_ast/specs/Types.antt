@@ -1,11 +1,13 @@
--- The types of values (4.2.1), and those that a module gives its blocks and its functions (2.3.3,
--- 2.4.5, 2.5.1).
+-- The types of values (4.2.1) and of conversions (3.3.1), and those that a module gives its blocks and its
+-- functions (2.3.3, 2.4.5, 2.5.1).
 use Rattle.std.specs.Prelude.{ℕ, zero, suc, List, [], ◌∷◌, ◌++◌, map, Option, Some, None, slice_get}
 use Rattle.wasm_ast.specs.declared.values.ValType.{ValType}
 use Rattle.wasm_ast.specs.declared.values.ValType.TheVariants as type
 use Rattle.wasm_ast.specs.declared.values.Value.{Value}
 use Rattle.wasm_ast.specs.declared.values.Value.TheVariants.{I32, I64}
 use Rattle.wasm_ast.specs.declared.values.FuncType.{FuncType}
+use Rattle.wasm_ast.specs.declared.operators.ConvertOp.{ConvertOp}
+use Rattle.wasm_ast.specs.declared.operators.ConvertOp.TheVariants.{Wrap, ExtendS, ExtendU, I32From8S, I32From16S, I64From8S, I64From16S, I64From32S}
 use Rattle.wasm_ast.specs.declared.instr.BlockType.{BlockType}
 use Rattle.wasm_ast.specs.declared.instr.BlockType.TheVariants.{Empty, One, Index}
 use Rattle.wasm_ast.specs.declared.module.Module.{Module}
@@ -15,10 +17,32 @@ abbrev pub type_of : Value → ValType
 type_of (I32 n) = type.I32
 type_of (I64 n) = type.I64
 
+-- the value of a type with this number
+abbrev pub value_of : ValType → ℕ → Value
+value_of type.I32 n = I32 n
+value_of type.I64 n = I64 n
+
 -- a value type's zero, which locals hold on entry (4.4.7)
 abbrev pub zero_of : ValType → Value
 zero_of type.I32 = I32 0
 zero_of type.I64 = I64 0
+
+-- the types that a conversion takes and gives (3.3.1)
+abbrev pub conversion_types : ConvertOp → ValType × ValType
+conversion_types Wrap = (type.I64, type.I32)
+conversion_types ExtendS = (type.I32, type.I64)
+conversion_types ExtendU = (type.I32, type.I64)
+conversion_types I32From8S = (type.I32, type.I32)
+conversion_types I32From16S = (type.I32, type.I32)
+conversion_types I64From8S = (type.I64, type.I64)
+conversion_types I64From16S = (type.I64, type.I64)
+conversion_types I64From32S = (type.I64, type.I64)
+
+abbrev pub source_of : ConvertOp → ValType
+source_of op = (conversion_types op).0
+
+abbrev pub target_of : ConvertOp → ValType
+target_of op = (conversion_types op).1
 
 -- a block's type as a function's (2.4.5; by index Core 2.0, 2.4.8): none for an index that names no type
 abbrev pub block_type : List FuncType → BlockType → Option FuncType

@@ -7,13 +7,14 @@ ghost use Rattle.wasm_ast.specs.declared.trap.Trap.TheVariants as trap;
 ghost use Rattle.wasm_ast.specs.declared.refusal.Refusal.TheVariants as refusal;
 ghost use Rattle.wasm_ast.specs.Limits.{Within, is_within, ops_depth, max_module_bytes, max_functions, max_locals, max_results, max_nesting, max_table_entries, max_memory_pages};
 ghost use Rattle.wasm_ast.specs.Syntax.{Ops, simple, ops_count, ops_at};
-ghost use Rattle.wasm_ast.specs.Types.{type_of, zero_of, block_type, type_at};
+ghost use Rattle.wasm_ast.specs.Types.{type_of, value_of, zero_of, source_of, target_of, block_type, type_at};
 ghost use Rattle.wasm_ast.specs.Access.{load_type, load_bytes, is_sign_extended, store_type, store_bytes};
 ghost use Rattle.wasm_ast.specs.Worked.{inner_if, outer_block, worked};
 ghost use Rattle.wasm_ast.specs.declared.instr.BlockType.TheVariants.{Empty, One, Index};
 ghost use Rattle.wasm_ast.specs.declared.instr.Simple.TheVariants as instr;
 ghost use Rattle.wasm_ast.specs.declared.operators.LoadOp.TheVariants as load;
 ghost use Rattle.wasm_ast.specs.declared.operators.StoreOp.TheVariants as store;
+ghost use Rattle.wasm_ast.specs.declared.operators.ConvertOp.TheVariants as convert;
 ghost use Rattle.wasm_ast.specs.declared.values.ValType.TheVariants as type;
 ghost use Rattle.wasm_ast.specs.declared.values.Value.TheVariants as value;
 
@@ -142,6 +143,23 @@ pub fn values_have_types()
     ensures i64 { type_of (value.I64 5) ≡ type.I64 }
     ensures zero_32 { zero_of type.I32 ≡ value.I32 0 }
     ensures zero_64 { zero_of type.I64 ≡ value.I64 0 }
+    ensures of_i32 { value_of type.I32 5 ≡ value.I32 5 }
+    ensures of_i64 { value_of type.I64 5 ≡ value.I64 5 }
+{}
+
+/// Types that conversions take and give.
+pub fn conversions_have_types()
+    ensures of_i32 { map source_of
+        (convert.ExtendS ∷ convert.ExtendU ∷ convert.I32From8S ∷ convert.I32From16S ∷ [])
+        ≡ type.I32 ∷ type.I32 ∷ type.I32 ∷ type.I32 ∷ [] }
+    ensures of_i64 { map source_of
+        (convert.Wrap ∷ convert.I64From8S ∷ convert.I64From16S ∷ convert.I64From32S ∷ [])
+        ≡ type.I64 ∷ type.I64 ∷ type.I64 ∷ type.I64 ∷ [] }
+    ensures to_i32 { map target_of (convert.Wrap ∷ convert.I32From8S ∷ convert.I32From16S ∷ [])
+        ≡ type.I32 ∷ type.I32 ∷ type.I32 ∷ [] }
+    ensures to_i64 { map target_of (convert.ExtendS ∷ convert.ExtendU ∷ convert.I64From8S
+        ∷ convert.I64From16S ∷ convert.I64From32S ∷ [])
+        ≡ type.I64 ∷ type.I64 ∷ type.I64 ∷ type.I64 ∷ type.I64 ∷ [] }
 {}
 
 /// The limits of the profile.

@@ -15,10 +15,10 @@ use Rattle.wasm_ast.specs.declared.module.Mutability.{Mutability}
 use Rattle.wasm_ast.specs.declared.module.Mutability.TheVariants as mutability
 use Rattle.wasm_ast.specs.declared.module.Global.{Global}
 use Rattle.wasm_ast.specs.Syntax.{Op, simple, block, loop, if', Ops, stop, next}
-use Rattle.wasm_ast.specs.Types.{type_of, block_type, type_at}
+use Rattle.wasm_ast.specs.Types.{type_of, block_type, type_at, source_of, target_of}
 use Rattle.wasm_ast.specs.Access.{load_type, load_bytes, store_type, store_bytes}
 use Rattle.wasm_ast.specs.Limits.{are_all}
-use Rattle.validator.specs.Typing.{Context, under, source_of, target_of}
+use Rattle.validator.specs.Typing.{Context, under}
 use Rattle.validator.specs.PlaceTypes.{Stack}
 
 -- what follows a step that may fail
