@@ -1,6 +1,7 @@
 -- How a module is instantiated and its entry invoked (4.5.4, 4.5.5): why it may be refused, and the
 -- configuration that a task begins with.
 use Rattle.std.specs.Prelude.{ℕ, ◌+◌, min, nat_le, List, [], ◌∷◌, ◌++◌, map, fold, take, drop, replicate, length, codes, bytes_eq, Bool, true, false, ◌&&◌, ◌||◌, not, if◌then◌else◌, Option, Some, None, is_some, unwrap_or}
+use Rattle.std.specs.List.{list_all, list_any}
 use Rattle.wasm_ast.specs.declared.values.Value.{Value}
 use Rattle.wasm_ast.specs.declared.values.Value.TheVariants.{I32}
 use Rattle.wasm_ast.specs.declared.instr.Simple.TheVariants as instr
@@ -113,14 +114,12 @@ uses_memory _ = true
 
 -- the name is one of a call that uses memory
 abbrev pub names_one : List ℕ → List HostCall → Bool
-names_one name [] = false
-names_one name (h ∷ hs) = uses_memory h && bytes_eq name (host_name h) || names_one name hs
+names_one name hs = list_any (λ (h : HostCall). uses_memory h && bytes_eq name (host_name h)) hs
 
 -- an import, by its module and name, is of such a call, whatever its type
 abbrev pub needs_memory : List Import → Bool
-needs_memory [] = false
-needs_memory (i ∷ is) =
-    bytes_eq i.module host_module && names_one i.name host_calls || needs_memory is
+needs_memory is =
+    list_any (λ (i : Import). bytes_eq i.module host_module && names_one i.name host_calls) is
 
 abbrev pub is_memory : ExportKind → Bool
 is_memory kind.Memory = true
@@ -128,8 +127,8 @@ is_memory _ = false
 
 -- a memory is exported as `memory`
 abbrev pub exports_memory : List Export → Bool
-exports_memory [] = false
-exports_memory (e ∷ es) = bytes_eq e.name (codes "memory") && is_memory e.kind || exports_memory es
+exports_memory es =
+    list_any (λ (e : Export). bytes_eq e.name (codes "memory") && is_memory e.kind) es
 
 -- it has an entry, and exports its memory if a system call needs it
 abbrev pub can_enter : Module → Bool
@@ -142,14 +141,12 @@ are_pages_within (l ∷ ls) cap = nat_le l.min cap
 
 -- each segment is inside its table or memory as it begins; all are checked before any is written
 abbrev pub are_elements_inside : (size : ℕ) → List Element → Bool
-are_elements_inside size [] = true
-are_elements_inside size (e ∷ es) =
-    nat_le (offset_of e.offset + length e.funcs) size && are_elements_inside size es
+are_elements_inside size es =
+    list_all (λ (e : Element). nat_le (offset_of e.offset + length e.funcs) size) es
 
 abbrev pub are_segments_inside : Memory → List Segment → Bool
-are_segments_inside memory [] = true
-are_segments_inside memory (s ∷ ss) =
-    is_inside memory (offset_of s.offset) (length s.bytes) && are_segments_inside memory ss
+are_segments_inside memory ss =
+    list_all (λ (s : Segment). is_inside memory (offset_of s.offset) (length s.bytes)) ss
 
 -- why no task can run it: the first reason that holds. A module that was decoded is within the
 -- limits; any other may not be
