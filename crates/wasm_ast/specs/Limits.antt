@@ -1,5 +1,5 @@
 -- The limits of this profile on modules, and when a module is within them.
-use Rattle.std.specs.Prelude.{ℕ, suc, ◌+◌, ◌≤◌, max, nat_le, List, [], ◌∷◌, length, All, Bool, true, ◌&&◌, Option, Some, None, slice_get}
+use Rattle.std.specs.Prelude.{ℕ, suc, ◌+◌, ◌≤◌, max, nat_le, List, [], ◌∷◌, length, All, Bool, true, ◌&&◌, option_map, unwrap_or, slice_get}
 use Rattle.wasm_ast.specs.declared.values.FuncType.{FuncType}
 use Rattle.wasm_ast.specs.declared.module.Func.{Func}
 use Rattle.wasm_ast.specs.declared.module.Limits.{Limits}
@@ -49,13 +49,9 @@ abbrev mutual
   ops_depth stop = 0
   ops_depth (next o os) = max (depth o) (ops_depth os)
 
-abbrev pub params_in : Option FuncType → ℕ
-params_in None = 0
-params_in (Some t) = length t.params
-
 -- how many parameters a function has: none where its index names no type
 abbrev pub params_of : List FuncType → ℕ → ℕ
-params_of types i = params_in (slice_get types i)
+params_of types i = unwrap_or (option_map (λ t. length t.params) (slice_get types i)) 0
 
 pub record FuncWithin (types : List FuncType) (f : Func) : Type 0 where
   pub locals : params_of types f.type_index + length f.locals ≤ max_locals

@@ -1,6 +1,6 @@
 -- The ranges of the numbers in a module (2.2.2): an index or an i32 is below 2^32, an i64 below 2^64; and
 -- its names are UTF-8 (2.2.4).
-use Rattle.std.specs.Prelude.{ℕ, ◌<◌, ◌^◌, All, IsUtf8, Option, Some, None}
+use Rattle.std.specs.Prelude.{ℕ, ◌<◌, ◌^◌, All, IsUtf8, IfSome}
 use Rattle.wasm_ast.specs.declared.values.Value.{Value}
 use Rattle.wasm_ast.specs.declared.values.Value.TheVariants.{I32, I64}
 use Rattle.wasm_ast.specs.declared.instr.BlockType.{BlockType}
@@ -65,12 +65,8 @@ RangedImport i = IsU32 i.type_index
 abbrev pub RangedFunc : Func → Type 0
 RangedFunc f = IsU32 f.type_index × RangedOps f.body
 
-abbrev pub RangedMax : Option ℕ → Type 0
-RangedMax None = Unit {0}
-RangedMax (Some max) = IsU32 max
-
 abbrev pub RangedLimits : Limits → Type 0
-RangedLimits l = IsU32 l.min × RangedMax l.max
+RangedLimits l = IsU32 l.min × IfSome l.max IsU32
 
 abbrev pub RangedGlobal : declared_global.Global → Type 0
 RangedGlobal g = RangedOps g.init
@@ -84,10 +80,6 @@ RangedSegment s = IsU32 s.memory × RangedOps s.offset
 abbrev pub RangedExport : Export → Type 0
 RangedExport e = IsU32 e.index
 
-abbrev pub RangedStart : Option ℕ → Type 0
-RangedStart None = Unit {0}
-RangedStart (Some func) = IsU32 func
-
 pub record Ranged (m : Module) : Type 0 where
   pub imports : All RangedImport m.imports
   pub funcs : All RangedFunc m.funcs
@@ -95,7 +87,7 @@ pub record Ranged (m : Module) : Type 0 where
   pub memories : All RangedLimits m.memories
   pub globals : All RangedGlobal m.globals
   pub exports : All RangedExport m.exports
-  pub start : RangedStart m.start
+  pub start : IfSome m.start IsU32
   pub elements : All RangedElement m.elements
   pub segments : All RangedSegment m.segments
 

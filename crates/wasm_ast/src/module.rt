@@ -1,8 +1,8 @@
 //! Modules (2.5).
 
-ghost use Rattle.std.specs.Prelude.{◌≡◌, ◌+◌, All, nat_le, length};
+ghost use Rattle.std.specs.Prelude.{◌≡◌, ◌+◌, All, IfSome, nat_le, length};
 ghost use Rattle.wasm_ast.specs.Limits.{ops_depth, max_results, max_nesting, max_locals, params_of, is_func_within, are_all, is_within};
-ghost use Rattle.wasm_ast.specs.Ranged.{Ranged, RangedImport, RangedFunc, RangedLimits, RangedGlobal, RangedElement, RangedSegment, RangedExport, RangedStart, AreTexts, HasImportTexts, HasExportText};
+ghost use Rattle.wasm_ast.specs.Ranged.{Ranged, RangedImport, RangedFunc, RangedLimits, RangedGlobal, RangedElement, RangedSegment, RangedExport, IsU32, AreTexts, HasImportTexts, HasExportText};
 
 use crate::instr::Body;
 use crate::sequence::{Bytes, Sequence, indices_ranged};
@@ -428,7 +428,7 @@ fn globals_ranged(globals: &[Global])
 }
 
 fn start_ranged(start: Option<u32>)
-    ensures { RangedStart start }
+    ensures { IfSome start IsU32 }
 {
     if let Some(func) = start {
         let _in_range = func;

@@ -1,5 +1,5 @@
 -- The canonical encoding encodes its module.
-use Rattle.std.proofs.Common.{◌≡◌, ℕ, ◌+◌, ◌^◌, ◌<◌, ◌≤◌, List, [], ◌∷◌, ◌++◌, length, replicate, Option, Some, None, refl, sym, ap, subst, ◌∙◌, append_assoc, arith, inl, inr}
+use Rattle.std.proofs.Common.{◌≡◌, ℕ, ◌+◌, ◌^◌, ◌<◌, ◌≤◌, List, [], ◌∷◌, ◌++◌, length, replicate, Option, Some, None, refl, sym, ap, subst, ◌∙◌, append_assoc, arith, inl, inr, IfSome}
 use Rattle.std.specs.Prelude.{IsUtf8, All}
 use Rattle.std.specs.List.{flat_map, AllByRecursion}
 use Rattle.std.proofs.lemmas.List.{append-nil, length-append, length-replicate}
@@ -23,7 +23,7 @@ use Rattle.wasm_ast.specs.declared.module.Export.{Export}
 use Rattle.wasm_ast.specs.declared.module.Module.{Module}
 use Rattle.wasm_ast.specs.Syntax.{Op, simple, block, loop, if', Ops, stop, next}
 use Rattle.wasm_ast.specs.Ranged as ranged
-use Rattle.wasm_ast.specs.Ranged.{RangedBlockType, RangedSimple, RangedMemArg, RangedOp, RangedOps, RangedImport, RangedFunc, RangedMax, RangedLimits, RangedGlobal, RangedElement, RangedSegment, RangedExport, RangedStart, Ranged, HasImportTexts, HasExportText, AreTexts}
+use Rattle.wasm_ast.specs.Ranged.{RangedBlockType, RangedSimple, RangedMemArg, RangedOp, RangedOps, RangedImport, RangedFunc, RangedLimits, RangedGlobal, RangedElement, RangedSegment, RangedExport, Ranged, HasImportTexts, HasExportText, AreTexts}
 use Rattle.wasm_ast.specs.Limits.{max_module_bytes, max_locals, FuncWithin}
 use Rattle.wasm_binary.specs.Numbers as numbers
 use Rattle.wasm_binary.specs.Opcodes.{mutability_byte, kind_byte, reserved_byte, else_byte, end_byte, type_section, import_section, function_section, table_section, memory_section, global_section, export_section, start_section, element_section, code_section, data_section, preamble}
@@ -140,7 +140,7 @@ block_type_spells (One t) rest h = refl
 block_type_spells (Index i) rest h = (signed_spells 4 33 i rest (omega (arith, h)) (omega arith) (omega arith), h)
 
 sizes_spells :
-    (min : ℕ) (max : Option ℕ) (rest : List ℕ) → ranged.IsU32 min → RangedMax max
+    (min : ℕ) (max : Option ℕ) (rest : List ℕ) → ranged.IsU32 min → IfSome max ranged.IsU32
     → AreSizes (limits_byte max ∷ ((canon_number min ++ canon_max max) ++ rest)) min max rest
 sizes_spells min None rest h k = ((canon_number min ++ []) ++ rest, refl, number_then min [] rest h)
 sizes_spells min (Some max) rest h k = (
@@ -525,7 +525,7 @@ section_spells id IsX encoding P each some (x ∷ xs) rest all few =
     )
 
 start_spells :
-    (x : Option ℕ) (rest : List ℕ) → RangedStart x → length (canon_start x) ≤ max_module_bytes
+    (x : Option ℕ) (rest : List ℕ) → IfSome x ranged.IsU32 → length (canon_start x) ≤ max_module_bytes
     → IsPart start_section IsStart None (canon_start x ++ rest) x rest
 start_spells None rest h few = inr (refl, refl)
 start_spells (Some f) rest h few =

@@ -1,5 +1,5 @@
 -- What is known of a module that bytes encode: its numbers are in range.
-use Rattle.std.proofs.Common.{length, ℕ, ◌-◌, ◌^◌, ◌<◌, List, [], ◌∷◌, Option, Some, None, sym, subst, arith, inl, inr}
+use Rattle.std.proofs.Common.{length, ℕ, ◌-◌, ◌^◌, ◌<◌, List, [], ◌∷◌, Option, Some, None, sym, subst, arith, inl, inr, IfSome}
 use Rattle.std.specs.Prelude.{All}
 use Rattle.std.specs.List.{AllByRecursion}
 use Rattle.std.proofs.lemmas.List.Elements.{All-from_recursion}
@@ -13,7 +13,7 @@ use Rattle.wasm_ast.specs.declared.instr.Simple.{Simple}
 use Rattle.wasm_ast.specs.declared.instr.Simple.TheVariants.{Unreachable, Nop, Br, BrIf, BrTable, Return, Call, CallIndirect, Drop, Select, Local, Global, Load, Store, MemorySize, MemoryGrow, Const, Unary, Binary, Test, Compare, Convert}
 use Rattle.wasm_ast.specs.Syntax.{Op, simple, block, loop, if', Ops, stop, next}
 use Rattle.wasm_ast.specs.Ranged as ranged
-use Rattle.wasm_ast.specs.Ranged.{RangedBlockType, RangedSimple, RangedOp, RangedOps, RangedImport, RangedFunc, RangedMax, RangedLimits, RangedGlobal, RangedExport, RangedStart, RangedElement, RangedSegment, Ranged}
+use Rattle.wasm_ast.specs.Ranged.{RangedBlockType, RangedSimple, RangedOp, RangedOps, RangedImport, RangedFunc, RangedLimits, RangedGlobal, RangedExport, RangedElement, RangedSegment, Ranged}
 use Rattle.wasm_binary.specs.Numbers as numbers
 use Rattle.wasm_binary.specs.Numbers.{IsUnsigned, IsLastSigned, IsSigned}
 use Rattle.wasm_binary.specs.Opcodes.{end_byte, reserved_byte, else_byte, import_section, function_section, table_section, memory_section, global_section, export_section, start_section, element_section, code_section, data_section}
@@ -106,20 +106,20 @@ mutual
   ops_below (next o os) bytes rest h = (op_below o bytes h.0 h.1, ops_below os h.0 rest h.2)
 
 sizes_below :
-    (min : ℕ) (max : Option ℕ) (bytes rest : List ℕ) → AreSizes bytes min max rest → ranged.IsU32 min × RangedMax max
+    (min : ℕ) (max : Option ℕ) (bytes rest : List ℕ) → AreSizes bytes min max rest → ranged.IsU32 min × IfSome max ranged.IsU32
 sizes_below min None bytes rest h = (u32_below min h.0 rest h.2, tt)
 sizes_below min (Some max) bytes rest h = (u32_below min h.0 h.1 h.3, u32_below max h.1 rest h.4)
 
 limits_below : (l : Limits) (bytes rest : List ℕ) → IsMemory bytes l rest → RangedLimits l
 limits_below l bytes rest h = sizes_below l.min l.max bytes rest h
 
-given_below : (x : Option ℕ) (bytes rest : List ℕ) → IsStart bytes x rest → RangedStart x
+given_below : (x : Option ℕ) (bytes rest : List ℕ) → IsStart bytes x rest → IfSome x ranged.IsU32
 given_below None bytes rest h = tt
 given_below (Some f) bytes rest h = u32_below f bytes rest h
 
-start_below : (x : Option ℕ) (bytes rest : List ℕ) → IsPart start_section IsStart None bytes x rest → RangedStart x
+start_below : (x : Option ℕ) (bytes rest : List ℕ) → IsPart start_section IsStart None bytes x rest → IfSome x ranged.IsU32
 start_below x bytes rest (inl h) = given_below x h.3.0 [] h.3.4
-start_below x bytes rest (inr h) = subst RangedStart (sym h.0) tt
+start_below x bytes rest (inr h) = subst (λ (y : Option ℕ). IfSome y ranged.IsU32) (sym h.0) tt
 
 funcs_below :
     (fs : List Func) → AllByRecursion ranged.IsU32 (indices_of fs) → AllByRecursion (λ f. RangedOps f.body) fs
