@@ -1,6 +1,7 @@
 -- What a task has written stays: a reduction leaves an output stream as it is, or appends to it.
 use Rattle.std.proofs.Common.{◌≡◌, ℕ, zero, suc, ◌+◌, ◌*◌, ◌==◌, ◌&&◌, List, [], ◌∷◌, ◌++◌, append-nil, append_assoc, Bool, true, false, cond, Option, Some, None, Result, Ok, Err, refl, sym, ap, ◌∙◌, subst}
-use Rattle.std.specs.Prelude.{slice_get, unwrap_or}
+use Rattle.std.specs.Prelude.{slice_get, length, nat_lt, unwrap_or}
+use Rattle.std.specs.List.{flat_map}
 use Rattle.wasm_ast.specs.declared.values.Value.{Value}
 use Rattle.wasm_ast.specs.declared.values.Value.TheVariants.{I32, I64}
 use Rattle.wasm_ast.specs.declared.values.ValType.{ValType}
@@ -32,7 +33,7 @@ use Rattle.wasi_calls.specs.declared.host_call.HostCall.{HostCall}
 use Rattle.wasi_calls.specs.declared.host_call.HostCall.TheVariants.{ArgsSizesGet, ArgsGet, EnvironSizesGet, EnvironGet, FdWrite, ProcExit, SchedYield}
 use Rattle.wasi_calls.specs.declared.host_end.HostEnd.{HostEnd}
 use Rattle.wasi_calls.specs.declared.host_end.HostEnd.TheVariants as host_end
-use Rattle.wasi_calls.specs.SystemCalls.{buffer_bytes, buffers_at, are_inside, gathered, badf, fault, Written, append, write_stream, HostState, HostDone, done_out, done_err, fd_write}
+use Rattle.wasi_calls.specs.SystemCalls.{put_both, text_bytes, pointers, word, sizes_get, texts_get, buffer_bytes, buffers_at, are_inside, gathered, room, write_stream, HostState, HostDone, fd_write}
 use Rattle.wasi_calls.specs.SystemCalls as system
 use Rattle.step_machine.specs.Program.{type_of_function, Function, host, own, unknown, Program, program}
 use Rattle.step_machine.specs.Configuration.{Store, Target, Tree, seq, Items, done, more, Item, plain, label, frame, enter, invoke, branch, ret, State, running, exited, trapped, stuck, Configuration, is_halted, is_settled}
@@ -258,21 +259,6 @@ module _ (env : Env) where
 
 -- ---- system calls append
 
-stream_of : (stream : List ℕ) (b : Bool) (x y : Written) → Grows stream x.stream → Grows stream y.stream
-    → Grows stream (cond b x y).stream
-stream_of stream true x y h k = h
-stream_of stream false x y h k = k
-
-appended : (m : Memory) (stream asked : List ℕ) (q : ℕ) → Grows stream (append m stream asked q).stream
-appended m stream asked q = stream_of stream _ _ _ (grows_none stream) (_, refl)
-
-written : (m : Memory) (stream : List ℕ) (p n q : ℕ) → Grows stream (write_stream m stream p n q).stream
-written m stream p n q =
-    stream_of stream (is_inside m p (n * buffer_bytes) && are_inside m (buffers_at m p n) && is_inside m q 4)
-    (append m stream (gathered m (buffers_at m p n)) q)
-    (record { number = fault; memory = m; stream = stream })
-    (appended m stream (gathered m (buffers_at m p n)) q) (grows_none stream)
-
 abbrev Leaves : HostState → HostDone → Type 0
 Leaves s d = Grows s.out d.state.out × Grows s.err d.state.err
 
@@ -280,21 +266,46 @@ left_by : (s : HostState) (b : Bool) (x y : HostDone) → Leaves s x → Leaves 
 left_by s true x y h k = h
 left_by s false x y h k = k
 
+none_written : (s : HostState) → Grows s.out s.out × Grows s.err s.err
+none_written s = (grows_none s.out, grows_none s.err)
+
+put : (s : HostState) (p : ℕ) (first : List ℕ) (q : ℕ) (second : List ℕ) → Leaves s (put_both s p first q second)
+put s p first q second =
+    left_by s (is_inside s.memory p (length first) && is_inside s.memory q (length second)) _ _ (none_written s)
+    (none_written s)
+
+sizes_put : (texts : List (List ℕ)) (p q : ℕ) (s : HostState) → Leaves s (sizes_get texts p q s)
+sizes_put texts p q s = put s p (word (length texts)) q (word (length (text_bytes texts)))
+
+texts_put : (texts : List (List ℕ)) (p q : ℕ) (s : HostState) → Leaves s (texts_get texts p q s)
+texts_put texts p q s = put s p (flat_map word (pointers q texts)) q (text_bytes texts)
+
+-- what is written to a stream
+module _ (s : HostState) (p n q : ℕ) where
+  asked : List ℕ
+  asked = gathered s.memory (buffers_at s.memory p n)
+
+  inside : Bool
+  inside = is_inside s.memory p (n * buffer_bytes) && are_inside s.memory (buffers_at s.memory p n) && is_inside s.memory q 4
+
+  out_written : Leaves s (write_stream (λ out. record s { out = out }) s.out p n q)
+  unfolding asked inside
+  out_written =
+      left_by s inside _ _
+      (left_by s (nat_lt 0 (length asked) && room s.out == 0) _ _ (none_written s) ((_, refl), grows_none s.err))
+      (none_written s)
+
+  err_written : Leaves s (write_stream (λ err. record s { err = err }) s.err p n q)
+  unfolding asked inside
+  err_written =
+      left_by s inside _ _
+      (left_by s (nat_lt 0 (length asked) && room s.err == 0) _ _ (none_written s) (grows_none s.out, (_, refl)))
+      (none_written s)
+
 fd_written : (s : HostState) (fd p n q : ℕ) → Leaves s (fd_write s fd p n q)
 fd_written s fd p n q =
-    left_by s (fd == 1) (done_out s to_out) (cond (fd == 2) (done_err s to_err) no_stream)
-    (written s.memory s.out p n q, grows_none s.err)
-    (left_by s (fd == 2) (done_err s to_err) no_stream
-    (grows_none s.out, written s.memory s.err p n q) (grows_none s.out, grows_none s.err))
-  where
-    to_out : Written
-    to_out = write_stream s.memory s.out p n q
-
-    to_err : Written
-    to_err = write_stream s.memory s.err p n q
-
-    no_stream : HostDone
-    no_stream = record { answer = host_end.Value badf; state = s }
+    left_by s (fd == 1) _ _ (out_written s p n q)
+    (left_by s (fd == 2) _ _ (err_written s p n q) (none_written s))
 
 abbrev LeavesIfMade : HostState → Option HostDone → Type 0
 LeavesIfMade s None = Unit {0}
@@ -302,13 +313,13 @@ LeavesIfMade s (Some d) = Leaves s d
 
 called : (c : ProcessConfig) (h : HostCall) (args : List Value) (s : HostState)
     → LeavesIfMade s (system.host c h args s)
-called c ArgsSizesGet (I32 p ∷ I32 q ∷ []) s = (grows_none s.out, grows_none s.err)
-called c ArgsGet (I32 p ∷ I32 q ∷ []) s = (grows_none s.out, grows_none s.err)
-called c EnvironSizesGet (I32 p ∷ I32 q ∷ []) s = (grows_none s.out, grows_none s.err)
-called c EnvironGet (I32 p ∷ I32 q ∷ []) s = (grows_none s.out, grows_none s.err)
+called c ArgsSizesGet (I32 p ∷ I32 q ∷ []) s = sizes_put c.args p q s
+called c ArgsGet (I32 p ∷ I32 q ∷ []) s = texts_put c.args p q s
+called c EnvironSizesGet (I32 p ∷ I32 q ∷ []) s = sizes_put c.env p q s
+called c EnvironGet (I32 p ∷ I32 q ∷ []) s = texts_put c.env p q s
 called c FdWrite (I32 fd ∷ I32 p ∷ I32 n ∷ I32 q ∷ []) s = fd_written s fd p n q
-called c ProcExit (I32 code ∷ []) s = (grows_none s.out, grows_none s.err)
-called c SchedYield [] s = (grows_none s.out, grows_none s.err)
+called c ProcExit (I32 code ∷ []) s = none_written s
+called c SchedYield [] s = none_written s
 called c _ _ s = tt
 
 -- ---- reductions

@@ -1,5 +1,5 @@
 -- What system calls answer, and what they leave of the memory.
-use Rattle.std.proofs.Common.{◌≡◌, ℕ, zero, suc, ◌+◌, ◌*◌, ◌%◌, ◌/◌, ◌^◌, ◌<◌, ◌≤◌, ◌==◌, List, [], ◌∷◌, ◌++◌, map, length, take, drop, refl, sym, ap, ◌∙◌, subst, arith, Bool, true, false, ◌&&◌, nat_lt, Some}
+use Rattle.std.proofs.Common.{◌≡◌, ℕ, zero, suc, ◌+◌, ◌*◌, ◌%◌, ◌/◌, ◌^◌, ◌<◌, ◌≤◌, ◌==◌, List, [], ◌∷◌, ◌++◌, map, length, take, drop, refl, sym, ap, ◌∙◌, subst, arith, Bool, true, false, cond, ◌&&◌, nat_lt, Some}
 use Rattle.std.specs.Prelude.{All}
 use Rattle.std.specs.List.{flat_map}
 use Rattle.std.proofs.lemmas.List.Elements.{All-append, All-take, All-nil, All-cons, All-head, All-tail}
@@ -14,7 +14,7 @@ use Rattle.wasi_calls.specs.declared.host_call.HostCall.{HostCall}
 use Rattle.wasi_calls.specs.declared.host_call.HostCall.TheVariants.{ArgsSizesGet, ArgsGet, EnvironSizesGet, EnvironGet, FdWrite, ProcExit, SchedYield}
 use Rattle.wasi_calls.specs.declared.host_end.HostEnd.TheVariants as end
 use Rattle.wasi_calls.specs.HostCalls.{host_type}
-use Rattle.wasi_calls.specs.SystemCalls.{Put, put_both, ended_text, text_bytes, pointers, word, sizes_get, texts_get, Written, room, append, write_stream, buffers_at, are_inside, gathered, HostState, HostDone, done_put, done_out, done_err, fd_write, host}
+use Rattle.wasi_calls.specs.SystemCalls.{put_both, ended_text, text_bytes, pointers, word, sizes_get, texts_get, room, append, write_stream, buffers_at, are_inside, gathered, HostState, HostDone, returns, fd_write, host}
 use Rattle.wasi_calls.proofs.RangeLemmas.{within, same_length}
 
 abbrev pub IsByte : ℕ → Type 0
@@ -78,59 +78,106 @@ texts_are_bytes (t ∷ ts) h =
 
 -- ---- the memory after a call
 
--- a small number, and a memory that is held
-pub record PutHeld (m : Memory) (w : Put) : Type 0 where
-  pub small : w.number < 2 ^ 32
-  pub held : Held m w.memory
+-- an error number is returned
+pub record Returned (d : HostDone) : Type 0 where
+  pub number : ℕ
+  pub is : d.answer ≡ end.Value number
+  pub small : number < 2 ^ 32
 
-put_held : (m : Memory) (p : ℕ) (first : List ℕ) (q : ℕ) (second : List ℕ) → All IsByte first → All IsByte second
-    → PutHeld m (put_both m p first q second)
-put_held m p first q second one two =
-    by_tests (is_inside m p (length first)) refl (is_inside m q (length second)) refl
+-- and the memory is held
+pub record PutHeld (s : HostState) (d : HostDone) : Type 0 where
+  pub returned : Returned d
+  pub held : Held s.memory d.state.memory
+
+pub one_of : (P : HostDone → Type 0) (b : Bool) (x y : HostDone) → P x → P y → P (cond b x y)
+one_of P true x y h k = h
+one_of P false x y h k = k
+
+pub returned : (n : ℕ) (s : HostState) → n < 2 ^ 32 → Returned (returns n s)
+returned n s h = record { number = n; is = refl; small = h }
+
+same_held : (n : ℕ) (s : HostState) → n < 2 ^ 32 → PutHeld s (returns n s)
+same_held n s h = record { returned = returned n s h; held = held_same s.memory }
+
+put_returned : (s : HostState) (p : ℕ) (first : List ℕ) (q : ℕ) (second : List ℕ)
+    → Returned (put_both s p first q second)
+put_returned s p first q second =
+    one_of Returned (is_inside s.memory p (length first) && is_inside s.memory q (length second)) _ _
+    (returned 0 _ (omega arith)) (returned 21 _ (omega arith))
+
+pub sizes_returned : (texts : List (List ℕ)) (p q : ℕ) (s : HostState) → Returned (sizes_get texts p q s)
+sizes_returned texts p q s = put_returned s p (word (length texts)) q (word (length (text_bytes texts)))
+
+pub texts_returned : (texts : List (List ℕ)) (p q : ℕ) (s : HostState) → Returned (texts_get texts p q s)
+texts_returned texts p q s = put_returned s p (flat_map word (pointers q texts)) q (text_bytes texts)
+
+put_held : (s : HostState) (p : ℕ) (first : List ℕ) (q : ℕ) (second : List ℕ) → All IsByte first → All IsByte second
+    → PutHeld s (put_both s p first q second)
+put_held s p first q second one two =
+    by_tests (is_inside s.memory p (length first)) refl (is_inside s.memory q (length second)) refl
   where
-    by_tests : (a : Bool) → is_inside m p (length first) ≡ a → (b : Bool) → is_inside m q (length second) ≡ b
-        → PutHeld m (put_both m p first q second)
-    by_tests false ea b eb = rw (ea) (record { small = omega arith; held = held_same m })
-    by_tests true ea false eb = rw (ea, eb) (record { small = omega arith; held = held_same m })
+    by_tests : (a : Bool) → is_inside s.memory p (length first) ≡ a
+        → (b : Bool) → is_inside s.memory q (length second) ≡ b → PutHeld s (put_both s p first q second)
+    by_tests false ea b eb = rw (ea) (same_held 21 s (omega arith))
+    by_tests true ea false eb = rw (ea, eb) (same_held 21 s (omega arith))
     by_tests true ea true eb =
-        let h = within m p (length first) ea in
-        let size = same_length m p first h in
-        let k = within m q (length second) eb in
-        let first_held = held_range m p first h one in
-        let second_held = held_range (with_range m p first) q second (omega arith) two in
+        let h = within s.memory p (length first) ea in
+        let size = same_length s.memory p first h in
+        let k = within s.memory q (length second) eb in
+        let first_held = held_range s.memory p first h one in
+        let second_held = held_range (with_range s.memory p first) q second (omega arith) two in
         rw (ea, eb)
         (record {
-          small = omega arith;
-          held = held_on m (with_range m p first) (with_range (with_range m p first) q second) first_held second_held;
+          returned = returned 0 _ (omega arith);
+          held = held_on s.memory (with_range s.memory p first) (with_range (with_range s.memory p first) q second)
+              first_held second_held;
         })
 
-pub record WriteHeld (m : Memory) (w : Written) : Type 0 where
-  pub small : w.number < 2 ^ 32
-  pub held : Held m w.memory
+append_returned : (state_with : List ℕ → HostState) (stream asked : List ℕ) (q : ℕ)
+    → Returned (append state_with stream asked q)
+append_returned state_with stream asked q =
+    one_of Returned (nat_lt 0 (length asked) && room stream == 0) _ _ (returned 51 _ (omega arith))
+    (returned 0 _ (omega arith))
 
-append_held : (m : Memory) (stream asked : List ℕ) (q : ℕ) → q + 4 ≤ length m.bytes
-    → WriteHeld m (append m stream asked q)
-append_held m stream asked q h = by_test (nat_lt 0 (length asked) && room stream == 0) refl
+pub write_returned : (state_with : List ℕ → HostState) (stream : List ℕ) (p n q : ℕ)
+    → Returned (write_stream state_with stream p n q)
+write_returned state_with stream p n q =
+    let m = (state_with stream).memory in
+    one_of Returned (is_inside m p (n * 8) && are_inside m (buffers_at m p n) && is_inside m q 4) _ _
+    (append_returned state_with stream (gathered m (buffers_at m p n)) q) (returned 21 _ (omega arith))
+
+append_held : (state_with : List ℕ → HostState) (stream asked : List ℕ) (q : ℕ)
+    → q + 4 ≤ length (state_with stream).memory.bytes → PutHeld (state_with stream) (append state_with stream asked q)
+append_held state_with stream asked q h = by_test (nat_lt 0 (length asked) && room stream == 0) refl
   where
-    by_test : (b : Bool) → (nat_lt 0 (length asked) && room stream == 0) ≡ b → WriteHeld m (append m stream asked q)
-    by_test true e = rw e (record { small = omega arith; held = held_same m })
+    by_test : (b : Bool) → (nat_lt 0 (length asked) && room stream == 0) ≡ b
+        → PutHeld (state_with stream) (append state_with stream asked q)
+    by_test true e = rw e (same_held 51 (state_with stream) (omega arith))
     by_test false e =
         let n = length (take (room stream) asked) in
-        rw e (record { small = omega arith; held = held_range m q (word n) h (low_are_bytes 4 n) })
+        rw e
+        (record {
+          returned = returned 0 _ (omega arith);
+          held = held_range (state_with stream).memory q (word n) h (low_are_bytes 4 n);
+        })
 
-write_held : (m : Memory) (stream : List ℕ) (p n q : ℕ) → WriteHeld m (write_stream m stream p n q)
-write_held m stream p n q = by_test (is_inside m p (n * 8) && are_inside m (buffers_at m p n) && is_inside m q 4) refl
+write_held : (state_with : List ℕ → HostState) (stream : List ℕ) (p n q : ℕ)
+    → PutHeld (state_with stream) (write_stream state_with stream p n q)
+write_held state_with stream p n q = by_test _ refl
   where
     last_true : (a b : Bool) → (a && b) ≡ true → b ≡ true
     last_true true b h = h
     last_true false b h = cc
 
-    by_test : (b : Bool) → (is_inside m p (n * 8) && are_inside m (buffers_at m p n) && is_inside m q 4) ≡ b
-        → WriteHeld m (write_stream m stream p n q)
-    by_test false e = rw e (record { small = omega arith; held = held_same m })
+    by_test : (b : Bool) → (is_inside (state_with stream).memory p (n * 8)
+        && are_inside (state_with stream).memory (buffers_at (state_with stream).memory p n)
+        && is_inside (state_with stream).memory q 4) ≡ b
+        → PutHeld (state_with stream) (write_stream state_with stream p n q)
+    by_test false e = rw e (same_held 21 (state_with stream) (omega arith))
     by_test true e =
-        let inside = last_true (is_inside m p (n * 8) && are_inside m (buffers_at m p n)) (is_inside m q 4) e in
-        rw e (append_held m stream (gathered m (buffers_at m p n)) q (within m q 4 inside))
+        let m = (state_with stream).memory in
+        let is_in = last_true (is_inside m p (n * 8) && are_inside m (buffers_at m p n)) (is_inside m q 4) e in
+        rw e (append_held state_with stream (gathered m (buffers_at m p n)) q (within m q 4 is_in))
 
 -- ---- arguments of a call's types
 
@@ -199,12 +246,12 @@ pub record Makes (c : ProcessConfig) (h : HostCall) (args : List Value) (s : Hos
   pub made : Made h args s after
 
 module _ (c : ProcessConfig) (args : List Value) (s : HostState) where
-  puts : (h : HostCall) (w : Put) → host c h args s ≡ Some (done_put s w) → PutHeld s.memory w
+  puts : (h : HostCall) (d : HostDone) → host c h args s ≡ Some d → PutHeld s d
       → (host_type h).results ≡ type.I32 ∷ [] → (p q : ℕ) → args ≡ I32 p ∷ I32 q ∷ [] → Makes c h args s
-  puts h w is ok results p q e = record {
-    after = done_put s w;
+  puts h d is ok results p q e = record {
+    after = d;
     is = is;
-    made = gave w.number refl ok.small results ok.held (λ none. cc);
+    made = gave ok.returned.number ok.returned.is ok.returned.small results ok.held (λ none. cc);
   }
 
   writes : (fd p n q : ℕ) → args ≡ I32 fd ∷ I32 p ∷ I32 n ∷ I32 q ∷ [] → Makes c FdWrite args s
@@ -215,24 +262,24 @@ module _ (c : ProcessConfig) (args : List Value) (s : HostState) where
 
       by_tests : (a : Bool) → (fd == 1) ≡ a → (b : Bool) → (fd == 2) ≡ b → Makes c FdWrite args s
       by_tests true ea b eb =
-          let w = write_stream s.memory s.out p n q in
-          let ok = write_held s.memory s.out p n q in
-          let done : fd_write s fd p n q ≡ done_out s w = rw ea refl in
+          let d = write_stream (λ out. record s { out = out }) s.out p n q in
+          let ok = write_held (λ out. record s { out = out }) s.out p n q in
+          let done : fd_write s fd p n q ≡ d = rw ea refl in
           record {
-            after = done_out s w;
+            after = d;
             is = is
                 ∙ ap Some done;
-            made = gave w.number refl ok.small refl ok.held (λ none. cc);
+            made = gave ok.returned.number ok.returned.is ok.returned.small refl ok.held (λ none. cc);
           }
       by_tests false ea true eb =
-          let w = write_stream s.memory s.err p n q in
-          let ok = write_held s.memory s.err p n q in
-          let done : fd_write s fd p n q ≡ done_err s w = rw (ea, eb) refl in
+          let d = write_stream (λ err. record s { err = err }) s.err p n q in
+          let ok = write_held (λ err. record s { err = err }) s.err p n q in
+          let done : fd_write s fd p n q ≡ d = rw (ea, eb) refl in
           record {
-            after = done_err s w;
+            after = d;
             is = is
                 ∙ ap Some done;
-            made = gave w.number refl ok.small refl ok.held (λ none. cc);
+            made = gave ok.returned.number ok.returned.is ok.returned.small refl ok.held (λ none. cc);
           }
       by_tests false ea false eb =
           let d : HostDone = record { answer = end.Value 8; state = s } in
@@ -248,27 +295,27 @@ module _ (c : ProcessConfig) (args : List Value) (s : HostState) where
       → All RangedValue args → Makes c h args s
   makes ArgsSizesGet a e typed ranged =
       let t = two_args args typed in
-      let w = sizes_get c.args t.first t.second s.memory in
+      let w = sizes_get c.args t.first t.second s in
       puts ArgsSizesGet w (ap (λ us. host c ArgsSizesGet us s) t.is)
-      (put_held s.memory t.first (word (length c.args)) t.second (word (length (text_bytes c.args)))
+      (put_held s t.first (word (length c.args)) t.second (word (length (text_bytes c.args)))
       (low_are_bytes 4 (length c.args)) (low_are_bytes 4 (length (text_bytes c.args)))) refl t.first t.second t.is
   makes ArgsGet a e typed ranged =
       let t = two_args args typed in
-      let w = texts_get c.args t.first t.second s.memory in
+      let w = texts_get c.args t.first t.second s in
       puts ArgsGet w (ap (λ us. host c ArgsGet us s) t.is)
-      (put_held s.memory t.first (flat_map word (pointers t.second c.args)) t.second (text_bytes c.args)
+      (put_held s t.first (flat_map word (pointers t.second c.args)) t.second (text_bytes c.args)
       (pointers_are_bytes t.second c.args) (texts_are_bytes c.args a)) refl t.first t.second t.is
   makes EnvironSizesGet a e typed ranged =
       let t = two_args args typed in
-      let w = sizes_get c.env t.first t.second s.memory in
+      let w = sizes_get c.env t.first t.second s in
       puts EnvironSizesGet w (ap (λ us. host c EnvironSizesGet us s) t.is)
-      (put_held s.memory t.first (word (length c.env)) t.second (word (length (text_bytes c.env)))
+      (put_held s t.first (word (length c.env)) t.second (word (length (text_bytes c.env)))
       (low_are_bytes 4 (length c.env)) (low_are_bytes 4 (length (text_bytes c.env)))) refl t.first t.second t.is
   makes EnvironGet a e typed ranged =
       let t = two_args args typed in
-      let w = texts_get c.env t.first t.second s.memory in
+      let w = texts_get c.env t.first t.second s in
       puts EnvironGet w (ap (λ us. host c EnvironGet us s) t.is)
-      (put_held s.memory t.first (flat_map word (pointers t.second c.env)) t.second (text_bytes c.env)
+      (put_held s t.first (flat_map word (pointers t.second c.env)) t.second (text_bytes c.env)
       (pointers_are_bytes t.second c.env) (texts_are_bytes c.env e)) refl t.first t.second t.is
   makes FdWrite a e typed ranged =
       let t = four_args args typed in
@@ -305,20 +352,24 @@ module _ (c : ProcessConfig) (args : List Value) (s : HostState) (d : HostDone) 
   pub exit_keeps : (h : HostCall) → map type_of args ≡ (host_type h).params → host c h args s ≡ Some d → d.state ≡ s
   exit_keeps ArgsSizesGet typed is =
       let t = two_args args typed in
-      let w = sizes_get c.args t.first t.second s.memory in
-      clash (done_put s w) w.number refl (sym (ap (λ us. host c ArgsSizesGet us s) t.is) ∙ is)
+      let w = sizes_get c.args t.first t.second s in
+      let ok = sizes_returned c.args t.first t.second s in
+      clash w ok.number ok.is (sym (ap (λ us. host c ArgsSizesGet us s) t.is) ∙ is)
   exit_keeps ArgsGet typed is =
       let t = two_args args typed in
-      let w = texts_get c.args t.first t.second s.memory in
-      clash (done_put s w) w.number refl (sym (ap (λ us. host c ArgsGet us s) t.is) ∙ is)
+      let w = texts_get c.args t.first t.second s in
+      let ok = texts_returned c.args t.first t.second s in
+      clash w ok.number ok.is (sym (ap (λ us. host c ArgsGet us s) t.is) ∙ is)
   exit_keeps EnvironSizesGet typed is =
       let t = two_args args typed in
-      let w = sizes_get c.env t.first t.second s.memory in
-      clash (done_put s w) w.number refl (sym (ap (λ us. host c EnvironSizesGet us s) t.is) ∙ is)
+      let w = sizes_get c.env t.first t.second s in
+      let ok = sizes_returned c.env t.first t.second s in
+      clash w ok.number ok.is (sym (ap (λ us. host c EnvironSizesGet us s) t.is) ∙ is)
   exit_keeps EnvironGet typed is =
       let t = two_args args typed in
-      let w = texts_get c.env t.first t.second s.memory in
-      clash (done_put s w) w.number refl (sym (ap (λ us. host c EnvironGet us s) t.is) ∙ is)
+      let w = texts_get c.env t.first t.second s in
+      let ok = texts_returned c.env t.first t.second s in
+      clash w ok.number ok.is (sym (ap (λ us. host c EnvironGet us s) t.is) ∙ is)
   exit_keeps FdWrite typed is =
       let t = four_args args typed in
       by_tests t.first t.second t.third t.fourth (sym (ap (λ us. host c FdWrite us s) t.is) ∙ is) (t.first == 1) refl
@@ -328,13 +379,15 @@ module _ (c : ProcessConfig) (args : List Value) (s : HostState) (d : HostDone) 
           (fd p k q : ℕ) → Some (fd_write s fd p k q) ≡ Some d → (a : Bool) → (fd == 1) ≡ a → (b : Bool)
           → (fd == 2) ≡ b → d.state ≡ s
       by_tests fd p k q e true ea b eb =
-          let w = write_stream s.memory s.out p k q in
-          let done : fd_write s fd p k q ≡ done_out s w = rw ea refl in
-          clash (done_out s w) w.number refl (sym (ap Some done) ∙ e)
+          let w = write_stream (λ out. record s { out = out }) s.out p k q in
+          let ok = write_returned (λ out. record s { out = out }) s.out p k q in
+          let done : fd_write s fd p k q ≡ w = rw ea refl in
+          clash w ok.number ok.is (sym (ap Some done) ∙ e)
       by_tests fd p k q e false ea true eb =
-          let w = write_stream s.memory s.err p k q in
-          let done : fd_write s fd p k q ≡ done_err s w = rw (ea, eb) refl in
-          clash (done_err s w) w.number refl (sym (ap Some done) ∙ e)
+          let w = write_stream (λ err. record s { err = err }) s.err p k q in
+          let ok = write_returned (λ err. record s { err = err }) s.err p k q in
+          let done : fd_write s fd p k q ≡ w = rw (ea, eb) refl in
+          clash w ok.number ok.is (sym (ap Some done) ∙ e)
       by_tests fd p k q e false ea false eb =
           let w : HostDone = record { answer = end.Value 8; state = s } in
           let done : fd_write s fd p k q ≡ w = rw (ea, eb) refl in

@@ -2,7 +2,7 @@
 use Rattle.std.proofs.Common.{◌≡◌, ℕ, ◌+◌, ◌*◌, ◌≤◌, List, [], ◌∷◌, ◌++◌, length, refl, ap, ◌∙◌, arith, length-append, Bool, true, false, nat_le, ◌&&◌, if◌then◌else◌}
 use Rattle.std.specs.List.{flat_map}
 use Rattle.linear_memory.specs.Memory.{Memory, is_inside, with_range, written_at}
-use Rattle.wasi_calls.specs.SystemCalls.{Put, fault, success, ended_text, text_bytes, pointers, word, texts_get}
+use Rattle.wasi_calls.specs.SystemCalls.{HostState, HostDone, returns, fault, success, ended_text, text_bytes, pointers, word, texts_get}
 use Rattle.wasi_calls.proofs.RangeLemmas.{inside_of, same_length, one_after_other, written_inside}
 
 -- a text, and then a NUL
@@ -29,23 +29,18 @@ pointers_length q (t ∷ ts) =
     let all = length-append (word q) (flat_map word (pointers (q + length (ended_text t)) ts)) in
     omega arith
 
-module _ (texts : List (List ℕ)) (p q : ℕ) (m : Memory) where
-  got : (a b : Bool) → Put
-  got a b =
-      if a && b then record {
-        number = success;
-        memory =
-            with_range (with_range m p (flat_map word (pointers q texts))) q (text_bytes texts);
-      }
-      else record { number = fault; memory = m }
+module _ (texts : List (List ℕ)) (p q : ℕ) (m : Memory) (out err : List ℕ) where
+  abbrev before : HostState
+  before = record { memory = m; out = out; err = err }
+
+  abbrev after : HostState
+  after = record before { memory = with_range (with_range m p (flat_map word (pointers q texts))) q (text_bytes texts) }
+
+  got : (a b : Bool) → HostDone
+  got a b = if a && b then returns success after else returns fault before
 
   pub texts_done : p + length texts * 4 ≤ length m.bytes → q + length (text_bytes texts) ≤ length m.bytes
-      → texts_get texts p q m
-      ≡ record {
-        number = success;
-        memory =
-            with_range (with_range m p (flat_map word (pointers q texts))) q (text_bytes texts);
-      }
+      → texts_get texts p q before ≡ returns success after
   unfolding got
   texts_done h k =
       let e = pointers_length q texts in
@@ -55,7 +50,7 @@ module _ (texts : List (List ℕ)) (p q : ℕ) (m : Memory) where
 
   pub texts_refused : (nat_le (p + length texts * 4) (length m.bytes) && nat_le (q + length (text_bytes texts))
       (length m.bytes)) ≡ false
-      → texts_get texts p q m ≡ record { number = fault; memory = m }
+      → texts_get texts p q before ≡ returns fault before
   texts_refused h =
       let e : nat_le (p + length (flat_map word (pointers q texts))) (length m.bytes)
       ≡ nat_le (p + length texts * 4) (length m.bytes) =
@@ -63,9 +58,4 @@ module _ (texts : List (List ℕ)) (p q : ℕ) (m : Memory) where
       let both : (is_inside m p (length (flat_map word (pointers q texts))) && is_inside m q (length
       (text_bytes texts))) ≡ false =
       ap (λ x. x && nat_le (q + length (text_bytes texts)) (length m.bytes)) e ∙ h in
-      ap (λ x. if x then record {
-        number = success;
-        memory =
-            with_range (with_range m p (flat_map word (pointers q texts))) q (text_bytes texts);
-      }
-      else record { number = fault; memory = m }) both
+      ap (λ x. if x then returns success after else returns fault before) both

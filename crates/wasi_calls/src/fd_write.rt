@@ -1,9 +1,9 @@
 //! `fd_write`: bytes of the memory to an output stream.
 
-ghost use Rattle.std.specs.Prelude.{◌≡◌, ◌≤◌, ◌<◌, ◌+◌, ◌-◌, ◌*◌, ◌^◌, ◌++◌, length, take, drop, replicate, true, if◌then◌else◌, Some, None};
+ghost use Rattle.std.specs.Prelude.{◌≡◌, ℕ, List, ◌≤◌, ◌<◌, ◌+◌, ◌-◌, ◌*◌, ◌^◌, ◌++◌, length, take, drop, replicate, true, if◌then◌else◌, Some, None};
 ghost use Rattle.linear_memory.specs.Memory.{is_inside};
 ghost use Rattle.oci_config.specs.Limits.{max_output};
-ghost use Rattle.wasi_calls.specs.SystemCalls.{buffer_at, buffer_bytes, buffers_at, are_inside, gathered, write_stream};
+ghost use Rattle.wasi_calls.specs.SystemCalls.{buffer_at, buffer_bytes, buffers_at, are_inside, gathered, HostState, returns, write_stream};
 
 use crate::errno::{FAULT, NOSPC, SUCCESS};
 use crate::ranges::is_inside;
@@ -114,8 +114,9 @@ fn append_all(memory: &LinearMemory, address: u64, n: u32, stream: &mut Output)
 /// Writes the `n` buffers that are told at `p` to a stream, and the number of bytes that it took
 /// at `q`. The answer is an error number.
 pub fn write_stream(memory: &mut LinearMemory, p: u32, n: u32, q: u32, stream: &mut Output) -> u32
-    ensures { write_stream memory.old stream.old p n q
-        ≡ record { number = result; memory = memory.new; stream = stream.new } }
+    ensures { (state_with : List ℕ → HostState) → (state_with stream.old).memory ≡ memory.old
+        → write_stream state_with stream.old p n q
+        ≡ returns result (record (state_with stream.new) { memory = memory.new }) }
 {
     let p = u64::from(p);
     let q = u64::from(q);

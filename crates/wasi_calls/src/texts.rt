@@ -1,9 +1,9 @@
 //! Arguments and environment variables, as a module reads them.
 
-ghost use Rattle.std.specs.Prelude.{◌≡◌, ◌≤◌, ◌<◌, ◌+◌, ◌*◌, ◌%◌, ◌^◌, ◌++◌, nat_le, length, true};
+ghost use Rattle.std.specs.Prelude.{◌≡◌, ℕ, List, ◌≤◌, ◌<◌, ◌+◌, ◌*◌, ◌%◌, ◌^◌, ◌++◌, nat_le, length, true};
 ghost use Rattle.std.specs.List.{flat_map};
 ghost use Rattle.linear_memory.specs.Memory.{with_range};
-ghost use Rattle.wasi_calls.specs.SystemCalls.{ended_text, text_bytes, pointers, word, sizes_get, texts_get};
+ghost use Rattle.wasi_calls.specs.SystemCalls.{ended_text, text_bytes, pointers, word, returns, sizes_get, texts_get};
 
 use crate::errno::{FAULT, SUCCESS};
 use crate::ranges::{byte_count, is_inside};
@@ -23,8 +23,9 @@ fn size_of(texts: &[Text]) -> u64
 
 /// Writes how many texts there are at `p`, and how many bytes they have, each with a NUL, at `q`.
 pub fn put_sizes(texts: &[Text], p: u32, q: u32, memory: &mut LinearMemory) -> u32
-    ensures { sizes_get texts.now p q memory.old
-        ≡ record { number = result; memory = memory.new } }
+    ensures { (out err : List ℕ)
+        → sizes_get texts.now p q (record { memory = memory.old; out = out; err = err })
+        ≡ returns result (record { memory = memory.new; out = out; err = err }) }
 {
     if !is_inside(memory, u64::from(p), 4) || !is_inside(memory, u64::from(q), 4) {
         return FAULT;
@@ -99,8 +100,9 @@ fn are_pointers_inside(count: usize, from: u64, size: u64) -> bool
 
 /// Writes pointers to the texts at `p`, and then the texts, each with a NUL, at `q`.
 pub fn put_texts(texts: &[Text], p: u32, q: u32, memory: &mut LinearMemory) -> u32
-    ensures { texts_get texts.now p q memory.old
-        ≡ record { number = result; memory = memory.new } }
+    ensures { (out err : List ℕ)
+        → texts_get texts.now p q (record { memory = memory.old; out = out; err = err })
+        ≡ returns result (record { memory = memory.new; out = out; err = err }) }
 {
     let p = u64::from(p);
     let q = u64::from(q);

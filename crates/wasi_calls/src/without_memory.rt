@@ -1,11 +1,11 @@
 //! System calls of a module without a memory: of its no bytes the empty range at 0 alone is inside.
 
-ghost use Rattle.std.specs.Prelude.{◌≡◌, ◌&&◌, nat_eq, length, Some, map};
+ghost use Rattle.std.specs.Prelude.{◌≡◌, ℕ, List, ◌&&◌, nat_eq, length, Some, map};
 ghost use Rattle.wasm_ast.specs.Types.{type_of};
 ghost use Rattle.oci_config.specs.Processes.{config_of};
 ghost use Rattle.wasi_calls.specs.HostCalls.{host_type};
 ghost use Rattle.wasi_calls.specs.NoMemory.{no_memory};
-ghost use Rattle.wasi_calls.specs.SystemCalls.{texts_get, fd_write, host, state_of};
+ghost use Rattle.wasi_calls.specs.SystemCalls.{returns, texts_get, fd_write, host, state_of};
 
 use crate::errno::{BADF, FAULT, SUCCESS};
 use crate::host_call::HostCall;
@@ -22,7 +22,9 @@ fn is_at_zero(texts: &[Text], p: u32, q: u32) -> bool
 
 /// The error number of `args_get` and of `environ_get`.
 fn put_texts(texts: &[Text], p: u32, q: u32) -> u32
-    ensures { texts_get texts.now p q no_memory ≡ record { number = result; memory = no_memory } }
+    ensures { (out err : List ℕ)
+        → texts_get texts.now p q (record { memory = no_memory; out = out; err = err })
+        ≡ returns result (record { memory = no_memory; out = out; err = err }) }
 {
     if !is_at_zero(texts, p, q) {
         return FAULT;

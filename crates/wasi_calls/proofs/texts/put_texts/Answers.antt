@@ -9,8 +9,8 @@ use Rattle.wasi_calls.proofs.texts.put_texts.Goals as goal
 use Rattle.wasi_calls.proofs.texts.put_texts.Goals.{then-not-are_pointers_inside-via-then-not-are_pointers_inside, then-not-are_pointers_inside-via-else-not-are_pointers_inside+then-not-are_inside}
 
 pub returns-then-not-are_pointers_inside : goal.returns-then-not-are_pointers_inside
-returns-then-not-are_pointers_inside c =
-    texts_refused c.args.texts.now c.args.p c.args.q c.args.memory.now
+returns-then-not-are_pointers_inside c out err =
+    texts_refused c.args.texts.now c.args.p c.args.q c.args.memory.now out err
     (elim c.then-not-are_pointers_inside.branch [
       | then-not-are_pointers_inside-via-then-not-are_pointers_inside w ↦
           grind (arith, nat_tests)
@@ -30,9 +30,9 @@ put_text_bytes-requires-clause-small c =
     omega (arith, c.byte_count-size.ensures.within)
 
 pub returns : goal.returns
-returns c =
+returns c out err =
     let h : c.args.p + length c.args.texts.now * 4 ≤ length c.args.memory.now.bytes = grind (arith, nat_tests) in
     let k : c.args.q + length (text_bytes c.args.texts.now) ≤ length c.args.memory.now.bytes =
     grind (arith, nat_tests) in
-    let done = texts_done c.args.texts.now c.args.p c.args.q c.args.memory.now h k in
+    let done = texts_done c.args.texts.now c.args.p c.args.q c.args.memory.now out err h k in
     cc
