@@ -43,7 +43,8 @@ made_of h vs x d typed answers is =
 pub is_made : (c : ProcessConfig) (h : HostCall) (vs : List Value) (s : HostState) (d : HostDone)
     → system.host c h vs s ≡ Some d → IsMade h vs d
 is_made c ArgsSizesGet (I32 p ∷ I32 q ∷ []) s d is =
-    made_of ArgsSizesGet (I32 p ∷ I32 q ∷ []) (sizes_get c.args p q s) d refl (number _ (sizes_returned c.args p q s)) is
+    made_of ArgsSizesGet (I32 p ∷ I32 q ∷ []) (sizes_get c.args p q s) d refl
+    (number _ (sizes_returned c.args p q s)) is
 is_made c ArgsSizesGet [] s d is = cc
 is_made c ArgsSizesGet (I64 a ∷ vs) s d is = cc
 is_made c ArgsSizesGet (I32 a ∷ []) s d is = cc
@@ -57,7 +58,8 @@ is_made c ArgsGet (I32 a ∷ []) s d is = cc
 is_made c ArgsGet (I32 a ∷ I64 b ∷ vs) s d is = cc
 is_made c ArgsGet (I32 a ∷ I32 b ∷ v ∷ vs) s d is = cc
 is_made c EnvironSizesGet (I32 p ∷ I32 q ∷ []) s d is =
-    made_of EnvironSizesGet (I32 p ∷ I32 q ∷ []) (sizes_get c.env p q s) d refl (number _ (sizes_returned c.env p q s)) is
+    made_of EnvironSizesGet (I32 p ∷ I32 q ∷ []) (sizes_get c.env p q s) d refl
+    (number _ (sizes_returned c.env p q s)) is
 is_made c EnvironSizesGet [] s d is = cc
 is_made c EnvironSizesGet (I64 a ∷ vs) s d is = cc
 is_made c EnvironSizesGet (I32 a ∷ []) s d is = cc

@@ -286,7 +286,8 @@ module _ (s : HostState) (p n q : ℕ) where
   asked = gathered s.memory (buffers_at s.memory p n)
 
   inside : Bool
-  inside = is_inside s.memory p (n * buffer_bytes) && are_inside s.memory (buffers_at s.memory p n) && is_inside s.memory q 4
+  inside =
+      is_inside s.memory p (n * buffer_bytes) && are_inside s.memory (buffers_at s.memory p n) && is_inside s.memory q 4
 
   out_written : Leaves s (write_stream (λ out. record s { out = out }) s.out p n q)
   unfolding asked inside

@@ -1,6 +1,6 @@
 -- What the system calls of WASI snapshot_preview1 do (wasi_snapshot_preview1.witx, and typenames.witx for the
--- types). If a range is not inside memory, the answer is the error number `fault`, and nothing is written. A call
--- reads all that it reads before it writes.
+-- types). If a range is not inside memory, the answer is the error number `fault`, and nothing is
+-- written. A call reads all that it reads before it writes.
 use Rattle.std.specs.Prelude.{ℕ, zero, suc, ◌+◌, ◌*◌, ◌-◌, ◌==◌, List, [], ◌∷◌, ◌++◌, length, take, nat_lt, Bool, ◌&&◌, if◌then◌else◌, Option, Some, None}
 use Rattle.std.specs.List.{flat_map, list_all}
 use Rattle.wasm_ast.specs.declared.values.Value.{Value}
@@ -31,7 +31,8 @@ fault = 21
 abbrev pub nospc : ℕ
 nospc = 51
 
--- what a call works on: the memory of the module, and what has been written to standard output and standard error
+-- what a call works on: the memory of the module, and what has been written to standard output and
+-- standard error
 pub record HostState : Type 0 where
   pub memory : Memory
   pub out : List ℕ
@@ -52,7 +53,8 @@ returns number s = record { answer = end.Value number; state = s }
 -- ---- args_sizes_get, args_get, environ_sizes_get, environ_get
 
 -- bytes are written at two addresses, the first ones first
-abbrev pub put_both : HostState → (p : ℕ) → (first : List ℕ) → (q : ℕ) → (second : List ℕ) → HostDone
+abbrev pub put_both :
+    HostState → (p : ℕ) → (first : List ℕ) → (q : ℕ) → (second : List ℕ) → HostDone
 put_both s p first q second =
     if is_inside s.memory p (length first) && is_inside s.memory q (length second)
     then returns success (record s { memory = with_range (with_range s.memory p first) q second })
@@ -91,7 +93,8 @@ pub record Buffer : Type 0 where
   pub size : ℕ
 
 abbrev pub buffer_at : Memory → (address : ℕ) → Buffer
-buffer_at m a = record { address = little_endian (range m a 4); size = little_endian (range m (a + 4) 4) }
+buffer_at m a =
+    record { address = little_endian (range m a 4); size = little_endian (range m (a + 4) 4) }
 
 -- the bytes of a $ciovec
 abbrev pub buffer_bytes : ℕ
@@ -113,8 +116,9 @@ gathered m bs = flat_map (λ b. range m b.address b.size) bs
 abbrev pub room : (stream : List ℕ) → ℕ
 room stream = max_output - length stream
 
--- of the bytes asked as many as there is room for are appended, from the front, and their number is written at q;
--- if bytes are asked and there is no room, nothing changes; the state is given as a function of the stream
+-- of the bytes asked as many as there is room for are appended, from the front, and their number is
+-- written at q; if bytes are asked and there is no room, nothing changes; the state is given as a
+-- function of the stream
 abbrev pub append : (state_with : List ℕ → HostState) → (stream asked : List ℕ) → (q : ℕ) → HostDone
 append state_with stream asked q =
     let taken = take (room stream) asked in
@@ -123,7 +127,8 @@ append state_with stream asked q =
     else returns success (record (state_with (stream ++ taken)) { memory = memory })
 
 -- n buffers, which are told at p, are written to a stream
-abbrev pub write_stream : (state_with : List ℕ → HostState) → (stream : List ℕ) → (p n q : ℕ) → HostDone
+abbrev pub write_stream :
+    (state_with : List ℕ → HostState) → (stream : List ℕ) → (p n q : ℕ) → HostDone
 write_stream state_with stream p n q =
     let m = (state_with stream).memory in
     if is_inside m p (n * buffer_bytes) && are_inside m (buffers_at m p n) && is_inside m q 4

@@ -106,7 +106,8 @@ mutual
   ops_below (next o os) bytes rest h = (op_below o bytes h.0 h.1, ops_below os h.0 rest h.2)
 
 sizes_below :
-    (min : ℕ) (max : Option ℕ) (bytes rest : List ℕ) → AreSizes bytes min max rest → ranged.IsU32 min × IfSome max ranged.IsU32
+    (min : ℕ) (max : Option ℕ) (bytes rest : List ℕ) → AreSizes bytes min max rest
+    → ranged.IsU32 min × IfSome max ranged.IsU32
 sizes_below min None bytes rest h = (u32_below min h.0 rest h.2, tt)
 sizes_below min (Some max) bytes rest h = (u32_below min h.0 h.1 h.3, u32_below max h.1 rest h.4)
 
@@ -117,7 +118,8 @@ given_below : (x : Option ℕ) (bytes rest : List ℕ) → IsStart bytes x rest 
 given_below None bytes rest h = tt
 given_below (Some f) bytes rest h = u32_below f bytes rest h
 
-start_below : (x : Option ℕ) (bytes rest : List ℕ) → IsPart start_section IsStart None bytes x rest → IfSome x ranged.IsU32
+start_below :
+    (x : Option ℕ) (bytes rest : List ℕ) → IsPart start_section IsStart None bytes x rest → IfSome x ranged.IsU32
 start_below x bytes rest (inl h) = given_below x h.3.0 [] h.3.4
 start_below x bytes rest (inr h) = subst (λ (y : Option ℕ). IfSome y ranged.IsU32) (sym h.0) tt
 
