@@ -28,7 +28,7 @@ use Rattle.wasm_ast.specs.Limits.{max_module_bytes, max_locals, FuncWithin}
 use Rattle.wasm_binary.specs.Numbers as numbers
 use Rattle.wasm_binary.specs.Opcodes.{mutability_byte, kind_byte, reserved_byte, else_byte, end_byte, type_section, import_section, function_section, table_section, memory_section, global_section, export_section, start_section, element_section, code_section, data_section, preamble}
 use Rattle.wasm_binary.specs.Grammar.{Form, AreItems, IsVector, IsSized, AreBytes, IsName, IsValType, IsFuncType, IsBlockType, AreSizes, IsLimits, IsMemArg, AreImmediates, IsOp, AreOps, IsExpression, IsRun, locals_of, IsCode, IsEntry, IsImport, IsTable, IsGlobal, IsExport, IsStart, IsElement, IsSegment, IsMemory, IsPart, IsSection, AreLocals, indices_of, UpToTypes, UpToImports, UpToFunctions, UpToTables, UpToMemories, UpToGlobals, UpToExports, UpToStart, UpToElements, UpToCodes, Spells}
-use Rattle.wasm_binary.specs.Canonical.{canon_number, canon_vector, canon_sized, canon_name, canon_val_type, canon_func_type, canon_block_type, canon_max, limits_byte, canon_limits, canon_mem_arg, canon_immediates, canon_op, canon_ops, runs_of, canon_run, canon_code, canon_entry, canon_expression, canon_import, canon_table, canon_global, canon_export, canon_element, canon_segment, canon_section, canon_start, canon, FitsLimits}
+use Rattle.wasm_binary.specs.Canonical.{canon_number, canon_vector, canon_sized, canon_name, canon_val_type, canon_func_type, canon_block_type, canon_sizes, canon_limits, canon_mem_arg, canon_immediates, canon_op, canon_ops, runs_of, canon_run, canon_code, canon_entry, canon_expression, canon_import, canon_table, canon_global, canon_export, canon_element, canon_segment, canon_section, canon_start, canon, FitsLimits}
 use Rattle.wasm_binary.proofs.Powers.{small}
 use Rattle.wasm_binary.proofs.LocalRuns.{locals_runs}
 use Rattle.wasm_binary.proofs.CanonicalNumbers.{number_spells, unsigned_some, signed_spells}
@@ -141,8 +141,8 @@ block_type_spells (Index i) rest h = (signed_spells 4 33 i rest (omega (arith, h
 
 sizes_spells :
     (min : ℕ) (max : Option ℕ) (rest : List ℕ) → ranged.IsU32 min → IfSome max ranged.IsU32
-    → AreSizes (limits_byte max ∷ ((canon_number min ++ canon_max max) ++ rest)) min max rest
-sizes_spells min None rest h k = ((canon_number min ++ []) ++ rest, refl, number_then min [] rest h)
+    → AreSizes (canon_sizes min max ++ rest) min max rest
+sizes_spells min None rest h k = (canon_number min ++ rest, refl, number_spells min rest h)
 sizes_spells min (Some max) rest h k = (
   (canon_number min ++ canon_number max) ++ rest,
   canon_number max ++ rest,
@@ -434,8 +434,12 @@ memory_spells :
     → IsMemory (canon_limits l ++ rest) l rest
 memory_spells l rest h few = limits_spells l rest h
 
+sizes_some : (min : ℕ) (max : Option ℕ) → 0 < length (canon_sizes min max)
+sizes_some min None = omega arith
+sizes_some min (Some max) = omega arith
+
 memory_some : (l : Limits) → 0 < length (canon_limits l)
-memory_some l = omega arith
+memory_some l = sizes_some l.min l.max
 
 global_spells :
     (g : globals.Global) (rest : List ℕ) → RangedGlobal g → length (canon_global g) ≤ max_module_bytes

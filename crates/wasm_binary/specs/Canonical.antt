@@ -77,17 +77,13 @@ canon_block_type Empty = empty_byte ∷ []
 canon_block_type (One t) = canon_val_type t
 canon_block_type (Index i) = canon_signed 4 33 i
 
--- the largest size, if there is one
-abbrev pub canon_max : Option ℕ → List ℕ
-canon_max None = []
-canon_max (Some max) = canon_number max
-
-abbrev pub limits_byte : Option ℕ → ℕ
-limits_byte None = min_byte
-limits_byte (Some max) = min_max_byte
+-- a first size, and a largest one if there is one
+abbrev pub canon_sizes : (min : ℕ) → (max : Option ℕ) → List ℕ
+canon_sizes min None = min_byte ∷ canon_number min
+canon_sizes min (Some max) = min_max_byte ∷ (canon_number min ++ canon_number max)
 
 abbrev pub canon_limits : Limits → List ℕ
-canon_limits l = limits_byte l.max ∷ (canon_number l.min ++ canon_max l.max)
+canon_limits l = canon_sizes l.min l.max
 
 -- ---- instructions
 
