@@ -34,12 +34,12 @@ use Rattle.validator.proofs.UncheckedTypes.{none_some, inside_labels, after_exac
 -- ---- what an instruction lacks has no typing
 
 table_untyped : (c : Context) (labels : List ℕ) (other : ℕ) (l : Lack) → LacksTable c.labels labels other l
-    → (ts : List ValType) → All (IsLabel c ts) labels → IsLabel c ts other → ⊥
+    → (ts : List ValType) → All (IsLabel c.labels ts) labels → IsLabel c.labels ts other → ⊥
 table_untyped c labels other l (inl h) ts all is = none_some (slice_get c.labels other) ts h.1 is
 table_untyped c labels other l (inr h) ts all is =
     let two : Some ts ≡ Some h.0 = sym is ∙ h.2 in
     let one : ts ≡ h.0 = cc in
-    h.3 (subst (λ (us : List ValType). All (IsLabel c us) labels) one all)
+    h.3 (subst (λ (us : List ValType). All (IsLabel c.labels us) labels) one all)
 
 none_there : {A : Type 0} (xs : List A) → length xs ≡ 0 → 0 < length xs → ⊥
 none_there xs none some = omega (arith, none, some)

@@ -18,10 +18,10 @@ use Rattle.wasm_ast.specs.declared.module.Global.{Global}
 use Rattle.wasm_ast.specs.Types.{type_of, type_at, source_of, target_of}
 use Rattle.wasm_ast.specs.Access.{load_type, load_bytes, store_type, store_bytes}
 use Rattle.wasm_ast.specs.Limits.{are_all}
-use Rattle.validator.specs.Typing.{Context, on_top, Replaces, LocalTyped, GlobalTyped, Accesses, SimpleTyped}
+use Rattle.validator.specs.Typing.{Context, on_top, Replaces, LocalTyped, GlobalTyped, Accesses, SimpleTyped, IsLabel}
 use Rattle.validator.specs.PlaceTypes.{Stack, IsOf, Matches}
 use Rattle.validator.specs.declared.needs.Lack.{Lack}
-use Rattle.validator.specs.Inside.Needs.{DoesTake, LacksOther, LacksTable}
+use Rattle.validator.specs.Inside.Needs.{LacksOther, LacksTable}
 use Rattle.validator.specs.Inside.Algorithm.{and_then, can_be, pop_any, with_types, replaced, nowhere, leaves, after_i32, drops, join, joins, joins_next, check_local, is_variable, check_global, takes_types, is_label, is_some_there, applies, branches, call_indirect, with_memory, access, check_simple}
 use Rattle.validator.proofs.StackMatching.{Sound, Exact, both, passed, passes, given, gives, all_same, themselves, can_be_of, of_can_be, pop_any_sound, pop_any_exact, some_type, some_types, replaced_sound, replaced_exact, Takes, leaves_sound, leaves_exact, AfterI32, after_i32_sound, after_i32_exact}
 
@@ -162,18 +162,18 @@ label_exact :
 label_exact labels ts k h = ap (takes_types ts) h ∙ themselves ts
 
 labels_sound : (labels : List (List ValType)) (ts : List ValType) (ks : List ℕ) → are_all (is_label labels ts) ks ≡ true
-    → All (DoesTake labels ts) ks
-labels_sound labels ts [] h = All-nil (DoesTake labels ts)
+    → All (IsLabel labels ts) ks
+labels_sound labels ts [] h = All-nil (IsLabel labels ts)
 labels_sound labels ts (k ∷ ks) h =
     let parts = both (is_label labels ts k) (are_all (is_label labels ts) ks) h in
-    All-cons (DoesTake labels ts) k ks (label_sound labels ts k parts.0) (labels_sound labels ts ks parts.1)
+    All-cons (IsLabel labels ts) k ks (label_sound labels ts k parts.0) (labels_sound labels ts ks parts.1)
 
-labels_exact : (labels : List (List ValType)) (ts : List ValType) (ks : List ℕ) → All (DoesTake labels ts) ks
+labels_exact : (labels : List (List ValType)) (ts : List ValType) (ks : List ℕ) → All (IsLabel labels ts) ks
     → are_all (is_label labels ts) ks ≡ true
 labels_exact labels ts [] h = refl
 labels_exact labels ts (k ∷ ks) h =
-    let first = label_exact labels ts k (All-head (DoesTake labels ts) k ks h) in
-    let others = labels_exact labels ts ks (All-tail (DoesTake labels ts) k ks h) in
+    let first = label_exact labels ts k (All-head (IsLabel labels ts) k ks h) in
+    let others = labels_exact labels ts ks (All-tail (IsLabel labels ts) k ks h) in
     ap (λ b. b && are_all (is_label labels ts) ks) first ∙ others
 
 -- labels of which this one does not take the types of the last

@@ -71,20 +71,20 @@ abbrev pub Accesses : Context → (align bytes : ℕ) → Type 0
 Accesses c align bytes = (0 < length c.memories) × (2 ^ align ≤ bytes)
 
 -- this label takes these types
-abbrev pub IsLabel : Context → (ts : List ValType) → (label : ℕ) → Type 0
-IsLabel c ts label = slice_get c.labels label ≡ Some ts
+abbrev pub IsLabel : (labels : List (List ValType)) → (ts : List ValType) → (label : ℕ) → Type 0
+IsLabel labels ts label = slice_get labels label ≡ Some ts
 
 -- after unreachable, br, br_table and return the stack is free
 abbrev pub SimpleTyped : Context → Simple → (old new : List ValType) → Type 0
 SimpleTyped c instr.Unreachable old new = Unit {0}
 SimpleTyped c instr.Nop old new = old ≡ new
 SimpleTyped c (instr.Br label) old new =
-    (ts : List ValType) × (rest : List ValType) × IsLabel c ts label × (old ≡ on_top ts rest)
+    (ts : List ValType) × (rest : List ValType) × IsLabel c.labels ts label × (old ≡ on_top ts rest)
 SimpleTyped c (instr.BrIf label) old new =
-    (ts : List ValType) × (rest : List ValType) × IsLabel c ts label × (old ≡ I32 ∷ on_top ts rest)
+    (ts : List ValType) × (rest : List ValType) × IsLabel c.labels ts label × (old ≡ I32 ∷ on_top ts rest)
     × (new ≡ on_top ts rest)
 SimpleTyped c (instr.BrTable labels other) old new =
-    (ts : List ValType) × (rest : List ValType) × All (IsLabel c ts) labels × IsLabel c ts other
+    (ts : List ValType) × (rest : List ValType) × All (IsLabel c.labels ts) labels × IsLabel c.labels ts other
     × (old ≡ I32 ∷ on_top ts rest)
 SimpleTyped c instr.Return old new = (rest : List ValType) × (old ≡ on_top c.results rest)
 SimpleTyped c (instr.Call func) old new =

@@ -19,7 +19,7 @@ use Rattle.validator.specs.declared.needs.Lack.{Lack}
 use Rattle.validator.specs.declared.needs.Lack.TheVariants as lack
 use Rattle.validator.specs.declared.needs.Taken.{Taken}
 use Rattle.validator.specs.declared.needs.Taken.TheVariants as taken
-use Rattle.validator.specs.Typing.{Context, on_top, body_context}
+use Rattle.validator.specs.Typing.{Context, on_top, body_context, IsLabel}
 use Rattle.validator.specs.PlaceTypes.{IsOwn}
 use Rattle.validator.specs.SequenceTypes.{LeadsIn}
 
@@ -29,22 +29,18 @@ use Rattle.validator.specs.SequenceTypes.{LeadsIn}
 abbrev pub LacksLabel : List (List ValType) → (label : ℕ) → Lack → Type 0
 LacksLabel labels label l = (l ≡ lack.Label) × (slice_get labels label ≡ None)
 
--- this label takes these types
-abbrev pub DoesTake : List (List ValType) → (ts : List ValType) → (label : ℕ) → Type 0
-DoesTake labels ts label = slice_get labels label ≡ Some ts
-
 -- why a label does not take the types that it has to: it is not there, or takes others
 abbrev pub LacksOther : List (List ValType) → (label : ℕ) → Lack → Type 0
 LacksOther labels label l =
     LacksLabel labels label l
-    ⊎ (us : List ValType) × (l ≡ lack.OtherTypes label) × DoesTake labels us label
+    ⊎ (us : List ValType) × (l ≡ lack.OtherTypes label) × IsLabel labels us label
 
 -- the last label is not there, or one of the others does not take its types
 abbrev pub LacksTable : List (List ValType) → List ℕ → (other : ℕ) → Lack → Type 0
 LacksTable labels ks other l =
     LacksLabel labels other l
-    ⊎ (ts : List ValType) × (k : ℕ) × DoesTake labels ts other × (All (DoesTake labels ts) ks → ⊥)
-    × (DoesTake labels ts k → ⊥) × LacksOther labels k l
+    ⊎ (ts : List ValType) × (k : ℕ) × IsLabel labels ts other × (All (IsLabel labels ts) ks → ⊥)
+    × (IsLabel labels ts k → ⊥) × LacksOther labels k l
 
 -- there is no such function, or it has no type
 abbrev pub LacksFunction : List (Option FuncType) → (func : ℕ) → Lack → Type 0
