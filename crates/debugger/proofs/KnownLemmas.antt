@@ -3,9 +3,9 @@ use Rattle.std.proofs.Common.{inl, inr, ◌≡◌, ℕ, zero, suc, ◌<◌, List
 use Rattle.std.specs.Prelude.{slice_get, All, ◌↔◌, ◌⊎◌}
 use Rattle.std.proofs.lemmas.List.Elements.{All-push}
 use Rattle.std.proofs.lemmas.Option.{slice_get_within, get_or_from_slice_get}
+use Rattle.std.specs.List.{AllZip}
 use Rattle.wasm_ast.specs.declared.module.Module.{Module}
 use Rattle.debugger.specs.declared.known_places.KnownPlace.{KnownPlace}
-use Rattle.validator.specs.EachPlace.{AtEach}
 use Rattle.validator.specs.PlaceTypes.{Known, Point, ReachesAt, PassesAt, MatchPoint}
 use Rattle.step_machine.specs.Frames.{FrameValue, Tells}
 use Rattle.wasm_ast.specs.declared.shown.ShownFrame.{ShownFrame}
@@ -58,7 +58,7 @@ is_there m ks k read w f at all is one told func place =
 -- ---- several places
 
 pub each_length :
-    {A : Type 0} (IsAt : ℕ → A → Type 0) (places : List ℕ) (xs : List A) → AtEach IsAt places xs
+    {A : Type 0} (IsAt : ℕ → A → Type 0) (places : List ℕ) (xs : List A) → AllZip IsAt places xs
     → length xs ≡ length places
 each_length IsAt [] [] h = refl
 each_length IsAt [] (x ∷ xs) h = absurd h
@@ -67,7 +67,7 @@ each_length IsAt (p ∷ places) (x ∷ xs) h = let rest = each_length IsAt place
 
 pub each_at :
     {A : Type 0} (IsAt : ℕ → A → Type 0) (places : List ℕ) (xs : List A) (k : ℕ) (p : ℕ) (x : A)
-    → AtEach IsAt places xs → k < length places → p ≡ get_or places k p → x ≡ get_or xs k x → IsAt p x
+    → AllZip IsAt places xs → k < length places → p ≡ get_or places k p → x ≡ get_or xs k x → IsAt p x
 each_at IsAt [] xs k p x h less one two = absurd (omega (arith, less))
 each_at IsAt (q ∷ places) [] k p x h less one two = absurd h
 each_at IsAt (q ∷ places) (y ∷ xs) zero p x h less one two =
@@ -88,9 +88,9 @@ types_there n m func place t same exact some = record {
 
 pub types_at_each_there :
     (n m : Module) (func : ℕ) (places : List ℕ) (ts : List Known) → n ≡ m
-    → AtEach (λ place t. (p : Point) → MatchPoint t p ↔ ReachesAt n func place p) places ts
-    → AtEach (λ place t. (p : Point) × PassesAt n func place p × MatchPoint t p) places ts
-    → AtEach (AreTypesAt m func) places ts
+    → AllZip (λ place t. (p : Point) → MatchPoint t p ↔ ReachesAt n func place p) places ts
+    → AllZip (λ place t. (p : Point) × PassesAt n func place p × MatchPoint t p) places ts
+    → AllZip (AreTypesAt m func) places ts
 types_at_each_there n m func [] [] same exact some = tt
 types_at_each_there n m func [] (t ∷ ts) same exact some = absurd exact
 types_at_each_there n m func (p ∷ places) [] same exact some = absurd exact

@@ -3,12 +3,13 @@ use Rattle.std.proofs.Common.{◌≡◌, ℕ, zero, suc, ◌+◌, ◌-◌, ◌�
 use Rattle.std.specs.Prelude.{slice_get}
 use Rattle.std.proofs.lemmas.List.{reverse-append, drop_more}
 use Rattle.std.proofs.lemmas.Option.{slice_get_within, get_or_from_slice_get}
+use Rattle.std.specs.List.{AllZip}
 use Rattle.wasm_ast.specs.declared.values.ValType.{ValType}
 use Rattle.wasm_ast.specs.declared.values.ValType.TheVariants.{I32, I64}
 use Rattle.wasm_ast.specs.declared.module.Module.{Module}
 use Rattle.wasm_ast.specs.Syntax.{Op, simple, block, loop, if', Ops, stop, next, count, ops_count}
 use Rattle.validator.specs.Typing.{Context, under, body_context}
-use Rattle.validator.specs.PlaceTypes.{Point, Reaches, OpReaches, ReachesAt, Stack, Known, MatchTypes, MatchStacks, MatchPoint}
+use Rattle.validator.specs.PlaceTypes.{Point, Reaches, OpReaches, ReachesAt, Stack, Known, MatchTypes, MatchPoint, Matches}
 use Rattle.step_machine.specs.Frames.{joined}
 use Rattle.debugger.specs.Inside.Typed.{known_of, oldest_first}
 
@@ -90,8 +91,8 @@ tails_same : (ts us : List ValType) (tss uss : List (List ValType)) → ts ∷ t
 tails_same ts us tss uss h = cc
 
 all_exactly :
-    (ss : List Stack) (tss : List (List ValType)) → MatchStacks ss tss
-    → ((uss : List (List ValType)) → MatchStacks ss uss → uss ≡ tss) → AllKnown ss tss
+    (ss : List Stack) (tss : List (List ValType)) → AllZip Matches ss tss
+    → ((uss : List (List ValType)) → AllZip Matches ss uss → uss ≡ tss) → AllKnown ss tss
 all_exactly [] [] m one = tt
 all_exactly [] (ts ∷ tss) m one = absurd m
 all_exactly (s ∷ ss) [] m one = absurd m
@@ -124,7 +125,7 @@ oldest_of_one k p m one =
 
 -- ---- how many blocks are open
 
-same_number : (ss : List Stack) (tss : List (List ValType)) → MatchStacks ss tss → length ss ≡ length tss
+same_number : (ss : List Stack) (tss : List (List ValType)) → AllZip Matches ss tss → length ss ≡ length tss
 same_number [] [] m = refl
 same_number [] (ts ∷ tss) m = absurd m
 same_number (s ∷ ss) [] m = absurd m

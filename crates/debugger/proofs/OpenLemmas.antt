@@ -6,9 +6,9 @@ use Rattle.std.specs.List.Sorted.{IsStrictlyIncreasing}
 use Rattle.std.proofs.lemmas.Option.{slice_get-get_or}
 use Rattle.std.proofs.lemmas.Bool.Decides.{nat_tests}
 use Rattle.std.proofs.lemmas.List.{length-append, reverse-append}
+use Rattle.std.specs.List.{AllZip}
 use Rattle.wasm_ast.specs.declared.instr.BlockType.{BlockType}
 use Rattle.wasm_ast.specs.Syntax.{Op, block, loop, if', Ops, next, count, ops_count}
-use Rattle.validator.specs.EachPlace.{AtEach}
 use Rattle.validator.specs.Inside.EachPlace.{FoundAt, NextFrom, Follows, Finds}
 use Rattle.validator.proofs.EachLemmas.{found_one, found_all, next_after, follows_one, follows_two, follows_at}
 use Rattle.step_machine.specs.Places.{op_opens, opens_at}
@@ -161,7 +161,7 @@ pub whole_found :
     → Finds HasBlocks (part blocks) n 0 places old found
     → IfNone r (length places ≤ length found) → IfSome r (λ after. after ≡ 0 + n)
     → IfSome r (λ after. NextFrom places found after)
-    → AtEach (λ place b. b.items ≡ part [] place) places found
+    → AllZip (λ place b. b.items ≡ part [] place) places found
 whole_found places found old n r part blocks inside none outer finds done after from =
     found_all (λ place b. b.items ≡ part [] place) places found (all_found places found n r inside done after from)
     (finds (part []) (λ k less. let same : 0 + k ≡ k = omega arith in ap (part []) same

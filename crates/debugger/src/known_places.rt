@@ -3,10 +3,10 @@
 
 ghost use Rattle.std.specs.Prelude.{◌≡◌, ◌++◌, ◌∷◌, ◌↔◌, [], All, IfOk, IfSome, OnOk, OnErr, Err, Some, slice_get, length};
 ghost use Rattle.std.specs.List.Sorted.{IsStrictlyIncreasing};
+ghost use Rattle.std.specs.List.{AllZip};
 ghost use Rattle.wasm_ast.specs.declared.refusal.Refusal.TheVariants as refusal;
 ghost use Rattle.wasm_ast.specs.declared.module.Func.{Func as FuncValue};
 ghost use Rattle.wasm_ast.specs.declared.values.FuncType.{FuncType as FuncTypeValue};
-ghost use Rattle.validator.specs.EachPlace.{AtEach};
 ghost use Rattle.validator.specs.PlaceTypes.{IsOwn, IsPlace};
 ghost use Rattle.step_machine.specs.Places.{opens_at};
 ghost use Rattle.debugger.specs.declared.known_places.KnownPlace.{KnownPlace as KnownValue};
@@ -153,8 +153,8 @@ fn add_each(
     requires is_type { (t : FuncTypeValue) × (slice_get of.now.types own.now.type_index ≡ Some t) }
     requires types_count { length types.now ≡ length places.now }
     requires blocks_count { length blocks.now ≡ length places.now }
-    requires types { AtEach (AreTypesAt of.now func) places.now types.now }
-    requires blocks { AtEach (λ place b. b.items ≡ opens_at own.now.body 0 [] place)
+    requires types { AllZip (AreTypesAt of.now func) places.now types.now }
+    requires blocks { AllZip (λ place b. b.items ≡ opens_at own.now.body 0 [] place)
         places.now blocks.now }
     requires all { All (IsKnown of.now) known.old.items }
     ensures { OnOk result (All (IsKnown of.now) known.new.items) }

@@ -2,9 +2,9 @@
 
 ghost use Rattle.std.specs.Prelude.{◌≡◌, ◌+◌, ◌<◌, ◌≤◌, ◌∷◌, [], ℕ, List, All, reverse, length, slice_get, IfOk, IfSome, IfNone, OnOk};
 ghost use Rattle.std.specs.List.Sorted.{IsStrictlyIncreasing};
+ghost use Rattle.std.specs.List.{AllZip};
 ghost use Rattle.wasm_ast.specs.Syntax.{count, ops_count};
 ghost use Rattle.wasm_ast.specs.View.{op_of};
-ghost use Rattle.validator.specs.EachPlace.{AtEach};
 ghost use Rattle.validator.specs.Inside.EachPlace.{FoundAt, NextFrom, Finds};
 ghost use Rattle.step_machine.specs.Places.{op_opens, opens_at};
 ghost use Rattle.debugger.specs.Inside.OpenBlocks.{arm_opens, HasBlocks};
@@ -30,7 +30,7 @@ pub fn open_blocks_at(
 ) -> Result<Vec<Vec<u32>>, AllocError>
     requires rising { IsStrictlyIncreasing places.now }
     requires inside { All (λ place. place < ops_count body.now) places.now }
-    ensures { IfOk result (λ found. AtEach (λ place b. b.items ≡ opens_at body.now 0 [] place)
+    ensures { IfOk result (λ found. AllZip (λ place b. b.items ≡ opens_at body.now 0 [] place)
         places.now found.items) }
 {
     let stops = Stops { alloc, places };

@@ -5,6 +5,7 @@ use Rattle.std.specs.List.Sorted.{IsStrictlyIncreasing}
 use Rattle.std.proofs.lemmas.Option.{slice_get_within, slice_get-get_or, get_or_from_slice_get}
 use Rattle.std.proofs.lemmas.Bool.Decides.{nat_tests}
 use Rattle.std.proofs.lemmas.List.{length-append, drop_more}
+use Rattle.std.specs.List.{AllZip}
 use Rattle.wasm_ast.specs.declared.values.ValType.{ValType}
 use Rattle.wasm_ast.specs.declared.values.ValType.TheVariants.{I32}
 use Rattle.wasm_ast.specs.declared.values.FuncType.{FuncType}
@@ -15,7 +16,6 @@ use Rattle.wasm_ast.specs.View.{op_of}
 use Rattle.wasm_ast.specs.Types.{block_type}
 use Rattle.validator.specs.Typing.{Context, under}
 use Rattle.validator.specs.PlaceTypes.{Stack, Known}
-use Rattle.validator.specs.EachPlace.{AtEach}
 use Rattle.validator.specs.Inside.Algorithm.{and_then, with_types, pop, pops, after_i32, start, check_op, check_ops}
 use Rattle.validator.specs.Inside.Blocks.{Blocks, KeepsRest}
 use Rattle.validator.specs.Inside.PlaceWalk.{below, ops_known, op_known}
@@ -40,7 +40,7 @@ found_one IsAt (q ∷ places) (y ∷ found) place x at is h = (h.0, found_one Is
 -- all of them
 pub found_all :
     {A : Type 0} (IsAt : ℕ → A → Type 0) (places : List ℕ) (found : List A) → length places ≤ length found
-    → FoundAt IsAt places found → AtEach IsAt places found
+    → FoundAt IsAt places found → AllZip IsAt places found
 found_all IsAt [] [] all h = tt
 found_all IsAt [] (x ∷ found) all h = absurd h
 found_all IsAt (p ∷ places) [] all h = absurd (omega (arith, all))
@@ -281,7 +281,7 @@ pub whole_found :
     → All (λ place. place < n) places → Finds IsKnown known n 0 places [] found
     → IfNone r (length places ≤ length found) → IfSome r (λ after. after ≡ 0 + n)
     → IfSome r (λ after. NextFrom places found after)
-    → AtEach (λ place t. known place ≡ Some t) places found
+    → AllZip (λ place t. known place ≡ Some t) places found
 whole_found places found n r known inside finds done after from =
     found_all (λ place t. known place ≡ Some t) places found (all_found places found n r inside done after from)
     (finds known (λ k less. let same : 0 + k ≡ k = omega arith in ap known same) tt)

@@ -2,6 +2,7 @@
 use Rattle.std.proofs.Common.{◌≡◌, ℕ, ◌+◌, ◌<◌, true, false, true≢false, nat_lt, is_some, List, [], ◌∷◌, All, Some, refl, sym, ap, subst, ◌∙◌, arith}
 use Rattle.std.proofs.lemmas.Bool.Decides.{nat_tests}
 use Rattle.std.proofs.lemmas.List.Elements.{All-head, All-tail, All-weaker}
+use Rattle.std.specs.List.{AllZip}
 use Rattle.wasm_ast.specs.declared.values.FuncType.{FuncType}
 use Rattle.wasm_ast.specs.declared.module.Func.{Func}
 use Rattle.wasm_ast.specs.declared.module.Module.{Module}
@@ -9,14 +10,13 @@ use Rattle.wasm_ast.specs.Syntax.{ops_count, ops_at}
 use Rattle.wasm_ast.proofs.PlaceLemmas.{ops_counted}
 use Rattle.validator.specs.Typing.{ValidModule}
 use Rattle.validator.specs.PlaceTypes.{IsOwn, IsPlace}
-use Rattle.validator.specs.EachPlace.{AtEach}
 use Rattle.validator.specs.Inside.FunctionContext.{passes_func}
 use Rattle.validator.proofs.ModuleExact.{func_passes}
 use Rattle.validator.proofs.PlacesOfModules.{HasType, own_valid}
 
 pub each_there :
     {A : Type 0} (R : ℕ → Type 0) (P Q : ℕ → A → Type 0) (places : List ℕ) (xs : List A) → All R places
-    → ((place : ℕ) (x : A) → R place → P place x → Q place x) → AtEach P places xs → AtEach Q places xs
+    → ((place : ℕ) (x : A) → R place → P place x → Q place x) → AllZip P places xs → AllZip Q places xs
 each_there R P Q [] [] all one h = tt
 each_there R P Q [] (x ∷ xs) all one h = absurd h
 each_there R P Q (p ∷ places) [] all one h = absurd h
@@ -63,7 +63,7 @@ own_there l m func (p ∷ places) same some all =
 abbrev Next : ℕ → ℕ → Type 0
 Next place n = n ≡ place + 1
 
-pub each_is : (ns : List ℕ) → AtEach Next (3 ∷ 5 ∷ []) ns → ns ≡ 4 ∷ 6 ∷ []
+pub each_is : (ns : List ℕ) → AllZip Next (3 ∷ 5 ∷ []) ns → ns ≡ 4 ∷ 6 ∷ []
 each_is [] h = absurd h
 each_is (a ∷ []) h = absurd h.1
 each_is (a ∷ b ∷ []) h =
@@ -72,5 +72,5 @@ each_is (a ∷ b ∷ []) h =
     cc
 each_is (a ∷ b ∷ d ∷ ns) h = absurd h.1.1
 
-pub is_each : (ns : List ℕ) → ns ≡ 4 ∷ 6 ∷ [] → AtEach Next (3 ∷ 5 ∷ []) ns
-is_each ns is = subst (λ (l : List ℕ). AtEach Next (3 ∷ 5 ∷ []) l) (sym is) (refl, (refl, tt))
+pub is_each : (ns : List ℕ) → ns ≡ 4 ∷ 6 ∷ [] → AllZip Next (3 ∷ 5 ∷ []) ns
+is_each ns is = subst (λ (l : List ℕ). AllZip Next (3 ∷ 5 ∷ []) l) (sym is) (refl, (refl, tt))

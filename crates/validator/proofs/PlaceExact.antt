@@ -1,6 +1,7 @@
 -- What the algorithm knows where it is stopped before an instruction is what typings lead to, and no more.
 use Rattle.std.proofs.Common.{◌≡◌, ℕ, zero, suc, ◌-◌, ◌<◌, ◌≤◌, ◌⊎◌, inl, inr, Bool, true, false, if◌then◌else◌, nat_lt, List, [], ◌∷◌, reverse, Option, Some, refl, sym, ap, subst, ◌∙◌, arith}
 use Rattle.std.proofs.lemmas.Bool.Decides.{nat_tests}
+use Rattle.std.specs.List.{AllZip}
 use Rattle.wasm_ast.specs.declared.values.ValType.{ValType}
 use Rattle.wasm_ast.specs.declared.values.ValType.TheVariants.{I32}
 use Rattle.wasm_ast.specs.declared.values.FuncType.{FuncType}
@@ -8,7 +9,7 @@ use Rattle.wasm_ast.specs.declared.instr.BlockType.{BlockType}
 use Rattle.wasm_ast.specs.Syntax.{Op, simple, block, loop, if', Ops, stop, next, count, ops_count}
 use Rattle.wasm_ast.specs.Types.{block_type}
 use Rattle.validator.specs.Typing.{Context, under, on_top, Replaces, OpTyped, Typed}
-use Rattle.validator.specs.PlaceTypes.{Point, point, Reaches, OpReaches, Passes, OpPasses, Stack, Known, Matches, MatchStacks, MatchPoint}
+use Rattle.validator.specs.PlaceTypes.{Point, point, Reaches, OpReaches, Passes, OpPasses, Stack, Known, Matches, MatchPoint}
 use Rattle.validator.specs.Inside.Algorithm.{and_then, start, after_i32, check_op}
 use Rattle.validator.specs.Inside.PlaceWalk.{below, ops_known, op_known, arm_known}
 use Rattle.validator.proofs.StackMatching.{passed, passes, AfterI32, replaced_sound, replaced_exact, after_i32_sound, after_i32_exact}
@@ -49,13 +50,13 @@ by_order {C = C} k n f g = of (nat_lt k n) refl
 
 -- what the algorithm knows represents points that typings lead to
 abbrev Found : (List Stack) → Stack → (List (List ValType) → List ValType → Type 0) → Type 0
-Found outs s P = (outside : List (List ValType)) × (old : List ValType) × MatchStacks outs outside × Matches s old
+Found outs s P = (outside : List (List ValType)) × (old : List ValType) × AllZip Matches outs outside × Matches s old
     × P outside old
 
 -- a point that the body of a block reaches, from what is outside it
 inner : (outs : List Stack) (u : Stack) (params : List ValType)
     (P : List (List ValType) → List ValType → Type 0) → Found (u ∷ outs) (start params) P
-    → (outside : List (List ValType)) × (rest : List ValType) × MatchStacks outs outside × Matches u rest
+    → (outside : List (List ValType)) × (rest : List ValType) × AllZip Matches outs outside × Matches u rest
     × P (rest ∷ outside) (reverse params)
 inner outs u params P ([], old, m, is, h) = absurd m
 inner outs u params P (rest ∷ outside, old, m, is, h) =
@@ -76,9 +77,9 @@ here c outs s r p h m = split p.stacks refl
     matched = subst (λ (k : Known). MatchPoint k p) (sym same) m
 
     split : (tss : List (List ValType)) → p.stacks ≡ tss → Found outs s (λ outside old. p ≡ point c outside old)
-    split [] e = absurd (subst (MatchStacks (s ∷ outs)) e matched.1)
+    split [] e = absurd (subst (AllZip Matches (s ∷ outs)) e matched.1)
     split (ts ∷ tss) e =
-        let is = subst (MatchStacks (s ∷ outs)) e matched.1 in
+        let is = subst (AllZip Matches (s ∷ outs)) e matched.1 in
         (tss, ts, is.1, is.0, λ i. record { labels = sym matched.0 i; stacks = e i })
 
 -- what is taken from the top is above the rest
@@ -201,7 +202,7 @@ opens named t s u takes known p is taken found = (
 
 mutual
   pub ops_known_exact : (c : Context) (outs : List Stack) (outside : List (List ValType)) (os : Ops) (s : Stack)
-      (old : List ValType) (k : ℕ) (p : Point) → MatchStacks outs outside → Matches s old
+      (old : List ValType) (k : ℕ) (p : Point) → AllZip Matches outs outside → Matches s old
       → Reaches c outside os old k p → Knows (ops_known c outs os s k) p
   ops_known_exact c outs outside stop s old k p w m h = absurd h
   ops_known_exact c outs outside (next o os) s old k p w m h =
@@ -219,7 +220,7 @@ mutual
       ))
 
   op_known_exact : (c : Context) (outs : List Stack) (outside : List (List ValType)) (o : Op) (s : Stack)
-      (old : List ValType) (k : ℕ) (p : Point) → MatchStacks outs outside → Matches s old
+      (old : List ValType) (k : ℕ) (p : Point) → AllZip Matches outs outside → Matches s old
       → OpReaches c outside o old k p → Knows (op_known c outs o s k) p
   op_known_exact c outs outside o s old zero p w m h =
       let known : Known = record { labels = c.labels; stacks = s ∷ outs } in

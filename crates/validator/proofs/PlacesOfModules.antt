@@ -3,6 +3,7 @@ use Rattle.std.proofs.Common.{◌≡◌, map, false, ℕ, zero, suc, ◌-◌, �
 use Rattle.std.specs.Prelude.{slice_get, ◌↔◌}
 use Rattle.std.proofs.lemmas.Bool.Decides.{nat_tests}
 use Rattle.std.proofs.lemmas.List.Elements.{All-head, All-tail}
+use Rattle.std.specs.List.{AllZip}
 use Rattle.wasm_ast.specs.declared.values.ValType.{ValType}
 use Rattle.wasm_ast.specs.declared.values.FuncType.{FuncType}
 use Rattle.wasm_ast.specs.declared.module.Func.{Func}
@@ -10,7 +11,7 @@ use Rattle.wasm_ast.specs.declared.module.Module.{Module}
 use Rattle.wasm_ast.specs.Syntax.{Op, Ops, ops_count, ops_at}
 use Rattle.wasm_ast.proofs.PlaceLemmas.{ops_counted}
 use Rattle.validator.specs.Typing.{body_context, ValidBody, ValidModule}
-use Rattle.validator.specs.PlaceTypes.{Point, Reaches, IsOwn, IsPlace, ReachesAt, PassesAt, Known, Stack, MatchTypes, MatchStacks, MatchPoint}
+use Rattle.validator.specs.PlaceTypes.{Point, Reaches, IsOwn, IsPlace, ReachesAt, PassesAt, Known, Stack, MatchTypes, MatchPoint, Matches}
 use Rattle.validator.specs.Inside.Algorithm.{knowns, start}
 use Rattle.validator.specs.Inside.PlaceWalk.{ops_known}
 use Rattle.validator.proofs.SequenceExact.{start_matches, start_is}
@@ -55,7 +56,7 @@ one_function m func f g t u P own other is other_is h =
     let same_type : u ≡ t = cc in
     subst (P f) same_type (subst (λ (x : Func). P x u) same h)
 
-none_outside : (outside : List (List ValType)) → MatchStacks [] outside → outside ≡ []
+none_outside : (outside : List (List ValType)) → AllZip Matches [] outside → outside ≡ []
 none_outside [] m = refl
 none_outside (ts ∷ tss) m = absurd m
 
@@ -153,7 +154,7 @@ are_types : (ts : List ValType) → MatchTypes false (knowns ts) ts
 are_types [] = refl
 are_types (t ∷ ts) = (refl, are_types ts)
 
-stacks_are : (tss uss : List (List ValType)) → MatchStacks (map surely tss) uss → uss ≡ tss
+stacks_are : (tss uss : List (List ValType)) → AllZip Matches (map surely tss) uss → uss ≡ tss
 stacks_are [] [] m = refl
 stacks_are [] (us ∷ uss) m = absurd m
 stacks_are (ts ∷ tss) [] m = absurd m
@@ -162,7 +163,7 @@ stacks_are (ts ∷ tss) (us ∷ uss) m =
     let rest = stacks_are tss uss m.1 in
     cc
 
-are_stacks : (tss : List (List ValType)) → MatchStacks (map surely tss) tss
+are_stacks : (tss : List (List ValType)) → AllZip Matches (map surely tss) tss
 are_stacks [] = tt
 are_stacks (ts ∷ tss) = (are_types ts, are_stacks tss)
 

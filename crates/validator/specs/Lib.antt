@@ -1,7 +1,6 @@
 pub mod Typing
 pub mod PlaceTypes
 pub mod SequenceTypes
-pub mod EachPlace
 pub mod Faults
 pub mod Worked
 pub mod Inside

@@ -1,6 +1,7 @@
 -- The types of operands and labels before an instruction of a function's body (3.3), and what is
 -- known of them.
 use Rattle.std.specs.Prelude.{◌≡◌, ℕ, zero, suc, ◌-◌, ◌<◌, ◌≤◌, ◌⊎◌, Bool, true, false, List, [], ◌∷◌, length, reverse, Option, Some, None, slice_get}
+use Rattle.std.specs.List.{AllZip}
 use Rattle.wasm_ast.specs.declared.values.ValType.{ValType}
 use Rattle.wasm_ast.specs.declared.values.ValType.TheVariants.{I32}
 use Rattle.wasm_ast.specs.declared.values.FuncType.{FuncType}
@@ -142,13 +143,6 @@ MatchTypes unreachable (x ∷ xs) (t ∷ ts) = IsOf x t × MatchTypes unreachabl
 abbrev pub Matches : Stack → List ValType → Type 0
 Matches s ts = MatchTypes s.unreachable s.types ts
 
--- each block's
-abbrev pub MatchStacks : List Stack → List (List ValType) → Type 0
-MatchStacks [] [] = Unit {0}
-MatchStacks [] (ts ∷ tss) = ⊥
-MatchStacks (s ∷ ss) [] = ⊥
-MatchStacks (s ∷ ss) (ts ∷ tss) = Matches s ts × MatchStacks ss tss
-
 -- what is known is so at this point
 abbrev pub MatchPoint : Known → Point → Type 0
-MatchPoint k p = (k.labels ≡ p.labels) × MatchStacks k.stacks p.stacks
+MatchPoint k p = (k.labels ≡ p.labels) × AllZip Matches k.stacks p.stacks

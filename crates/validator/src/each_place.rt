@@ -2,9 +2,9 @@
 
 ghost use Rattle.std.specs.Prelude.{◌≡◌, ◌∷◌, ◌≤◌, ◌<◌, ◌+◌, ◌++◌, ◌&&◌, [], ℕ, List, All, IfOk, IfNone, IfSome, OnOk, Err, Some, Option, IsTrue, true, false, length, drop, slice_get};
 ghost use Rattle.std.specs.List.Sorted.{IsStrictlyIncreasing};
+ghost use Rattle.std.specs.List.{AllZip};
 ghost use Rattle.wasm_ast.specs.Syntax.{count, ops_count};
 ghost use Rattle.wasm_ast.specs.View.{op_of};
-ghost use Rattle.validator.specs.EachPlace.{AtEach};
 ghost use Rattle.validator.specs.PlaceTypes.{Known};
 ghost use Rattle.validator.specs.Inside.Algorithm.{and_then, after_i32, encloses, ends, start, check_op, check_ops};
 ghost use Rattle.validator.specs.Inside.Blocks.{Blocks, Leads};
@@ -54,7 +54,7 @@ pub fn known_at_each<'a>(
     requires rising { IsStrictlyIncreasing places.now }
     requires inside { All (λ place. place < ops_count function.now.func.now.body) places.now }
     ensures ok { IfOk result (λ found. let f = function.now in
-        AtEach (λ place t. ops_known (context_of f (f.func_type.now.results ∷ [])) []
+        AllZip (λ place t. ops_known (context_of f (f.func_type.now.results ∷ [])) []
         f.func.now.body (start []) place ≡ Some t) places.now found.items) }
     ensures invalid { result ≡ Err CheckError.Invalid → let f = function.now in
         passes_func f.of.now f.func_type.now f.func.now ≡ false }

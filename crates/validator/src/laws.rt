@@ -2,6 +2,7 @@
 //! accepts and modules that it refuses. Each function has a contract and no body.
 
 ghost use Rattle.std.specs.Prelude.{◌≡◌, ◌↔◌, ℕ, ◌+◌, ◌^◌, true, false, List, [], ◌∷◌, reverse, Option, Some, None};
+ghost use Rattle.std.specs.List.{AllZip};
 ghost use Rattle.wasm_ast.specs.declared.values.ValType.{ValType};
 ghost use Rattle.wasm_ast.specs.declared.values.FuncType.{FuncType};
 ghost use Rattle.wasm_ast.specs.declared.module.Func.{Func};
@@ -19,7 +20,6 @@ ghost use Rattle.wasm_ast.specs.declared.operators.StoreOp.TheVariants as store;
 ghost use Rattle.wasm_ast.specs.declared.instr.BlockType.TheVariants.{Empty, One, Index};
 ghost use Rattle.wasm_ast.specs.declared.module.ExportKind.TheVariants as kind;
 ghost use Rattle.validator.specs.Typing.{ValidModule, Typed, body_context};
-ghost use Rattle.validator.specs.EachPlace.{AtEach};
 ghost use Rattle.validator.specs.Faults.{NamesFault};
 ghost use Rattle.validator.specs.PlaceTypes.{Point, IsOwn, IsPlace, ReachesAt, PassesAt, Known, Matches, MatchPoint};
 ghost use Rattle.validator.specs.Worked.{i32_const, i64_const, local_get, local_set, local_tee, global_get, global_set, load_at, store_at, memory_size, memory_grow, nop, unary, binary, test, compare, convert, unreachable, drop', select, br, br_if, br_table, return', call, call_indirect, block_of, loop_of, if_of, func_type, func, limits, constant_of, variable_of, export_of, element, segment, import_of, plain, with_body, with_types, Types, Gives, WithLocals, TypesWithoutMemory, TypesWithoutTable, point_of, known_stack, known_point, LeadsTo, MayLeadTo, MayPass, branch_body, arms_body};
@@ -661,6 +661,6 @@ pub fn known_operands_match()
 
 /// There is one answer for each place, in their order.
 pub fn each_place_has_an_answer()
-    ensures { (ns : List ℕ) → AtEach (λ place n. n ≡ place + 1) (3 ∷ 5 ∷ []) ns
+    ensures { (ns : List ℕ) → AllZip (λ place n. n ≡ place + 1) (3 ∷ 5 ∷ []) ns
         ↔ (ns ≡ 4 ∷ 6 ∷ []) }
 {}

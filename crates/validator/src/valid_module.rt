@@ -3,12 +3,12 @@
 ghost use Rattle.std.specs.Prelude.{◌≡◌, ◌⊎◌, ◌↔◌, ◌&&◌, ℕ, All, map, true, Option, None, IfOk, OnOk, OnErr, Err};
 ghost use Rattle.std.specs.Arc.{arc_value};
 ghost use Rattle.std.specs.List.Sorted.{IsStrictlyIncreasing};
+ghost use Rattle.std.specs.List.{AllZip};
 ghost use Rattle.wasm_ast.specs.declared.refusal.Refusal.TheVariants as refusal;
 ghost use Rattle.wasm_ast.specs.declared.place.Place.{Place};
 ghost use Rattle.validator.specs.Typing.{ValidOutside, ValidModule, AllDifferent};
 ghost use Rattle.validator.specs.Inside.ModuleTests.{declares_validly, defines_validly};
 ghost use Rattle.validator.specs.Faults.{NamesFault};
-ghost use Rattle.validator.specs.EachPlace.{AtEach};
 ghost use Rattle.validator.specs.PlaceTypes.{Point, IsPlace, ReachesAt, PassesAt, MatchPoint};
 
 use crate::check_error::CheckError;
@@ -111,12 +111,12 @@ impl Valid {
     ) -> Result<Vec<Types<'a>>, Refusal>
         requires rising { IsStrictlyIncreasing places.now }
         requires places { All (IsPlace self.now func) places.now }
-        ensures exact { IfOk result (λ types. AtEach (λ place t.
+        ensures exact { IfOk result (λ types. AllZip (λ place t.
             (p : Point) → MatchPoint t p ↔ ReachesAt self.now func place p)
             places.now types.items) }
-        ensures every { IfOk result (λ types. AtEach (λ place t.
+        ensures every { IfOk result (λ types. AllZip (λ place t.
             (p : Point) → PassesAt self.now func place p → MatchPoint t p) places.now types.items) }
-        ensures some { IfOk result (λ types. AtEach (λ place t.
+        ensures some { IfOk result (λ types. AllZip (λ place t.
             (p : Point) × PassesAt self.now func place p × MatchPoint t p) places.now types.items) }
         ensures err { OnErr result (result ≡ Err refusal.NoMemory) }
     {

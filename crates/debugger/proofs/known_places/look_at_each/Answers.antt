@@ -2,9 +2,9 @@ use Rattle.std.proofs.Common.{◌≡◌, ℕ, List, [], length, sym, ap, subst, 
 use Rattle.std.specs.Prelude.{All, ◌↔◌}
 use Rattle.std.specs.Global.{Vec}
 use Rattle.std.proofs.lemmas.List.Elements.{All-weaker}
+use Rattle.std.specs.List.{AllZip}
 use Rattle.wasm_ast.specs.declared.module.Module.{Module}
 use Rattle.validator.specs.PlaceTypes.{IsOwn, IsPlace, Known, Point, ReachesAt, MatchPoint}
-use Rattle.validator.specs.EachPlace.{AtEach}
 use Rattle.validator.proofs.EachOfModules.{inside_body}
 use Rattle.validator.proofs.PlacesOfModules.{own_type}
 use Rattle.step_machine.specs.Places.{opens_at}
@@ -48,7 +48,7 @@ add_each-requires-clause-blocks_count c =
 
 pub add_each-requires-clause-types : goal.add_each-requires-clause-types
 add_each-requires-clause-types c =
-    subst (λ (ts : List Known). AtEach (AreTypesAt c.args.of.now c.args.func) c.args.places.now ts)
+    subst (λ (ts : List Known). AllZip (AreTypesAt c.args.of.now c.args.func) c.args.places.now ts)
     (sym c.as_slice.ensures.value)
     (types_at_each_there c.valid.result.now c.args.of.now c.args.func c.args.places.now c.in_ok-types.types.items
     c.valid.ensures c.in_ok-types.ensures.exact c.in_ok-types.ensures.some)
