@@ -81,10 +81,12 @@ SimpleTyped c instr.Nop old new = old ≡ new
 SimpleTyped c (instr.Br label) old new =
     (ts : List ValType) × (rest : List ValType) × IsLabel c.labels ts label × (old ≡ on_top ts rest)
 SimpleTyped c (instr.BrIf label) old new =
-    (ts : List ValType) × (rest : List ValType) × IsLabel c.labels ts label × (old ≡ I32 ∷ on_top ts rest)
+    (ts : List ValType) × (rest : List ValType) × IsLabel c.labels ts label
+    × (old ≡ I32 ∷ on_top ts rest)
     × (new ≡ on_top ts rest)
 SimpleTyped c (instr.BrTable labels other) old new =
-    (ts : List ValType) × (rest : List ValType) × All (IsLabel c.labels ts) labels × IsLabel c.labels ts other
+    (ts : List ValType) × (rest : List ValType) × All (IsLabel c.labels ts) labels
+    × IsLabel c.labels ts other
     × (old ≡ I32 ∷ on_top ts rest)
 SimpleTyped c instr.Return old new = (rest : List ValType) × (old ≡ on_top c.results rest)
 SimpleTyped c (instr.Call func) old new =
