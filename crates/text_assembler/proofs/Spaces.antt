@@ -1,5 +1,5 @@
 -- How names are found in index spaces.
-use Rattle.std.proofs.Common.{◌≡◌, ℕ, zero, suc, ◌+◌, List, [], ◌∷◌, ◌++◌, reverse, replicate, length, Bool, true, false, Option, Some, None, is_some, Result, Ok, Err, is_ok, if◌then◌else◌, refl, sym, ap, ◌∙◌, bytes_eq, nat_lt, ◌^◌, append_assoc, arith}
+use Rattle.std.proofs.Common.{◌≡◌, ℕ, zero, suc, ◌+◌, List, [], ◌∷◌, ◌++◌, reverse, replicate, length, Bool, true, false, ◌||◌, Option, Some, None, is_some, Result, Ok, Err, is_ok, if◌then◌else◌, refl, sym, ap, ◌∙◌, bytes_eq, nat_lt, ◌^◌, append_assoc, arith}
 use Rattle.std.proofs.lemmas.List.{reverse-append}
 use Rattle.std.proofs.lemmas.Map.Text.{is_eq-slice_cmp}
 use Rattle.std.specs.Ordering.{is_eq, nat_cmp}
@@ -125,7 +125,7 @@ position_last before name (x ∷ ids) id =
 
 found_by :
     (b : Bool) (before : ℕ) (name : Name) (ids : Ids) → is_ok (position (before + 1) name ids) ≡ is_declared name ids
-    → is_ok (if b then Ok before else position (before + 1) name ids) ≡ (if b then true else is_declared name ids)
+    → is_ok (if b then Ok before else position (before + 1) name ids) ≡ (b || is_declared name ids)
 found_by true before name ids h = refl
 found_by false before name ids h = h
 

@@ -1,6 +1,7 @@
 -- Instructions (6.5), read from the front of the tokens. What they name is in the scopes of the
 -- module, in the locals of the function, and in the labels of the open blocks, the innermost first.
-use Rattle.std.specs.Prelude.{ℕ, zero, suc, ◌+◌, ◌^◌, List, [], ◌∷◌, length, take, drop, replicate, Bool, true, false, ◌&&◌, ◌||◌, ◌==◌, if◌then◌else◌, Result, Ok, Err, Option, Some, None, codes, bytes_eq, slice_get}
+use Rattle.std.specs.Prelude.{ℕ, zero, suc, ◌+◌, ◌^◌, List, [], ◌∷◌, length, take, drop, replicate, Bool, true, false, ◌&&◌, ◌||◌, ◌==◌, if◌then◌else◌, Result, Ok, Err, Option, Some, None, is_none, codes, bytes_eq, slice_get}
+use Rattle.std.specs.List.{list_all}
 use Rattle.wasm_ast.specs.declared.values.ValType.{ValType}
 use Rattle.wasm_ast.specs.declared.values.ValType.TheVariants as type
 use Rattle.wasm_ast.specs.declared.values.FuncType.{FuncType}
@@ -64,9 +65,7 @@ read_use s ts = do
   Ok ((index.0, names), results.1)
 
 unfoldable pub are_nameless : Ids → Bool
-are_nameless [] = true
-are_nameless (None ∷ ids) = are_nameless ids
-are_nameless (Some name ∷ ids) = false
+are_nameless ids = list_all is_none ids
 
 -- the index of a use whose parameters have no identifiers
 unfoldable pub read_nameless_use : Scopes → Reader ℕ

@@ -1,6 +1,7 @@
 -- Identifiers and the index spaces that they name entries of (6.3.5, 6.6.1). An identifier is
 -- written with its `$`.
-use Rattle.std.specs.Prelude.{ℕ, ◌+◌, ◌^◌, List, [], ◌∷◌, ◌++◌, Bool, true, false, ◌||◌, nat_lt, ◌==◌, if◌then◌else◌, Result, Ok, Err, Option, Some, None, bytes_eq}
+use Rattle.std.specs.Prelude.{ℕ, ◌+◌, ◌^◌, List, [], ◌∷◌, ◌++◌, Bool, false, ◌||◌, nat_lt, ◌==◌, if◌then◌else◌, Result, Ok, Err, Option, Some, None, bytes_eq}
+use Rattle.std.specs.List.{list_any}
 use Rattle.text_assembler.specs.declared.fault.Fault.{Fault}
 use Rattle.text_assembler.specs.declared.fault.Fault.TheVariants.{Malformed}
 use Rattle.text_assembler.specs.Reading.{◌>>=◌, need}
@@ -29,8 +30,7 @@ is_named name None = false
 is_named name (Some id) = bytes_eq id name
 
 unfoldable pub is_declared : Name → Ids → Bool
-is_declared name [] = false
-is_declared name (id ∷ ids) = if is_named name id then true else is_declared name ids
+is_declared name ids = list_any (is_named name) ids
 
 -- one more entry: no identifier is declared twice in a space
 unfoldable pub with_id : Ids → Option Name → Result Ids Fault
