@@ -2,6 +2,7 @@
 from __future__ import annotations
 
 import os
+import random
 import re
 import subprocess
 import sys
@@ -12,6 +13,8 @@ import pytest
 from suite import places, run_all
 from suite.__main__ import COMMANDS
 from suite.checks.tree import TOP, Tree
+from suite.reference import superinstructions, wasm
+from suite.reference.execute import Machine
 from suite.summary import NotRun, Summary, read
 from suite.trials import growth, program
 
@@ -206,3 +209,21 @@ def test_history_that_is_legal_or_not(tmp_path: Path) -> None:
         done = subprocess.run([TOP / "tests/run", "check-history", script], input=f"{reply}\n", capture_output=True, text=True,
                               check=False)
         assert done.returncode == status, done.stdout
+
+
+def test_each_superinstruction_is_a_row() -> None:
+    numbers = re.findall(r"^ *(\d+): ", superinstructions.TABLE.read_text(), re.MULTILINE)
+    assert [*map(int, numbers)] == [*range(len(superinstructions.rows()))] != []
+    assert {name for row in superinstructions.rows() for name in row} <= superinstructions.TAKES.keys()
+
+
+def test_programs_of_superinstructions_end_in_each_way() -> None:
+    random.seed(1)
+    ends = set()
+    for _ in range(60):
+        data = superinstructions.program()
+        assert [*wasm.refusals_of(data)] == []
+        machine = Machine(wasm.Decoder(data).module())
+        machine.run(2000)
+        ends |= {machine.end.get("trap", machine.end["cause"])} if machine.end else {"none"}
+    assert ends >= {"exit", "out of bounds memory access", "none"}

@@ -1,17 +1,18 @@
 """Compares the built program with a second reading of the standards, over random modules and lines.
 
-    tests/run compare [--dry | --both] [SEED [ROUNDS]]
+    tests/run compare [--dry | --both] [--rows] [SEED [ROUNDS]]
 
 The second reading is tests/suite/reference/: a decoder, a validator, a reader of lines and configs, a board and a debugger,
 written in Python from the standards and docs/PROTOCOL.md. A proof shows that the program does what the definitions say;
 this shows, as far as trials can, that the definitions say what was meant. A round is 60 modules, each put, created,
 started, run in random slices, asked for its state after each, stepped and inspected, and 120 lines,
 many of them bent, in replay and in serve. Most modules are valid programs that branch, call, trap and reach the
-memory's end; the rest are bent ones. After ten modules with a difference, or all rounds, those are printed, the
-smallest module first, and the status is 1; so it is at the first difference of other lines. Without words the seed is
-1, and there are 100 rounds. Cases are modules, and scripts of other lines. Build the program first (make build); PROGRAM in
-the environment names another one. With --dry there is no program: the second reading alone answers, and what it answered is
-counted.
+memory's end; some are made of superinstructions that begin and end everywhere, and the rest are bent ones. With --rows all
+are made of superinstructions, and slices of one length, from 1 to 50 turns, go over a part of each. After ten modules
+with a difference, or all rounds, those are printed, the smallest module first, and the status is 1; so it is at the first
+difference of other lines. Without words the seed is 1, and there are 100 rounds. Cases are modules, and scripts of other
+lines. Build the program first (make build); PROGRAM in the environment names another one. With --dry there is no program:
+the second reading alone answers, and what it answered is counted.
 
 With --both it is another program that is compared, `test_inputs`, over the modules alone: it runs each on the machine
 that programs use and on the one that keeps labels, and prints what the second shows at random turns, and whether the
@@ -27,10 +28,11 @@ import random
 import subprocess
 import sys
 import tempfile
+from collections.abc import Callable
 from typing import Any
 
 from suite.places import EXAMPLES, built
-from suite.reference import callers, frames, generate, programs, wasm
+from suite.reference import callers, frames, generate, programs, superinstructions, wasm
 from suite.reference.board import Board, Refused, line_of
 from suite.reference.execute import Machine
 from suite.summary import COULD_NOT, Summary
@@ -38,6 +40,10 @@ from suite.summary import COULD_NOT, Summary
 FIRST_RUN = EXAMPLES / "first_run.jsonl"
 # The head of the part of `test_inputs` that runs modules on both machines.
 BOTH = b"[machines]"
+# How many turns of a module of superinstructions are looked at, at most.
+MOST_TURNS = 25_000
+# A module, and budgets of the slices that run it.
+Chosen = tuple[bytes, list[int]]
 # A line, the reply or its number, and what differs from it.
 Difference = tuple[Any, bytes, bytes]
 # Modules with a difference: the size of each, its script, and the first difference.
@@ -56,14 +62,25 @@ def replies(lines: list[bytes], in_replay: bool) -> list[bytes]:
     return run.stdout.split(b"\n")[:-1]
 
 
-def some_module() -> tuple[bytes, list[int]]:
-    """A module, and budgets of the slices that run it."""
+def of_rows() -> Chosen:
+    """A module of superinstructions, with slices of one length over its begin, its end or a part between."""
+    data = superinstructions.program()
+    machine = Machine(wasm.Decoder(data).module())
+    machine.run(MOST_TURNS)
+    length, count = random.randint(1, 50), random.randint(1, 12)
+    begin = random.choice([0, random.randrange(machine.turns + 1), machine.turns - random.randint(0, length * count)])
+    return data, [*([begin] if begin > 0 else []), *[length] * count, MOST_TURNS]
+
+
+def some_module() -> Chosen:
     chance = random.random()
     if chance < 0.02:
         return programs.deep(), [random.randint(1, 3000), random.randint(1, 3000), 15_000]
     slices = [random.randint(1, most) for most in (4, 50, 400, 1500)]
     if chance < 0.2:
         return generate.module(), slices
+    if chance < 0.25:
+        return of_rows()
     data = callers.program() if chance < 0.35 else frames.program() if chance < 0.65 else programs.program()
     slices = stops(data) if random.random() < 0.8 and not wasm.refusals_of(data) else [*slices, 10_000]
     return generate.bent(data) if random.random() < 0.06 else data, slices
@@ -126,9 +143,9 @@ def lines_of(name: str, data: bytes, slices: list[int]) -> list[bytes]:
     return [json.dumps(line).encode() for line in lines]
 
 
-def compare_modules(tally: "Tally", differing: Differing, is_dry: bool) -> None:
+def compare_modules(choose: Callable[[], Chosen], tally: "Tally", differing: Differing, is_dry: bool) -> None:
     """Runs 60 modules; adds those with another reply than the second reading's to the differing ones."""
-    scripts, board = [lines_of(f"t{number}", *some_module()) for number in range(60)], Board(True)
+    scripts, board = [lines_of(f"t{number}", *choose()) for number in range(60)], Board(True)
     wanted = [[board.answer(line) for line in script] for script in scripts]
     found = iter(sum(wanted, list[bytes]()) if is_dry else replies(sum(scripts, list[bytes]()), True))
     for script, replies_ in zip(scripts, wanted):
@@ -141,9 +158,9 @@ def compare_modules(tally: "Tally", differing: Differing, is_dry: bool) -> None:
         tally.ends[end_of(told[-1][1])] += 1
 
 
-def compare_machines(tally: "Tally", differing: Differing) -> None:
+def compare_machines(choose: Callable[[], Chosen], tally: "Tally", differing: Differing) -> None:
     """Runs 60 modules on both machines; adds those that either shows in another way than the second reading."""
-    modules = [(data, [*itertools.accumulate(slices)]) for data, slices in (some_module() for _ in range(60))]
+    modules = [(data, [*itertools.accumulate(slices)]) for data, slices in (choose() for _ in range(60))]
     lines = [" ".join([data.hex(), *map(str, counts)]).encode() for data, counts in modules]
     script = b"\n".join([BOTH, *lines, b""])
     run = subprocess.run([built("test_inputs")], input=script, stdout=subprocess.PIPE, check=True)
@@ -267,20 +284,21 @@ def shares(counts: collections.Counter[int]) -> str:
     return ", ".join(told)
 
 
-def compare_round(mode: str | None, tally: Tally, differing: Differing) -> bool:
+def compare_round(options: set[str], tally: Tally, differing: Differing) -> bool:
     """Makes a round. Whether it can go on: a line that is no part of a module's script differs nowhere."""
-    if mode == "--both":
-        compare_machines(tally, differing)
+    choose = of_rows if "--rows" in options else some_module
+    if "--both" in options:
+        compare_machines(choose, tally, differing)
         return True
-    is_dry = mode == "--dry"
-    compare_modules(tally, differing, is_dry)
+    is_dry = "--dry" in options
+    compare_modules(choose, tally, differing, is_dry)
     return all(compare(of_requests(), in_replay, tally, is_dry) for in_replay in (True, False))
 
 
 def main(words: list[str]) -> int:
-    mode = words[0] if words[:1] in (["--dry"], ["--both"]) else None
-    numbers = words[1:] if mode else words
-    if len(numbers) > 2 or not all(word.isdigit() for word in numbers):
+    options = {word for word in words if word in ("--dry", "--both", "--rows")}
+    numbers = [word for word in words if word not in options]
+    if len(numbers) > 2 or not all(word.isdigit() for word in numbers) or {"--dry", "--both"} <= options:
         is_asked = numbers in (["-h"], ["--help"])
         print((__doc__ or "").strip(), file=sys.stdout if is_asked else sys.stderr)
         return 0 if is_asked else COULD_NOT
@@ -288,17 +306,17 @@ def main(words: list[str]) -> int:
     random.seed(seed)
     tally, differing, scripts, failed = Tally(), list[Any](), 0, 0
     for _ in range(rounds):
-        if not compare_round(mode, tally, differing):
+        if not compare_round(options, tally, differing):
             failed = 1
             break
-        scripts += 0 if mode else 2
+        scripts += 0 if options & {"--dry", "--both"} else 2
         if len(differing) >= 10:
             break
     for _, script, first in sorted(differing):
         print(b"\n".join(script).decode())
         show(*first)
     told = f"{len(differing)} modules differ" if differing else "no difference"
-    print(tally, "nothing was compared" if mode == "--dry" else told, sep="\n")
-    modules = 0 if mode == "--dry" else tally.ends.total()
-    name = f"compare{(mode or '').removeprefix('-')}"
+    print(tally, "nothing was compared" if "--dry" in options else told, sep="\n")
+    modules = 0 if "--dry" in options else tally.ends.total()
+    name = f"compare{'-both' if '--both' in options else '-dry' if '--dry' in options else ''}"
     return Summary(name, modules - len(differing) + scripts, len(differing) + failed).end()
