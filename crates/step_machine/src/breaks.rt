@@ -257,6 +257,52 @@ impl<'a> BreakFunctions<'a> {
     }
 }
 
+/// Breakpoints that are elsewhere as long as only functions run that have none, or no breakpoints.
+/// Contracts see the breakpoints' places.
+#[derive(Drop)]
+pub struct Elsewhere<'a> {
+    functions: Option<&'a BreakFunctions<'a>>,
+}
+
+impl<'a> Model for Elsewhere<'a> {
+    ghost use Rattle.std.specs.Prelude.{List, option_map};
+    ghost use Rattle.step_machine.specs.Inside.Marks.{places_of};
+    ghost use Rattle.wasm_ast.specs.declared.place.Place.{Place};
+
+    ghost Value = { List Place };
+
+    ghost view = { λ e. places_of (option_map (λ f. f.now) e.functions) };
+}
+
+impl<'a> Elsewhere<'a> {
+    /// No breakpoints.
+    pub fn nothing() -> Elsewhere<'a>
+        ensures { result ≡ [] }
+    {
+        Elsewhere { functions: None }
+    }
+
+    /// The breakpoints of these functions.
+    pub fn of(functions: &'a BreakFunctions<'a>) -> Elsewhere<'a>
+        ensures { result ≡ functions.now }
+    {
+        Elsewhere {
+            functions: Some(functions),
+        }
+    }
+
+    /// Whether a function may have one: it does if it has one.
+    #[inline(always)]
+    pub fn may_have(&self, func: u32) -> bool
+        ensures { result ≡ false → IsFree self.now func }
+    {
+        match self.functions {
+            Some(functions) => functions.may_have(func),
+            None => false,
+        }
+    }
+}
+
 // The marks of these places' functions.
 fn functions_of(places: &[Place]) -> [bool; FUNCTIONS]
     ensures { AreInFunctions places.now result }
