@@ -13,12 +13,12 @@
 //!
 //! # The way of a slice
 //!
-//! `Machine::run` chooses one of four copies of the loop in run_loop.rt: with or without a test for room
-//! on the stack (room.rt), with or without a look for breakpoints (watch.rt). The loop calls `step` in
-//! turn.rt once for each cell. `step` reads the cell and calls the function of its kind: do_values.rt,
-//! do_variables.rt, do_memory.rt, do_control.rt, do_calls.rt, do_system.rt. Superinstructions are in
-//! superinstructions.rt, what follows in them in parts.rt and actions.rt. The ends of blocks and bodies,
-//! which take no turn, are in settle.rt.
+//! `Machine::run` chooses one of three copies of the loop in run_loop.rt: without a test for room on the
+//! stack, or with one (room.rt) and with or without a look for breakpoints (watch.rt). The loop
+//! calls `step` in turn.rt once for each cell. `step` reads the cell and calls the function of its
+//! kind: do_values.rt, do_variables.rt, do_memory.rt, do_control.rt, do_calls.rt, do_system.rt.
+//! Superinstructions are in superinstructions.rt, what follows in them in parts.rt and actions.rt.
+//! The ends of blocks and bodies, which take no turn, are in settle.rt.
 //!
 //! All memory that turns need is allocated when the module is instantiated: instantiate.rt has the
 //! refusals, first_data.rt and store.rt the first store, start_up.rt the first frames.
