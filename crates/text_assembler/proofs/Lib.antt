@@ -15,3 +15,5 @@ pub mod FieldLoops
 pub mod Nesting
 pub mod ModuleNesting
 pub mod Denoted
+pub mod Parentheses
+pub mod IndexSpaces

@@ -176,20 +176,20 @@ agrees_field k n le s ts =
 
 -- ---- fields added to a module
 
-always_ok : {A : Type 0} (E : A → Type 0) (x : A) → E x → Always E (Ok x)
+pub always_ok : {A : Type 0} (E : A → Type 0) (x : A) → E x → Always E (Ok x)
 always_ok E x h y e = subst E (ok_inj x y e) h
 
-always_need : {A : Type 0} (E : A → Type 0) (b : Bool) (r : Result A Fault) → Always E r → Always E (need b r)
+pub always_need : {A : Type 0} (E : A → Type 0) (b : Bool) (r : Result A Fault) → Always E r → Always E (need b r)
 always_need E true r h y e = h y e
 always_need E false r h y e = absurd (no_ok Malformed y e)
 
-always_after :
+pub always_after :
     {A B : Type 0} (E : B → Type 0) (r : Result A Fault) (f : A → Result B Fault) → ((x : A) → Always E (f x))
     → Always E (r >>= f)
 always_after E (Ok x) f h y e = h x y e
 always_after E (Err q) f h y e = absurd (no_ok q y e)
 
-always_then :
+pub always_then :
     {A B : Type 0} (D : A → Type 0) (E : B → Type 0) (r : Result A Fault) (f : A → Result B Fault) → Always D r
     → ((x : A) → D x → Always E (f x)) → Always E (r >>= f)
 always_then D E (Ok x) f d h y e = h x (d x refl) y e
@@ -249,7 +249,7 @@ one_field_keeps k n s m ts d =
     always_then (IsDeeper m f.0) (DeepRead k) (add_field m f.0) (λ more. Ok (more, f.1)) (deeper m f.0)
     (λ more h. always_ok (DeepRead k) (more, f.1) (omega (arith, h.0, d))))
 
-always_if :
+pub always_if :
     {A : Type 0} (E : A → Type 0) (b : Bool) (p q : Result A Fault) → Always E p → Always E q
     → Always E (if b then p else q)
 always_if E true p q h k = h

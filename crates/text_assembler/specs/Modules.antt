@@ -287,6 +287,11 @@ read_module nesting s ts = do
 unfoldable pub read_tokens : (nesting : ℕ) → Tokens → Result Module Fault
 read_tokens nesting ts = declare_fields 0 no_scopes ts >>= λ s. read_module nesting s ts
 
+-- the scopes that the names among these tokens are looked up in, and the module that they are read as
+abbrev pub AreOf : Tokens → Scopes → Module → Type 0
+AreOf ts s m =
+    (declare_fields 0 no_scopes ts ≡ Ok s) × ((nesting : ℕ) × (read_tokens nesting ts ≡ Ok m))
+
 -- the module of a text, where at most this many blocks are open at one word
 unfoldable pub read_text : (nesting : ℕ) → List ℕ → Result Module Fault
 read_text nesting text = tokens_of text >>= λ ts. read_tokens nesting ts

@@ -1,6 +1,6 @@
 //! What is proved of the definitions themselves.
 
-ghost use Rattle.std.specs.Prelude.{◌≡◌, ℕ, ◌≤◌, List, [], ◌∷◌, ◌++◌, length, map, filter, false, Result, Ok, Err, Some, None, codes};
+ghost use Rattle.std.specs.Prelude.{◌≡◌, ℕ, ◌≤◌, List, [], ◌∷◌, ◌++◌, ◌+◌, length, map, filter, false, Result, Ok, Err, Some, None, codes};
 ghost use Rattle.std.specs.List.{range_with_len};
 ghost use Rattle.wasm_ast.specs.declared.module.Module.{Module};
 ghost use Rattle.wasm_ast.specs.Limits.{Within};
@@ -10,6 +10,7 @@ ghost use Rattle.wasm_ast.specs.declared.operators.LoadOp.TheVariants as load;
 ghost use Rattle.wasm_ast.specs.declared.operators.ConvertOp.TheVariants as convert;
 ghost use Rattle.text_assembler.specs.declared.fault.Fault.TheVariants.{Malformed, TooDeep};
 ghost use Rattle.text_assembler.specs.declared.keyword.Keyword.TheVariants as keyword;
+ghost use Rattle.text_assembler.specs.declared.token.Lexeme.{Lexeme};
 ghost use Rattle.text_assembler.specs.declared.token.Lexeme.TheVariants as lexeme;
 ghost use Rattle.wasm_ast.specs.declared.instr.Simple.{Simple};
 ghost use Rattle.wasm_ast.specs.declared.instr.Simple.TheVariants.{Convert};
@@ -28,7 +29,7 @@ ghost use Rattle.text_assembler.specs.Characters.{is_word_char};
 ghost use Rattle.text_assembler.specs.Tokens.{read_element, tokens_of};
 ghost use Rattle.text_assembler.specs.Words.{keyword_of};
 ghost use Rattle.text_assembler.specs.Worked.{worked, worked_access, worked_uses};
-ghost use Rattle.text_assembler.specs.Modules.{Denotes, IsPlaceIn, IsTooDeep, read_text};
+ghost use Rattle.text_assembler.specs.Modules.{AreOf, Denotes, IsPlaceIn, IsTooDeep, read_text};
 
 /// A text denotes at most one module.
 pub fn denotes_one()
@@ -39,6 +40,24 @@ pub fn denotes_one()
 pub fn too_deep_denotes_none_within()
     ensures { (text : List ℕ) → IsTooDeep text
         → (m : Module) → Denotes text m → Within m → ⊥ }
+{}
+
+/// The scopes that names are looked up in are the index spaces of the module (2.5.1): the types
+/// that are declared are those that are read, and each space has an entry for each of its imports
+/// and for each of its own.
+pub fn scopes_are_the_index_spaces()
+    ensures signatures { (ts : List Lexeme) (s : Scopes) (m : Module) → AreOf ts s m
+        → s.signatures ≡ m.types }
+    ensures types { (ts : List Lexeme) (s : Scopes) (m : Module) → AreOf ts s m
+        → length s.types ≡ length m.types }
+    ensures funcs { (ts : List Lexeme) (s : Scopes) (m : Module) → AreOf ts s m
+        → length s.funcs ≡ length m.imports + length m.funcs }
+    ensures tables { (ts : List Lexeme) (s : Scopes) (m : Module) → AreOf ts s m
+        → length s.tables ≡ length m.tables }
+    ensures memories { (ts : List Lexeme) (s : Scopes) (m : Module) → AreOf ts s m
+        → length s.memories ≡ length m.memories }
+    ensures globals { (ts : List Lexeme) (s : Scopes) (m : Module) → AreOf ts s m
+        → length s.globals ≡ length m.globals }
 {}
 
 /// The line of an instruction without a body is read back as that instruction, in any scopes where the
