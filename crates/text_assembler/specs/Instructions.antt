@@ -12,6 +12,7 @@ use Rattle.wasm_ast.specs.declared.instr.MemArg.{MemArg}
 use Rattle.wasm_ast.specs.declared.instr.Simple.{Simple}
 use Rattle.wasm_ast.specs.declared.instr.Simple.TheVariants as instr
 use Rattle.wasm_ast.specs.Syntax.{Op, simple, block, loop, if', Ops, ops_of}
+use Rattle.wasm_ast.specs.Types.{are_same_types}
 use Rattle.wasm_ast.specs.Access.{load_bytes, store_bytes}
 use Rattle.text_assembler.specs.declared.fault.Fault.{Fault}
 use Rattle.text_assembler.specs.declared.fault.Fault.TheVariants.{Malformed, TooDeep}
@@ -24,7 +25,7 @@ use Rattle.text_assembler.specs.Reading.{◌>>=◌, need, read_parts}
 use Rattle.text_assembler.specs.Numbers.{given, small_number, constant}
 use Rattle.text_assembler.specs.Words.{keyword_of}
 use Rattle.text_assembler.specs.Names.{Name, Ids, is_id, is_named, with_id}
-use Rattle.text_assembler.specs.Phrases.{Tokens, Reader, skip_close, take_word, begins_word, skip_word, begins_group, skip_group, id_of, after_id, read_index, read_indices, read_val_type, read_results, read_bindings, names_of, types_of, same_types}
+use Rattle.text_assembler.specs.Phrases.{Tokens, Reader, skip_close, take_word, begins_word, skip_word, begins_group, skip_group, id_of, after_id, read_index, read_indices, read_val_type, read_results, read_bindings, names_of, types_of}
 
 -- ---- uses of types (6.6.3)
 
@@ -38,7 +39,7 @@ is_unwritten params results = length params == 0 && length results == 0
 -- parameters and results, where any is written, are those of the type
 unfoldable pub fits_signature : FuncType → List Binding → List ValType → Bool
 fits_signature t params results =
-    same_types t.params (types_of params) && same_types t.results results
+    are_same_types t.params (types_of params) && are_same_types t.results results
 
 -- the parameters of a use as locals
 unfoldable pub params_of_use : FuncType → List Binding → List ValType → Result Ids Fault

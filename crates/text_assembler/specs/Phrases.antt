@@ -4,7 +4,6 @@ use Rattle.std.specs.Str.{is_utf8}
 use Rattle.wasm_ast.specs.declared.values.ValType.{ValType}
 use Rattle.wasm_ast.specs.declared.values.ValType.TheVariants as type
 use Rattle.wasm_ast.specs.declared.module.Limits.{Limits}
-use Rattle.wasm_binary.specs.Canonical.{same_type}
 use Rattle.text_assembler.specs.declared.fault.Fault.{Fault}
 use Rattle.text_assembler.specs.declared.fault.Fault.TheVariants.{Malformed}
 use Rattle.text_assembler.specs.declared.token.Lexeme.{Lexeme}
@@ -153,11 +152,6 @@ names_of bindings = map (λ b. b.name) bindings
 
 abbrev pub types_of : List Binding → List ValType
 types_of bindings = map (λ b. b.val_type) bindings
-
-unfoldable pub same_types : List ValType → List ValType → Bool
-same_types [] [] = true
-same_types (t ∷ ts) (u ∷ us) = if same_type t u then same_types ts us else false
-same_types ts us = false
 
 -- a first size, and a largest one if there is one (6.4.5)
 unfoldable pub read_limits : Reader Limits

@@ -4,16 +4,16 @@ ghost use Rattle.std.specs.Prelude.{◌≡◌, [], ◌∷◌, not, is_none, code
 ghost use Rattle.text_assembler.specs.declared.fault.ReadError.TheVariants as errors;
 ghost use Rattle.text_assembler.specs.Inside.Answers.{Gives, Finds, with_front};
 ghost use Rattle.text_assembler.specs.Inside.Steps.{open_word, read_grouped};
-ghost use Rattle.wasm_binary.specs.Canonical.{same_type};
+ghost use Rattle.wasm_ast.specs.Types.{are_same_types};
 ghost use Rattle.text_assembler.specs.Reading.{read_parts};
-ghost use Rattle.text_assembler.specs.Phrases.{is_close, skip_close, skip_open, take_word, take_text, begins_word, skip_word, begins_group, is_past_groups, skip_group, read_name, begins_id, id_of, after_id, read_number, begins_index, is_past_indices, read_index, one_index, read_indices, val_type_of, read_val_type, one_type, read_result, read_results, one_nameless, read_bound, read_group, read_bindings, names_of, types_of, same_types, read_limits};
+ghost use Rattle.text_assembler.specs.Phrases.{is_close, skip_close, skip_open, take_word, take_text, begins_word, skip_word, begins_group, is_past_groups, skip_group, read_name, begins_id, id_of, after_id, read_number, begins_index, is_past_indices, read_index, one_index, read_indices, val_type_of, read_val_type, one_type, read_result, read_results, one_nameless, read_bound, read_group, read_bindings, names_of, types_of, read_limits};
 
 use crate::fault::ReadError;
 use crate::ids::{Space, is_id, is_index};
 use crate::numbers::small_number;
 use crate::token::{Lexeme, Token, WrittenType};
 use std::alloc::Global;
-use wasm_ast::{Bytes, Limits, Sequence, ValType};
+use wasm_ast::{Bytes, Limits, Sequence, ValType, is_same_type};
 
 /// A parameter or a local: its identifier, if it has one, and its type.
 #[derive(Drop)]
@@ -514,20 +514,10 @@ pub fn push_bindings<'a>(
     }
 }
 
-fn same_type(first: ValType, second: ValType) -> bool
-    ensures { result ≡ same_type first second }
-{
-    matches!(
-        (first, second),
-        (ValType::I32, ValType::I32) | (ValType::I64, ValType::I64)
-    )
-}
-
 /// How many tokens are left at the first of these types that is not the wanted one, or after all of
 /// them if one is missing. `None` if they are the wanted ones.
-#[tactic(auto, unfolding(crate::specs::Phrases::same_types))]
 pub fn first_other(wanted: &[ValType], written: &[WrittenType], after: usize) -> Option<usize>
-    ensures { is_none result ≡ same_types wanted.now written.now }
+    ensures { is_none result ≡ are_same_types wanted.now written.now }
 {
     let mut due = wanted;
     let mut rest = written;
@@ -535,7 +525,7 @@ pub fn first_other(wanted: &[ValType], written: &[WrittenType], after: usize) ->
         let Some((second, others)) = rest.split_first() else {
             return Some(after);
         };
-        if !same_type(*first, second.val_type()) {
+        if !is_same_type(*first, second.val_type()) {
             return Some(second.left());
         }
         due = tail;

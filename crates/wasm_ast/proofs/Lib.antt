@@ -1,3 +1,4 @@
 pub mod FunctionTypes
 pub mod LimitLemmas
 pub mod PlaceLemmas
+pub mod SameTypes

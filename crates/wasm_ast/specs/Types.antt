@@ -1,6 +1,6 @@
 -- The types of values (4.2.1) and of conversions (3.3.1), and those that a module gives its blocks and its
 -- functions (2.3.3, 2.4.5, 2.5.1).
-use Rattle.std.specs.Prelude.{ℕ, zero, suc, List, [], ◌∷◌, ◌++◌, map, Option, Some, None, slice_get}
+use Rattle.std.specs.Prelude.{ℕ, zero, suc, List, [], ◌∷◌, ◌++◌, map, Option, Some, None, slice_get, Bool, true, false, ◌&&◌}
 use Rattle.wasm_ast.specs.declared.values.ValType.{ValType}
 use Rattle.wasm_ast.specs.declared.values.ValType.TheVariants as type
 use Rattle.wasm_ast.specs.declared.values.Value.{Value}
@@ -26,6 +26,17 @@ value_of type.I64 n = I64 n
 abbrev pub zero_of : ValType → Value
 zero_of type.I32 = I32 0
 zero_of type.I64 = I64 0
+
+-- whether two types are the same, which holds of equal types alone
+abbrev pub is_same_type : ValType → ValType → Bool
+is_same_type type.I32 type.I32 = true
+is_same_type type.I64 type.I64 = true
+is_same_type t other = false
+
+abbrev pub are_same_types : List ValType → List ValType → Bool
+are_same_types [] [] = true
+are_same_types (t ∷ ts) (u ∷ us) = is_same_type t u && are_same_types ts us
+are_same_types ts others = false
 
 -- the types that a conversion takes and gives (3.3.1)
 abbrev pub conversion_types : ConvertOp → ValType × ValType

@@ -1,13 +1,13 @@
 //! What is proved of the definitions themselves.
 
-ghost use Rattle.std.specs.Prelude.{◌≡◌, ◌↔◌, ℕ, [], ◌∷◌, map, IsTrue, nat_lt, is_some, Option, Some, None, true, false, codes};
+ghost use Rattle.std.specs.Prelude.{◌≡◌, ◌↔◌, ℕ, List, [], ◌∷◌, map, IsTrue, Decides, nat_lt, is_some, Option, Some, None, true, false, codes};
 ghost use Rattle.wasm_ast.specs.Names.{trap_name, refusal_number};
 ghost use Rattle.wasm_ast.specs.declared.place.Place.{Place};
 ghost use Rattle.wasm_ast.specs.declared.trap.Trap.TheVariants as trap;
 ghost use Rattle.wasm_ast.specs.declared.refusal.Refusal.TheVariants as refusal;
 ghost use Rattle.wasm_ast.specs.Limits.{Within, is_within, ops_depth, max_module_bytes, max_functions, max_locals, max_results, max_nesting, max_table_entries, max_memory_pages};
 ghost use Rattle.wasm_ast.specs.Syntax.{Ops, simple, ops_count, ops_at};
-ghost use Rattle.wasm_ast.specs.Types.{type_of, value_of, zero_of, source_of, target_of, block_type, type_at};
+ghost use Rattle.wasm_ast.specs.Types.{type_of, value_of, zero_of, is_same_type, are_same_types, source_of, target_of, block_type, type_at};
 ghost use Rattle.wasm_ast.specs.Access.{load_type, load_bytes, is_sign_extended, store_type, store_bytes};
 ghost use Rattle.wasm_ast.specs.Worked.{inner_if, outer_block, worked};
 ghost use Rattle.wasm_ast.specs.declared.instr.BlockType.TheVariants.{Empty, One, Index};
@@ -15,6 +15,7 @@ ghost use Rattle.wasm_ast.specs.declared.instr.Simple.TheVariants as instr;
 ghost use Rattle.wasm_ast.specs.declared.operators.LoadOp.TheVariants as load;
 ghost use Rattle.wasm_ast.specs.declared.operators.StoreOp.TheVariants as store;
 ghost use Rattle.wasm_ast.specs.declared.operators.ConvertOp.TheVariants as convert;
+ghost use Rattle.wasm_ast.specs.declared.values.ValType.{ValType};
 ghost use Rattle.wasm_ast.specs.declared.values.ValType.TheVariants as type;
 ghost use Rattle.wasm_ast.specs.declared.values.Value.TheVariants as value;
 
@@ -145,6 +146,12 @@ pub fn values_have_types()
     ensures zero_64 { zero_of type.I64 ≡ value.I64 0 }
     ensures of_i32 { value_of type.I32 5 ≡ value.I32 5 }
     ensures of_i64 { value_of type.I64 5 ≡ value.I64 5 }
+{}
+
+/// The tests of types hold of equal types alone.
+pub fn types_are_compared()
+    ensures one { (t u : ValType) → Decides (is_same_type t u) (t ≡ u) }
+    ensures lists { (ts us : List ValType) → Decides (are_same_types ts us) (ts ≡ us) }
 {}
 
 /// Types that conversions take and give.

@@ -2,9 +2,10 @@
 use Rattle.std.proofs.Common.{◌≡◌, ℕ, zero, suc, ◌+◌, ◌<◌, ◌^◌, Bool, true, false, List, [], ◌∷◌, ◌++◌, length, take, replicate, fold, refl, sym, ap, ◌∙◌, append_assoc, cond, arith}
 use Rattle.std.proofs.lemmas.List.{append-nil, replicate_more, length-take}
 use Rattle.wasm_ast.specs.declared.values.ValType.{ValType}
-use Rattle.wasm_ast.specs.declared.values.ValType.TheVariants.{I32, I64}
+use Rattle.wasm_ast.specs.Types.{is_same_type}
+use Rattle.wasm_ast.proofs.SameTypes.{same_type, itself}
 use Rattle.wasm_binary.specs.Grammar.{locals_of}
-use Rattle.wasm_binary.specs.Canonical.{same_type, add_local, AreLongest, runs_of}
+use Rattle.wasm_binary.specs.Canonical.{add_local, AreLongest, runs_of}
 
 abbrev Run : Type 0
 Run = ℕ × ValType
@@ -16,7 +17,7 @@ add_at (r ∷ []) run t = refl
 add_at (r ∷ s ∷ rs) run t = ap (λ (xs : List Run). r ∷ xs) (add_at (s ∷ rs) run t)
 
 pub same_run :
-    (old front new : List Run) (n : ℕ) (u t : ValType) → old ≡ front ++ (n, u) ∷ [] → same_type u t ≡ true
+    (old front new : List Run) (n : ℕ) (u t : ValType) → old ≡ front ++ (n, u) ∷ [] → is_same_type u t ≡ true
     → new ≡ front ++ (n + 1, u) ∷ [] → new ≡ add_local old t
 same_run old front new n u t e same f =
     let one : add_local ((n, u) ∷ []) t ≡ (n + 1, u) ∷ [] = rw same refl in
@@ -24,7 +25,7 @@ same_run old front new n u t e same f =
     ∙ ap (λ (xs : List Run). add_local xs t) (sym e)
 
 pub new_run :
-    (old front mid new : List Run) (n : ℕ) (u t : ValType) → old ≡ front ++ (n, u) ∷ [] → same_type u t ≡ false
+    (old front mid new : List Run) (n : ℕ) (u t : ValType) → old ≡ front ++ (n, u) ∷ [] → is_same_type u t ≡ false
     → mid ≡ front ++ (n, u) ∷ [] → new ≡ mid ++ (1, t) ∷ [] → new ≡ add_local old t
 new_run old front mid new n u t e other f g =
     let one : add_local ((n, u) ∷ []) t ≡ (n, u) ∷ (1, t) ∷ [] = rw other refl in
@@ -32,24 +33,18 @@ new_run old front mid new n u t e other f g =
     ∙ ap (λ (xs : List Run). front ++ xs) (sym one) ∙ sym (add_at front (n, u) t)
     ∙ ap (λ (xs : List Run). add_local xs t) (sym e)
 
-same_is : (u t : ValType) → same_type u t ≡ true → u ≡ t
-same_is I32 I32 e = refl
-same_is I32 I64 e = absurd cc
-same_is I64 I32 e = absurd cc
-same_is I64 I64 e = refl
-
 locals_case :
-    (n : ℕ) (u t : ValType) (b : Bool) → same_type u t ≡ b
+    (n : ℕ) (u t : ValType) (b : Bool) → is_same_type u t ≡ b
     → locals_of (cond b ((n + 1, u) ∷ []) ((n, u) ∷ (1, t) ∷ [])) ≡ locals_of ((n, u) ∷ []) ++ t ∷ []
 locals_case n u t true e =
     append-nil (replicate (n + 1) u) ∙ sym (replicate_more n u)
-    ∙ ap (λ (v : ValType). replicate n u ++ v ∷ []) (same_is u t e)
+    ∙ ap (λ (v : ValType). replicate n u ++ v ∷ []) (same_type u t e)
     ∙ ap (λ (xs : List ValType). xs ++ t ∷ []) (sym (append-nil (replicate n u)))
 locals_case n u t false e = ap (λ (xs : List ValType). xs ++ t ∷ []) (sym (append-nil (replicate n u)))
 
 locals_add : (rs : List Run) (t : ValType) → locals_of (add_local rs t) ≡ locals_of rs ++ t ∷ []
 locals_add [] t = refl
-locals_add (r ∷ []) t = locals_case r.0 r.1 t (same_type r.1 t) refl
+locals_add (r ∷ []) t = locals_case r.0 r.1 t (is_same_type r.1 t) refl
 locals_add (r ∷ s ∷ rs) t =
     ap (λ (xs : List ValType). replicate r.0 r.1 ++ xs) (locals_add (s ∷ rs) t)
     ∙ sym (append_assoc (replicate r.0 r.1) (locals_of (s ∷ rs)) (t ∷ []))
@@ -73,12 +68,8 @@ few_before ts runs i e lt small =
 
 -- ---- the only longest runs
 
-same_self : (t : ValType) → same_type t t ≡ true
-same_self I32 = refl
-same_self I64 = refl
-
-other_type : (u t : ValType) (b : Bool) → same_type u t ≡ b → (u ≡ t → ⊥) → same_type u t ≡ false
-other_type u t true e differs = absurd (differs (same_is u t e))
+other_type : (u t : ValType) (b : Bool) → is_same_type u t ≡ b → (u ≡ t → ⊥) → is_same_type u t ≡ false
+other_type u t true e differs = absurd (differs (same_type u t e))
 other_type u t false e differs = e
 
 -- locals of the last run's type make it longer
@@ -88,7 +79,7 @@ run_grows :
 run_grows front k zero t ts =
     let e : k ≡ k + 0 = omega arith in ap (λ (m : ℕ). fold add_local (front ++ (m, t) ∷ []) ts) e
 run_grows front k (suc n) t ts =
-    let one : add_local ((k, t) ∷ []) t ≡ (k + 1, t) ∷ [] = rw (same_self t) refl in
+    let one : add_local ((k, t) ∷ []) t ≡ (k + 1, t) ∷ [] = rw (itself t) refl in
     let grown :
     add_local (front ++ (k, t) ∷ []) t ≡ front ++ (k + 1, t) ∷ [] =
     add_at front (k, t) t ∙ ap (λ (xs : List Run). front ++ xs) one in
@@ -102,7 +93,7 @@ run_begins : (front : List Run) (run : Run) (n : ℕ) (t : ValType) (ts : List V
 run_begins front run zero t ts differs some = absurd (omega arith)
 run_begins front run (suc n) t ts differs some =
     let one :
-    add_local (run ∷ []) t ≡ run ∷ (1, t) ∷ [] = rw (other_type run.1 t (same_type run.1 t) refl differs) refl in
+    add_local (run ∷ []) t ≡ run ∷ (1, t) ∷ [] = rw (other_type run.1 t (is_same_type run.1 t) refl differs) refl in
     let begun : add_local (front ++ run ∷ []) t ≡ (front ++ run ∷ []) ++ (1, t) ∷ [] =
     add_at front run t ∙ ap (λ (xs : List Run). front ++ xs) one ∙ sym (append_assoc front (run ∷ []) ((1, t) ∷ [])) in
     let count : 1 + n ≡ suc n = omega arith in

@@ -3,10 +3,11 @@ use Rattle.std.proofs.Common.{◌≡◌, ℕ, zero, suc, ◌+◌, ◌-◌, ◌*�
 use Rattle.std.specs.Prelude.{◌⊎◌}
 use Rattle.std.proofs.lemmas.Bool.{cases_lt, lt-ltb, le-ltb, ltb-true, ltb-false, le-leb}
 use Rattle.wasm_ast.specs.declared.values.ValType.{ValType}
-use Rattle.wasm_ast.specs.declared.values.ValType.TheVariants.{I32, I64}
+use Rattle.wasm_ast.specs.Types.{is_same_type}
+use Rattle.wasm_ast.proofs.SameTypes.{itself}
 use Rattle.wasm_binary.specs.Numbers as numbers
 use Rattle.wasm_binary.specs.Numbers.{IsUnsigned, IsLastSigned, IsSigned}
-use Rattle.wasm_binary.specs.Canonical.{canon_unsigned, canon_signed, last_signed, is_last_signed, canon_number, same_type, add_local, runs_of, AreLongest}
+use Rattle.wasm_binary.specs.Canonical.{canon_unsigned, canon_signed, last_signed, is_last_signed, canon_number, add_local, runs_of, AreLongest}
 
 unsigned_small : (more n : ℕ) → n < 128 → length (canon_unsigned more n) ≡ 1
 unfolding canon_unsigned
@@ -73,30 +74,26 @@ signed_least (suc more) bits (b ∷ bs) n rest (inr h) =
 
 -- ---- runs
 
-same_self : (t : ValType) → same_type t t ≡ true
-same_self I32 = refl
-same_self I64 = refl
-
-differs : (u t : ValType) → same_type u t ≡ false → u ≡ t → ⊥
-differs u t h e = let k : same_type u t ≡ true = rw (← e) (same_self u) in absurd cc
+differs : (u t : ValType) → is_same_type u t ≡ false → u ≡ t → ⊥
+differs u t h e = let k : is_same_type u t ≡ true = rw (← e) (itself u) in absurd cc
 
 longest_case :
-    (r : ℕ × ValType) (t : ValType) (b : Bool) → same_type r.1 t ≡ b → 0 < r.0
+    (r : ℕ × ValType) (t : ValType) (b : Bool) → is_same_type r.1 t ≡ b → 0 < r.0
     → AreLongest (cond b ((r.0 + 1, r.1) ∷ []) (r ∷ (1, t) ∷ []))
 longest_case r t true e pos = omega arith
 longest_case r t false e pos = (pos, differs r.1 t e, omega arith)
 
 -- after a run of another type than the first of those to which a local is added
 longest_after :
-    (q r : ℕ × ValType) (t : ValType) (b : Bool) → same_type r.1 t ≡ b → 0 < q.0 → (q.1 ≡ r.1 → ⊥) → 0 < r.0
+    (q r : ℕ × ValType) (t : ValType) (b : Bool) → is_same_type r.1 t ≡ b → 0 < q.0 → (q.1 ≡ r.1 → ⊥) → 0 < r.0
     → AreLongest (q ∷ cond b ((r.0 + 1, r.1) ∷ []) (r ∷ (1, t) ∷ []))
 longest_after q r t true e pos other some = (pos, other, omega arith)
 longest_after q r t false e pos other some = (pos, other, (some, differs r.1 t e, omega arith))
 
 longest_add : (rs : List (ℕ × ValType)) (t : ValType) → AreLongest rs → AreLongest (add_local rs t)
 longest_add [] t h = omega arith
-longest_add (r ∷ []) t h = longest_case r t (same_type r.1 t) refl h
-longest_add (q ∷ r ∷ []) t h = longest_after q r t (same_type r.1 t) refl h.0 h.1 h.2
+longest_add (r ∷ []) t h = longest_case r t (is_same_type r.1 t) refl h
+longest_add (q ∷ r ∷ []) t h = longest_after q r t (is_same_type r.1 t) refl h.0 h.1 h.2
 longest_add (q ∷ r ∷ s ∷ rs) t h = (h.0, h.1, longest_add (r ∷ s ∷ rs) t h.2)
 
 longest_fold : (rs : List (ℕ × ValType)) (ts : List ValType) → AreLongest rs → AreLongest (fold add_local rs ts)

@@ -3,8 +3,8 @@
 use Rattle.std.specs.Prelude.{◌≢◌, ℕ, zero, suc, ◌+◌, ◌-◌, ◌*◌, ◌/◌, ◌%◌, ◌^◌, ◌<◌, ◌≤◌, List, [], ◌∷◌, ◌++◌, length, fold, Bool, true, false, Option, Some, None, nat_lt, nat_le, if◌then◌else◌}
 use Rattle.std.specs.List.{flat_map}
 use Rattle.wasm_ast.specs.declared.values.ValType.{ValType}
-use Rattle.wasm_ast.specs.declared.values.ValType.TheVariants as val_types
 use Rattle.wasm_ast.specs.declared.values.FuncType.{FuncType}
+use Rattle.wasm_ast.specs.Types.{is_same_type}
 use Rattle.wasm_ast.specs.declared.values.Value.TheVariants.{I32, I64}
 use Rattle.wasm_ast.specs.declared.instr.BlockType.{BlockType}
 use Rattle.wasm_ast.specs.declared.instr.BlockType.TheVariants.{Empty, One, Index}
@@ -130,15 +130,10 @@ abbrev mutual
 
 -- ---- code
 
-abbrev pub same_type : ValType → ValType → Bool
-same_type val_types.I32 val_types.I32 = true
-same_type val_types.I64 val_types.I64 = true
-same_type t other = false
-
 -- runs and one more local: it joins the last run if it is of that type, and else is a run of its own
 abbrev pub add_local : List (ℕ × ValType) → ValType → List (ℕ × ValType)
 add_local [] t = (1, t) ∷ []
-add_local (run ∷ []) t = if same_type run.1 t then (run.0 + 1, run.1) ∷ [] else run ∷ (1, t) ∷ []
+add_local (run ∷ []) t = if is_same_type run.1 t then (run.0 + 1, run.1) ∷ [] else run ∷ (1, t) ∷ []
 add_local (run ∷ next_run ∷ runs) t = run ∷ add_local (next_run ∷ runs) t
 
 -- locals in longest runs of one type

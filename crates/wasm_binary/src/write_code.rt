@@ -4,13 +4,13 @@ ghost use Rattle.std.specs.Prelude.{◌≡◌, ℕ, ◌+◌, ◌<◌, ◌^◌, �
 ghost use Rattle.wasm_ast.specs.View.{op_of};
 ghost use Rattle.wasm_ast.specs.Syntax.{ops_of};
 ghost use Rattle.wasm_binary.specs.Grammar.{locals_of};
-ghost use Rattle.wasm_binary.specs.Canonical.{same_type, add_local, runs_of, canon_run, canon_number, canon_block_type, canon_mem_arg, canon_immediates, canon_simple, canon_else, canon_op, canon_ops, canon_expression, canon_code, canon_entry};
+ghost use Rattle.wasm_binary.specs.Canonical.{add_local, runs_of, canon_run, canon_number, canon_block_type, canon_mem_arg, canon_immediates, canon_simple, canon_else, canon_op, canon_ops, canon_expression, canon_code, canon_entry};
 
 use crate::opcodes::{BLOCK, ELSE, EMPTY, END, IF, LOOP, RESERVED};
 use crate::write_items::{Encode, put_number, put_signed, put_sized, put_val_type, put_vector};
 use crate::write_opcodes::opcode;
 use std::alloc::{AllocError, Global};
-use wasm_ast::{BlockType, Body, Func, Instr, MemArg, Simple, ValType, Value};
+use wasm_ast::{BlockType, Body, Func, Instr, MemArg, Simple, ValType, Value, is_same_type};
 
 fn put_opcode(out: &mut Vec<u8>, opcode: u8) -> Result<(), AllocError>
     ensures { OnOk result (out.new.items ≡ out.old.items ++ opcode ∷ []) }
@@ -158,15 +158,6 @@ pub fn put_expression(alloc: Global, out: &mut Vec<u8>, body: &Body) -> Result<(
     put_opcode(out, END)
 }
 
-fn is_same(left: ValType, right: ValType) -> bool
-    ensures { result ≡ same_type left right }
-{
-    match (left, right) {
-        (ValType::I32, ValType::I32) | (ValType::I64, ValType::I64) => true,
-        _ => false,
-    }
-}
-
 // Adds a local to the last run, or in a run of its own.
 fn add_local(runs: &mut Vec<(u64, ValType)>, t: ValType) -> Result<(), AllocError>
     requires { length (locals_of runs.old.items) + 1 < 2 ^ 64 }
@@ -174,7 +165,7 @@ fn add_local(runs: &mut Vec<(u64, ValType)>, t: ValType) -> Result<(), AllocErro
 {
     match runs.pop() {
         Some((count, last)) => {
-            if is_same(last, t) {
+            if is_same_type(last, t) {
                 runs.push((count + 1, last))?;
             } else {
                 runs.push((count, last))?;
