@@ -2,10 +2,11 @@
 use Rattle.std.proofs.Common.{◌≡◌, ◌≤◌, ◌<◌, ◌-◌, ◌+◌, ℕ, length, Bool, true, false, List, [], ◌∷◌, ◌++◌, ◌&&◌, if◌then◌else◌, map, reverse, take, drop, get_or, Option, Some, None, refl, sym, ap, subst, ◌∙◌, arith}
 use Rattle.std.proofs.lemmas.List.{append-nil, append_assoc, reverse-append, reverse-reverse, length-reverse, length-append, length-take-le, map-append, take-append-drop, take-append-le, drop-append-le, take-take, take_more, take_all}
 use Rattle.wasm_ast.specs.declared.values.ValType.{ValType}
-use Rattle.validator.specs.Inside.Algorithm.{and_then, is_same, are_same, can_be, pops, knowns}
+use Rattle.wasm_ast.specs.Types.{is_same_type, are_same_types}
+use Rattle.validator.specs.Inside.Algorithm.{and_then, can_be, pops, knowns}
 use Rattle.validator.specs.declared.groups.Group.{Group}
 use Rattle.validator.specs.Inside.Blocks.{group_types, joined, types_of, LastLeaves}
-use Rattle.validator.proofs.StackMatching.{itself, all_same, themselves}
+use Rattle.wasm_ast.proofs.SameTypes.{itself, same_types, themselves}
 
 -- ---- operands one by one
 
@@ -30,12 +31,12 @@ next_refused true others ys f h rest = rest h
 next_refused false others ys f h rest = refl
 
 others_refused : (u : Bool) (ts us rest : List ValType) (xs : List (Option ValType)) → length ts ≡ length us
-    → are_same ts us ≡ false → pops u (ts ++ rest) (knowns us ++ xs) ≡ None
+    → are_same_types ts us ≡ false → pops u (ts ++ rest) (knowns us ++ xs) ≡ None
 others_refused u [] [] rest xs count h = cc
 others_refused u [] (v ∷ us) rest xs count h = cc
 others_refused u (t ∷ ts) [] rest xs count h = cc
 others_refused u (t ∷ ts) (v ∷ us) rest xs count h =
-    next_refused (is_same t v) (are_same ts us) (knowns us ++ xs) (pops u (ts ++ rest)) h
+    next_refused (is_same_type t v) (are_same_types ts us) (knowns us ++ xs) (pops u (ts ++ rest)) h
     (others_refused u ts us rest xs (omega (arith, count)))
 
 -- ---- operands in written order
@@ -44,13 +45,14 @@ both_ways : (b : Bool) → (b ≡ true → false ≡ true) → b ≡ false
 both_ways true h = sym (h refl)
 both_ways false h = refl
 
-reversed_differ : (ts us : List ValType) → are_same ts us ≡ false → are_same (reverse ts) (reverse us) ≡ false
+reversed_differ :
+    (ts us : List ValType) → are_same_types ts us ≡ false → are_same_types (reverse ts) (reverse us) ≡ false
 reversed_differ ts us h =
-    both_ways (are_same (reverse ts) (reverse us))
+    both_ways (are_same_types (reverse ts) (reverse us))
     (λ same.
     let equal : ts ≡ us =
-    sym (reverse-reverse ts) ∙ (ap reverse (all_same (reverse ts) (reverse us) same) ∙ reverse-reverse us) in
-    sym h ∙ subst (λ (vs : List ValType). are_same ts vs ≡ true) equal (themselves ts))
+    sym (reverse-reverse ts) ∙ (ap reverse (same_types (reverse ts) (reverse us) same) ∙ reverse-reverse us) in
+    sym h ∙ subst (λ (vs : List ValType). are_same_types ts vs ≡ true) equal (themselves ts))
 
 -- the types of two lists as operands, the second ones newer, on top of others
 stacked : (below upper : List ValType) (xs : List (Option ValType))
@@ -61,11 +63,11 @@ stacked below upper xs =
     ∙ append_assoc (knowns (reverse upper)) (knowns (reverse below)) xs)
 
 pub upper_taken : (u : Bool) (before wanted below upper : List ValType) (xs : List (Option ValType))
-    → are_same wanted upper ≡ true
+    → are_same_types wanted upper ≡ true
     → pops u (reverse (before ++ wanted)) (knowns (reverse (below ++ upper)) ++ xs)
     ≡ pops u (reverse before) (knowns (reverse below) ++ xs)
 upper_taken u before wanted below upper xs same =
-    let equal = all_same wanted upper same in
+    let equal = same_types wanted upper same in
     ap (λ ts. pops u ts (knowns (reverse (below ++ upper)) ++ xs)) (reverse-append before wanted)
     ∙ (ap (pops u (reverse wanted ++ reverse before)) (stacked below upper xs)
     ∙ (ap
@@ -75,7 +77,7 @@ upper_taken u before wanted below upper xs same =
     ∙ same_taken u (reverse upper) (reverse before) (knowns (reverse below) ++ xs)))
 
 pub upper_refused : (u : Bool) (before wanted below upper : List ValType) (xs : List (Option ValType))
-    → length wanted ≡ length upper → are_same wanted upper ≡ false
+    → length wanted ≡ length upper → are_same_types wanted upper ≡ false
     → pops u (reverse (before ++ wanted)) (knowns (reverse (below ++ upper)) ++ xs) ≡ None
 upper_refused u before wanted below upper xs count h =
     ap (λ ts. pops u ts (knowns (reverse (below ++ upper)) ++ xs)) (reverse-append before wanted)
@@ -84,7 +86,7 @@ upper_refused u before wanted below upper xs count h =
     (length-reverse wanted ∙ (count ∙ sym (length-reverse upper))) (reversed_differ wanted upper h))
 
 pub split_taken : (u : Bool) (types known : List ValType) (wanted left : ℕ) (xs : List (Option ValType))
-    → are_same (drop wanted types) (drop left known) ≡ true
+    → are_same_types (drop wanted types) (drop left known) ≡ true
     → pops u (reverse types) (knowns (reverse known) ++ xs)
     ≡ pops u (reverse (take wanted types)) (knowns (reverse (take left known)) ++ xs)
 split_taken u types known wanted left xs same =
@@ -96,7 +98,7 @@ split_taken u types known wanted left xs same =
 
 pub split_refused : (u : Bool) (types known : List ValType) (wanted left : ℕ) (xs : List (Option ValType))
     → length (drop wanted types) ≡ length (drop left known)
-    → are_same (drop wanted types) (drop left known) ≡ false
+    → are_same_types (drop wanted types) (drop left known) ≡ false
     → pops u (reverse types) (knowns (reverse known) ++ xs) ≡ None
 split_refused u types known wanted left xs count h =
     ap (λ (ts : List ValType). pops u (reverse ts) (knowns (reverse known) ++ xs)) (sym (take-append-drop wanted types))

@@ -5,8 +5,8 @@ use Rattle.std.proofs.lemmas.Option.{slice_get-map}
 use Rattle.wasm_ast.specs.declared.values.ValType.{ValType}
 use Rattle.validator.specs.declared.labels.Label.{Label}
 use Rattle.validator.specs.Inside.Labels.{taken_by, AreAlike, HaveSameTypes}
-use Rattle.validator.specs.Inside.Algorithm.{are_same}
-use Rattle.validator.proofs.StackMatching.{all_same, themselves}
+use Rattle.wasm_ast.specs.Types.{are_same_types}
+use Rattle.wasm_ast.proofs.SameTypes.{same_types, themselves}
 
 label_at : (ls : List Label) (k : ℕ) → k < length ls → (l : Label) × (slice_get ls k ≡ Some l)
 label_at [] k within = absurd (omega (arith, within))
@@ -34,14 +34,14 @@ compared ls k other within within' same =
     let m = label_at ls other within' in
     let ts = types_there ls k l.0 l.1 in
     let us = types_there ls other m.0 m.1 in
-    ts ∙ (ap Some (sym (all_same m.0.types l.0.types (sym (same l.0.types m.0.types ts us)))) ∙ sym us)
+    ts ∙ (ap Some (sym (same_types m.0.types l.0.types (sym (same l.0.types m.0.types ts us)))) ∙ sym us)
 
 -- labels of which that is known are told to be the same
 pub told_same : (ls : List Label) (k other : ℕ) → slice_get (taken_by ls) k ≡ slice_get (taken_by ls) other
     → HaveSameTypes ls k other true
 told_same ls k other same = λ ts us first second.
     let e : ts ≡ us = some_same ts us (sym first ∙ (same ∙ second)) in
-    subst (λ vs. true ≡ are_same vs ts) e (sym (themselves ts)) where
+    subst (λ vs. true ≡ are_same_types vs ts) e (sym (themselves ts)) where
       some_same : (ts us : List ValType) → Some ts ≡ Some us → ts ≡ us
       some_same ts us e = cc
 

@@ -18,13 +18,14 @@ use Rattle.wasm_ast.specs.declared.module.ExportKind.{ExportKind}
 use Rattle.wasm_ast.specs.declared.module.ExportKind.TheVariants as kind
 use Rattle.wasm_ast.specs.declared.module.Module.{Module}
 use Rattle.wasm_ast.specs.Syntax.{simple, Ops, stop, next}
-use Rattle.wasm_ast.specs.Types.{type_of, func_types, type_at}
+use Rattle.wasm_ast.specs.Types.{is_same_type, type_of, func_types, type_at}
 use Rattle.wasm_ast.specs.Limits.{are_all}
 use Rattle.validator.specs.Typing.{standard_pages, body_context, Typed, ValidBody, IsConstant, ValidMax, ValidLimits, IsFunction, IsThere, ValidStart, ValidElement, ValidSegment, AllDifferent, ValidOutside}
-use Rattle.validator.specs.Inside.Algorithm.{is_same, start, ends, check_ops}
+use Rattle.validator.specs.Inside.Algorithm.{start, ends, check_ops}
 use Rattle.validator.specs.Inside.FunctionContext.{passes_func}
 use Rattle.validator.specs.Inside.ModuleTests.{is_typed_import, is_typed_func, is_valid_max, are_valid_limits, is_constant, is_valid_global, is_function, is_there, is_valid_export, is_nil, is_bare, is_valid_start, is_valid_element, is_valid_segment, is_alone, declares_validly, defines_validly}
-use Rattle.validator.proofs.StackMatching.{same, itself, both}
+use Rattle.wasm_ast.proofs.SameTypes.{same_type, itself}
+use Rattle.validator.proofs.StackMatching.{both}
 use Rattle.validator.proofs.SequenceExact.{body_sound, body_exact, ops_sound, ops_exact}
 
 pub all_hold :
@@ -84,13 +85,13 @@ limits_exact range l h =
 
 constant_sound : (t : ValType) (os : Ops) → is_constant t os ≡ true → IsConstant t os
 constant_sound t stop h = cc
-constant_sound t (next (simple (instr.Const value)) stop) h = same (type_of value) t h
+constant_sound t (next (simple (instr.Const value)) stop) h = same_type (type_of value) t h
 constant_sound t _ h = cc
 
 constant_exact : (t : ValType) (os : Ops) → IsConstant t os → is_constant t os ≡ true
 constant_exact t stop h = absurd h
 constant_exact t (next (simple (instr.Const value)) stop) h =
-    subst (λ (u : ValType). is_same (type_of value) u ≡ true) h (itself (type_of value))
+    subst (λ (u : ValType). is_same_type (type_of value) u ≡ true) h (itself (type_of value))
 constant_exact t _ h = absurd h
 
 -- ---- what indices name

@@ -23,7 +23,8 @@ use Rattle.validator.specs.PlaceTypes.{Stack, IsOf, Matches}
 use Rattle.validator.specs.declared.needs.Lack.{Lack}
 use Rattle.validator.specs.Inside.Needs.{LacksOther, LacksTable}
 use Rattle.validator.specs.Inside.Algorithm.{and_then, can_be, pop_any, with_types, replaced, nowhere, leaves, after_i32, drops, join, joins, joins_next, check_local, is_variable, check_global, takes_types, is_label, is_some_there, applies, branches, call_indirect, with_memory, access, check_simple}
-use Rattle.validator.proofs.StackMatching.{Sound, Exact, both, passed, passes, given, gives, all_same, themselves, can_be_of, of_can_be, pop_any_sound, pop_any_exact, some_type, some_types, replaced_sound, replaced_exact, Takes, leaves_sound, leaves_exact, AfterI32, after_i32_sound, after_i32_exact}
+use Rattle.wasm_ast.proofs.SameTypes.{same_types, themselves}
+use Rattle.validator.proofs.StackMatching.{Sound, Exact, both, passed, passes, given, gives, can_be_of, of_can_be, pop_any_sound, pop_any_exact, some_type, some_types, replaced_sound, replaced_exact, Takes, leaves_sound, leaves_exact, AfterI32, after_i32_sound, after_i32_exact}
 
 -- ---- under a condition, and with what an index names
 
@@ -154,7 +155,7 @@ label_sound labels ts k h = of (slice_get labels k) h
   where
     of : (o : Option (List ValType)) → takes_types ts o ≡ true → o ≡ Some ts
     of None h = cc
-    of (Some us) h = ap Some (sym (all_same ts us h))
+    of (Some us) h = ap Some (sym (same_types ts us h))
 
 label_exact :
     (labels : List (List ValType)) (ts : List ValType) (k : ℕ) → slice_get labels k ≡ Some ts

@@ -1,10 +1,12 @@
 -- Which stacks of types a checker's stack represents, and what taking and putting operands does to them.
-use Rattle.std.proofs.Common.{◌≡◌, ◌≢◌, suc, length, Bool, true, false, List, [], ◌∷◌, ◌++◌, ◌&&◌, if◌then◌else◌, reverse, Option, Some, None, refl, sym, ap, subst, ◌∙◌}
+use Rattle.std.proofs.Common.{◌≡◌, Bool, true, false, List, [], ◌∷◌, ◌++◌, ◌&&◌, if◌then◌else◌, reverse, Option, Some, None, refl, sym, ap, subst, ◌∙◌}
 use Rattle.wasm_ast.specs.declared.values.ValType.{ValType}
 use Rattle.wasm_ast.specs.declared.values.ValType.TheVariants.{I32, I64}
 use Rattle.validator.specs.Typing.{on_top, Replaces}
 use Rattle.validator.specs.PlaceTypes.{Stack, IsOf, MatchTypes, Matches}
-use Rattle.validator.specs.Inside.Algorithm.{and_then, is_same, are_same, can_be, pop_any, below_type, pop, pops, knowns, with_types, replaced, nowhere, leaves, after_i32}
+use Rattle.wasm_ast.specs.Types.{is_same_type}
+use Rattle.wasm_ast.proofs.SameTypes.{same_type, itself}
+use Rattle.validator.specs.Inside.Algorithm.{and_then, can_be, pop_any, below_type, pop, pops, knowns, with_types, replaced, nowhere, leaves, after_i32}
 
 -- a check that passes has a typing that leads to each stack that its end represents
 abbrev pub Sound : (Stack → Option Stack) → (List ValType → List ValType → Type 0) → Type 0
@@ -39,55 +41,19 @@ gives false o h = cc
 
 -- ---- comparisons
 
-pub same : (t u : ValType) → is_same t u ≡ true → t ≡ u
-same I32 I32 h = refl
-same I32 I64 h = cc
-same I64 I32 h = cc
-same I64 I64 h = refl
-
-pub itself : (t : ValType) → is_same t t ≡ true
-itself I32 = refl
-itself I64 = refl
-
 pub both : (a b : Bool) → (a && b) ≡ true → (a ≡ true) × (b ≡ true)
 both true b h = (refl, h)
 both false b h = cc
-
-pub all_same : (ts us : List ValType) → are_same ts us ≡ true → ts ≡ us
-all_same [] [] h = refl
-all_same [] (u ∷ us) h = cc
-all_same (t ∷ ts) [] h = cc
-all_same (t ∷ ts) (u ∷ us) h =
-    let parts = both (is_same t u) (are_same ts us) h in
-    let first = same t u parts.0 in
-    let rest = all_same ts us parts.1 in
-    cc
-
-pub themselves : (ts : List ValType) → are_same ts ts ≡ true
-themselves [] = refl
-themselves (t ∷ ts) = rw (itself t) (themselves ts)
-
-never : (b : Bool) → false ≡ (b && false)
-never true = refl
-never false = refl
-
--- lists of two lengths are not the same
-pub other_length : (ts us : List ValType) → length ts ≢ length us → false ≡ are_same ts us
-other_length [] [] h = absurd (h refl)
-other_length [] (u ∷ us) h = refl
-other_length (t ∷ ts) [] h = refl
-other_length (t ∷ ts) (u ∷ us) h =
-    never (is_same t u) ∙ ap (λ b. is_same t u && b) (other_length ts us (λ e. h (ap suc e)))
 
 -- ---- one operand
 
 pub can_be_of : (t : ValType) (x : Option ValType) → can_be t x ≡ true → IsOf x t
 can_be_of t None h = tt
-can_be_of t (Some u) h = sym (same t u h)
+can_be_of t (Some u) h = sym (same_type t u h)
 
 pub of_can_be : (t : ValType) (x : Option ValType) → IsOf x t → can_be t x ≡ true
 of_can_be t None h = refl
-of_can_be t (Some u) h = subst (λ (v : ValType). is_same v u ≡ true) h (itself u)
+of_can_be t (Some u) h = subst (λ (v : ValType). is_same_type v u ≡ true) h (itself u)
 
 abbrev Popped : Type 0
 Popped = Option ValType × List (Option ValType)

@@ -5,10 +5,9 @@ ghost use Rattle.wasm_ast.specs.Limits.{are_all};
 ghost use Rattle.validator.specs.Inside.ModuleTests.{is_typed_import, is_typed_func, are_valid_limits, is_constant, is_valid_global, is_function, is_there, is_valid_export, is_valid_start, is_valid_element, is_valid_segment, declares_validly, defines_validly};
 
 use crate::access::type_of;
-use crate::comparisons::is_same;
 use wasm_ast::{
     Body, Element, Export, ExportKind, Func, FuncType, Global, Import, Instr, Limits, Module,
-    Segment, Simple, ValType,
+    Segment, Simple, ValType, is_same_type as is_same,
 };
 
 /// Entries that a table may have (3.2.3).

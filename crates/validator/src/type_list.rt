@@ -1,14 +1,13 @@
 //! Lists of types, of which long ones are compared eight types at a time.
 
 ghost use Rattle.std.specs.Prelude.{◌≡◌, ◌≤◌, ◌-◌, ◌+◌, ◌*◌, ◌++◌, ◌∷◌, [], IsTrue, IfSome, MatchOption, length, take, drop};
-ghost use Rattle.validator.specs.Inside.Algorithm.{are_same};
+ghost use Rattle.wasm_ast.specs.Types.{are_same_types};
 ghost use Rattle.validator.specs.Inside.Packed.{AreRows, IsRow};
 
-use crate::comparisons::are_same;
 use crate::packed::PACKED;
 use crate::rows::{Part, Row};
 use std::marker::Model;
-use wasm_ast::ValType;
+use wasm_ast::{ValType, are_same_types};
 
 /// A list of types, in written order. Contracts see the list.
 #[derive(Drop)]
@@ -93,7 +92,7 @@ impl<'a> TypeList<'a> {
 
     /// Whether both lists are the same.
     pub fn is_same(&self, other: &TypeList<'_>) -> bool
-        ensures { result ≡ are_same self.now other.now }
+        ensures { result ≡ are_same_types self.now other.now }
     {
         if self.len() != other.len() {
             return false;
@@ -106,9 +105,10 @@ impl<'a> TypeList<'a> {
         requires at { at ≤ length self.now }
         requires from { from ≤ length other.now }
         requires count { length self.now - at ≡ length other.now - from }
-        ensures { result ≡ are_same (drop at self.now) (drop from other.now) }
+        ensures { result ≡ are_same_types (drop at self.now) (drop from other.now) }
     {
-        self.has_same_bytes(at, other, from) || are_same(&self.types[at..], &other.types[from..])
+        self.has_same_bytes(at, other, from)
+            || are_same_types(&self.types[at..], &other.types[from..])
     }
 
     // Whether the same is known by bytes.
@@ -126,7 +126,7 @@ impl<'a> TypeList<'a> {
             return false;
         };
         bytes.is_known_same(&others)
-            && are_same(
+            && are_same_types(
                 &self.types[at + PACKED * count..],
                 &other.types[from + PACKED * count..],
             )

@@ -15,7 +15,7 @@ use Rattle.wasm_ast.specs.declared.module.Mutability.{Mutability}
 use Rattle.wasm_ast.specs.declared.module.Mutability.TheVariants as mutability
 use Rattle.wasm_ast.specs.declared.module.Global.{Global}
 use Rattle.wasm_ast.specs.Syntax.{Op, simple, block, loop, if', Ops, stop, next}
-use Rattle.wasm_ast.specs.Types.{type_of, block_type, type_at, source_of, target_of}
+use Rattle.wasm_ast.specs.Types.{is_same_type, are_same_types, type_of, block_type, type_at, source_of, target_of}
 use Rattle.wasm_ast.specs.Access.{load_type, load_bytes, store_type, store_bytes}
 use Rattle.wasm_ast.specs.Limits.{are_all}
 use Rattle.validator.specs.Typing.{Context, under}
@@ -26,22 +26,10 @@ abbrev pub and_then : {A B : Type 0} → Option A → (A → Option B) → Optio
 and_then None f = None
 and_then (Some x) f = f x
 
-abbrev pub is_same : ValType → ValType → Bool
-is_same I32 I32 = true
-is_same I32 I64 = false
-is_same I64 I32 = false
-is_same I64 I64 = true
-
-abbrev pub are_same : List ValType → List ValType → Bool
-are_same [] [] = true
-are_same [] (u ∷ us) = false
-are_same (t ∷ ts) [] = false
-are_same (t ∷ ts) (u ∷ us) = is_same t u && are_same ts us
-
 -- an operand that can be of this type
 abbrev pub can_be : ValType → Option ValType → Bool
 can_be t None = true
-can_be t (Some u) = is_same t u
+can_be t (Some u) = is_same_type t u
 
 -- ---- operands are taken
 
@@ -126,7 +114,7 @@ check_global global.Set g s =
 -- a label that takes these types
 abbrev pub takes_types : List ValType → Option (List ValType) → Bool
 takes_types ts None = false
-takes_types ts (Some us) = are_same ts us
+takes_types ts (Some us) = are_same_types ts us
 
 abbrev pub is_label : List (List ValType) → List ValType → ℕ → Bool
 is_label labels ts k = takes_types ts (slice_get labels k)

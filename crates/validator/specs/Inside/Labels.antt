@@ -2,7 +2,7 @@
 use Rattle.std.specs.Prelude.{◌≡◌, ℕ, ◌≤◌, Bool, List, Some, map, slice_get}
 use Rattle.wasm_ast.specs.declared.values.ValType.{ValType}
 use Rattle.validator.specs.declared.labels.Label.{Label}
-use Rattle.validator.specs.Inside.Algorithm.{are_same}
+use Rattle.wasm_ast.specs.Types.{are_same_types}
 
 abbrev pub taken_by : List Label → List (List ValType)
 taken_by ls = map (λ (l : Label). l.types) ls
@@ -17,4 +17,4 @@ AreAlike ls =
 abbrev pub HaveSameTypes : List Label → (k other : ℕ) → Bool → Type 0
 HaveSameTypes ls k other same =
     (ts us : List ValType) → slice_get (taken_by ls) k ≡ Some ts
-    → slice_get (taken_by ls) other ≡ Some us → same ≡ are_same us ts
+    → slice_get (taken_by ls) other ≡ Some us → same ≡ are_same_types us ts

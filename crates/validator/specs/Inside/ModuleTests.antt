@@ -15,10 +15,9 @@ use Rattle.wasm_ast.specs.declared.module.ExportKind.{ExportKind}
 use Rattle.wasm_ast.specs.declared.module.ExportKind.TheVariants as kind
 use Rattle.wasm_ast.specs.declared.module.Module.{Module}
 use Rattle.wasm_ast.specs.Syntax.{simple, Ops, stop, next}
-use Rattle.wasm_ast.specs.Types.{type_of, func_types, type_at}
+use Rattle.wasm_ast.specs.Types.{is_same_type, type_of, func_types, type_at}
 use Rattle.wasm_ast.specs.Limits.{are_all}
 use Rattle.validator.specs.Typing.{standard_pages}
-use Rattle.validator.specs.Inside.Algorithm.{is_same}
 
 abbrev pub is_typed_import : List FuncType → Import → Bool
 is_typed_import types i = nat_lt i.type_index (length types)
@@ -34,7 +33,7 @@ abbrev pub are_valid_limits : (range : ℕ) → Limits → Bool
 are_valid_limits range l = nat_le l.min range && is_valid_max range l.min l.max
 
 abbrev pub is_constant : ValType → Ops → Bool
-is_constant t (next (simple (instr.Const value)) stop) = is_same (type_of value) t
+is_constant t (next (simple (instr.Const value)) stop) = is_same_type (type_of value) t
 is_constant t _ = false
 
 abbrev pub is_valid_global : Global → Bool

@@ -1,6 +1,6 @@
 use Rattle.std.proofs.Common.{refl, ap, ◌∙◌}
 use Rattle.validator.specs.Inside.Algorithm.{takes_types}
-use Rattle.validator.proofs.StackMatching.{themselves}
+use Rattle.wasm_ast.proofs.SameTypes.{themselves}
 use Rattle.validator.proofs.needs.first_other.Goals as goal
 
 pub loop-label-init : goal.loop-label-init

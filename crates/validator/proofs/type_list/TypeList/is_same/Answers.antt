@@ -1,5 +1,5 @@
 use Rattle.std.proofs.Common.{sym, ◌∙◌}
-use Rattle.validator.proofs.StackMatching.{other_length}
+use Rattle.wasm_ast.proofs.SameTypes.{other_length}
 use Rattle.validator.proofs.type_list.TypeList.is_same.Goals as goal
 
 pub returns-then-len : goal.returns-then-len
