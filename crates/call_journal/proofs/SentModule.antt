@@ -1,19 +1,12 @@
--- A valid module may be shared by threads. An instruction has bodies, and a body instructions, so both are shown at
--- once, one layer from the layer below it; the rest is found field by field.
-use denote.Model.Local.{Parts, rows}
-use denote.Model.Goals.{send, sync, All, both_laws, tied_goals, has_of, part_has}
-use denote.Param.Send.{IsSend, IsSync, sendable, view_send, view_sync, recorded_send, recorded_sync}
-use denote.Model.Cut.{split_one}
-use Rattle.wasm_ast.specs.declared.instr.Body.TheDeep as deep
-use denote.Param.SendFields.{as_row_send, as_row_sync, variants_send, variants_sync}
-use denote.Struct.Field.{row_field}
+-- A valid module may be shared by threads. An instruction has bodies, and a body instructions: the lemmas of their
+-- knot show them all at once. The rest is found field by field.
+use denote.Param.Send.{IsSend, IsSync, sendable}
 use Rattle.std.proofs.Crossing as std_sent
 use Rattle.wasm_ast.specs.contracts.instr.Simple as simples
 use Rattle.wasm_ast.specs.contracts.instr.BlockType as types
 use Rattle.wasm_ast.proofs.instr.Simple.TheSendSync as simples_cross
 use Rattle.wasm_ast.proofs.instr.BlockType.TheSendSync as types_cross
-use Rattle.wasm_ast.specs.declared.instr.Body.TheDeep.{the_members, member-Body}
-use Rattle.wasm_ast.specs.contracts.instr.Body.TheKnot as knot
+use Rattle.wasm_ast.proofs.instr.Body.TheLaws.TheKnot as knot_laws
 use Rattle.wasm_ast.specs.contracts.instr.Body as bodies
 use Rattle.wasm_ast.specs.contracts.module.Func as funcs
 use Rattle.wasm_ast.specs.contracts.module.Global as globals
@@ -43,45 +36,11 @@ type_send = types_cross.the_send
 type_sync : IsSync types.the_row
 type_sync = types_cross.the_sync
 
-instr_send : (p : Parts knot.frame) → IsSend (rows knot.frame p member-Body) → IsSend (knot.at-Instr p)
-instr_send p s =
-    let r = rows knot.frame p member-Body in
-    let b = as_row_send (row_field r) s in
-    recorded_send (knot.layer-Instr r r r r) _ deep.split-Instr
-    (split_one (knot.layer-Instr r r r r) _ deep.split-Instr deep.join-Instr deep.joins-Instr)
-    (variants_send (knot.type-Instr r r r r)
-    ((simple_send, tt), ((type_send, (b, tt)), ((type_send, (b, tt)), ((type_send, (b, (b, tt))), tt)))))
-
-instr_sync : (p : Parts knot.frame) → IsSync (rows knot.frame p member-Body) → IsSync (knot.at-Instr p)
-instr_sync p s =
-    let r = rows knot.frame p member-Body in
-    let b = as_row_sync (row_field r) s in
-    recorded_sync (knot.layer-Instr r r r r) _ deep.split-Instr
-    (split_one (knot.layer-Instr r r r r) _ deep.split-Instr deep.join-Instr deep.joins-Instr)
-    (variants_sync (knot.type-Instr r r r r)
-    ((simple_sync, tt), ((type_sync, (b, tt)), ((type_sync, (b, tt)), ((type_sync, (b, (b, tt))), tt)))))
-
-at_send : (p : Parts knot.frame) → IsSend (rows knot.frame p member-Body) → IsSend (knot.at-Body p)
-at_send p s = search (sendable, std_sent.crosses, instr_send) depth 40
-
-at_sync : (p : Parts knot.frame) → IsSync (rows knot.frame p member-Body) → IsSync (knot.at-Body p)
-at_sync p s = search (sendable, std_sent.crosses, instr_sync) depth 40
-
-steps :
-    (p : Parts knot.frame) → All (both_laws the_members) (rows knot.frame p)
-    → All (both_laws the_members) (rows knot.frame (knot.step p))
-steps p all (member-Body, send) =
-    has_of knot.frame send (knot.step p) member-Body
-    (part_has send (knot.view-Body p) (view_send (knot.at-Body p) _ _ _ _ (at_send p (all (member-Body, send)))))
-steps p all (member-Body, sync) =
-    has_of knot.frame sync (knot.step p) member-Body
-    (part_has sync (knot.view-Body p) (view_sync (knot.at-Body p) _ _ _ _ (at_sync p (all (member-Body, sync)))))
-
 body_send : IsSend bodies.the_row
-body_send = tied_goals knot.frame knot.step knot.sizes (both_laws the_members) steps (member-Body, send)
+body_send = search (sendable, std_sent.crosses, knot_laws.send-Body, simple_send, type_send) depth 60 fits 200000
 
 body_sync : IsSync bodies.the_row
-body_sync = tied_goals knot.frame knot.step knot.sizes (both_laws the_members) steps (member-Body, sync)
+body_sync = search (sendable, std_sent.crosses, knot_laws.sync-Body, simple_sync, type_sync) depth 60 fits 200000
 
 func_send : IsSend funcs.the_row
 func_send =

@@ -10,7 +10,7 @@ ghost use Rattle.step_machine.specs.Places.{op_opens, opens_at};
 ghost use Rattle.debugger.specs.Inside.OpenBlocks.{arm_opens, HasBlocks};
 
 use std::alloc::{AllocError, Global};
-use wasm_ast::{Body, Instr};
+use wasm_ast::{Arms, Body, Instr};
 
 /// Where a walk stops.
 #[derive(Clone, Copy)]
@@ -166,7 +166,8 @@ fn walk_instr(
         Instr::Simple(_) => Ok(Some(inside)),
         Instr::Block(_, body) => walk_block(stops, blocks, found, body, number, inside),
         Instr::Loop(_, body) => walk_block(stops, blocks, found, body, number, inside),
-        Instr::If(_, then_arm, else_arm) => {
+        Instr::If(_, arms) => {
+            let Arms { then_arm, else_arm } = &**arms;
             walk_if(stops, blocks, found, then_arm, else_arm, number, inside)
         }
     }

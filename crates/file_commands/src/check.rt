@@ -32,7 +32,7 @@ use clap::{Arg, ArgMatches, Command as Parser};
 use std::alloc::{AllocError, Global};
 use text_assembler::instr_text;
 use validator::{Valid, validate};
-use wasm_ast::{Body, Func, Instr, Module, Refusal, push_decimal};
+use wasm_ast::{Arms, Body, Func, Instr, Module, Refusal, push_decimal};
 
 pub(crate) const NAME: &str = "check";
 
@@ -181,7 +181,8 @@ fn push_instr(
         Instr::Block(_, body) | Instr::Loop(_, body) => {
             push_body(alloc, list, func, inside, body)
         }
-        Instr::If(_, then_arm, else_arm) => {
+        Instr::If(_, arms) => {
+            let Arms { then_arm, else_arm } = &**arms;
             let other = push_body(alloc, list, func, inside, then_arm)?;
             push_body(alloc, list, func, other, else_arm)
         }

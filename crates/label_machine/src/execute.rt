@@ -25,7 +25,7 @@ use crate::run::{Doing, Run, Step};
 use crate::simple::do_simple;
 use std::alloc::{AllocError, Global};
 use step_machine::End;
-use wasm_ast::{BlockType, Body, Instr, Module, Simple};
+use wasm_ast::{Arms, BlockType, Body, Instr, Module, Simple};
 
 /// What follows once an instruction has done what it does by itself: calls, branches and returns are on
 /// their way from here.
@@ -249,8 +249,11 @@ fn run_instr<'m>(
             let again = Target::Again(from);
             enter(alloc, run, params, params, place, again, place + 1, body)
         }
-        Instr::If(t, then_arm, else_arm) => match counts_of(of, *t) {
-            Some(counts) => choose(alloc, run, counts, place, then_arm, else_arm),
+        Instr::If(t, arms) => match counts_of(of, *t) {
+            Some(counts) => {
+                let Arms { then_arm, else_arm } = &**arms;
+                choose(alloc, run, counts, place, then_arm, else_arm)
+            }
             None => Ok(Step::Stuck),
         },
     }

@@ -4,7 +4,7 @@ ghost use Rattle.std.specs.Prelude.{◌≡◌, ◌+◌, ◌<◌, ◌≤◌, ◌^
 ghost use Rattle.wasm_ast.specs.Syntax.{count, ops_count};
 ghost use Rattle.wasm_ast.specs.View.{op_of};
 
-use wasm_ast::{Body, Instr};
+use wasm_ast::{Arms, Body, Instr};
 
 /// The places of a sequence, those inside blocks included; None if there are 2^32 or more.
 #[cycle(places)]
@@ -30,7 +30,8 @@ pub fn places_of(instr: &Instr) -> Option<u32>
     match instr {
         Instr::Simple(_) => Some(1),
         Instr::Block(_, body) | Instr::Loop(_, body) => places_in(body)?.checked_add(1),
-        Instr::If(_, then_arm, else_arm) => {
+        Instr::If(_, arms) => {
+            let Arms { then_arm, else_arm } = &**arms;
             places_in(then_arm)?
                 .checked_add(places_in(else_arm)?)?
                 .checked_add(1)

@@ -39,7 +39,7 @@ pub fn do_simple(
         Simple::Nop => Ok(Effect::Done),
         Simple::Br(label) => Ok(Effect::Branches(*label)),
         Simple::BrIf(label) => Ok(branch_if(operands, *label)),
-        Simple::BrTable(labels, other) => Ok(branch_by(operands, labels.as_slice(), *other)),
+        Simple::BrTable(other, labels) => Ok(branch_by(operands, labels.as_slice(), *other)),
         Simple::Return => Ok(Effect::Returns),
         Simple::Call(func) => Ok(Effect::Calls(*func)),
         Simple::CallIndirect(index) => {
@@ -55,7 +55,7 @@ pub fn do_simple(
         Simple::Store(op, at) => Ok(store(operands, &mut kept.memory, *op, at.offset)),
         Simple::MemorySize => size(operands, &kept.memory),
         Simple::MemoryGrow => grow(operands, &mut kept.memory),
-        Simple::Const(value) => constant(operands, *value),
+        Simple::Const(value) => constant(operands, value.value()),
         Simple::Unary(t, op) => unary(operands, *t, *op),
         Simple::Binary(t, op) => binary(operands, *t, *op),
         Simple::Test(t, op) => test(operands, *t, *op),

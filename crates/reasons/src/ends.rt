@@ -6,7 +6,7 @@ use crate::operands::{
 use crate::texts::Told;
 use std::alloc::AllocError;
 use validator::{KnownOperands, Types};
-use wasm_ast::{BlockType, Body, Instr, MAX_RESULTS, Module, ValType};
+use wasm_ast::{Arms, BlockType, Body, Instr, MAX_RESULTS, Module, ValType};
 
 /// The types of a block, in written order.
 #[derive(Clone, Copy)]
@@ -37,7 +37,7 @@ fn block_types<'a>(of: &'a Module, instr: &Instr) -> Option<BlockTypes<'a>> {
         Instr::Simple(_) => return None,
         Instr::Block(kind, _) => (*kind, false, false),
         Instr::Loop(kind, _) => (*kind, true, false),
-        Instr::If(kind, _, _) => (*kind, false, true),
+        Instr::If(kind, _) => (*kind, false, true),
     };
     let (params, results) = types_of(of, kind)?;
     let label = if is_loop { params } else { results };
@@ -96,7 +96,8 @@ pub fn bodies_of(instr: &Instr) -> [Option<(&'static str, &Body)>; 2] {
     match instr {
         Instr::Simple(_) => [None, None],
         Instr::Block(_, body) | Instr::Loop(_, body) => [Some(("body", body)), None],
-        Instr::If(_, then_arm, else_arm) => {
+        Instr::If(_, arms) => {
+            let Arms { then_arm, else_arm } = &**arms;
             [Some(("then arm", then_arm)), Some(("else arm", else_arm))]
         }
     }

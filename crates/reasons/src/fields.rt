@@ -45,9 +45,11 @@ fn is_there(of: &Module, kind: ExportKind, index: u32) -> bool {
 
 // Whether an expression is one constant of this type.
 fn is_constant(expected: ValType, init: &Body) -> bool {
-    match (expected, init.as_slice()) {
-        (ValType::I32, [Instr::Simple(Simple::Const(Value::I32(_)))]) => true,
-        (ValType::I64, [Instr::Simple(Simple::Const(Value::I64(_)))]) => true,
+    match init.as_slice() {
+        [Instr::Simple(Simple::Const(constant))] => match constant.value() {
+            Value::I32(_) => expected == ValType::I32,
+            Value::I64(_) => expected == ValType::I64,
+        },
         _ => false,
     }
 }

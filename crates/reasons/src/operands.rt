@@ -191,7 +191,7 @@ fn index_text(of: Function<'_>, types: &Types<'_>, lack: Lack) -> Told {
 // What is said of an instruction without a body of a function, before which so much is known.
 fn lack_text(of: Function<'_>, types: &Types<'_>, simple: &Simple, lack: Lack) -> Told {
     let text = match (lack, simple) {
-        (Lack::OtherTypes(label), Simple::BrTable(_, last)) => {
+        (Lack::OtherTypes(label), Simple::BrTable(last, _)) => {
             return other_types_text(of.alloc, types, *last, label);
         }
         (Lack::OtherTypes(_), _) => OTHERS,

@@ -110,7 +110,10 @@ fn why_import(alloc: Global, of: &Module) -> Told {
 // Where a segment with this offset and this many items ends.
 fn end_of(offset: &Body, count: usize) -> u64 {
     let begin = match offset.as_slice() {
-        [Instr::Simple(Simple::Const(Value::I32(number)))] => u64::from(*number),
+        [Instr::Simple(Simple::Const(constant))] => match constant.value() {
+            Value::I32(number) => u64::from(number),
+            Value::I64(_) => 0,
+        },
         _ => 0,
     };
     begin.saturating_add(count as u64)

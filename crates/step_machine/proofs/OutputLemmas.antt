@@ -211,7 +211,7 @@ module _ (env : Env) where
   simple_kept p vs instr.Nop = (refl, refl)
   simple_kept p vs (instr.Br l) = tt
   simple_kept p vs (instr.BrIf l) = branched vs l
-  simple_kept p vs (instr.BrTable ls l) =
+  simple_kept p vs (instr.BrTable l ls) =
       taken type.I32 vs (λ i rest. becomes rest (branch (unwrap_or (slice_get ls i) l))) (λ i rest. tt)
   simple_kept p vs instr.Return = tt
   simple_kept p vs (instr.Call f) = tt

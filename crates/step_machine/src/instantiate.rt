@@ -191,7 +191,7 @@ pub fn constant(body: &Body) -> Option<Value>
         return None;
     }
     match &instrs[0] {
-        Instr::Simple(Simple::Const(value)) => Some(*value),
+        Instr::Simple(Simple::Const(constant)) => Some(constant.value()),
         _ => None,
     }
 }

@@ -187,9 +187,9 @@ pub fn control_goes_on()
     ensures not_taken { (p : Program) (env : Env) (vs : List Value)
         → simple_effect p env (I32 0 ∷ vs) (instr.BrIf 3) ≡ gives env vs }
     ensures by_index { (p : Program) (env : Env) (vs : List Value)
-        → simple_effect p env (I32 1 ∷ vs) (instr.BrTable (4 ∷ 5 ∷ []) 6) ≡ becomes vs (branch 5) }
+        → simple_effect p env (I32 1 ∷ vs) (instr.BrTable 6 (4 ∷ 5 ∷ [])) ≡ becomes vs (branch 5) }
     ensures beyond_the_table { (p : Program) (env : Env) (vs : List Value)
-        → simple_effect p env (I32 2 ∷ vs) (instr.BrTable (4 ∷ 5 ∷ []) 6) ≡ becomes vs (branch 6) }
+        → simple_effect p env (I32 2 ∷ vs) (instr.BrTable 6 (4 ∷ 5 ∷ [])) ≡ becomes vs (branch 6) }
     ensures returns { (p : Program) (env : Env) (vs : List Value)
         → simple_effect p env vs instr.Return ≡ becomes vs ret }
     ensures call { (p : Program) (env : Env) (vs : List Value)

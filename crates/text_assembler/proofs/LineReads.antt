@@ -59,7 +59,7 @@ table_read ids (n ∷ ns) m all fits =
 
 br_table_read :
     (ids : Ids) (ns : List ℕ) (m : ℕ) → All IsU32 ns → m < 2 ^ 32
-    → read_br_table ids (words ns m) ≡ Ok (instr.BrTable ns m, [])
+    → read_br_table ids (words ns m) ≡ Ok (instr.BrTable m ns, [])
 unfolding read_br_table read_indices read_parts
 br_table_read ids ns m all fits = rw (table_read ids ns m all fits, last_is ns m) refl
 
@@ -195,7 +195,7 @@ immediates_read s locals labels instr.Unreachable r h w = refl
 immediates_read s locals labels instr.Nop r h w = refl
 immediates_read s locals labels (instr.Br label) r h w = index_read labels instr.Br label r
 immediates_read s locals labels (instr.BrIf label) r h w = index_read labels instr.BrIf label r
-immediates_read s locals labels (instr.BrTable ns other) r h w = br_table_read labels ns other r.0 r.1
+immediates_read s locals labels (instr.BrTable other ns) r h w = br_table_read labels ns other r.0 r.1
 immediates_read s locals labels instr.Return r h w = refl
 immediates_read s locals labels (instr.Call func) r h w = index_read s.funcs instr.Call func r
 immediates_read s locals labels (instr.CallIndirect index) r h w = call_read s index r w

@@ -85,7 +85,7 @@ last_of (n ∷ m ∷ ns) = last_of (m ∷ ns) >>= λ l. Ok (n ∷ l.0, l.1)
 
 unfoldable pub read_br_table : Ids → Reader Simple
 read_br_table labels ts =
-    read_indices labels ts >>= λ all. last_of all.0 >>= λ l. Ok (instr.BrTable l.0 l.1, all.1)
+    read_indices labels ts >>= λ all. last_of all.0 >>= λ l. Ok (instr.BrTable l.1 l.0, all.1)
 
 -- the exponent of a power of two: k or one of the numbers after it
 unfoldable pub exponent_from : (tries k : ℕ) → ℕ → Result ℕ Fault

@@ -30,7 +30,7 @@ keyword_for instr.Unreachable = keyword.Unreachable
 keyword_for instr.Nop = keyword.Nop
 keyword_for (instr.Br label) = keyword.Br
 keyword_for (instr.BrIf label) = keyword.BrIf
-keyword_for (instr.BrTable labels other) = keyword.BrTable
+keyword_for (instr.BrTable other labels) = keyword.BrTable
 keyword_for instr.Return = keyword.Return
 keyword_for (instr.Call func) = keyword.Call
 keyword_for (instr.CallIndirect index) = keyword.CallIndirect
@@ -67,7 +67,7 @@ use_of index = codes " (type " ++ decimal index ++ codes ")"
 abbrev pub operands : Simple → List ℕ
 operands (instr.Br label) = numbered label
 operands (instr.BrIf label) = numbered label
-operands (instr.BrTable labels other) = flat_map numbered labels ++ numbered other
+operands (instr.BrTable other labels) = flat_map numbered labels ++ numbered other
 operands (instr.Call func) = numbered func
 operands (instr.CallIndirect index) = use_of index
 operands (instr.Local op index) = numbered index

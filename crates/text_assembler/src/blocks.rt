@@ -21,7 +21,8 @@ use crate::scopes::Scopes;
 use crate::token::{Lexeme, Token};
 use crate::uses::read_nameless_use;
 use std::alloc::Global;
-use wasm_ast::{BlockType, Body, Bytes, Instr};
+use std::boxed::Box;
+use wasm_ast::{Arms, BlockType, Body, Bytes, Instr};
 
 // The type of a block, and what follows it.
 #[tactic(auto, unfolding(crate::specs::Instructions::read_block_type))]
@@ -150,7 +151,7 @@ fn read_labelled<'a>(
     let mut body = Vec::new(alloc);
     let rest = push_body(alloc, scopes, locals, labels, more, &mut body, tokens)?;
     labels.leave();
-    Ok((Body::new(alloc, body)?, rest))
+    Ok((Body::new(body), rest))
 }
 
 // The else arm of an `if` with this label, and what follows it.
@@ -171,7 +172,7 @@ fn read_else<'a>(
     ensures kept { IfOk result (λ _. labels.new ≡ labels.old) }
 {
     if !begins_word("else", tokens) {
-        return Ok((Body::new(alloc, Vec::new(alloc))?, tokens));
+        return Ok((Body::new(Vec::new(alloc)), tokens));
     }
     let rest = skip_word("else", tokens)?;
     let rest = skip_label(label, rest)?;
@@ -197,8 +198,8 @@ fn read_if<'a>(
     let (then_arm, rest) = read_labelled(alloc, scopes, locals, labels, more, &label, rest)?;
     let (else_arm, rest) = read_else(alloc, scopes, locals, labels, more, &label, rest)?;
     let rest = skip_end(&label, rest)?;
-    let instr = Instr::If(block_type, then_arm, else_arm);
-    Ok((instr, rest))
+    let arms = Box::new(alloc, Arms { then_arm, else_arm })?;
+    Ok((Instr::If(block_type, arms), rest))
 }
 
 // The type, the body and the end of a block or a loop, and what follows them.
@@ -244,6 +245,7 @@ fn read_nested<'a>(
         return read_if(alloc, scopes, locals, labels, more, tokens);
     }
     let ((block_type, body), rest) = read_enclosed(alloc, scopes, locals, labels, more, tokens)?;
+    let body = Box::new(alloc, body)?;
     let instr = if is_word(word, "block") {
         Instr::Block(block_type, body)
     } else {

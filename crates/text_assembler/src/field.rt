@@ -134,7 +134,7 @@ fn read_ops<'a>(
         &mut body,
         tokens,
     )?;
-    Ok((Body::new(alloc, body)?, rest))
+    Ok((Body::new(body), rest))
 }
 
 #[tactic(auto, unfolding(crate::specs::Modules::read_func))]

@@ -115,8 +115,10 @@ fn keyword_for(simple: &Simple) -> Keyword
         Simple::Store(op, _) => Keyword::Store(*op),
         Simple::MemorySize => Keyword::MemorySize,
         Simple::MemoryGrow => Keyword::MemoryGrow,
-        Simple::Const(Value::I32(_)) => Keyword::Const(ValType::I32),
-        Simple::Const(Value::I64(_)) => Keyword::Const(ValType::I64),
+        Simple::Const(constant) => match constant.value() {
+            Value::I32(_) => Keyword::Const(ValType::I32),
+            Value::I64(_) => Keyword::Const(ValType::I64),
+        },
         Simple::Unary(val_type, op) => Keyword::Unary(*val_type, *op),
         Simple::Binary(val_type, op) => Keyword::Binary(*val_type, *op),
         Simple::Test(val_type, op) => Keyword::Test(*val_type, *op),
@@ -127,7 +129,7 @@ fn keyword_for(simple: &Simple) -> Keyword
 
 fn push_labels(out: &mut String, labels: &[u32], other: u32) -> Result<(), AllocError>
     ensures { OnOk result (string_bytes out.new
-        ≡ string_bytes out.old ++ operands (instr.BrTable labels.now other)) }
+        ≡ string_bytes out.old ++ operands (instr.BrTable other labels.now)) }
 {
     push_numbers(out, labels)?;
     push_number(out, other)
@@ -144,11 +146,11 @@ fn push_operands(out: &mut String, simple: &Simple) -> Result<(), AllocError>
         | Simple::Call(index)
         | Simple::Local(_, index)
         | Simple::Global(_, index) => push_number(out, *index),
-        Simple::BrTable(labels, other) => push_labels(out, labels.as_slice(), *other),
+        Simple::BrTable(other, labels) => push_labels(out, labels.as_slice(), *other),
         Simple::CallIndirect(index) => push_type_index(out, *index),
         Simple::Load(op, at) => push_mem_arg(out, load_bytes(*op), *at),
         Simple::Store(op, at) => push_mem_arg(out, store_bytes(*op), *at),
-        Simple::Const(value) => push_constant(out, *value),
+        Simple::Const(constant) => push_constant(out, constant.value()),
         _ => Ok(()),
     }
 }
@@ -193,6 +195,6 @@ pub fn push_line(out: &mut String, instr: &Instr) -> Result<(), AllocError>
         Instr::Simple(simple) => push_simple(out, simple),
         Instr::Block(block_type, _) => push_opening(out, "block", *block_type),
         Instr::Loop(block_type, _) => push_opening(out, "loop", *block_type),
-        Instr::If(block_type, _, _) => push_opening(out, "if", *block_type),
+        Instr::If(block_type, _) => push_opening(out, "if", *block_type),
     }
 }

@@ -15,7 +15,7 @@ use crate::scopes::Scopes;
 use crate::token::{Lexeme, Token};
 use crate::uses::read_nameless_use;
 use std::alloc::Global;
-use wasm_ast::{LoadOp, MemArg, Simple, StoreOp, ValType, Value};
+use wasm_ast::{Constant, LoadOp, MemArg, Simple, StoreOp, ValType, Value};
 
 // An indirect call through the table.
 #[tactic(auto, unfolding(crate::specs::Instructions::read_call_indirect))]
@@ -43,7 +43,7 @@ fn read_br_table<'a>(
         return Err(fault(tokens));
     };
     let all = wasm_ast::Labels::new(alloc, all)?;
-    Ok((Simple::BrTable(all, other), rest))
+    Ok((Simple::BrTable(other, all), rest))
 }
 
 // The exponent of a power of two.
@@ -117,7 +117,7 @@ fn read_const(val_type: ValType, tokens: &[Token]) -> Result<(Simple, &[Token]),
         ValType::I64 => constant64(word).map(Value::I64),
     };
     match value {
-        Some(value) => Ok((Simple::Const(value), rest)),
+        Some(value) => Ok((Simple::Const(Constant::new(value)), rest)),
         None => Err(fault(tokens)),
     }
 }

@@ -339,7 +339,7 @@ simple_sound c (instr.BrIf label) s e new h m =
     branch_if_sound s e new h m in
     let p = found.2.2 in
     (found.0, found.1, (found.2.0, p.2.0, found.2.1, p.1 ∙ ap (λ (ts : List ValType). I32 ∷ ts) p.2.1, p.2.2))
-simple_sound c (instr.BrTable labels other) s e new h m =
+simple_sound c (instr.BrTable other labels) s e new h m =
     let found =
     named_sound (slice_get c.labels other) (branches c.labels labels) (Branches c labels)
     (branches_sound c labels) s e new h m in
@@ -393,7 +393,7 @@ simple_exact c (instr.BrIf label) s old new m h =
     named_exact (slice_get c.labels label) (λ ts. after_i32 (replaced ts ts)) (λ ts. AfterI32 (Replaces ts ts))
     branch_if_exact s old new m
     (h.0, h.2, (on_top h.0 h.1, h.3, (h.1, refl, h.4)))
-simple_exact c (instr.BrTable labels other) s old new m h =
+simple_exact c (instr.BrTable other labels) s old new m h =
     named_exact (slice_get c.labels other) (branches c.labels labels) (Branches c labels)
     (branches_exact c labels) s old new m
     (h.0, h.3, (labels_exact c.labels h.0 labels h.2, (on_top h.0 h.1, h.4, (h.1, refl))))

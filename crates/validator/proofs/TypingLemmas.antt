@@ -88,7 +88,7 @@ simple_above c instr.Nop below old new h = ap (λ (ts : List ValType). ts ++ bel
 simple_above c (instr.Br label) below old new h = (h.0, h.1 ++ below, h.2, on_top_above h.0 h.1 below old h.3)
 simple_above c (instr.BrIf label) below old new h =
     (h.0, h.1 ++ below, h.2, i32_on_top_above h.0 h.1 below old h.3, on_top_above h.0 h.1 below new h.4)
-simple_above c (instr.BrTable labels other) below old new h =
+simple_above c (instr.BrTable other labels) below old new h =
     (h.0, h.1 ++ below, h.2, h.3, i32_on_top_above h.0 h.1 below old h.4)
 simple_above c instr.Return below old new h = (h.0 ++ below, on_top_above c.results h.0 below old h.1)
 simple_above c (instr.Call func) below old new h = (h.0, h.1, replaces_above h.0.params h.0.results below old new h.2)

@@ -83,7 +83,7 @@ SimpleTyped c (instr.Br label) old new =
 SimpleTyped c (instr.BrIf label) old new =
     (ts : List ValType) × (rest : List ValType) × IsLabel c.labels ts label
     × (old ≡ I32 ∷ on_top ts rest) × (new ≡ on_top ts rest)
-SimpleTyped c (instr.BrTable labels other) old new =
+SimpleTyped c (instr.BrTable other labels) old new =
     (ts : List ValType) × (rest : List ValType) × All (IsLabel c.labels ts) labels
     × IsLabel c.labels ts other
     × (old ≡ I32 ∷ on_top ts rest)

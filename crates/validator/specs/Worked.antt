@@ -101,7 +101,7 @@ abbrev pub br_if : ℕ → Op
 br_if label = simple (instr.BrIf label)
 
 abbrev pub br_table : List ℕ → (other : ℕ) → Op
-br_table labels other = simple (instr.BrTable labels other)
+br_table labels other = simple (instr.BrTable other labels)
 
 abbrev pub return' : Op
 return' = simple instr.Return

@@ -18,7 +18,7 @@ use crate::places::{count_body, count_instrs};
 use crate::simple::check_simple;
 use crate::type_list::TypeList;
 use std::alloc::AllocError;
-use wasm_ast::{Body, Instr, ValType};
+use wasm_ast::{Arms, Body, Instr, ValType};
 
 // Begins a block with this label, and with operands of its parameters.
 fn open<'a>(
@@ -91,7 +91,8 @@ pub fn check_instr<'a>(
             };
             check_block(function, labels, &types, &types.params, body, operands)
         }
-        Instr::If(kind, then_arm, else_arm) => {
+        Instr::If(kind, arms) => {
+            let Arms { then_arm, else_arm } = &**arms;
             let Some(types) = block_types(function.of, *kind) else {
                 return Err(BodyError::Invalid(0));
             };

@@ -22,7 +22,7 @@ use crate::type_list::TypeList;
 use crate::types::{Stacks, Types};
 use std::alloc::{AllocError, Global};
 use std::mem;
-use wasm_ast::{Body, Instr, ValType};
+use wasm_ast::{Arms, Body, Instr, ValType};
 
 /// Where a walk stops.
 #[derive(Clone, Copy)]
@@ -294,7 +294,8 @@ fn each_instr<'a>(
             };
             each_block(stops, opened, found, &types, &types.params, body, inside)
         }
-        Instr::If(kind, then_arm, else_arm) => {
+        Instr::If(kind, arms) => {
+            let Arms { then_arm, else_arm } = &**arms;
             let Some(types) = block_types(stops.function.of, *kind) else {
                 return Err(CheckError::Invalid);
             };

@@ -104,7 +104,9 @@ fn is_constant(expected: ValType, init: &Body) -> bool
     ensures { result ≡ is_constant expected init.now }
 {
     match init.as_slice() {
-        [Instr::Simple(Simple::Const(value))] => is_same(type_of(*value), expected),
+        [Instr::Simple(Simple::Const(constant))] => {
+            is_same(type_of(constant.value()), expected)
+        },
         _ => false,
     }
 }

@@ -154,7 +154,7 @@ pub fn needs_of<'a>(
         Simple::Nop => Ok(Needs::Nothing),
         Simple::Br(label) => of_branch(labels, *label),
         Simple::BrIf(label) => of_branch_if(labels, *label),
-        Simple::BrTable(list, other) => of_branch_table(labels, list.as_slice(), *other),
+        Simple::BrTable(other, list) => of_branch_table(labels, list.as_slice(), *other),
         Simple::Return => Ok(Needs::Leaves(TypeList::plain(function.func_type.results.as_slice()))),
         Simple::Call(func) => of_call(function.of, *func),
         Simple::CallIndirect(index) => of_call_indirect(function, *index),
@@ -172,7 +172,7 @@ pub fn needs_of<'a>(
         }
         Simple::MemorySize => with_memory(function, Needs::Gives(ValType::I32)),
         Simple::MemoryGrow => with_memory(function, Needs::Converts(ValType::I32, ValType::I32)),
-        Simple::Const(value) => Ok(Needs::Gives(type_of(*value))),
+        Simple::Const(constant) => Ok(Needs::Gives(type_of(constant.value()))),
         Simple::Unary(val_type, _) => Ok(Needs::Converts(*val_type, *val_type)),
         Simple::Binary(val_type, _) => Ok(Needs::Combines(*val_type, *val_type)),
         Simple::Test(val_type, _) => Ok(Needs::Converts(*val_type, ValType::I32)),

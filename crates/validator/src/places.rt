@@ -5,7 +5,7 @@ ghost use Rattle.wasm_ast.specs.Syntax.{count, ops_count, ops_of};
 ghost use Rattle.wasm_ast.specs.View.{op_of};
 ghost use Rattle.validator.specs.Inside.PlaceWalk.{past};
 
-use wasm_ast::{Body, Instr};
+use wasm_ast::{Arms, Body, Instr};
 
 /// The place counted from the end of the instruction. None if it is in the instruction. Recursion is
 /// as deep as its blocks are nested, which is as deep as that of dropping the instruction.
@@ -17,7 +17,10 @@ pub fn past_instr(instr: &Instr, place: u32) -> Option<u32>
     match instr {
         Instr::Simple(_) => Some(inside),
         Instr::Block(_, body) | Instr::Loop(_, body) => past_body(body, inside),
-        Instr::If(_, then_arm, else_arm) => past_body(else_arm, past_body(then_arm, inside)?),
+        Instr::If(_, arms) => {
+            let Arms { then_arm, else_arm } = &**arms;
+            past_body(else_arm, past_body(then_arm, inside)?)
+        }
     }
 }
 

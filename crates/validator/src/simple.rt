@@ -34,7 +34,7 @@ pub fn check_simple<'a>(
 {
     // The commonest are done at once: what the others need is put together first, and read again.
     match simple {
-        Simple::Const(value) => give(operands, type_of(*value)),
+        Simple::Const(constant) => give(operands, type_of(constant.value())),
         Simple::Drop => discard(operands),
         Simple::Unary(val_type, _) => convert(operands, *val_type, *val_type),
         Simple::Binary(val_type, _) => combine(operands, *val_type, *val_type),

@@ -18,7 +18,7 @@ use crate::places::{past_body, past_instr};
 use crate::type_list::TypeList;
 use crate::types::{Stacks, Types};
 use std::alloc::Global;
-use wasm_ast::{Body, Instr, ValType};
+use wasm_ast::{Arms, Body, Instr, ValType};
 
 /// What is known before the instruction at a place of a function's body.
 pub fn known_at<'a>(
@@ -158,7 +158,8 @@ fn enter_instr<'a>(
                 operands,
             )
         }
-        Instr::If(kind, then_arm, else_arm) => {
+        Instr::If(kind, arms) => {
+            let Arms { then_arm, else_arm } = &**arms;
             let Some(types) = block_types(function.of, *kind) else {
                 return Err(CheckError::Invalid);
             };

@@ -2,3 +2,4 @@
 pub mod Code
 pub mod ModuleCode
 pub mod Falls
+pub mod Halves

@@ -31,7 +31,7 @@ RangedMemArg at = IsU32 at.align × IsU32 at.offset
 abbrev pub RangedSimple : Simple → Type 0
 RangedSimple (Br label) = IsU32 label
 RangedSimple (BrIf label) = IsU32 label
-RangedSimple (BrTable labels other) = All IsU32 labels × IsU32 other
+RangedSimple (BrTable other labels) = All IsU32 labels × IsU32 other
 RangedSimple (Call func) = IsU32 func
 RangedSimple (CallIndirect type) = IsU32 type
 RangedSimple (Local op index) = IsU32 index

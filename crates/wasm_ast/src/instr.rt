@@ -1,15 +1,15 @@
 //! Instructions (2.4).
 
-ghost use Rattle.std.specs.Prelude.{◌≡◌, map, nat_le, IfOk};
+ghost use Rattle.std.specs.Prelude.{◌≡◌, map, nat_le};
 ghost use Rattle.wasm_ast.specs.Syntax.{ops_of};
 ghost use Rattle.wasm_ast.specs.View.{op_of};
 ghost use Rattle.wasm_ast.specs.Limits.{depth, ops_depth};
 ghost use Rattle.wasm_ast.specs.Ranged.{RangedBlockType, RangedSimple, RangedMemArg, RangedOp, RangedOps};
 
+use crate::constant::Constant;
 use crate::operators::{BinaryOp, ConvertOp, LoadOp, RelationOp, StoreOp, TestOp, UnaryOp};
 use crate::sequence::{Labels, indices_ranged};
-use crate::values::{ValType, Value};
-use std::alloc::{AllocError, Global};
+use crate::values::ValType;
 use std::boxed::Box;
 use std::marker::Model;
 
@@ -67,8 +67,9 @@ pub enum Simple {
     Br(u32),
     /// `br_if` to the label with this index
     BrIf(u32),
-    /// `br_table` with the labels that its operand counts, and the label for all other operands
-    BrTable(Labels, u32),
+    /// `br_table` with the label for all other operands, and the labels that its operand counts. In this
+    /// order they take no more memory than other instructions.
+    BrTable(u32, Labels),
     /// `return`
     Return,
     /// `call` of the function with this index, imports counted first
@@ -92,7 +93,7 @@ pub enum Simple {
     /// `memory.grow`
     MemoryGrow,
     /// `i32.const` and `i64.const`
-    Const(Value),
+    Const(Constant),
     /// an operator on one operand of this type
     Unary(ValType, UnaryOp),
     /// an operator on two operands of this type
@@ -111,7 +112,7 @@ impl Simple {
         ensures { RangedSimple self.now }
     {
         match self {
-            Simple::Const(value) => value.ranged(),
+            Simple::Const(constant) => constant.value().ranged(),
             Simple::Br(index)
             | Simple::BrIf(index)
             | Simple::Call(index)
@@ -121,7 +122,7 @@ impl Simple {
                 let _in_range = *index;
             }
             Simple::Load(_, at) | Simple::Store(_, at) => at.ranged(),
-            Simple::BrTable(labels, other) => {
+            Simple::BrTable(other, labels) => {
                 let _in_range = *other;
                 indices_ranged(labels.as_slice());
             }
@@ -146,11 +147,19 @@ impl MemArg {
 pub enum Instr {
     Simple(Simple),
     /// `block`
-    Block(BlockType, Body),
+    Block(BlockType, Box<Body>),
     /// `loop`
-    Loop(BlockType, Body),
+    Loop(BlockType, Box<Body>),
     /// `if` with both its arms; the second is empty where no `else` is written
-    If(BlockType, Body, Body),
+    If(BlockType, Box<Arms>),
+}
+
+/// The arms of an `if`.
+#[cycle(instr)]
+#[derive(Drop)]
+pub struct Arms {
+    pub then_arm: Body,
+    pub else_arm: Body,
 }
 
 impl Instr {
@@ -165,7 +174,8 @@ impl Instr {
             Instr::Block(_, body) | Instr::Loop(_, body) => {
                 limit > 0 && body.fits_depth(limit - 1)
             }
-            Instr::If(_, then_arm, else_arm) => {
+            Instr::If(_, arms) => {
+                let Arms { then_arm, else_arm } = &**arms;
                 limit > 0 && then_arm.fits_depth(limit - 1) && else_arm.fits_depth(limit - 1)
             }
         }
@@ -191,7 +201,8 @@ impl Instr {
                 }
                 body.fits_ranged(limit - 1)
             }
-            Instr::If(block_type, then_arm, else_arm) => {
+            Instr::If(block_type, arms) => {
+                let Arms { then_arm, else_arm } = &**arms;
                 block_type.ranged();
                 if limit == 0 {
                     then_arm.ranged();
@@ -216,7 +227,8 @@ impl Instr {
                 block_type.ranged();
                 body.ranged();
             }
-            Instr::If(block_type, then_arm, else_arm) => {
+            Instr::If(block_type, arms) => {
+                let Arms { then_arm, else_arm } = &**arms;
                 block_type.ranged();
                 then_arm.ranged();
                 else_arm.ranged();
@@ -225,15 +237,15 @@ impl Instr {
     }
 }
 
-// A module has many instructions, and each is read more than once.
-const _: () = prove!(std::mem::size_of::<Instr>() == 32);
+// A module has many instructions, and each is read more than once. So an instruction has a pointer to what
+// is inside it.
+const _: () = prove!(std::mem::size_of::<Instr>() == 24);
 
 /// A sequence of instructions (2.4.6). Contracts see the sequence of the abstract syntax.
 #[cycle(instr)]
 #[derive(Drop)]
 pub struct Body {
-    // A pointer, so that an instruction that has bodies is no larger than others.
-    instrs: Box<Vec<Instr>>,
+    instrs: Vec<Instr>,
 }
 
 impl Model for Body {
@@ -247,25 +259,22 @@ impl Model for Body {
     ghost use Rattle.std.specs.Prelude.{map};
     ghost use Rattle.wasm_ast.specs.View.{op_of};
 
-    ghost view = { λ b. ops_of (map op_of b.instrs.value.items) };
+    ghost view = { λ b. ops_of (map op_of b.instrs.items) };
 
     ghost size = { ops_count };
 
     ghost use Rattle.std.proofs.Common.{arith};
     ghost use Rattle.wasm_ast.specs.Inside.Falls.{most_le_count};
 
-    ghost size_decreases = { λ a h. omega (arith, most_le_count a.instrs.value.items) };
+    ghost size_decreases = { λ a h. omega (arith, most_le_count a.instrs.items) };
 }
 
 impl Body {
-    /// The sequence of these instructions. It takes memory for the vector's pointer and its two lengths.
-    /// An error if memory runs out.
-    pub fn new(alloc: Global, instrs: Vec<Instr>) -> Result<Body, AllocError>
-        ensures { IfOk result (λ b. b ≡ ops_of (map op_of instrs.items)) }
+    /// The sequence of these instructions. No memory is taken.
+    pub fn new(instrs: Vec<Instr>) -> Body
+        ensures { result ≡ ops_of (map op_of instrs.items) }
     {
-        Ok(Body {
-            instrs: Box::new(alloc, instrs)?,
-        })
+        Body { instrs }
     }
 
     /// The instructions in order.
@@ -280,7 +289,7 @@ impl Body {
         ensures { ops_of (map op_of result.items) ≡ self }
     {
         let Body { instrs } = self;
-        Box::into_inner(instrs)
+        instrs
     }
 
     /// Whether at most this number of blocks are open at once in the sequence. Recursion is no deeper

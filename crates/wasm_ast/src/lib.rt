@@ -5,6 +5,7 @@
 //! extensions, several results and types of blocks by index are from there.
 #![tactic(auto)]
 
+mod constant;
 mod func_types;
 mod identifier;
 mod instr;
@@ -21,8 +22,9 @@ mod text;
 mod trap;
 mod values;
 
+pub use constant::Constant;
 pub use identifier::{is_digest, is_id};
-pub use instr::{BlockType, Body, GlobalOp, Instr, LocalOp, MemArg, Simple};
+pub use instr::{Arms, BlockType, Body, GlobalOp, Instr, LocalOp, MemArg, Simple};
 pub use module::{
     Element, Export, ExportKind, Func, Global, Import, Limits, MAX_FUNCTIONS, MAX_LOCALS,
     MAX_MEMORY_PAGES, MAX_MODULE_BYTES, MAX_NESTING, MAX_RESULTS, MAX_TABLE_ENTRIES, Module,

@@ -185,7 +185,7 @@ immediates_spell (Local op index) rest h few = number_spells index rest h
 immediates_spell (Global op index) rest h few = number_spells index rest h
 immediates_spell (Load op at) rest h few = mem_arg_spells at rest h
 immediates_spell (Store op at) rest h few = mem_arg_spells at rest h
-immediates_spell (BrTable labels other) rest h few =
+immediates_spell (BrTable other labels) rest h few =
     let k = length-append (canon_vector canon_number labels) (canon_number other) in (
       canon_number other ++ rest,
       rw (append_assoc (canon_vector canon_number labels) (canon_number other) rest)

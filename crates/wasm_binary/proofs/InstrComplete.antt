@@ -47,7 +47,7 @@ immediates_complete (Load op at) bytes rest h =
     complete_then _ (mem_arg_complete at bytes rest h) (complete_ok refl) always
 immediates_complete (Store op at) bytes rest h =
     complete_then _ (mem_arg_complete at bytes rest h) (complete_ok refl) always
-immediates_complete (BrTable labels other) bytes rest h =
+immediates_complete (BrTable other labels) bytes rest h =
     complete_then _ (vector_complete IsU32 read_u32 index_complete labels bytes h.0 h.1)
     (complete_then _ (u32_complete h.0 other rest h.2) (complete_ok refl) always) always
 immediates_complete (CallIndirect index) bytes rest h =
@@ -94,7 +94,7 @@ immediates_take (Load op at) bytes rest h =
     omega (arith, unsigned_takes 32 bytes at.align h.0 h.1, unsigned_takes 32 h.0 at.offset rest h.2)
 immediates_take (Store op at) bytes rest h =
     omega (arith, unsigned_takes 32 bytes at.align h.0 h.1, unsigned_takes 32 h.0 at.offset rest h.2)
-immediates_take (BrTable labels other) bytes rest h =
+immediates_take (BrTable other labels) bytes rest h =
     omega (
       arith,
       unsigned_takes 32 bytes (length labels) h.1.0 h.1.1,

@@ -65,9 +65,9 @@ immediates_sound (Load op at) bytes =
     sound_then (mem_arg_sound bytes) (λ a ha. sound_ok (Load op a.0, a.1) (refl, ha)) never
 immediates_sound (Store op at) bytes =
     sound_then (mem_arg_sound bytes) (λ a ha. sound_ok (Store op a.0, a.1) (refl, ha)) never
-immediates_sound (BrTable labels other) bytes =
+immediates_sound (BrTable other labels) bytes =
     sound_then (vector_sound IsU32 read_u32 u32_sound bytes)
-    (λ ls hls. sound_then (u32_sound ls.1) (λ n hn. sound_ok (BrTable ls.0 n.0, n.1) (refl, (ls.1, hls, hn))) never)
+    (λ ls hls. sound_then (u32_sound ls.1) (λ n hn. sound_ok (BrTable n.0 ls.0, n.1) (refl, (ls.1, hls, hn))) never)
     never
 immediates_sound (CallIndirect index) bytes =
     sound_then (u32_sound bytes)

@@ -22,7 +22,7 @@ use Rattle.wasm_binary.proofs.ReadComplete.{false_by}
 abbrev pub blank : Simple → Simple
 blank (Br label) = Br 0
 blank (BrIf label) = BrIf 0
-blank (BrTable labels other) = BrTable [] 0
+blank (BrTable other labels) = BrTable 0 []
 blank (Call func) = Call 0
 blank (CallIndirect index) = CallIndirect 0
 blank (Local op index) = Local op 0
@@ -39,7 +39,7 @@ found_by Unreachable = refl
 found_by Nop = refl
 found_by (Br n) = refl
 found_by (BrIf n) = refl
-found_by (BrTable ls l) = refl
+found_by (BrTable l ls) = refl
 found_by Return = refl
 found_by (Call n) = refl
 found_by (CallIndirect n) = refl

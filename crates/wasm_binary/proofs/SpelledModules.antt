@@ -63,7 +63,7 @@ immediates_below (Local op index) bytes rest h = u32_below index bytes rest h
 immediates_below (Global op index) bytes rest h = u32_below index bytes rest h
 immediates_below (Load op at) bytes rest h = (u32_below at.align bytes h.0 h.1, u32_below at.offset h.0 rest h.2)
 immediates_below (Store op at) bytes rest h = (u32_below at.align bytes h.0 h.1, u32_below at.offset h.0 rest h.2)
-immediates_below (BrTable labels other) bytes rest h =
+immediates_below (BrTable other labels) bytes rest h =
     (indices_below labels bytes h.0 h.1, u32_below other h.0 rest h.2)
 immediates_below (CallIndirect index) bytes rest h = u32_below index bytes (reserved_byte ∷ rest) h
 immediates_below (Const (I32 n)) bytes rest h = signed_below 32 bytes n rest h

@@ -94,7 +94,7 @@ canon_mem_arg at = canon_number at.align ++ canon_number at.offset
 abbrev pub canon_immediates : Simple → List ℕ
 canon_immediates (Br label) = canon_number label
 canon_immediates (BrIf label) = canon_number label
-canon_immediates (BrTable labels other) = canon_vector canon_number labels ++ canon_number other
+canon_immediates (BrTable other labels) = canon_vector canon_number labels ++ canon_number other
 canon_immediates (Call func) = canon_number func
 canon_immediates (CallIndirect index) = canon_number index ++ reserved_byte ∷ []
 canon_immediates (Local op index) = canon_number index

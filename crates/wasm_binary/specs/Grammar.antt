@@ -88,7 +88,7 @@ IsMemArg bytes at rest = (mid : List ℕ) × IsU32 bytes at.align mid × IsU32 m
 abbrev pub AreImmediates : Form Simple
 AreImmediates bytes (Br label) rest = IsU32 bytes label rest
 AreImmediates bytes (BrIf label) rest = IsU32 bytes label rest
-AreImmediates bytes (BrTable labels other) rest =
+AreImmediates bytes (BrTable other labels) rest =
     (mid : List ℕ) × IsVector IsU32 bytes labels mid × IsU32 mid other rest
 AreImmediates bytes (Call func) rest = IsU32 bytes func rest
 AreImmediates bytes (CallIndirect index) rest = IsU32 bytes index (reserved_byte ∷ rest)

@@ -12,7 +12,7 @@ ghost use Rattle.wasm_ast.specs.declared.values.Value.TheVariants as value;
 use crate::numbers::{read_s32, read_u32};
 use crate::opcodes;
 use std::alloc::AllocError;
-use wasm_ast::{BinaryOp, Instr, LocalOp, Simple, ValType, Value};
+use wasm_ast::{BinaryOp, Constant, Instr, LocalOp, Simple, ValType, Value};
 
 // Adds an instruction without a body after all others, and gives the rest.
 #[inline(always)]
@@ -58,7 +58,7 @@ fn add_const<'a>(items: &mut Vec<Instr>, bytes: &'a [u8]) -> Result<Option<&'a [
     ensures none { IfOk result (λ o. IfNone o (items.new.items ≡ items.old.items)) }
 {
     match read_s32(bytes) {
-        Ok((n, rest)) => add_simple(items, Simple::Const(Value::I32(n)), rest),
+        Ok((n, rest)) => add_simple(items, Simple::Const(Constant::new(Value::I32(n))), rest),
         Err(_) => Ok(None),
     }
 }

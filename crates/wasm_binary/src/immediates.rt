@@ -10,7 +10,7 @@ use crate::numbers::{read_s32, read_s64, read_u32, skip_byte};
 use crate::opcodes::RESERVED;
 use crate::vectors::read_indices;
 use std::alloc::Global;
-use wasm_ast::{Labels, LoadOp, MemArg, Simple, StoreOp, Value};
+use wasm_ast::{Constant, Labels, LoadOp, MemArg, Simple, StoreOp, Value};
 
 /// The alignment and the offset, and the rest.
 #[tactic(auto, unfolding(crate::specs::Inside::Reading::read_mem_arg))]
@@ -74,7 +74,7 @@ pub fn read_br_table(alloc: Global, bytes: &[u8]) -> Result<(Simple, &[u8]), Rea
 {
     let (labels, rest) = read_indices(alloc, bytes)?;
     let (other, rest) = read_u32(rest)?;
-    Ok((Simple::BrTable(Labels::new(alloc, labels)?, other), rest))
+    Ok((Simple::BrTable(other, Labels::new(alloc, labels)?), rest))
 }
 
 /// A constant of the type of this one, and the rest.
@@ -85,11 +85,11 @@ pub fn read_const(value: Value, bytes: &[u8]) -> Result<(Simple, &[u8]), ReadErr
     match value {
         Value::I32(_) => {
             let (n, rest) = read_s32(bytes)?;
-            Ok((Simple::Const(Value::I32(n)), rest))
+            Ok((Simple::Const(Constant::new(Value::I32(n))), rest))
         }
         Value::I64(_) => {
             let (n, rest) = read_s64(bytes)?;
-            Ok((Simple::Const(Value::I64(n)), rest))
+            Ok((Simple::Const(Constant::new(Value::I64(n))), rest))
         }
     }
 }

@@ -11,7 +11,8 @@ use crate::opcodes::{BLOCK, ELSE, END, IF, LOOP};
 use crate::read_opcodes::read_simple;
 use crate::types::read_block_type;
 use std::alloc::Global;
-use wasm_ast::{BlockType, Body, Instr, MAX_NESTING, Simple};
+use std::boxed::Box;
+use wasm_ast::{Arms, BlockType, Body, Instr, MAX_NESTING, Simple};
 
 // The else arm of an `if` and its end, and the rest. The arm is empty if none is written.
 #[cycle(read)]
@@ -38,9 +39,10 @@ fn read_if(alloc: Global, more: usize, bytes: &[u8]) -> Result<(Instr, &[u8]), R
     let (block_type, rest) = read_block_type(bytes)?;
     let (then_arm, rest) = read_body(alloc, more, rest)?;
     let (else_arm, rest) = read_else(alloc, more, rest)?;
-    let then_arm = Body::new(alloc, then_arm)?;
-    let else_arm = Body::new(alloc, else_arm)?;
-    Ok((Instr::If(block_type, then_arm, else_arm), rest))
+    let then_arm = Body::new(then_arm);
+    let else_arm = Body::new(else_arm);
+    let arms = Box::new(alloc, Arms { then_arm, else_arm })?;
+    Ok((Instr::If(block_type, arms), rest))
 }
 
 // The type, the body and the end of a block or a loop, and the rest.
@@ -57,8 +59,7 @@ fn read_enclosed(
     let (block_type, rest) = read_block_type(bytes)?;
     let (instrs, rest) = read_body(alloc, more, rest)?;
     let rest = skip_byte(END, What::Else, rest)?;
-    let body = Body::new(alloc, instrs)?;
-    Ok(((block_type, body), rest))
+    Ok(((block_type, Body::new(instrs)), rest))
 }
 
 // What follows this opcode of an instruction that has bodies, and the rest. In the bodies this
@@ -78,6 +79,7 @@ fn read_nested(
         return read_if(alloc, more, bytes);
     }
     let ((block_type, body), rest) = read_enclosed(alloc, more, bytes)?;
+    let body = Box::new(alloc, body)?;
     let instr = if opcode == BLOCK {
         Instr::Block(block_type, body)
     } else {
@@ -169,6 +171,5 @@ pub fn read_expression(alloc: Global, bytes: &[u8]) -> Result<(Body, &[u8]), Rea
 {
     let (instrs, rest) = read_body(alloc, MAX_NESTING, bytes)?;
     let rest = skip_byte(END, What::Else, rest)?;
-    let body = Body::new(alloc, instrs)?;
-    Ok((body, rest))
+    Ok((Body::new(instrs), rest))
 }

@@ -121,7 +121,7 @@ pub fn canonical_instructions()
 /// an alignment and then an offset, and a byte 00.
 #[tactic(auto, unfolding(crate::specs::Canonical::canon_unsigned))]
 pub fn canonical_immediates()
-    ensures labels { canon_op (simple (BrTable (1 ∷ 0 ∷ []) 2))
+    ensures labels { canon_op (simple (BrTable 2 (1 ∷ 0 ∷ [])))
         ≡ 0x0E ∷ 0x02 ∷ 0x01 ∷ 0x00 ∷ 0x02 ∷ [] }
     ensures load { canon_op (simple (Load load.I64From16S (record { align = 1; offset = 5 })))
         ≡ 0x32 ∷ 0x01 ∷ 0x05 ∷ [] }
@@ -154,7 +154,7 @@ pub fn opcodes_of_instructions()
     ensures blocks { block_byte ∷ loop_byte ∷ if_byte ∷ else_byte ∷ end_byte ∷ []
         ≡ 0x02 ∷ 0x03 ∷ 0x04 ∷ 0x05 ∷ 0x0B ∷ [] }
     ensures control { (i : ℕ) (is : List ℕ) → map opcode (instr.Br i ∷ instr.BrIf i
-        ∷ instr.BrTable is i ∷ instr.Return ∷ instr.Call i ∷ instr.CallIndirect i ∷ [])
+        ∷ instr.BrTable i is ∷ instr.Return ∷ instr.Call i ∷ instr.CallIndirect i ∷ [])
         ≡ range_with_len 0x0C 6 }
     ensures operands { map opcode (instr.Drop ∷ instr.Select ∷ []) ≡ 0x1A ∷ 0x1B ∷ [] }
     ensures locals { map local_byte (local.Get ∷ local.Set ∷ local.Tee ∷ [])

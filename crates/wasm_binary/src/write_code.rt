@@ -10,7 +10,7 @@ use crate::opcodes::{BLOCK, ELSE, EMPTY, END, IF, LOOP, RESERVED};
 use crate::write_items::{Encode, put_number, put_signed, put_sized, put_val_type, put_vector};
 use crate::write_opcodes::opcode;
 use std::alloc::{AllocError, Global};
-use wasm_ast::{BlockType, Body, Func, Instr, MemArg, Simple, ValType, Value, is_same_type};
+use wasm_ast::{Arms, BlockType, Body, Func, Instr, MemArg, Simple, ValType, Value, is_same_type};
 
 fn put_opcode(out: &mut Vec<u8>, opcode: u8) -> Result<(), AllocError>
     ensures { OnOk result (out.new.items ≡ out.old.items ++ opcode ∷ []) }
@@ -56,7 +56,7 @@ fn put_labels(
     other: u32,
 ) -> Result<(), AllocError>
     ensures { OnOk result (out.new.items
-        ≡ out.old.items ++ canon_immediates (Simple.BrTable labels.now other)) }
+        ≡ out.old.items ++ canon_immediates (Simple.BrTable other labels.now)) }
 {
     put_vector(alloc, out, labels)?;
     put_number(out, u64::from(other))
@@ -80,11 +80,11 @@ fn put_immediates(alloc: Global, out: &mut Vec<u8>, simple: &Simple) -> Result<(
         | Simple::Call(index)
         | Simple::Local(_, index)
         | Simple::Global(_, index) => put_number(out, u64::from(*index)),
-        Simple::BrTable(labels, other) => put_labels(alloc, out, labels.as_slice(), *other),
+        Simple::BrTable(other, labels) => put_labels(alloc, out, labels.as_slice(), *other),
         Simple::CallIndirect(type_index) => put_call_indirect(out, *type_index),
         Simple::Load(_, at) | Simple::Store(_, at) => put_mem_arg(out, *at),
         Simple::MemorySize | Simple::MemoryGrow => put_opcode(out, RESERVED),
-        Simple::Const(value) => put_const(out, *value),
+        Simple::Const(constant) => put_const(out, constant.value()),
         _ => Ok(()),
     }
 }
@@ -130,7 +130,8 @@ fn put_instr(alloc: Global, out: &mut Vec<u8>, instr: &Instr) -> Result<(), Allo
             put_body(alloc, out, body)?;
             put_opcode(out, END)
         }
-        Instr::If(block_type, then_arm, else_arm) => {
+        Instr::If(block_type, arms) => {
+            let Arms { then_arm, else_arm } = &**arms;
             put_opening(out, IF, *block_type)?;
             put_body(alloc, out, then_arm)?;
             put_else(out, else_arm)?;

@@ -114,6 +114,15 @@ fn convert_byte(op: ConvertOp) -> u8
     }
 }
 
+fn const_byte(value: Value) -> u8
+    ensures { result ≡ opcode (Simple.Const value) }
+{
+    match value {
+        Value::I32(_) => opcodes::I32_CONST,
+        Value::I64(_) => opcodes::I64_CONST,
+    }
+}
+
 /// The opcode of an instruction.
 pub fn opcode(simple: &Simple) -> u8
     ensures { result ≡ opcode simple.now }
@@ -135,8 +144,7 @@ pub fn opcode(simple: &Simple) -> u8
         Simple::Store(op, _) => store_byte(*op),
         Simple::MemorySize => opcodes::MEMORY_SIZE,
         Simple::MemoryGrow => opcodes::MEMORY_GROW,
-        Simple::Const(Value::I32(_)) => opcodes::I32_CONST,
-        Simple::Const(Value::I64(_)) => opcodes::I64_CONST,
+        Simple::Const(constant) => const_byte(constant.value()),
         Simple::Test(val_type, op) => test_byte(*val_type, *op),
         Simple::Compare(val_type, op) => compare_byte(*val_type, *op),
         Simple::Unary(val_type, op) => unary_byte(*val_type, *op),

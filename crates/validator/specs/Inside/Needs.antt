@@ -74,7 +74,7 @@ LacksAccess memories align bytes l =
 abbrev pub Lacks : Context → Simple → Lack → Type 0
 Lacks c (instr.Br label) l = LacksLabel c.labels label l
 Lacks c (instr.BrIf label) l = LacksLabel c.labels label l
-Lacks c (instr.BrTable labels other) l = LacksTable c.labels labels other l
+Lacks c (instr.BrTable other labels) l = LacksTable c.labels labels other l
 Lacks c (instr.Call func) l = LacksFunction c.funcs func l
 Lacks c (instr.CallIndirect type) l = LacksIndirect c.types c.tables type l
 Lacks c (instr.Local op index) l = LacksLocal c.locals index l

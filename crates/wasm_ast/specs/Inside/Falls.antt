@@ -12,7 +12,7 @@ deep_le_count : (i : Instr) → deep-Instr i ≤ count (op_of i)
 deep_le_count (Simple s) = omega arith
 deep_le_count (Block type body) = omega arith
 deep_le_count (Loop type body) = omega arith
-deep_le_count (If type then_arm else_arm) = omega arith
+deep_le_count (If type arms) = omega arith
 
 pub most_le_count : (is : List Instr) → most deep-Instr is ≤ ops_count (ops_of (map op_of is))
 most_le_count [] = omega arith

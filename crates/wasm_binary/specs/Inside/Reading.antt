@@ -220,7 +220,7 @@ no_offset = record { align = 0; offset = 0 }
 -- Instructions with zeros for their numbers. Control, variables, memory and constants;
 abbrev pub controls : List Simple
 controls =
-    Unreachable ∷ Nop ∷ Br 0 ∷ BrIf 0 ∷ BrTable [] 0 ∷ Return ∷ Call 0 ∷ CallIndirect 0 ∷ Drop ∷
+    Unreachable ∷ Nop ∷ Br 0 ∷ BrIf 0 ∷ BrTable 0 [] ∷ Return ∷ Call 0 ∷ CallIndirect 0 ∷ Drop ∷
     Select ∷ Local local.Get 0 ∷ Local local.Set 0 ∷ Local local.Tee 0 ∷ Global global.Get 0 ∷
     Global global.Set 0 ∷ Load load.I32 no_offset ∷ Load load.I64 no_offset ∷
     Load load.I32From8S no_offset ∷ Load load.I32From8U no_offset ∷ Load load.I32From16S no_offset ∷
@@ -311,13 +311,13 @@ unfoldable pub read_br_table : List ℕ → Read Simple
 read_br_table bytes = do
   labels ← read_vector read_u32 bytes
   other ← read_u32 labels.1
-  Ok (BrTable labels.0 other.0, other.1)
+  Ok (BrTable other.0 labels.0, other.1)
 
 -- what follows the opcode of an instruction that is this one but for its numbers
 unfoldable pub read_immediates : Simple → List ℕ → Read Simple
 read_immediates (Br label) bytes = read_index (Br label) bytes
 read_immediates (BrIf label) bytes = read_index (BrIf label) bytes
-read_immediates (BrTable labels other) bytes = read_br_table bytes
+read_immediates (BrTable other labels) bytes = read_br_table bytes
 read_immediates (Call func) bytes = read_index (Call func) bytes
 read_immediates (CallIndirect index) bytes = read_call_indirect bytes
 read_immediates (Local op index) bytes = read_index (Local op index) bytes

@@ -1,5 +1,6 @@
-use Rattle.std.proofs.Common.{◌≡◌, ◌+◌, ◌∷◌, map, drop, reverse, ap, sym, subst, arith, rules}
+use Rattle.std.proofs.Common.{◌≡◌, ◌+◌, ◌∷◌, map, drop, reverse, ap, sym, ◌∙◌, subst, arith, rules}
 use Rattle.std.proofs.lemmas.Result.{on_ok_weaker}
+use Rattle.wasm_ast.specs.declared.instr.Arms.{Arms}
 use Rattle.wasm_ast.specs.declared.instr.Instr.{Instr}
 use Rattle.wasm_ast.specs.Syntax.{Op, Ops, block, loop, if', count, ops_count, ops_of}
 use Rattle.wasm_ast.specs.View.{op_of}
@@ -77,43 +78,51 @@ walk_body-returns-clause-found t c = λ all follows before.
 pub walk_instr-returns-in-Block-clause-found : goal.walk_instr-returns-in-Block-clause-found
 walk_instr-returns-in-Block-clause-found t c =
     let outer = reverse c.args.blocks.now.items in
-    let is : op_of c.args.instr.now ≡ block c.in-Block.field-0 c.in-Block.body = ap op_of c.in-Block.is in
+    let is : op_of c.args.instr.now ≡ block c.in-Block.field-0 c.deref.result.now =
+    ap op_of c.in-Block.is ∙ ap (λ (os : Ops). block c.in-Block.field-0 os) (sym c.deref.ensures) in
     let after : c.in-Some.inside ≡ c.args.number + 1 = search rules in
     on_ok_weaker c.walk_block.result
     (finds_inside (op_of c.args.instr.now) outer c.args.stops.now.places.now c.args.found.now.items
     c.stop_here.new.found.items c.walk_block.new.found.items c.args.number c.in-Some.inside
-    (ops_count c.in-Block.body) (opens_at c.in-Block.body c.in-Some.inside (c.args.number ∷ outer)) after
+    (ops_count c.deref.result.now) (opens_at c.deref.result.now c.in-Some.inside (c.args.number ∷ outer)) after
     (ap (λ (o : Op). count o) is) c.in_ok-inside.ensures.found
-    (opens_in_block (op_of c.args.instr.now) c.in-Block.field-0 c.in-Block.body c.args.number c.in-Some.inside outer is
+    (opens_in_block (op_of c.args.instr.now) c.in-Block.field-0 c.deref.result.now c.args.number
+    c.in-Some.inside outer is
     after)) c.walk_block.ensures.found
 
 pub walk_instr-returns-in-Loop-clause-found : goal.walk_instr-returns-in-Loop-clause-found
 walk_instr-returns-in-Loop-clause-found t c =
     let outer = reverse c.args.blocks.now.items in
-    let is : op_of c.args.instr.now ≡ loop c.in-Loop.field-0 c.in-Loop.body = ap op_of c.in-Loop.is in
+    let is : op_of c.args.instr.now ≡ loop c.in-Loop.field-0 c.deref-in-Loop.result.now =
+    ap op_of c.in-Loop.is ∙ ap (λ (os : Ops). loop c.in-Loop.field-0 os) (sym c.deref-in-Loop.ensures) in
     let after : c.in-Some.inside ≡ c.args.number + 1 = search rules in
     on_ok_weaker c.walk_block-in-Loop.result
     (finds_inside (op_of c.args.instr.now) outer c.args.stops.now.places.now c.args.found.now.items
     c.stop_here.new.found.items c.walk_block-in-Loop.new.found.items c.args.number c.in-Some.inside
-    (ops_count c.in-Loop.body) (opens_at c.in-Loop.body c.in-Some.inside (c.args.number ∷ outer)) after
+    (ops_count c.deref-in-Loop.result.now)
+    (opens_at c.deref-in-Loop.result.now c.in-Some.inside (c.args.number ∷ outer)) after
     (ap (λ (o : Op). count o) is) c.in_ok-inside.ensures.found
-    (opens_in_loop (op_of c.args.instr.now) c.in-Loop.field-0 c.in-Loop.body c.args.number c.in-Some.inside outer is
+    (opens_in_loop (op_of c.args.instr.now) c.in-Loop.field-0 c.deref-in-Loop.result.now c.args.number
+    c.in-Some.inside outer is
     after)) c.walk_block-in-Loop.ensures.found
 
 pub walk_instr-returns-in-If-clause-found : goal.walk_instr-returns-in-If-clause-found
 walk_instr-returns-in-If-clause-found t c =
+    let arms = c.deref-in-If.result.now in
     let outer = reverse c.args.blocks.now.items in
-    let is : op_of c.args.instr.now ≡ if' c.in-If.field-0 c.in-If.then_arm c.in-If.else_arm = ap op_of c.in-If.is in
+    let is : op_of c.args.instr.now ≡ if' c.in-If.field-0 arms.then_arm arms.else_arm =
+    ap op_of c.in-If.is
+    ∙ ap (λ (a : Arms). if' c.in-If.field-0 a.then_arm a.else_arm) (sym c.deref-in-If.ensures) in
     let after : c.in-Some.inside ≡ c.args.number + 1 = search rules in
-    let counted : count (op_of c.args.instr.now) ≡ 1 + ops_count c.in-If.then_arm + ops_count c.in-If.else_arm =
+    let counted : count (op_of c.args.instr.now) ≡ 1 + ops_count arms.then_arm + ops_count arms.else_arm =
     ap (λ (o : Op). count o) is in
     on_ok_weaker c.walk_if.result
     (finds_inside (op_of c.args.instr.now) outer c.args.stops.now.places.now c.args.found.now.items
     c.stop_here.new.found.items c.walk_if.new.found.items c.args.number c.in-Some.inside
-    (ops_count c.in-If.then_arm + ops_count c.in-If.else_arm)
-    (arm_opens c.in-If.then_arm c.in-If.else_arm c.args.number c.in-Some.inside outer) after (omega (arith, counted))
+    (ops_count arms.then_arm + ops_count arms.else_arm)
+    (arm_opens arms.then_arm arms.else_arm c.args.number c.in-Some.inside outer) after (omega (arith, counted))
     c.in_ok-inside.ensures.found
-    (opens_in_if (op_of c.args.instr.now) c.in-If.field-0 c.in-If.then_arm c.in-If.else_arm c.args.number
+    (opens_in_if (op_of c.args.instr.now) c.in-If.field-0 arms.then_arm arms.else_arm c.args.number
     c.in-Some.inside outer is after)) c.walk_if.ensures.found
 
 pub walk_if-returns-in_default-2-clause-found : goal.walk_if-returns-in_default-2-clause-found

@@ -1,8 +1,9 @@
 use Rattle.std.proofs.Common.{subst, IfOk, ◌≡◌, ◌+◌, drop, suc, ℕ, List, refl, sym, ap, ◌∙◌, arith}
+use Rattle.wasm_ast.specs.declared.instr.Arms.{Arms}
 use Rattle.wasm_ast.specs.declared.instr.Instr.{Instr}
 use Rattle.wasm_ast.specs.declared.instr.BlockType.{BlockType}
 use Rattle.wasm_ast.specs.Types.{block_type}
-use Rattle.wasm_ast.specs.Syntax.{Op, block, loop, if', count}
+use Rattle.wasm_ast.specs.Syntax.{Op, Ops, block, loop, if', count}
 use Rattle.wasm_ast.specs.View.{op_of}
 use Rattle.step_machine.specs.Program.{Program, program}
 use Rattle.step_machine.specs.Configuration.{onward, again}
@@ -35,8 +36,8 @@ pub returns-in_default : goal.returns-in_default
 returns-in_default c p within of =
     let q = program c.args.of.now p in
     subst (λ (o : Op). LeadsTo q (turn q (about_to c.args.run c.args.place o)) Stuck) (sym (ap op_of c.in-Block.is))
-    (no_rule_for q c.args.run c.args.place (block c.in-Block.t c.in-Block.body)
-    (no_block q (env_of c.args.run) c.args.run.top.operands c.args.place c.in-Block.t c.in-Block.body
+    (no_rule_for q c.args.run c.args.place (block c.in-Block.t c.in-Block.body.value)
+    (no_block q (env_of c.args.run) c.args.run.top.operands c.args.place c.in-Block.t c.in-Block.body.value
     c.in_default.ensures))
 
 pub returns-in-Block : goal.returns-in-Block
@@ -46,7 +47,7 @@ returns-in-Block c p =
     let vs = x.top.operands in
     let place = c.args.place in
     let start = place + 1 in
-    let body = c.in-Block.body in
+    let body = c.deref.result.now in
     let b = c.in-Block.t in
     let o : Op = block b body in
     let m = c.in-Some.field-0.params in
@@ -56,7 +57,8 @@ returns-in-Block c p =
     (λ s. IsWithin x → IsOf q x.pending x.store → LeadsTo q (turn q (about_to x place (op_of c.args.instr.now))) s)
     c.enter.result
     (λ s g within of.
-    let is = ap op_of c.in-Block.is in
+    let is =
+    ap op_of c.in-Block.is ∙ ap (λ (os : Ops). block c.in-Block.t os) (sym c.deref.ensures) in
     let there : suc place ≡ start = omega arith in
     let counts : HasCounts (block_type q.types b) m n = c.in-Some.ensures in
     let led =
@@ -70,8 +72,8 @@ pub returns-in_default-counts_of : goal.returns-in_default-counts_of
 returns-in_default-counts_of c p within of =
     let q = program c.args.of.now p in
     subst (λ (o : Op). LeadsTo q (turn q (about_to c.args.run c.args.place o)) Stuck) (sym (ap op_of c.in-Loop.is))
-    (no_rule_for q c.args.run c.args.place (loop c.in-Loop.t c.in-Loop.body)
-    (no_loop q (env_of c.args.run) c.args.run.top.operands c.args.place c.in-Loop.t c.in-Loop.body
+    (no_rule_for q c.args.run c.args.place (loop c.in-Loop.t c.in-Loop.body.value)
+    (no_loop q (env_of c.args.run) c.args.run.top.operands c.args.place c.in-Loop.t c.in-Loop.body.value
     c.in_default-counts_of.ensures))
 
 pub returns-in-Loop : goal.returns-in-Loop
@@ -81,7 +83,7 @@ returns-in-Loop c p =
     let vs = x.top.operands in
     let place = c.args.place in
     let start = place + 1 in
-    let body = c.in-Loop.body in
+    let body = c.deref-in-Loop.result.now in
     let b = c.in-Loop.t in
     let o : Op = loop b body in
     let m = c.in-Some-counts_of.field-0.params in
@@ -91,7 +93,8 @@ returns-in-Loop c p =
     (λ s. IsWithin x → IsOf q x.pending x.store → LeadsTo q (turn q (about_to x place (op_of c.args.instr.now))) s)
     c.enter-in-Loop.result
     (λ s g within of.
-    let is = ap op_of c.in-Loop.is in
+    let is =
+    ap op_of c.in-Loop.is ∙ ap (λ (os : Ops). loop c.in-Loop.t os) (sym c.deref-in-Loop.ensures) in
     let counted = c.requires.counted in
     let from = c.requires.from in
     let there : suc place ≡ start = omega arith in
@@ -120,19 +123,24 @@ returns-in-Loop c p =
 
 pub returns : goal.returns
 returns c p within of =
+    let arms = c.in-If.arms.value in
     let q = program c.args.of.now p in
     subst (λ (o : Op). LeadsTo q (turn q (about_to c.args.run c.args.place o)) Stuck) (sym (ap op_of c.in-If.is))
-    (no_rule_for q c.args.run c.args.place (if' c.in-If.t c.in-If.then_arm c.in-If.else_arm)
-    (no_if q (env_of c.args.run) c.args.run.top.operands c.args.place c.in-If.t c.in-If.then_arm c.in-If.else_arm
+    (no_rule_for q c.args.run c.args.place (if' c.in-If.t arms.then_arm arms.else_arm)
+    (no_if q (env_of c.args.run) c.args.run.top.operands c.args.place c.in-If.t arms.then_arm arms.else_arm
     c.in-None.ensures))
 
 pub returns-in-Some-counts_of-2 : goal.returns-in-Some-counts_of-2
 returns-in-Some-counts_of-2 c p =
+    let both = c.deref-in-Some-counts_of-2 in
+    let arms = both.result.now in
     let x = c.args.run in
     let q = program c.args.of.now p in
     let place = c.args.place in
-    let first = c.in-If.then_arm in
-    let second = c.in-If.else_arm in
+    let first = arms.then_arm in
+    let second = arms.else_arm in
+    let is =
+    ap op_of c.in-If.is ∙ ap (λ (a : Arms). if' c.in-If.t a.then_arm a.else_arm) (sym both.ensures) in
     let m = c.in-Some-counts_of-2.counts.params in
     let n = c.in-Some-counts_of-2.counts.results in
     on_ok
@@ -141,6 +149,6 @@ returns-in-Some-counts_of-2 c p =
     (λ s. IsWithin x → IsOf q x.pending x.store → LeadsTo q (turn q (about_to x place (op_of c.args.instr.now))) s)
     c.choose.result
     (λ s g within of.
-    subst (λ k. LeadsTo q (turn q (about_to x place k)) s) (sym (ap op_of c.in-If.is))
+    subst (λ k. LeadsTo q (turn q (about_to x place k)) s) (sym is)
     (g q c.in-If.t c.in-Some-counts_of-2.ensures of))
     c.choose.ensures

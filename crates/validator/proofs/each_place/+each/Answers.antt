@@ -1,6 +1,7 @@
 use Rattle.std.proofs.Common.{◌≡◌, suc, ◌+◌, List, ◌∷◌, refl, ap, sym, subst, ◌∙◌, arith, rules, map, drop, Some}
 use Rattle.std.proofs.lemmas.Result.{on_ok_weaker}
 use Rattle.wasm_ast.specs.declared.values.ValType.{ValType}
+use Rattle.wasm_ast.specs.declared.instr.Arms.{Arms}
 use Rattle.wasm_ast.specs.declared.instr.Instr.{Instr}
 use Rattle.wasm_ast.specs.Syntax.{Op, Ops, block, loop, if', count, ops_count, ops_of}
 use Rattle.wasm_ast.specs.View.{op_of}
@@ -111,53 +112,58 @@ pub each_instr-returns-in-Some-block_types-clause-found :
     goal.each_instr-returns-in-Some-block_types-clause-found
 each_instr-returns-in-Some-block_types-clause-found t c =
     let types = func_type_of c.in-Some-block_types.types in
-    let is : op_of c.args.instr.now ≡ block c.in-Block.kind c.in-Block.body = ap op_of c.in-Block.is in
+    let is : op_of c.args.instr.now ≡ block c.in-Block.kind c.deref.result.now =
+    ap op_of c.in-Block.is ∙ ap (λ (os : Ops). block c.in-Block.kind os) (sym c.deref.ensures) in
     let after : c.in-Some.inside ≡ c.args.number + 1 = search rules in
     on_ok_weaker c.each_block.result
     (finds_inside (context_of c.args.stops.now.function c.args.opened.now.labels)
     (stacks_of c.args.opened.now.outer.items) (op_of c.args.instr.now) c.args.opened.now.operands.stack
     c.args.stops.now.places.now c.args.found.now.items c.stop_here.new.found.items c.each_block.new.found.items
-    c.args.number c.in-Some.inside (ops_count c.in-Block.body) _ after (ap (λ (o : Op). count o) is)
+    c.args.number c.in-Some.inside (ops_count c.deref.result.now) _ after (ap (λ (o : Op). count o) is)
     c.in_ok-inside.ensures.found
     (known_in_block (context_of c.args.stops.now.function c.args.opened.now.labels)
     (stacks_of c.args.opened.now.outer.items) (op_of c.args.instr.now) c.args.opened.now.operands.stack c.in-Block.kind
-    c.in-Block.body types is c.in-Some-block_types.ensures))
+    c.deref.result.now types is c.in-Some-block_types.ensures))
     c.each_block.ensures.found
 
 pub each_instr-returns-in-Some-block_types-2-clause-found :
     goal.each_instr-returns-in-Some-block_types-2-clause-found
 each_instr-returns-in-Some-block_types-2-clause-found t c =
     let types = func_type_of c.in-Some-block_types-2.types in
-    let is : op_of c.args.instr.now ≡ loop c.in-Loop.kind c.in-Loop.body = ap op_of c.in-Loop.is in
+    let is : op_of c.args.instr.now ≡ loop c.in-Loop.kind c.deref-in-Loop.result.now =
+    ap op_of c.in-Loop.is ∙ ap (λ (os : Ops). loop c.in-Loop.kind os) (sym c.deref-in-Loop.ensures) in
     let after : c.in-Some.inside ≡ c.args.number + 1 = search rules in
     on_ok_weaker c.each_block-in-Loop.result
     (finds_inside (context_of c.args.stops.now.function c.args.opened.now.labels)
     (stacks_of c.args.opened.now.outer.items) (op_of c.args.instr.now) c.args.opened.now.operands.stack
     c.args.stops.now.places.now c.args.found.now.items c.stop_here.new.found.items c.each_block-in-Loop.new.found.items
-    c.args.number c.in-Some.inside (ops_count c.in-Loop.body) _ after (ap (λ (o : Op). count o) is)
+    c.args.number c.in-Some.inside (ops_count c.deref-in-Loop.result.now) _ after (ap (λ (o : Op). count o) is)
     c.in_ok-inside.ensures.found
     (known_in_loop (context_of c.args.stops.now.function c.args.opened.now.labels)
     (stacks_of c.args.opened.now.outer.items) (op_of c.args.instr.now) c.args.opened.now.operands.stack c.in-Loop.kind
-    c.in-Loop.body types is c.in-Some-block_types-2.ensures))
+    c.deref-in-Loop.result.now types is c.in-Some-block_types-2.ensures))
     c.each_block-in-Loop.ensures.found
 
 pub each_instr-returns-in-Some-block_types-3-clause-found :
     goal.each_instr-returns-in-Some-block_types-3-clause-found
 each_instr-returns-in-Some-block_types-3-clause-found t c =
+    let arms = c.deref-in-If.result.now in
     let types = func_type_of c.in-Some-block_types-3.types in
-    let is : op_of c.args.instr.now ≡ if' c.in-If.kind c.in-If.then_arm c.in-If.else_arm = ap op_of c.in-If.is in
+    let is : op_of c.args.instr.now ≡ if' c.in-If.kind arms.then_arm arms.else_arm =
+    ap op_of c.in-If.is
+    ∙ ap (λ (a : Arms). if' c.in-If.kind a.then_arm a.else_arm) (sym c.deref-in-If.ensures) in
     let after : c.in-Some.inside ≡ c.args.number + 1 = search rules in
-    let counted : count (op_of c.args.instr.now) ≡ 1 + ops_count c.in-If.then_arm + ops_count c.in-If.else_arm =
+    let counted : count (op_of c.args.instr.now) ≡ 1 + ops_count arms.then_arm + ops_count arms.else_arm =
     ap (λ (o : Op). count o) is in
     on_ok_weaker c.each_if.result
     (finds_inside (context_of c.args.stops.now.function c.args.opened.now.labels)
     (stacks_of c.args.opened.now.outer.items) (op_of c.args.instr.now) c.args.opened.now.operands.stack
     c.args.stops.now.places.now c.args.found.now.items c.stop_here.new.found.items c.each_if.new.found.items
-    c.args.number c.in-Some.inside (ops_count c.in-If.then_arm + ops_count c.in-If.else_arm) _ after
+    c.args.number c.in-Some.inside (ops_count arms.then_arm + ops_count arms.else_arm) _ after
     (omega (arith, counted)) c.in_ok-inside.ensures.found
     (λ k. known_in_if (context_of c.args.stops.now.function c.args.opened.now.labels)
     (stacks_of c.args.opened.now.outer.items) (op_of c.args.instr.now) c.args.opened.now.operands.stack (suc k) k
-    c.in-If.kind c.in-If.then_arm c.in-If.else_arm types (omega arith) (omega arith) is
+    c.in-If.kind arms.then_arm arms.else_arm types (omega arith) (omega arith) is
     c.in-Some-block_types-3.ensures))
     c.each_if.ensures.found
 

@@ -1,4 +1,5 @@
 use Rattle.std.proofs.Common.{◌++◌, ◌∙◌, ap, arith}
+use Rattle.wasm_ast.specs.declared.instr.Arms.{Arms}
 use Rattle.wasm_ast.specs.declared.instr.Instr.{Instr}
 use Rattle.wasm_ast.specs.Syntax.{Ops, count, ops_count}
 use Rattle.wasm_ast.specs.View.{op_of}
@@ -25,13 +26,25 @@ put_body-loop-instr-preserved t c = record {
 }
 
 pub put_instr-put_body-requires : goal.put_instr-put_body-requires
-put_instr-put_body-requires t c = let e = ap (λ (i : Instr). count (op_of i)) c.in-Block.is in (omega arith, tt)
+put_instr-put_body-requires t c =
+    let e = ap (λ (i : Instr). count (op_of i)) c.in-Block.is in
+    let d = ap (λ (os : Ops). ops_count os) c.deref.ensures in
+    (omega (arith, e, d), tt)
 
 pub put_instr-put_body-requires-in-Loop : goal.put_instr-put_body-requires-in-Loop
-put_instr-put_body-requires-in-Loop t c = let e = ap (λ (i : Instr). count (op_of i)) c.in-Loop.is in (omega arith, tt)
+put_instr-put_body-requires-in-Loop t c =
+    let e = ap (λ (i : Instr). count (op_of i)) c.in-Loop.is in
+    let d = ap (λ (os : Ops). ops_count os) c.deref-in-Loop.ensures in
+    (omega (arith, e, d), tt)
 
 pub put_instr-put_body-requires-in-If : goal.put_instr-put_body-requires-in-If
-put_instr-put_body-requires-in-If t c = let e = ap (λ (i : Instr). count (op_of i)) c.in-If.is in (omega arith, tt)
+put_instr-put_body-requires-in-If t c =
+    let e = ap (λ (i : Instr). count (op_of i)) c.in-If.is in
+    let d = ap (λ (arms : Arms). ops_count arms.then_arm) c.deref-in-If.ensures in
+    (omega (arith, e, d), tt)
 
 pub put_instr-put_body-requires-in-If-2 : goal.put_instr-put_body-requires-in-If-2
-put_instr-put_body-requires-in-If-2 t c = let e = ap (λ (i : Instr). count (op_of i)) c.in-If.is in (omega arith, tt)
+put_instr-put_body-requires-in-If-2 t c =
+    let e = ap (λ (i : Instr). count (op_of i)) c.in-If.is in
+    let d = ap (λ (arms : Arms). ops_count arms.else_arm) c.deref-in-If.ensures in
+    (omega (arith, e, d), tt)
