@@ -12,8 +12,7 @@ use crate::callee::{Callee, function_at};
 use crate::effect::Effect;
 use crate::numeric::take_i32;
 use crate::pile::Pile;
-use step_machine::are_same_types;
-use wasm_ast::{FuncType, Module, Trap, ValType, Value};
+use wasm_ast::{FuncType, Module, Trap, ValType, Value, are_same_types};
 
 /// `br_if` (4.4.5).
 #[tactic(auto, using(crate::proofs::NumericLemmas::branches_by_none))]

@@ -12,7 +12,6 @@ pub mod TreeLimits
 pub mod LimitLemmas
 pub mod EvaluationContexts
 pub mod HostCallLemmas
-pub mod TypeEquality
 pub mod StackWords
 pub mod InstructionTurns
 pub mod LevelReductions

@@ -1,12 +1,12 @@
 //! Which imports are system calls.
 
 ghost use Rattle.std.specs.Prelude.{◌≡◌, ◌&&◌, bytes_eq, slice_get, option_copied};
-ghost use Rattle.flat_code.specs.TypeClasses.{are_same_types, is_of_type};
+ghost use Rattle.flat_code.specs.TypeClasses.{is_of_type};
 ghost use Rattle.wasi_calls.specs.HostCalls.{host_name, host_type};
 ghost use Rattle.step_machine.specs.HostCalls.{call_named, known, all_known};
 
 use wasi_calls::HostCall;
-use wasm_ast::{FuncType, Import, ValType};
+use wasm_ast::{FuncType, Import, ValType, are_same_types};
 
 /// Whether each import is a system call, by module, name and type.
 pub fn are_known(types: &[FuncType], imports: &[Import]) -> bool
@@ -71,11 +71,4 @@ pub fn is_of_type(params: &[ValType], results: &[ValType], found: Option<&FuncTy
         }
         None => false,
     }
-}
-
-/// Whether two lists of types are the same.
-pub fn are_same_types(types: &[ValType], others: &[ValType]) -> bool
-    ensures { result ≡ are_same_types types.now others.now }
-{
-    types == others
 }

@@ -77,7 +77,7 @@ pub use do_memory::{load_width, store_width};
 pub use ends::{End, SliceEnd};
 pub use flat_module::FlatModule;
 pub use frames::FrameWords;
-pub use host_calls::{are_same_types, known};
+pub use host_calls::known;
 pub use instantiate::{constant, find_entry};
 pub use machine::{LAST_TURN, Machine};
 pub use store::{first_memory, first_table};
