@@ -9,23 +9,16 @@ use Rattle.task_lifecycle.specs.declared.lifecycle.TaskCall.TheVariants as call
 
 abbrev pub allowed : TaskCall → Status → Bool
 allowed call.Start Created = true
-allowed call.Start other = false
 allowed call.Pause Running = true
-allowed call.Pause other = false
 allowed call.Resume Paused = true
-allowed call.Resume other = false
 allowed call.Kill Stopped = false
 allowed call.Kill other = true
 allowed call.Delete Stopped = true
-allowed call.Delete other = false
 allowed call.Break Created = true
 allowed call.Break Paused = true
-allowed call.Break other = false
 allowed call.Unbreak Created = true
 allowed call.Unbreak Paused = true
-allowed call.Unbreak other = false
 allowed call.Step Paused = true
-allowed call.Step other = false
 allowed call.Inspect any = true
 allowed call.Peek any = true
 allowed call.Output any = true
@@ -33,6 +26,7 @@ allowed call.State any = true
 allowed call.Wait Running = false
 allowed call.Wait Pausing = false
 allowed call.Wait other = true
+allowed other status = false
 
 -- The status of a task after a call that its status allows. A call that is not named here leaves it; a
 -- delete removes the task.

@@ -28,8 +28,7 @@ signal_number signal.Terminate = 15
 
 -- the signal with a number, if there is one
 abbrev pub signal_of : (number : ℕ) → Option Signal
-signal_of number =
-    if nat_eq number 9 then Some signal.Kill
+signal_of number = if nat_eq number 9 then Some signal.Kill
     else (if nat_eq number 15 then Some signal.Terminate else None)
 
 -- 0 if the entry returned, the code of proc_exit, 134 for a trap, 128 plus the signal for a kill
