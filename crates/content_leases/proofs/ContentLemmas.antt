@@ -24,15 +24,12 @@ same_by x y false true is at =
 pub flip : (x y : List ℕ) → bytes_eq x y ≡ bytes_eq y x
 flip x y = same_by x y (bytes_eq x y) (bytes_eq y x) refl refl
 
-found_by :
-    (b : Bool) (v : Arc (List ℕ) Global) (l : Option (Arc (List ℕ) Global)) (r : Option (List ℕ))
-    → option_map arc_value l ≡ r
-    → option_map arc_value (cond b (Some v) l) ≡ cond b (Some (arc_value v)) r
+found_by : (b : Bool) (v : Arc (List ℕ) Global) (l : Option (Arc (List ℕ) Global)) (r : Option (List ℕ))
+    → option_map arc_value l ≡ r → option_map arc_value (cond b (Some v) l) ≡ cond b (Some (arc_value v)) r
 found_by true v l r h = refl
 found_by false v l r h = h
 
-pub found :
-    (digest : List ℕ) (es : List Entry)
+pub found : (digest : List ℕ) (es : List Entry)
     → option_map arc_value (lookup (λ k. bytes_eq digest (string_bytes k)) es) ≡ content_in (contents_of es) digest
 found digest [] = refl
 found digest (e ∷ es) =
@@ -41,8 +38,7 @@ found digest (e ∷ es) =
     ∙ ap (λ (b : Bool). cond b (Some (arc_value e.1)) (content_in (contents_of es) digest))
     (flip digest (string_bytes e.0))
 
-pushed_by :
-    (b : Bool) (e : Entry) (es : List Entry) (d : String Global) (v : Arc (List ℕ) Global)
+pushed_by : (b : Bool) (e : Entry) (es : List Entry) (d : String Global) (v : Arc (List ℕ) Global)
     → cond b (Some (arc_value e.1)) (content_in (contents_of es) (string_bytes d)) ≡ None
     → (content_in (contents_of es) (string_bytes d) ≡ None
     → contents_of (insert_entry string_eq es d v) ≡ contents_of es ++ content_of (d, v) ∷ [])
@@ -52,8 +48,7 @@ pushed_by true e es d v none f = cc
 pushed_by false e es d v none f = ap (λ (cs : List Content). content_of e ∷ cs) (f none)
 
 -- a new digest goes last
-pub pushed :
-    (d : String Global) (v : Arc (List ℕ) Global) (es : List Entry)
+pub pushed : (d : String Global) (v : Arc (List ℕ) Global) (es : List Entry)
     → content_in (contents_of es) (string_bytes d) ≡ None
     → contents_of (insert_entry string_eq es d v) ≡ contents_of es ++ content_of (d, v) ∷ []
 pushed d v [] none = refl
@@ -62,14 +57,12 @@ pushed d v (e ∷ es) none =
     (ap (λ (b : Bool). cond b (Some (arc_value e.1)) (content_in (contents_of es) (string_bytes d)))
     (flip (string_bytes d) (string_bytes e.0)) ∙ none) (pushed d v es)
 
-removed_by :
-    (b : Bool) (e : Entry) (es rest : List Entry) (cs : List Content) → contents_of rest ≡ cs
+removed_by : (b : Bool) (e : Entry) (es rest : List Entry) (cs : List Content) → contents_of rest ≡ cs
     → contents_of (cond b es (e ∷ rest)) ≡ cond b (contents_of es) (content_of e ∷ cs)
 removed_by true e es rest cs h = refl
 removed_by false e es rest cs h = ap (λ (xs : List Content). content_of e ∷ xs) h
 
-pub removed :
-    (digest : List ℕ) (es : List Entry)
+pub removed : (digest : List ℕ) (es : List Entry)
     → contents_of (remove_entry (λ k. bytes_eq digest (string_bytes k)) es) ≡ remove_content digest (contents_of es)
 removed digest [] = refl
 removed digest (e ∷ es) =
@@ -81,18 +74,14 @@ removed digest (e ∷ es) =
 -- ---- what is held
 
 -- those entries that pass have the contents that pass
-pub retained :
-    (test : List ℕ → Bool) (es : List Entry)
+pub retained : (test : List ℕ → Bool) (es : List Entry)
     → contents_of (filter (λ (e : Entry). test (string_bytes e.0)) es)
     ≡ filter (λ (c : Content). test c.digest) (contents_of es)
 retained test [] = refl
 retained test (e ∷ es) = by (test (string_bytes e.0)) (retained test es)
   where
-    by :
-        (b : Bool)
-        → contents_of (filter (λ (x : Entry). test (string_bytes x.0)) es)
-        ≡ filter (λ (c : Content). test c.digest) (contents_of es)
-        → contents_of
+    by : (b : Bool) → contents_of (filter (λ (x : Entry). test (string_bytes x.0)) es)
+        ≡ filter (λ (c : Content). test c.digest) (contents_of es) → contents_of
         (cond b (e ∷ filter (λ (x : Entry). test (string_bytes x.0)) es)
         (filter (λ (x : Entry). test (string_bytes x.0)) es))
         ≡ cond b (content_of e ∷ filter (λ (c : Content). test c.digest) (contents_of es))

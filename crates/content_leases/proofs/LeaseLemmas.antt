@@ -29,8 +29,7 @@ found name (e ∷ es) =
     (lease_in (leases_of es) name) (found name es)
     ∙ ap (λ (b : Bool). cond b (Some e.1) (lease_in (leases_of es) name)) (flip name (string_bytes e.0))
 
-pushed_by :
-    (b : Bool) (e : Entry) (es : List Entry) (d : String Global) (v : List (List ℕ))
+pushed_by : (b : Bool) (e : Entry) (es : List Entry) (d : String Global) (v : List (List ℕ))
     → cond b (Some e.1) (lease_in (leases_of es) (string_bytes d)) ≡ None
     → (lease_in (leases_of es) (string_bytes d) ≡ None
     → leases_of (insert_entry string_eq es d v) ≡ leases_of es ++ lease_of (d, v) ∷ [])
@@ -48,14 +47,12 @@ pushed d v (e ∷ es) none =
     (ap (λ (b : Bool). cond b (Some e.1) (lease_in (leases_of es) (string_bytes d)))
     (flip (string_bytes d) (string_bytes e.0)) ∙ none) (pushed d v es)
 
-removed_by :
-    (b : Bool) (e : Entry) (es rest : List Entry) (cs : List Lease) → leases_of rest ≡ cs
+removed_by : (b : Bool) (e : Entry) (es rest : List Entry) (cs : List Lease) → leases_of rest ≡ cs
     → leases_of (cond b es (e ∷ rest)) ≡ cond b (leases_of es) (lease_of e ∷ cs)
 removed_by true e es rest cs h = refl
 removed_by false e es rest cs h = ap (λ (xs : List Lease). lease_of e ∷ xs) h
 
-pub removed :
-    (name : List ℕ) (es : List Entry)
+pub removed : (name : List ℕ) (es : List Entry)
     → leases_of (remove_entry (λ k. bytes_eq name (string_bytes k)) es) ≡ remove_lease name (leases_of es)
 removed name [] = refl
 removed name (e ∷ es) =
@@ -66,8 +63,7 @@ removed name (e ∷ es) =
 
 -- ---- one member more
 
-added_by :
-    (b : Bool) (e : Entry) (es : List Entry) (name digest : List ℕ) (ms : List (List ℕ)) (rest : List Entry)
+added_by : (b : Bool) (e : Entry) (es : List Entry) (name digest : List ℕ) (ms : List (List ℕ)) (rest : List Entry)
     (ls : List Lease) → cond b (Some e.1) (lease_in (leases_of es) name) ≡ Some ms
     → (lease_in (leases_of es) name ≡ Some ms → leases_of rest ≡ ls)
     → leases_of (cond b ((e.0, ms ++ digest ∷ []) ∷ es) (e ∷ rest))
@@ -84,15 +80,13 @@ added name digest ms (e ∷ es) is =
     let same = flip name (string_bytes e.0) in
     added_by (bytes_eq name (string_bytes e.0)) e es name digest ms
     (set_value (λ k. bytes_eq name (string_bytes k)) es (ms ++ digest ∷ [])) (add_member digest name (leases_of es))
-    (ap (λ (b : Bool). cond b (Some e.1) (lease_in (leases_of es) name)) same ∙ is) (added name digest ms es)
-    ∙ ap
+    (ap (λ (b : Bool). cond b (Some e.1) (lease_in (leases_of es) name)) same ∙ is) (added name digest ms es) ∙ ap
     (λ (b : Bool). cond b (lease_of (e.0, e.1 ++ digest ∷ []) ∷ leases_of es)
     (lease_of e ∷ add_member digest name (leases_of es))) same
 
 -- ---- members
 
-pub among :
-    (digest : List ℕ) (ks : List (String Global))
+pub among : (digest : List ℕ) (ks : List (String Global))
     → list_any (λ k. bytes_eq digest (string_bytes k)) ks ≡ is_among digest (members_of ks)
 among digest [] = refl
 among digest (k ∷ ks) = ap₂ (λ (a b : Bool). a || b) (flip digest (string_bytes k)) (among digest ks)
@@ -102,14 +96,12 @@ map_append :
 map_append [] k = refl
 map_append (x ∷ ks) k = ap (λ (ms : List (List ℕ)). string_bytes x ∷ ms) (map_append ks k)
 
-pushed_key :
-    (b : Bool) (k : String Global) (ks : List (String Global)) → b ≡ false
+pushed_key : (b : Bool) (k : String Global) (ks : List (String Global)) → b ≡ false
     → members_of (cond b ks (ks ++ k ∷ [])) ≡ members_of ks ++ string_bytes k ∷ []
 pushed_key true k ks h = cc
 pushed_key false k ks h = map_append ks k
 
-pub key_pushed :
-    (k : String Global) (ks : List (String Global)) → is_among (string_bytes k) (members_of ks) ≡ false
+pub key_pushed : (k : String Global) (ks : List (String Global)) → is_among (string_bytes k) (members_of ks) ≡ false
     → insert_key string_eq ks k ≡ ks ++ k ∷ []
 key_pushed k ks h = by (list_any (string_eq k) ks) (among (string_bytes k) ks ∙ h)
   where
@@ -121,7 +113,6 @@ pub one_longer : (k : String Global) (ks : List (String Global)) → length (ks 
 one_longer k [] = refl
 one_longer k (x ∷ ks) = ap (λ (n : ℕ). suc n) (one_longer k ks)
 
-pub member_pushed :
-    (k : String Global) (ks : List (String Global)) → is_among (string_bytes k) (members_of ks) ≡ false
+pub member_pushed : (k : String Global) (ks : List (String Global)) → is_among (string_bytes k) (members_of ks) ≡ false
     → members_of (insert_key string_eq ks k) ≡ members_of ks ++ string_bytes k ∷ []
 member_pushed k ks h = pushed_key (list_any (string_eq k) ks) k ks (among (string_bytes k) ks ∙ h)

@@ -8,7 +8,7 @@ use Rattle.wasm_ast.specs.Identifiers.{is_id, is_digest}
 use Rattle.content_leases.specs.Digests.{digest_of}
 use Rattle.content_leases.specs.Limits.{max_members}
 use Rattle.content_leases.specs.StoreState.{Content, StoreState, content_in, lease_in, is_among, is_held, collected}
-use Rattle.content_leases.specs.Refusals.{first_refusal, is_bytes, has_conflict, put_refusals, remove_refusals, lease_create_refusals, is_member, is_full, lease_add_refusals}
+use Rattle.content_leases.specs.Refusals.{first_refusal, is_bytes, put_refusals, remove_refusals, lease_create_refusals, is_member, is_full, lease_add_refusals}
 use Rattle.content_leases.proofs.LeaseLemmas.{none_is_not}
 
 pub none_first :
@@ -16,31 +16,20 @@ pub none_first :
 none_first true e rest h = absurd (none_is_not e (sym h))
 none_first false e rest h = (refl, h)
 
-not_true : (b : Bool) → not b ≡ false → b ≡ true
-not_true true h = refl
-not_true false h = cc
-
-neither : (o : Option (List ℕ)) (bytes : List ℕ) → is_bytes bytes o ≡ false → has_conflict o bytes ≡ false → o ≡ None
-neither None bytes e c = refl
-neither (Some x) bytes e c = absurd (true≢false (sym (not_true (bytes_eq x bytes) c) ∙ e))
+none_of : {X : Type 0} (o : Option X) → is_some o ≡ false → o ≡ None
+none_of {X} None h = refl
+none_of {X} (Some x) h = cc
 
 -- bytes that may be stored are not stored yet
-pub put_new :
-    (s : StoreState) (bytes : List ℕ) → first_refusal (put_refusals s bytes) ≡ None
+pub put_new : (s : StoreState) (bytes : List ℕ) → first_refusal (put_refusals s bytes) ≡ None
     → content_in s.contents (digest_of bytes) ≡ None
 put_new s bytes h =
     let stored = content_in s.contents (digest_of bytes) in
     let l = none_first _ refusal.Limit _ h in
     let e = none_first (is_bytes bytes stored) refusal.Exists _ l.1 in
-    let c = none_first (has_conflict stored bytes) refusal.DigestConflict _ e.1 in
-    neither stored bytes e.0 c.0
+    none_of stored (none_first (is_some stored) refusal.DigestConflict _ e.1).0
 
-none_of : {X : Type 0} (o : Option X) → is_some o ≡ false → o ≡ None
-none_of {X} None h = refl
-none_of {X} (Some x) h = cc
-
-pub create_new :
-    (s : StoreState) (name : List ℕ) → first_refusal (lease_create_refusals s name) ≡ None
+pub create_new : (s : StoreState) (name : List ℕ) → first_refusal (lease_create_refusals s name) ≡ None
     → lease_in s.leases name ≡ None
 create_new s name h =
     let a = none_first (not (is_id name)) refusal.BadId _ h in
@@ -57,8 +46,7 @@ takes_by :
 takes_by digest None none member full = cc
 takes_by digest (Some ms) none member full = (ms, refl, member, grind (arith, nat_tests, full))
 
-pub add_takes :
-    (s : StoreState) (digest name : List ℕ) → first_refusal (lease_add_refusals s digest name) ≡ None
+pub add_takes : (s : StoreState) (digest name : List ℕ) → first_refusal (lease_add_refusals s digest name) ≡ None
     → Takes digest (lease_in s.leases name)
 add_takes s digest name h =
     let o = lease_in s.leases name in
@@ -71,8 +59,7 @@ add_takes s digest name h =
 
 -- ---- what is held
 
-kept_by :
-    (test : List ℕ → Bool) (digest : List ℕ) (c : Content) (cs : List Content) (a b : Bool) → test c.digest ≡ a
+kept_by : (test : List ℕ → Bool) (digest : List ℕ) (c : Content) (cs : List Content) (a b : Bool) → test c.digest ≡ a
     → bytes_eq c.digest digest ≡ b
     → content_in (filter (λ (x : Content). test x.digest) cs) digest ≡ cond (test digest) (content_in cs digest) None
     → content_in (cond a (c ∷ filter (λ (x : Content). test x.digest) cs) (filter (λ (x : Content). test x.digest) cs))
@@ -94,27 +81,23 @@ none_either true o h = refl
 none_either false o h = h
 
 -- of contents that are chosen by their digests, a look-up finds those that are chosen
-pub kept :
-    (test : List ℕ → Bool) (digest : List ℕ) (cs : List Content)
+pub kept : (test : List ℕ → Bool) (digest : List ℕ) (cs : List Content)
     → content_in (filter (λ (x : Content). test x.digest) cs) digest ≡ cond (test digest) (content_in cs digest) None
 kept test digest [] = none_either (test digest) None refl
 kept test digest (c ∷ cs) =
     kept_by test digest c cs (test c.digest) (bytes_eq c.digest digest) refl refl (kept test digest cs)
 
-pub held_kept :
-    (used : List (List ℕ)) (s : StoreState) (digest : List ℕ) → is_held used s.leases digest ≡ true
+pub held_kept : (used : List (List ℕ)) (s : StoreState) (digest : List ℕ) → is_held used s.leases digest ≡ true
     → content_in (collected used s).contents digest ≡ content_in s.contents digest
 held_kept used s digest h =
     kept (is_held used s.leases) digest s.contents ∙ ap (λ (b : Bool). cond b (content_in s.contents digest) None) h
 
-pub unheld_gone :
-    (used : List (List ℕ)) (s : StoreState) (digest : List ℕ) → is_held used s.leases digest ≡ false
+pub unheld_gone : (used : List (List ℕ)) (s : StoreState) (digest : List ℕ) → is_held used s.leases digest ≡ false
     → content_in (collected used s).contents digest ≡ None
 unheld_gone used s digest h =
     kept (is_held used s.leases) digest s.contents ∙ ap (λ (b : Bool). cond b (content_in s.contents digest) None) h
 
-pub held_refused :
-    (used : List (List ℕ)) (s : StoreState) (digest : List ℕ) → is_held used s.leases digest ≡ true
+pub held_refused : (used : List (List ℕ)) (s : StoreState) (digest : List ℕ) → is_held used s.leases digest ≡ true
     → first_refusal (remove_refusals used s digest) ≡ None → ⊥
 held_refused used s digest held h =
     let a = none_first (not (is_digest digest)) refusal.BadId _ h in

@@ -21,32 +21,24 @@ abbrev pub is_bytes : List ℕ → Option (List ℕ) → Bool
 is_bytes bytes None = false
 is_bytes bytes (Some stored) = bytes_eq stored bytes
 
--- other bytes are stored under the same digest
-abbrev pub has_conflict : Option (List ℕ) → (bytes : List ℕ) → Bool
-has_conflict None bytes = false
-has_conflict (Some stored) bytes = not (bytes_eq stored bytes)
-
 abbrev pub put_refusals : StoreState → (bytes : List ℕ) → Refusals
 put_refusals s bytes =
     (nat_lt max_module_bytes (length bytes), refusal.Limit)
     ∷ (is_bytes bytes (content_in s.contents (digest_of bytes)), refusal.Exists)
-    ∷ (has_conflict (content_in s.contents (digest_of bytes)) bytes, refusal.DigestConflict)
-    ∷ (nat_le max_contents (length s.contents), refusal.TooMany)
-    ∷ []
+    ∷ (is_some (content_in s.contents (digest_of bytes)), refusal.DigestConflict)
+    ∷ (nat_le max_contents (length s.contents), refusal.TooMany) ∷ []
 
 abbrev pub remove_refusals : (used : List (List ℕ)) → StoreState → (digest : List ℕ) → Refusals
 remove_refusals used s digest =
     (not (is_digest digest), refusal.BadId)
     ∷ (is_none (content_in s.contents digest), refusal.NoContent)
-    ∷ (is_held used s.leases digest, refusal.InUse)
-    ∷ []
+    ∷ (is_held used s.leases digest, refusal.InUse) ∷ []
 
 abbrev pub lease_create_refusals : StoreState → (name : List ℕ) → Refusals
 lease_create_refusals s name =
     (not (is_id name), refusal.BadId)
     ∷ (is_some (lease_in s.leases name), refusal.Exists)
-    ∷ (nat_le max_leases (length s.leases), refusal.TooMany)
-    ∷ []
+    ∷ (nat_le max_leases (length s.leases), refusal.TooMany) ∷ []
 
 -- the lease's members have the digest
 abbrev pub is_member : (digest : List ℕ) → Option (List (List ℕ)) → Bool
@@ -64,8 +56,7 @@ lease_add_refusals s digest name =
     ∷ (is_none (lease_in s.leases name), refusal.NotFound)
     ∷ (is_none (content_in s.contents digest), refusal.NoContent)
     ∷ (is_member digest (lease_in s.leases name), refusal.Exists)
-    ∷ (is_full (lease_in s.leases name), refusal.TooMany)
-    ∷ []
+    ∷ (is_full (lease_in s.leases name), refusal.TooMany) ∷ []
 
 abbrev pub lease_delete_refusals : StoreState → (name : List ℕ) → Refusals
 lease_delete_refusals s name =

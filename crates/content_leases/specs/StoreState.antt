@@ -73,7 +73,6 @@ without_lease s name = record s { leases = remove_lease name s.leases }
 
 -- ---- what is held
 
--- the digest is among these
 abbrev pub is_among : (digest : List ℕ) → List (List ℕ) → Bool
 is_among digest digests = list_any (λ (d : List ℕ). bytes_eq d digest) digests
 
@@ -85,14 +84,11 @@ is_leased ls digest = list_any (λ (l : Lease). is_among digest l.members) ls
 abbrev pub is_held : (used : List (List ℕ)) → List Lease → (digest : List ℕ) → Bool
 is_held used ls digest = is_leased ls digest || is_among digest used
 
--- the digests of those of these contents that are not held
-abbrev pub unheld_among : (used : List (List ℕ)) → List Lease → List Content → List (List ℕ)
-unheld_among used ls cs =
-    map (λ (c : Content). c.digest) (filter (λ (c : Content). not (is_held used ls c.digest)) cs)
-
 -- the digests of the contents that are not held
 abbrev pub unheld : (used : List (List ℕ)) → StoreState → List (List ℕ)
-unheld used s = unheld_among used s.leases s.contents
+unheld used s =
+    map (λ (c : Content). c.digest)
+    (filter (λ (c : Content). not (is_held used s.leases c.digest)) s.contents)
 
 -- the store with the contents that are held
 abbrev pub collected : (used : List (List ℕ)) → StoreState → StoreState

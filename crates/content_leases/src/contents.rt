@@ -2,7 +2,7 @@
 
 ghost use Rattle.std.specs.Prelude.{◌≡◌, ◌≤◌, ◌<◌, ◌+◌, ◌++◌, ◌∷◌, [], length, option_map, filter, string_bytes, IfOk, OnOk, Some, None};
 ghost use Rattle.std.specs.Arc.{arc_value};
-ghost use Rattle.content_leases.specs.StoreState.{Content, content_in, remove_content, is_among, is_held, unheld_among};
+ghost use Rattle.content_leases.specs.StoreState.{Content, content_in, remove_content, is_among, is_held, unheld};
 ghost use Rattle.content_leases.specs.Inside.Shown.{contents_of};
 
 use crate::leases::Leases;
@@ -34,7 +34,10 @@ fn unheld_in(
     used: &[Text],
 ) -> Result<Vec<Text>, AllocError>
     ensures { IfOk result (λ v. v.items
-        ≡ unheld_among used.now leases.now.leases (contents_of map.now.entries)) }
+        ≡ unheld used.now (record {
+          contents = contents_of map.now.entries;
+          leases = leases.now.leases;
+        })) }
 {
     let mut digests = Vec::new(alloc);
     for (digest, _bytes) in map.iter() {
@@ -129,7 +132,10 @@ impl Contents {
         used: &[Text],
     ) -> Result<Vec<Text>, AllocError>
         ensures { IfOk result (λ v. v.items
-            ≡ unheld_among used.now leases.now.leases self.now.contents) }
+            ≡ unheld used.now (record {
+              contents = self.now.contents;
+              leases = leases.now.leases;
+            })) }
     {
         unheld_in(alloc, &self.map, leases, used)
     }

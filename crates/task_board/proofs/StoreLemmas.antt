@@ -8,7 +8,7 @@ use Rattle.content_leases.specs.Limits.{max_contents, max_leases, max_members}
 use Rattle.wasm_ast.specs.Identifiers.{is_id, is_digest}
 use Rattle.content_leases.specs.Digests.{digest_of}
 use Rattle.content_leases.specs.StoreState.{Content, Lease, StoreState, content_in, lease_in, with_content, remove_content, without_content, with_lease, add_member, with_member, remove_lease, without_lease, is_among, is_leased, is_held, collected}
-use Rattle.content_leases.specs.Refusals.{first_refusal, is_bytes, has_conflict, put_refusals, remove_refusals, lease_create_refusals, lease_add_refusals, lease_delete_refusals}
+use Rattle.content_leases.specs.Refusals.{first_refusal, is_bytes, put_refusals, remove_refusals, lease_create_refusals, lease_add_refusals, lease_delete_refusals}
 use Rattle.content_leases.proofs.StoreLemmas.{put_new, create_new, add_takes, held_kept, held_refused}
 use Rattle.task_board.specs.BoardState.{BoardState, with_store}
 use Rattle.task_board.specs.Sound.{Each, AreDistinct, IsContent, IsLease, digests_of, names_of, IsBoard}
@@ -129,7 +129,7 @@ put_sound s bytes b h =
     let l = none_first (nat_lt max_module_bytes (length bytes)) refusal.Limit _ h in
     let stored = content_in s.contents (digest_of bytes) in
     let e = none_first (is_bytes bytes stored) refusal.Exists _ l.1 in
-    let c = none_first (has_conflict stored bytes) refusal.DigestConflict _ e.1 in
+    let c = none_first (is_some stored) refusal.DigestConflict _ e.1 in
     let m = none_first (nat_le max_contents (length s.contents)) refusal.TooMany None c.1 in
     let off = l.0 in
     let short : length bytes ≤ max_module_bytes = grind (arith, nat_tests, off) in

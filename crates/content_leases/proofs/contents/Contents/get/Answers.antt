@@ -5,15 +5,13 @@ use Rattle.content_leases.specs.StoreState.{content_in}
 use Rattle.content_leases.proofs.ContentLemmas.{found}
 use Rattle.content_leases.proofs.contents.Contents.get.Goals as goal
 
-copied :
-    (r : Option (Bor (Arc (List ℕ) Global)))
+copied : (r : Option (Bor (Arc (List ℕ) Global)))
     → option_map (λ b. arc_value b.now) r ≡ option_map arc_value (option_copied r)
 copied None = refl
 copied (Some b) = refl
 
 pub returns : goal.returns
 returns c =
-    copied c.get.result
-    ∙ (ap (option_map arc_value) c.get.ensures.value
+    copied c.get.result ∙ (ap (option_map arc_value) c.get.ensures.value
     ∙ (found c.args.digest.now c.self.inside.map.entries
     ∙ ap (λ v. content_in v.contents c.args.digest.now) c.self.view_is))

@@ -8,6 +8,5 @@ pub returns-clause-contents : goal.returns-clause-contents
 returns-clause-contents c =
     let none = ap (λ v. content_in v.contents (string_bytes c.args.digest)) c.self.view_is ∙ c.requires.new in
     let is = rw c.unwrap.ensures at c.insert.ensures.entries in
-    ap contents_of is
-    ∙ (pushed c.args.digest c.args.bytes c.self.inside.map.entries none
+    ap contents_of is ∙ (pushed c.args.digest c.args.bytes c.self.inside.map.entries none
     ∙ ap (λ v. v.contents ++ content_of (c.args.digest, c.args.bytes) ∷ []) c.self.view_is)

@@ -19,8 +19,7 @@ push_reserved-requires-clause-new c =
     let at =
     found c.args.name.now c.self.inside.map.entries
     ∙ (ap (λ v. lease_in v.leases c.args.name.now) c.self.view_is ∙ c.requires.1) in
-    let same :
-    c.in-Some.members.now ≡ c.requires.0 =
+    let same : c.in-Some.members.now ≡ c.requires.0 =
     some_is c.in-Some.members.now c.requires.0
     (sym (ap option_copied_mut c.in-Some.is) ∙ (c.get_mut.ensures.value ∙ at)) in
     ap (is_among (string_bytes c.args.digest)) same ∙ c.requires.2
@@ -30,8 +29,7 @@ push_reserved-requires-clause-few c =
     let at =
     found c.args.name.now c.self.inside.map.entries
     ∙ (ap (λ v. lease_in v.leases c.args.name.now) c.self.view_is ∙ c.requires.1) in
-    let same :
-    c.in-Some.members.now ≡ c.requires.0 =
+    let same : c.in-Some.members.now ≡ c.requires.0 =
     some_is c.in-Some.members.now c.requires.0
     (sym (ap option_copied_mut c.in-Some.is) ∙ (c.get_mut.ensures.value ∙ at)) in
     subst (λ (ms : List (List ℕ)). length ms < max_members) (sym same) c.requires.3
@@ -42,12 +40,10 @@ returns-clause-leases c =
     let name = c.args.name.now in
     let es = c.self.inside.map.entries in
     let own = ap (λ v. lease_in v.leases name) c.self.view_is ∙ c.requires.1 in
-    let same :
-    c.in-Some.members.now ≡ c.requires.0 =
+    let same : c.in-Some.members.now ≡ c.requires.0 =
     some_is c.in-Some.members.now c.requires.0
     (sym (ap option_copied_mut c.in-Some.is) ∙ (c.get_mut.ensures.value ∙ (found name es ∙ own))) in
-    let is :
-    c.push_reserved.new.self ≡ c.requires.0 ++ d ∷ [] =
+    let is : c.push_reserved.new.self ≡ c.requires.0 ++ d ∷ [] =
     c.push_reserved.ensures ∙ ap (λ (ms : List (List ℕ)). ms ++ d ∷ []) same in
     ap leases_of (c.get_mut.follows.holds c.push_reserved.new.self).0
     ∙ (ap (λ (ms : List (List ℕ)). leases_of (set_value (λ k. bytes_eq name (string_bytes k)) es ms)) is

@@ -9,8 +9,7 @@ invariant_of-self c =
     let none = ap (is_among (string_bytes c.args.digest)) c.self.view_is ∙ c.requires.new in
     let is = rw c.unwrap.ensures at c.insert.ensures.keys in
     let old = c.self.inside.digests.keys in
-    let more :
-    length c.insert.new.self.keys ≡ suc (length old) =
+    let more : length c.insert.new.self.keys ≡ suc (length old) =
     ap (λ ks. length ks) (is ∙ key_pushed c.args.digest old none) ∙ one_longer c.args.digest old in
     let room = c.insert.ensures.spare in
     let before = c.self.invariant in
@@ -20,6 +19,5 @@ pub returns : goal.returns
 returns c =
     let none = ap (is_among (string_bytes c.args.digest)) c.self.view_is ∙ c.requires.new in
     let is = rw c.unwrap.ensures at c.insert.ensures.keys in
-    ap members_of is
-    ∙ (member_pushed c.args.digest c.self.inside.digests.keys none
+    ap members_of is ∙ (member_pushed c.args.digest c.self.inside.digests.keys none
     ∙ ap (λ v. v ++ string_bytes c.args.digest ∷ []) c.self.view_is)
