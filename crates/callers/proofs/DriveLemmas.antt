@@ -15,7 +15,7 @@ use Rattle.request_lines.specs.declared.line_reader.Stop.TheVariants as stop
 use Rattle.request_lines.specs.Shape.{max_line_bytes}
 use Rattle.request_lines.specs.Request.{IsRequest}
 use Rattle.request_lines.specs.Inside.Parse.{refusal_of}
-use Rattle.request_lines.specs.Input.{IsKept, TakesLine, TakesWhole, TakesPart}
+use Rattle.request_lines.specs.Input.{IsKept, TakesLine, TakesPart}
 use Rattle.request_lines.specs.Lines.{lines_of, joined}
 use Rattle.request_lines.specs.Session.{Session}
 use Rattle.call_journal.specs.Books.{is_journalled}
@@ -146,7 +146,7 @@ fed_more (l ∷ lines) line =
 
 whole_more :
     (input left next : Option (List ℕ)) (lines : List (List ℕ)) (line : List ℕ) → Consumes input left (fed lines)
-    → TakesWhole left next line → Consumes input next (fed (lines ++ line ∷ []))
+    → Consumes left next (line ++ 10 ∷ []) → Consumes input next (fed (lines ++ line ∷ []))
 whole_more input left next lines line h g =
     subst (Consumes input next) (sym (fed_more lines line))
     (consumes_more input left next (fed lines) (line ++ 10 ∷ []) h g)
@@ -165,7 +165,7 @@ pub driving_more :
     (was : Known) (was_end at_end : Bool) (input left next before writes after : Option (List ℕ)) (mid now : Known)
     (line text : List ℕ)
     → Driving was was_end input left before writes mid → was_end ≡ false → TakesLine left next line
-    → (at_end ≡ false → TakesWhole left next line) → IsServed mid line text now
+    → (at_end ≡ false → Consumes left next (line ++ 10 ∷ [])) → IsServed mid line text now
     → Appends writes after text
     → Driving was at_end input next before after now
 driving_more was was_end at_end input left next before writes after mid now line text d live takes whole served
@@ -309,7 +309,8 @@ Served kept mid now r writes after =
 -- the line that is kept was read; with its line feed, unless the reader has answered its end
 abbrev pub Came : (at_end : Bool) → (kept left next : Option (List ℕ)) → Type 0
 Came at_end kept left next =
-    (text : List ℕ) × IsKept kept text × TakesLine left next text × (at_end ≡ false → TakesWhole left next text)
+    (text : List ℕ) × IsKept kept text × TakesLine left next text
+    × (at_end ≡ false → Consumes left next (text ++ 10 ∷ []))
 
 served_line :
     (at_end : Bool) (kept kept' left next writes after : Option (List ℕ)) (mid now : Known) (r : Result Unit WriteError)

@@ -5,7 +5,8 @@ use Rattle.serde_json.specs.View.{items_of}
 use Rattle.serde_json.specs.Written.{has_float, items_have_float}
 use Rattle.wasm_ast.specs.declared.values.Value.{Value}
 use Rattle.wasm_ast.specs.declared.shown.ShownFrame.{ShownFrame}
-use Rattle.request_lines.specs.Reply.{count, value_text, next_data, frame_data}
+use Rattle.request_lines.specs.Shape.{count}
+use Rattle.request_lines.specs.Reply.{value_text, next_data, frame_data}
 
 pub texts_have_none : (texts : List (List ℕ)) → items_have_float (items_of (map string texts)) ≡ false
 texts_have_none [] = refl

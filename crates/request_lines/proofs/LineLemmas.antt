@@ -1,7 +1,7 @@
 -- Known bytes, as they are read piece by piece.
 use Rattle.std.proofs.Common.{◌≡◌, ◌≢◌, ◌<◌, length, ℕ, List, [], ◌∷◌, ◌++◌, ◌==◌, Option, None, Some, true, false, subst, arith, append_assoc, sym, ap, ◌∙◌, refl}
 use Rattle.std.specs.Io.KnownBytes.{Consumes, Keeps, IsAtEnd, prepend_known}
-use Rattle.request_lines.specs.Input.{IsKept, TakesLine, HasNoFeed, TakesWhole, TakesPart}
+use Rattle.request_lines.specs.Input.{IsKept, TakesLine, HasNoFeed}
 use Rattle.request_lines.specs.Inside.Pieces.{TakesPiece, ReadsPiece, IsProgress}
 use Rattle.request_lines.specs.declared.line_reader.Progress.{Progress}
 use Rattle.request_lines.specs.declared.line_reader.Progress.TheVariants.{Found, More, End}
@@ -10,24 +10,20 @@ use Rattle.std.proofs.lemmas.Bool.Decides.{nat_tests}
 use Rattle.request_lines.specs.Lines.{lines_of}
 use Rattle.request_lines.specs.Shape.{max_line_bytes}
 
-pub consumes_to_feed :
-    (left old : Option (List ℕ)) (bytes rest piece : List ℕ) → Keeps old (prepend_known bytes left)
-    → TakesPiece true bytes rest piece
-    → Consumes old (prepend_known rest left) (piece ++ 10 ∷ [])
+pub consumes_to_feed : (left old : Option (List ℕ)) (bytes rest piece : List ℕ) → Keeps old (prepend_known bytes left)
+    → TakesPiece true bytes rest piece → Consumes old (prepend_known rest left) (piece ++ 10 ∷ [])
 consumes_to_feed None None bytes rest piece keeps takes = tt
 consumes_to_feed None (Some xs) bytes rest piece keeps takes = absurd keeps
 consumes_to_feed (Some r) None bytes rest piece keeps takes = tt
 consumes_to_feed (Some r) (Some xs) bytes rest piece keeps takes =
-    sym keeps
-    ∙ (ap (λ b. b ++ r) takes.split
+    sym keeps ∙ (ap (λ b. b ++ r) takes.split
     ∙ (append_assoc piece (10 ∷ rest) r ∙ sym (append_assoc piece (10 ∷ []) (rest ++ r))))
 
 no_feed_append : (a b : List ℕ) → HasNoFeed a → HasNoFeed b → HasNoFeed (a ++ b)
 no_feed_append [] b h g = g
 no_feed_append (x ∷ a) b h g = (h.0, no_feed_append a b h.1 g)
 
-pub consumes_more :
-    (old new next : Option (List ℕ)) (a b : List ℕ) → Consumes old new a → Consumes new next b
+pub consumes_more : (old new next : Option (List ℕ)) (a b : List ℕ) → Consumes old new a → Consumes new next b
     → Consumes old next (a ++ b)
 consumes_more None new next a b h g = tt
 consumes_more (Some xs) None next a b h g = absurd h
@@ -52,10 +48,6 @@ pub record Gathers (old now : Option (List ℕ)) (kept : Option (List ℕ)) : Ty
   pub held : IsKept kept got
   pub bytes : Consumes old now got
 
-pub gathers_none : (known : Option (List ℕ)) (kept : Option (List ℕ)) → IsKept kept [] → Gathers known known kept
-gathers_none None kept h = record { got = []; plain = tt; held = h; bytes = tt }
-gathers_none (Some xs) kept h = record { got = []; plain = tt; held = h; bytes = refl }
-
 pub gathers_more : (old now next : Option (List ℕ)) (was : Option (List ℕ)) (kept : Option (List ℕ))
     → Gathers old now was → (step : Progress) → ReadsPiece step now next was kept → step ≡ More → Gathers old next kept
 gathers_more old now next was kept g step s is = record {
@@ -65,8 +57,7 @@ gathers_more old now next was kept g step s is = record {
   bytes = consumes_more old now next g.got s.piece g.bytes (subst (λ x. IsProgress x now next s.piece) is s.bytes);
 }
 
-takes_line :
-    (old new : Option (List ℕ)) (line : List ℕ) → HasNoFeed line → Consumes old new (line ++ 10 ∷ [])
+takes_line : (old new : Option (List ℕ)) (line : List ℕ) → HasNoFeed line → Consumes old new (line ++ 10 ∷ [])
     → TakesLine old new line
 takes_line None new line h g = tt
 takes_line (Some xs) None line h g = g
@@ -74,12 +65,12 @@ takes_line (Some xs) (Some ys) line h g = ap lines_of (g ∙ append_assoc line (
 
 pub takes_found : (old now next : Option (List ℕ)) (was : Option (List ℕ)) (kept : Option (List ℕ))
     → Gathers old now was → (step : Progress) → ReadsPiece step now next was kept → step ≡ Found
-    → (text : List ℕ) × IsKept kept text × TakesLine old next text × TakesWhole old next text
+    → (text : List ℕ) × IsKept kept text × TakesLine old next text × Consumes old next (text ++ 10 ∷ [])
 takes_found old now next was kept g step s is =
     let all =
     consumes_more old now next g.got (s.piece ++ 10 ∷ []) g.bytes
     (subst (λ x. IsProgress x now next s.piece) is s.bytes) in
-    let whole : TakesWhole old next (g.got ++ s.piece) =
+    let whole : Consumes old next ((g.got ++ s.piece) ++ 10 ∷ []) =
     subst (Consumes old next) (sym (append_assoc g.got s.piece (10 ∷ []))) all in (
       g.got ++ s.piece,
       s.adds g.got g.held,
@@ -107,8 +98,7 @@ ends_with_line old now next was kept g step s is some =
       g.got ++ s.piece,
       held,
       takes_last old next (g.got ++ s.piece) (no_feed_append g.got s.piece g.plain s.plain)
-          (some (g.got ++ s.piece) held)
-          (consumes_more old now next g.got s.piece g.bytes last.0) last.1,
+          (some (g.got ++ s.piece) held) (consumes_more old now next g.got s.piece g.bytes last.0) last.1,
     )
 
 -- of an empty line nothing is missing
@@ -116,26 +106,7 @@ pub kept_nothing : (kept : Option (List ℕ)) (text : List ℕ) → IsKept kept 
 kept_nothing None text k e = let long = subst (λ t. max_line_bytes < length t) e k in absurd (omega (arith, long))
 kept_nothing (Some bytes) text k e = ap Some (k ∙ e)
 
-consumes_kept : (old now left : Option (List ℕ)) (bytes : List ℕ) → Consumes old now bytes → Keeps now left
-    → Consumes old left bytes
-consumes_kept None now left bytes h keeps = tt
-consumes_kept (Some xs) None left bytes h keeps = absurd h
-consumes_kept (Some xs) (Some ys) None bytes h keeps = absurd keeps
-consumes_kept (Some xs) (Some ys) (Some zs) bytes h keeps = h ∙ ap (λ r. bytes ++ r) (sym keeps)
-
--- a reader that failed has given what was gathered of a line, and nothing else
-pub gathers_part : (old now kept left : Option (List ℕ)) → Gathers old now kept → Keeps now left → TakesPart old left
-gathers_part old now kept left g keeps = (g.got, g.plain, consumes_kept old now left g.got g.bytes keeps)
-
--- no bytes, and then the known ones
-pub keeps_after_none : (bytes : List ℕ) (known left : Option (List ℕ)) → bytes ≡ [] → Keeps known left
-    → Keeps (prepend_known bytes known) left
-keeps_after_none bytes None left none keeps = tt
-keeps_after_none bytes (Some xs) None none keeps = absurd keeps
-keeps_after_none bytes (Some xs) (Some ys) none keeps = keeps ∙ ap (λ r. r ++ xs) (sym none)
-
 -- at the end none of the known bytes are left
 pub end_of : (old now next : Option (List ℕ)) (was : Option (List ℕ)) (kept : Option (List ℕ))
-    → Gathers old now was → (step : Progress) → ReadsPiece step now next was kept → step ≡ End
-    → IsAtEnd next
+    → Gathers old now was → (step : Progress) → ReadsPiece step now next was kept → step ≡ End → IsAtEnd next
 end_of old now next was kept g step s is = (subst (λ x. IsProgress x now next s.piece) is s.bytes).1

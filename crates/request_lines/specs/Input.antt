@@ -1,5 +1,6 @@
 -- Lines as they are read.
-use Rattle.std.specs.Prelude.{◌≡◌, ◌≢◌, ◌<◌, ◌+◌, ◌*◌, ℕ, List, [], ◌∷◌, ◌++◌, true, Bool, Option, None, Some, length}
+use Rattle.std.specs.Prelude.{◌≡◌, ◌≢◌, ◌<◌, ◌+◌, ◌*◌, ℕ, List, ◌∷◌, true, Bool, Option, None, Some, length}
+use Rattle.std.specs.List.{AllByRecursion}
 use Rattle.std.specs.Io.KnownBytes.{Consumes, IsAtEnd}
 use Rattle.request_lines.specs.Shape.{max_line_bytes}
 use Rattle.request_lines.specs.Lines.{lines_of}
@@ -17,12 +18,7 @@ TakesLine (Some xs) (Some ys) line = lines_of xs ≡ line ∷ lines_of ys
 
 -- there is no line feed among the bytes
 abbrev pub HasNoFeed : List ℕ → Type 0
-HasNoFeed [] = Unit {0}
-HasNoFeed (b ∷ rest) = (b ≢ 10) × HasNoFeed rest
-
--- known bytes lose their first line and the line feed that ends it
-abbrev pub TakesWhole : Option (List ℕ) → Option (List ℕ) → List ℕ → Type 0
-TakesWhole old new line = Consumes old new (line ++ 10 ∷ [])
+HasNoFeed = AllByRecursion (λ b. b ≢ 10)
 
 -- known bytes lose some that have no line feed
 abbrev pub TakesPart : Option (List ℕ) → Option (List ℕ) → Type 0

@@ -2,7 +2,7 @@
 -- their keys.
 use Rattle.std.specs.Prelude.{ℕ, List, [], ◌∷◌, ◌++◌, map, true, false, Option, None, Some, Result, Ok, Err, codes}
 use Rattle.hex.specs.Hex.{encode_lower}
-use Rattle.serde_json.specs.Data.{Data, string, boolean, number, array, unsigned, object, put}
+use Rattle.serde_json.specs.Data.{Data, string, boolean, array, object, put}
 use Rattle.serde_json.specs.View.{items_of}
 use Rattle.serde_json.specs.Written.{compact_text}
 use Rattle.wasm_ast.specs.declared.values.Value.{Value}
@@ -21,10 +21,7 @@ use Rattle.task_requests.specs.declared.request.TaskState.{TaskState}
 use Rattle.task_lifecycle.specs.declared.status.ExitRecord.{ExitRecord}
 use Rattle.task_lifecycle.specs.declared.status.ExitRecord.TheVariants.{Trapped, Kill}
 use Rattle.task_lifecycle.specs.declared.status.Status.{Status}
-use Rattle.request_lines.specs.Shape.{members, object_of}
-
-abbrev pub count : ℕ → Data
-count n = number (unsigned n)
+use Rattle.request_lines.specs.Shape.{members, object_of, count, id_member, digest_member}
 
 -- a refused one has the name and the number of its refusal
 abbrev pub refused : Refusal → List (List ℕ × Data) → Data
@@ -45,9 +42,16 @@ refusal_data refusal = refused refusal []
 abbrev pub accepted : List (List ℕ × Data) → Data
 accepted ms = object (put (codes "ok") (boolean true) (members ms))
 
--- a list of texts
-abbrev pub texts_data : List (List ℕ) → Data
-texts_data texts = array (items_of (map string texts))
+-- the list of these, each as this value
+abbrev pub list_data : {X : Type 0} → (X → Data) → List X → Data
+list_data as_data xs = array (items_of (map as_data xs))
+
+-- a status of a task, and bytes in lower-case hexadecimal digits, with their keys
+abbrev pub status_member : Status → List ℕ × Data
+status_member status = (codes "status", string (status_name status))
+
+abbrev pub hex_member : (bytes : List ℕ) → List ℕ × Data
+hex_member bytes = (codes "hex", string (encode_lower bytes))
 
 -- why a stopped task ended, and its exit status
 abbrev pub cause_members : Option ExitRecord → List (List ℕ × Data)
@@ -67,13 +71,8 @@ trap_members other = []
 
 abbrev pub state_data : TaskState → Data
 state_data s = object_of
-    (cause_members s.end
-    ++ (codes "id", string s.id)
-    ∷ (codes "n", count s.n)
-    ∷ (codes "ok", boolean true)
-    ∷ signal_members s.end
-    ++ (codes "status", string (status_name s.status))
-    ∷ trap_members s.end)
+    (cause_members s.end ++ id_member s.id ∷ (codes "n", count s.n) ∷ (codes "ok", boolean true)
+    ∷ signal_members s.end ++ status_member s.status ∷ trap_members s.end)
 
 -- a value as a text: its type, and its number read as signed
 abbrev pub value_text : Value → List ℕ
@@ -81,10 +80,7 @@ value_text (values.I32 n) = codes "i32:" ++ signed 32 n
 value_text (values.I64 n) = codes "i64:" ++ signed 64 n
 
 abbrev pub values_data : List Value → Data
-values_data vs = array (items_of (map (λ v. string (value_text v)) vs))
-
-abbrev pub places_data : List ℕ → Data
-places_data places = array (items_of (map count places))
+values_data = list_data (λ v. string (value_text v))
 
 -- the place that is next in a frame, or the text that tells its end
 abbrev pub next_data : Option ℕ → Data
@@ -94,27 +90,10 @@ next_data (Some place) = count place
 abbrev pub frame_data : ShownFrame → Data
 frame_data f = object_of
     ((codes "func", count f.func)
-    ∷ (codes "labels", places_data f.labels)
+    ∷ (codes "labels", list_data count f.labels)
     ∷ (codes "locals", values_data f.locals)
     ∷ (codes "next", next_data f.next)
-    ∷ (codes "operands", values_data f.operands)
-    ∷ [])
-
-abbrev pub frames_data : List ShownFrame → Data
-frames_data frames = array (items_of (map frame_data frames))
-
--- a status of a task, and bytes in lower-case hexadecimal digits, with their keys
-abbrev pub status_member : Status → List ℕ × Data
-status_member status = (codes "status", string (status_name status))
-
-abbrev pub hex_member : (bytes : List ℕ) → List ℕ × Data
-hex_member bytes = (codes "hex", string (encode_lower bytes))
-
-abbrev pub id_member : (id : List ℕ) → List ℕ × Data
-id_member id = (codes "id", string id)
-
-abbrev pub digest_member : (digest : List ℕ) → List ℕ × Data
-digest_member digest = (codes "digest", string digest)
+    ∷ (codes "operands", values_data f.operands) ∷ [])
 
 -- the keys of each reply but `ok`, and their values
 abbrev pub reply_data : Reply → Data
@@ -124,7 +103,7 @@ reply_data (reply.Remove digest) = accepted (digest_member digest ∷ [])
 reply_data (reply.LeaseCreate id) = accepted (id_member id ∷ [])
 reply_data (reply.LeaseAdd digest id) = accepted (digest_member digest ∷ id_member id ∷ [])
 reply_data (reply.LeaseDelete id) = accepted (id_member id ∷ [])
-reply_data (reply.Gc removed) = accepted ((codes "removed", texts_data removed) ∷ [])
+reply_data (reply.Gc removed) = accepted ((codes "removed", list_data string removed) ∷ [])
 reply_data (reply.Create id status) = accepted (id_member id ∷ status_member status ∷ [])
 reply_data (reply.Start id status) = accepted (id_member id ∷ status_member status ∷ [])
 reply_data (reply.Pause id status) = accepted (id_member id ∷ status_member status ∷ [])
@@ -138,8 +117,8 @@ reply_data (reply.Output bytes id size) =
 reply_data (reply.Break id) = accepted (id_member id ∷ [])
 reply_data (reply.Unbreak id) = accepted (id_member id ∷ [])
 reply_data (reply.Step state) = state_data state
-reply_data (reply.Inspect frames id n) =
-    accepted ((codes "frames", frames_data frames) ∷ id_member id ∷ (codes "n", count n) ∷ [])
+reply_data (reply.Inspect frames id n) = accepted
+    ((codes "frames", list_data frame_data frames) ∷ id_member id ∷ (codes "n", count n) ∷ [])
 reply_data (reply.Peek bytes id) = accepted (hex_member bytes ∷ id_member id ∷ [])
 
 -- what a request is answered

@@ -1,6 +1,6 @@
 -- The text and JSON value of a line, and objects by the list of their members.
-use Rattle.std.specs.Prelude.{◌≡◌, ◌≤◌, ℕ, List, [], ◌∷◌, Some, IsUtf8, length}
-use Rattle.serde_json.specs.Data.{Data, object, Members, member, no_members}
+use Rattle.std.specs.Prelude.{◌≡◌, ◌≤◌, ℕ, List, [], ◌∷◌, Some, IsUtf8, length, codes}
+use Rattle.serde_json.specs.Data.{Data, object, string, number, unsigned, Members, member, no_members}
 use Rattle.serde_json.specs.Read.{read}
 
 -- bytes of a line at most, its line feed not counted
@@ -20,3 +20,13 @@ members (m ∷ ms) = member m.0 m.1 (members ms)
 
 abbrev pub object_of : List (List ℕ × Data) → Data
 object_of ms = object (members ms)
+
+abbrev pub count : ℕ → Data
+count n = number (unsigned n)
+
+-- members that requests and replies have
+abbrev pub id_member : (id : List ℕ) → List ℕ × Data
+id_member id = (codes "id", string id)
+
+abbrev pub digest_member : (digest : List ℕ) → List ℕ × Data
+digest_member digest = (codes "digest", string digest)

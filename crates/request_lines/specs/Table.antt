@@ -1,6 +1,6 @@
 -- The table of lines: of each op its word and its keys, of each key its name and what its value is, and
 -- the event of an op with these values.
-use Rattle.std.specs.Prelude.{ℕ, List, [], ◌∷◌, bytes_eq, if◌then◌else◌, Option, Some, None, codes}
+use Rattle.std.specs.Prelude.{ℕ, List, [], ◌∷◌, bytes_eq, find, Option, codes}
 use Rattle.task_requests.specs.declared.event.Event.{Event}
 use Rattle.task_requests.specs.declared.event.Event.TheVariants as happening
 use Rattle.task_requests.specs.declared.request.Request.TheVariants as request
@@ -16,10 +16,8 @@ use Rattle.request_lines.specs.declared.table.Slot.TheVariants as slot
 use Rattle.request_lines.specs.declared.values.Values.{Values}
 use Rattle.request_lines.specs.Request.{event_op}
 
--- every op
 abbrev pub all_ops : List Op
-all_ops =
-    Put ∷ PutText ∷ Remove ∷ LeaseCreate ∷ LeaseAdd ∷ LeaseDelete ∷ Gc ∷ Create ∷ Start
+all_ops = Put ∷ PutText ∷ Remove ∷ LeaseCreate ∷ LeaseAdd ∷ LeaseDelete ∷ Gc ∷ Create ∷ Start
     ∷ Pause ∷ Resume ∷ Kill
     ∷ Delete ∷ State ∷ Wait ∷ Output ∷ Break ∷ Unbreak ∷ Step ∷ Inspect ∷ Peek ∷ Take ∷ Return ∷ []
 
@@ -72,8 +70,7 @@ op_keys other = Id ∷ []
 
 -- the first of these with a word
 abbrev pub op_with : (word : List ℕ) → List Op → Option Op
-op_with word [] = None
-op_with word (op ∷ ops) = if bytes_eq (op_word op) word then Some op else op_with word ops
+op_with word = find (λ op. bytes_eq (op_word op) word)
 
 -- the name of a key in a line
 abbrev pub key_name : Key → List ℕ
@@ -106,8 +103,7 @@ key_slot other = slot.First
 abbrev pub kind_in : Slot → Kind
 kind_in slot.Id = kind.Text
 kind_in slot.Text = kind.Text
-kind_in slot.First = kind.Number
-kind_in slot.Second = kind.Number
+kind_in other = kind.Number
 
 -- what the value of a key has to be
 abbrev pub key_kind : Key → Kind

@@ -4,7 +4,8 @@ ghost use Rattle.std.specs.Prelude.{◌≡◌, IfOk, string_bytes};
 ghost use Rattle.wasm_ast.specs.declared.values.Value.TheVariants as values;
 ghost use Rattle.serde_json.specs.View.{view};
 ghost use Rattle.task_requests.specs.declared.request.Reply.TheVariants as reply;
-ghost use Rattle.request_lines.specs.Reply.{value_text, values_data, next_data, places_data, frame_data, frames_data, reply_data};
+ghost use Rattle.request_lines.specs.Shape.{count};
+ghost use Rattle.request_lines.specs.Reply.{value_text, values_data, list_data, next_data, frame_data, reply_data};
 
 use crate::shown::{OK, Shown, add};
 use serde_json::{Map, Value as Json, put};
@@ -52,7 +53,7 @@ fn values_value(alloc: Global, values: &[Value]) -> Result<Json, AllocError>
 
 // The value of a list of places.
 fn places_value(alloc: Global, places: &[u32]) -> Result<Json, AllocError>
-    ensures { IfOk result (λ v. view v ≡ places_data places.now) }
+    ensures { IfOk result (λ v. view v ≡ list_data count places.now) }
 {
     let mut list = Vec::with_capacity(alloc, places.len())?;
     for place in places {
@@ -91,7 +92,7 @@ fn frame_value(alloc: Global, frame: &ShownFrame) -> Result<Json, AllocError>
 
 // The value of a list of frames.
 fn frames_value(alloc: Global, frames: &[ShownFrame]) -> Result<Json, AllocError>
-    ensures { IfOk result (λ v. view v ≡ frames_data frames.now) }
+    ensures { IfOk result (λ v. view v ≡ list_data frame_data frames.now) }
 {
     let mut list = Vec::with_capacity(alloc, frames.len())?;
     for frame in frames {

@@ -1,9 +1,9 @@
 //! Lines as they are read.
 
-ghost use Rattle.std.specs.Prelude.{◌≡◌, ◌≢◌, ◌↔◌, ◌==◌, ◌<◌, ◌≤◌, ◌++◌, [], List, ℕ, Some, None, Ok, Err, false, true, IfOk, OnOk, IsTrue, length, drop, option_map};
+ghost use Rattle.std.specs.Prelude.{◌≡◌, ◌≢◌, ◌↔◌, ◌==◌, ◌<◌, ◌≤◌, ◌++◌, [], List, ℕ, Some, None, Ok, Err, false, true, IfOk, OnOk, IsTrue, length, drop, option_map, ◌∷◌};
 ghost use Rattle.std.specs.List.{list_any};
-ghost use Rattle.std.specs.Io.KnownBytes.{Keeps, IsAtEnd, prepend_known};
-ghost use Rattle.request_lines.specs.Input.{IsKept, KnowsEnd, TakesLine, TakesWhole, TakesPart, chunk_bytes, still_to_read};
+ghost use Rattle.std.specs.Io.KnownBytes.{Consumes, Keeps, IsAtEnd, prepend_known};
+ghost use Rattle.request_lines.specs.Input.{IsKept, KnowsEnd, TakesLine, TakesPart, chunk_bytes, still_to_read};
 ghost use Rattle.request_lines.specs.Inside.Pieces.{TakesPiece, ReadsPiece};
 
 use crate::members::MAX_LINE_BYTES;
@@ -251,8 +251,8 @@ fn next_line<R: Source>(chunk: &mut Chunk, line: &mut Line, reader: &mut R) -> R
     ensures found { result ≡ Ok true → (text : List ℕ) × IsKept line.new text
         × TakesLine (prepend_known chunk.old (R.remaining reader.old))
         (prepend_known chunk.new (R.remaining reader.new)) text
-        × TakesWhole (prepend_known chunk.old (R.remaining reader.old))
-        (prepend_known chunk.new (R.remaining reader.new)) text }
+        × Consumes (prepend_known chunk.old (R.remaining reader.old))
+        (prepend_known chunk.new (R.remaining reader.new)) (text ++ 10 ∷ []) }
     ensures last { result ≡ Ok false → line.new ≢ Some []
         → (text : List ℕ) × IsKept line.new text
         × TakesLine (prepend_known chunk.old (R.remaining reader.old))
@@ -320,8 +320,8 @@ impl LineReader {
             × TakesLine (prepend_known self.old.chunk (R.remaining reader.old))
             (prepend_known self.new.chunk (R.remaining reader.new)) text
             × (self.new.at_end ≡ false
-            → TakesWhole (prepend_known self.old.chunk (R.remaining reader.old))
-            (prepend_known self.new.chunk (R.remaining reader.new)) text) }
+            → Consumes (prepend_known self.old.chunk (R.remaining reader.old))
+            (prepend_known self.new.chunk (R.remaining reader.new)) (text ++ 10 ∷ [])) }
         ensures goes_on { result ≡ Ok true → self.old.at_end ≡ false }
         ensures end { result ≡ Ok false
             → IsAtEnd (prepend_known self.old.chunk (R.remaining reader.old)) }

@@ -6,7 +6,8 @@ ghost use Rattle.serde_json.specs.Data.{string, put, no_members};
 ghost use Rattle.serde_json.specs.View.{view, members_view};
 ghost use Rattle.task_lifecycle.specs.Names.{cause_name, exit_status};
 ghost use Rattle.task_requests.specs.declared.request.Reply.TheVariants as reply;
-ghost use Rattle.request_lines.specs.Reply.{count as count_data, refusal_data, texts_data, state_data, reply_data, json_of, event_data};
+ghost use Rattle.request_lines.specs.Shape.{count as count_data};
+ghost use Rattle.request_lines.specs.Reply.{refusal_data, list_data, state_data, reply_data, json_of, event_data};
 ghost use Rattle.request_lines.specs.Inside.States.{base_members, with_detail};
 
 use crate::frame_value::inspect_value;
@@ -72,7 +73,7 @@ fn member_value<'a>(alloc: Global, digest: &'a str, id: &'a str) -> Result<Value
 
 // The value of a list of texts.
 fn texts_value(alloc: Global, texts: &[Text]) -> Result<Value, AllocError>
-    ensures { IfOk result (λ v. view v ≡ texts_data texts.now) }
+    ensures { IfOk result (λ v. view v ≡ list_data string texts.now) }
 {
     let mut list = Vec::new(alloc);
     for text in texts {

@@ -23,8 +23,7 @@ refusal_of OutOfMemory = NoMemory
 -- the members without the first of this key
 abbrev pub without : List ℕ → Members → Members
 without k no_members = no_members
-without k (member l d ms) =
-    match_ordering (slice_cmp nat_cmp k l) (member l d (without k ms)) ms
+without k (member l d ms) = match_ordering (slice_cmp nat_cmp k l) (member l d (without k ms)) ms
     (member l d (without k ms))
 
 -- an event with this `op` and these other members

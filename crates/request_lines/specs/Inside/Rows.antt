@@ -4,7 +4,7 @@ use Rattle.std.specs.Borrow.{Bor}
 use Rattle.serde_json.specs.Data.{Data, string, boolean, Members, put}
 use Rattle.request_lines.specs.declared.shown.Shown.{Shown}
 use Rattle.request_lines.specs.declared.shown.Shown.TheVariants.{Text, Count, Flag}
-use Rattle.request_lines.specs.Reply.{count}
+use Rattle.request_lines.specs.Shape.{count}
 
 abbrev pub shown_data : Shown → Data
 shown_data (Text text) = string text.now

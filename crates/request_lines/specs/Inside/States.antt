@@ -6,17 +6,14 @@ use Rattle.task_lifecycle.specs.Names.{status_name, signal_number}
 use Rattle.task_requests.specs.declared.request.TaskState.{TaskState}
 use Rattle.task_lifecycle.specs.declared.status.ExitRecord.{ExitRecord}
 use Rattle.task_lifecycle.specs.declared.status.ExitRecord.TheVariants.{Trapped, Kill}
-use Rattle.request_lines.specs.Shape.{members}
-use Rattle.request_lines.specs.Reply.{count}
+use Rattle.request_lines.specs.Shape.{members, count, id_member}
+use Rattle.request_lines.specs.Reply.{status_member}
 
 -- those that every state has
 abbrev pub base_members : TaskState → Members
 base_members s = members
-    ((codes "id", string s.id)
-    ∷ (codes "n", count s.n)
-    ∷ (codes "ok", boolean true)
-    ∷ (codes "status", string (status_name s.status))
-    ∷ [])
+    (id_member s.id ∷ (codes "n", count s.n) ∷ (codes "ok", boolean true)
+    ∷ status_member s.status ∷ [])
 
 -- with the trap or the signal of an end
 abbrev pub with_detail : ExitRecord → Members → Members

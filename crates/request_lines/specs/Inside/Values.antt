@@ -1,5 +1,6 @@
 -- The values of the keys of a line, as they are kept while it is read.
 use Rattle.std.specs.Prelude.{◌≡◌, ℕ, List, [], ◌∷◌, ◌&&◌, Bool, true, false, not, if◌then◌else◌, nat_le, Option, Some, None, Result, Ok, Err}
+use Rattle.std.specs.List.{list_all}
 use Rattle.std.specs.Ordering.{nat_cmp, is_lt}
 use Rattle.std.specs.Cmp.Lexicographic.{slice_cmp}
 use Rattle.hex.specs.Hex.{decode_of}
@@ -45,8 +46,7 @@ IsKeptBut Second v w = (w.id ≡ v.id) × (w.text ≡ v.text) × (w.first ≡ v.
 
 -- the value of none of these keys is kept there
 abbrev pub is_free : Slot → List Key → Bool
-is_free s [] = true
-is_free s (k ∷ ks) = not (is_slot s (key_slot k)) && is_free s ks
+is_free s = list_all (λ k. not (is_slot s (key_slot k)))
 
 -- the name is below that of the first of these keys
 abbrev pub is_below : (name : List ℕ) → List Key → Bool

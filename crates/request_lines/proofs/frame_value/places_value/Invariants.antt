@@ -1,5 +1,5 @@
 use Rattle.std.proofs.Common.{◌≡◌, ◌++◌, map, drop}
-use Rattle.request_lines.specs.Reply.{count}
+use Rattle.request_lines.specs.Shape.{count}
 use Rattle.serde_json.specs.View.{view}
 use Rattle.request_lines.proofs.frame_value.places_value.Given as goal
 
