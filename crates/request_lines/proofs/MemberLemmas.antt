@@ -31,15 +31,13 @@ removed_at Equal e es rest w h = refl
 removed_at Greater e es rest w h = ap (member (string_bytes e.0) (view e.1)) h
 
 -- what is left
-pub view-remove_entry :
-    (name : List ℕ) (es : List Entry)
+pub view-remove_entry : (name : List ℕ) (es : List Entry)
     → members_view (remove_entry (is_at (at name)) es) ≡ without name (members_view es)
 view-remove_entry name [] = refl
 view-remove_entry name (e ∷ es) = removed_at (at name e.0) e es _ _ (view-remove_entry name es)
 
 -- a key below all of these goes first
-put_first :
-    (name : List ℕ) (d : Data) (es : List Entry) → AllByRecursion (λ y. at name y ≡ Less) (keys_of es)
+put_first : (name : List ℕ) (d : Data) (es : List Entry) → AllByRecursion (λ y. at name y ≡ Less) (keys_of es)
     → put name d (members_view es) ≡ member name d (members_view es)
 put_first name d [] h = refl
 put_first name d (e ∷ es) h = rw (h.0) refl
@@ -55,8 +53,7 @@ found_at Equal name l e v later is below more h =
 found_at Greater name l e v later is below more h = more h
 
 -- a key that is found among keys above another is above it, too
-found_above :
-    (name : List ℕ) (l : String Global) (es : List Entry) (v : Value)
+found_above : (name : List ℕ) (l : String Global) (es : List Entry) (v : Value)
     → AllByRecursion (λ y. string_cmp l y ≡ Less) (keys_of es)
     → lookup (is_at (at name)) es ≡ Some v → slice_cmp nat_cmp (string_bytes l) name ≡ Less
 found_above name l [] v h e = cc
@@ -64,21 +61,16 @@ found_above name l (x ∷ xs) v h e = found_at _ name l x v _ refl h.0 (found_ab
 
 whole_later :
     (name : List ℕ) (e : Entry) (es rest : List Entry) (d : Data) → slice_cmp nat_cmp (string_bytes e.0) name ≡ Less
-    → members_view es ≡ put name d (members_view rest)
-    → members_view (e ∷ es) ≡ put name d (members_view (e ∷ rest))
+    → members_view es ≡ put name d (members_view rest) → members_view (e ∷ es) ≡ put name d (members_view (e ∷ rest))
 whole_later name e es rest d below h =
-    let above :
-    slice_cmp nat_cmp name (string_bytes e.0) ≡ Greater =
+    let above : slice_cmp nat_cmp name (string_bytes e.0) ≡ Greater =
     nat_list_cmp_total.antisymm name (string_bytes e.0) ∙ ap ordering_reverse below in
     rw above (ap (member (string_bytes e.0) (view e.1)) h)
 
-whole_at :
-    (o : Ordering) (name : List ℕ) (e : Entry) (es : List Entry) (v : Value) → at name e.0 ≡ o
-    → AllByRecursion (λ y. string_cmp e.0 y ≡ Less) (keys_of es)
-    → (lookup (is_at (at name)) es ≡ Some v
+whole_at : (o : Ordering) (name : List ℕ) (e : Entry) (es : List Entry) (v : Value) → at name e.0 ≡ o
+    → AllByRecursion (λ y. string_cmp e.0 y ≡ Less) (keys_of es) → (lookup (is_at (at name)) es ≡ Some v
     → members_view es ≡ put name (view v) (members_view (remove_entry (is_at (at name)) es)))
-    → cond (is_eq o) (Some e.1) (lookup (is_at (at name)) es) ≡ Some v
-    → members_view (e ∷ es)
+    → cond (is_eq o) (Some e.1) (lookup (is_at (at name)) es) ≡ Some v → members_view (e ∷ es)
     ≡ put name (view v) (members_view (cond (is_eq o) es (e ∷ remove_entry (is_at (at name)) es)))
 whole_at Less name e es v is s more h = whole_later name e es _ (view v) (found_above name e.0 es v s h) (more h)
 whole_at Equal name e es v is s more h =
@@ -90,8 +82,7 @@ whole_at Equal name e es v is s more h =
 whole_at Greater name e es v is s more h = whole_later name e es _ (view v) (found_above name e.0 es v s h) (more h)
 
 -- what is found and what is left are the whole
-pub whole :
-    (name : List ℕ) (es : List Entry) (v : Value) → IsStrictlySortedBy string_cmp (keys_of es)
+pub whole : (name : List ℕ) (es : List Entry) (v : Value) → IsStrictlySortedBy string_cmp (keys_of es)
     → lookup (is_at (at name)) es ≡ Some v
     → members_view es ≡ put name (view v) (members_view (remove_entry (is_at (at name)) es))
 unfolding IsStrictlySortedBy

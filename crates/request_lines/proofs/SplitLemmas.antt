@@ -10,18 +10,15 @@ is_false : (b : Bool) → (b ≡ true → ⊥) → b ≡ false
 is_false true h = absurd (h refl)
 is_false false h = refl
 
-lines_at :
-    (xs : List ℕ) (i : ℕ) → i < length xs → ((k : ℕ) → k < i → (slice_index xs k == 10) ≡ false)
-    → (slice_index xs i == 10) ≡ true
-    → lines_of xs ≡ take i xs ∷ lines_of (drop (suc i) xs)
+lines_at : (xs : List ℕ) (i : ℕ) → i < length xs → ((k : ℕ) → k < i → (slice_index xs k == 10) ≡ false)
+    → (slice_index xs i == 10) ≡ true → lines_of xs ≡ take i xs ∷ lines_of (drop (suc i) xs)
 lines_at [] i l none here = absurd (omega arith)
 lines_at (x ∷ xs) zero l none here = rw here refl
 lines_at (x ∷ xs) (suc i) l none here =
     let first : (x == 10) ≡ false = none 0 (omega arith) in
     rw (first, lines_at xs i (omega arith) (λ k h. none (suc k) (omega arith)) here) refl
 
-one_line :
-    (x : ℕ) (xs : List ℕ) → ((k : ℕ) → k < length (x ∷ xs) → (slice_index (x ∷ xs) k == 10) ≡ false)
+one_line : (x : ℕ) (xs : List ℕ) → ((k : ℕ) → k < length (x ∷ xs) → (slice_index (x ∷ xs) k == 10) ≡ false)
     → lines_of (x ∷ xs) ≡ (x ∷ xs) ∷ []
 one_line x [] none = let first : (x == 10) ≡ false = none 0 (omega arith) in rw first refl
 one_line x (y ∷ ys) none =
@@ -34,8 +31,7 @@ pub lines_from_feed :
     → (slice_index xs i == 10) ≡ true
     → lines_of xs ≡ take i xs ∷ lines_of (take (length xs - (i + 1)) (drop (i + 1) xs))
 lines_from_feed xs i l none here =
-    let rest :
-    take (length xs - (i + 1)) (drop (i + 1) xs) ≡ drop (i + 1) xs =
+    let rest : take (length xs - (i + 1)) (drop (i + 1) xs) ≡ drop (i + 1) xs =
     take_all _ (drop (i + 1) xs) (omega (arith, length-drop (i + 1) xs)) in
     rw rest (rw add-one (lines_at xs i l (λ k h. is_false _ (none k (omega arith) h)) here))
 
@@ -45,16 +41,14 @@ pub lines_from_none :
     → lines_of xs ≡ xs ∷ lines_of (take (length xs - length xs) (drop (length xs) xs))
 lines_from_none [] l none = absurd (omega arith)
 lines_from_none (x ∷ xs) l none =
-    let rest :
-    take (length (x ∷ xs) - length (x ∷ xs)) (drop (length (x ∷ xs)) (x ∷ xs)) ≡ [] =
+    let rest : take (length (x ∷ xs) - length (x ∷ xs)) (drop (length (x ∷ xs)) (x ∷ xs)) ≡ [] =
     rw (drop_all (length (x ∷ xs)) (x ∷ xs) (omega arith)) (take_all _ [] (omega arith)) in
     rw rest (one_line x xs (λ k h. is_false _ (none k (omega arith) h)))
 
 differs : (b : ℕ) → ((b == 10) ≡ true → ⊥) → b ≡ 10 → ⊥
 differs b h e = h (rw e refl)
 
-no_feed :
-    (xs : List ℕ) (i : ℕ) → ((k : ℕ) → k < i → k < length xs → (slice_index xs k == 10) ≡ true → ⊥)
+no_feed : (xs : List ℕ) (i : ℕ) → ((k : ℕ) → k < i → k < length xs → (slice_index xs k == 10) ≡ true → ⊥)
     → HasNoFeed (take i xs)
 no_feed [] zero none = tt
 no_feed [] (suc i) none = tt
@@ -70,15 +64,11 @@ split_at (x ∷ xs) (suc i) l here = ap (λ r. x ∷ r) (split_at xs i (omega ar
 
 pub piece_to_feed :
     (xs : List ℕ) (i : ℕ) → i < length xs → ((k : ℕ) → 0 ≤ k → k < i → (slice_index xs k == 10) ≡ true → ⊥)
-    → (slice_index xs i == 10) ≡ true
-    → TakesPiece true xs (drop (i + 1) xs) (take i xs)
-piece_to_feed xs i l none here = record {
-  plain = no_feed xs i (λ k h m. none k (omega arith) h);
-  split = rw add-one (split_at xs i l here);
-}
+    → (slice_index xs i == 10) ≡ true → TakesPiece true xs (drop (i + 1) xs) (take i xs)
+piece_to_feed xs i l none here =
+    record { plain = no_feed xs i (λ k h m. none k (omega arith) h); split = rw add-one (split_at xs i l here) }
 
-pub piece_to_end :
-    (xs : List ℕ) → ((k : ℕ) → 0 ≤ k → k < length xs → (slice_index xs k == 10) ≡ true → ⊥)
+pub piece_to_end : (xs : List ℕ) → ((k : ℕ) → 0 ≤ k → k < length xs → (slice_index xs k == 10) ≡ true → ⊥)
     → TakesPiece false xs (drop (length xs) xs) xs
 piece_to_end xs none = record {
   plain =

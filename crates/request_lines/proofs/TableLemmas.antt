@@ -25,8 +25,7 @@ pub found : (op : Op) → op_with (op_word op) all_ops ≡ Some op
 found Put = refl
 found op = refl
 
-pub own_word :
-    (op : Op) (bytes : List ℕ) (v : Values) → event_op (event_with op bytes v) ≡ op_word op
+pub own_word : (op : Op) (bytes : List ℕ) (v : Values) → event_op (event_with op bytes v) ≡ op_word op
 own_word Put bytes v = refl
 own_word op bytes v = refl
 
@@ -35,10 +34,8 @@ same_op a b e =
     let both : Some a ≡ Some b = sym (found a) ∙ (ap (λ w. op_with w all_ops) e ∙ found b) in
     cc
 
-has_word_at :
-    (b : Bool) (word : List ℕ) (o op : Op) (later : Option Op) → bytes_eq (op_word o) word ≡ b
-    → (later ≡ Some op → op_word op ≡ word)
-    → (if b then Some o else later) ≡ Some op → op_word op ≡ word
+has_word_at : (b : Bool) (word : List ℕ) (o op : Op) (later : Option Op) → bytes_eq (op_word o) word ≡ b
+    → (later ≡ Some op → op_word op ≡ word) → (if b then Some o else later) ≡ Some op → op_word op ≡ word
 has_word_at true word o op later is more e =
     let same : o ≡ op = cc in
     subst (λ (x : Op). op_word x ≡ word) same ((bytes_eq-Decides (op_word o) word).0 is)
@@ -52,15 +49,13 @@ has_word word (o ∷ os) op e = has_word_at _ word o op _ refl (has_word word os
 -- ---- the keys of an op
 
 -- none of them is `op`
-pub no_op_key :
-    (op : Op) (d : Data) (v : Values)
+pub no_op_key : (op : Op) (d : Data) (v : Values)
     → without (codes "op") (put (codes "op") d (keyed (op_keys op) v)) ≡ keyed (op_keys op) v
 no_op_key Put d v = refl
 no_op_key op d v = refl
 
 -- the members determine the event
-same_event :
-    (op : Op) (v w : Values) → keyed (op_keys op) v ≡ keyed (op_keys op) w → event_read op v ≡ event_read op w
+same_event : (op : Op) (v w : Values) → keyed (op_keys op) v ≡ keyed (op_keys op) w → event_read op v ≡ event_read op w
 same_event Put v w e = let text : v.text ≡ w.text = cc in ap (λ d. put_read (decode_of d)) text
 same_event Take v w e =
     let id : v.id ≡ w.id = cc in
@@ -76,8 +71,7 @@ same_read a b v w same =
 
 -- ---- from a row to its event
 
-put_sound :
-    (r : Result (List ℕ) FromHexError) (v : Values) (e : Event) → decode_of v.text ≡ r → put_read r ≡ Some e
+put_sound : (r : Result (List ℕ) FromHexError) (v : Values) (e : Event) → decode_of v.text ≡ r → put_read r ≡ Some e
     → IsEventAsked (op_word Put) (keyed (op_keys Put) v) e
 put_sound (Ok bytes) v e decodes is =
     let same : happening.Call (request.Put bytes) ≡ e = cc in
@@ -85,8 +79,7 @@ put_sound (Ok bytes) v e decodes is =
     (record { same = refl; keys = (v.text, refl, decodes) })
 put_sound (Err x) v e decodes is = cc
 
-take_sound :
-    (b : Bool) (v : Values) (e : Event) → (nat_le 1 v.first && nat_le v.first max_budget) ≡ b
+take_sound : (b : Bool) (v : Values) (e : Event) → (nat_le 1 v.first && nat_le v.first max_budget) ≡ b
     → (if b then Some (happening.Take v.id v.first) else None) ≡ Some e
     → IsEventAsked (op_word Take) (keyed (op_keys Take) v) e
 take_sound true v e within is =
@@ -113,16 +106,14 @@ pub record Row (e : Event) (ms : Members) : Type 0 where
   pub keys : ms ≡ keyed (op_keys op) values
   pub read : event_read op values ≡ Some e
 
-row :
-    {e : Event} {ms : Members} (op : Op) (values : Values) → event_op e ≡ op_word op → ms ≡ keyed (op_keys op) values
+row : {e : Event} {ms : Members} (op : Op) (values : Values) → event_op e ≡ op_word op → ms ≡ keyed (op_keys op) values
     → event_read op values ≡ Some e → Row e ms
 row op values word keys read = record { op = op; values = values; word = word; keys = keys; read = read }
 
 abbrev values : (id text : List ℕ) → (first second : ℕ) → Values
 values id text first second = record { id = id; text = text; first = first; second = second }
 
-in_range :
-    (id : List ℕ) (budget : ℕ) → 1 ≤ budget → budget ≤ max_budget
+in_range : (id : List ℕ) (budget : ℕ) → 1 ≤ budget → budget ≤ max_budget
     → take_read id budget ≡ Some (happening.Take id budget)
 in_range id budget least most =
     let low : nat_le 1 budget ≡ true = grind (arith, nat_tests) in
@@ -157,8 +148,7 @@ row_of (happening.Take id budget) ms h = row Take (values id [] budget 0) refl h
 row_of (happening.Return id) ms h = row Return (values id [] 0 0) refl h refl
 
 -- the word and the other members determine the event
-pub one_asked :
-    (word : List ℕ) (ms : Members) (a b : Event) → IsEventAsked word ms a → IsEventAsked word ms b → a ≡ b
+pub one_asked : (word : List ℕ) (ms : Members) (a b : Event) → IsEventAsked word ms a → IsEventAsked word ms b → a ≡ b
 one_asked word ms a b x y =
     let r = row_of a ms x.keys in
     let s = row_of b ms y.keys in
@@ -177,15 +167,13 @@ no_such_keys op word ms is none e a =
     let same : op ≡ r.op = same_op op r.op (is ∙ (a.same ∙ r.word)) in
     none r.values (r.keys ∙ ap (λ (o : Op). keyed (op_keys o) r.values) (sym same))
 
-sound_if_ok :
-    (op : Op) (v : Values) (r : Result Event LineError) → IfOk r (λ e. event_read op v ≡ Some e)
+sound_if_ok : (op : Op) (v : Values) (r : Result Event LineError) → IfOk r (λ e. event_read op v ≡ Some e)
     → IfOk r (λ e. IsEventAsked (op_word op) (keyed (op_keys op) v) e)
 sound_if_ok op v (Ok e) is = sound op v e is
 sound_if_ok op v (Err x) is = tt
 
 -- the row is found, and its keys are there
-pub parses_row :
-    (op : Op) (v : Values) (word : List ℕ) (ms : Members) (r : Result Event LineError) → op_word op ≡ word
+pub parses_row : (op : Op) (v : Values) (word : List ℕ) (ms : Members) (r : Result Event LineError) → op_word op ≡ word
     → ms ≡ keyed (op_keys op) v → Parses (λ e. event_read op v ≡ Some e) r → Parses (IsEventAsked word ms) r
 parses_row op v word ms r is keys p =
     let here : Parses (IsEventAsked (op_word op) (keyed (op_keys op) v)) r =

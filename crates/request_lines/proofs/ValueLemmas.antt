@@ -1,18 +1,17 @@
 -- Members that are taken by their keys, in the order of these.
 use Rattle.std.proofs.lemmas.Cmp.{nat_list_cmp_total}
 use Rattle.std.proofs.lemmas.Bool.{false≢true, not-true}
-use Rattle.std.proofs.Common.{◌≡◌, ◌≢◌, ◌&&◌, ℕ, List, [], ◌∷◌, Bool, true, false, true≢false, Some, Ordering, Less, Equal, Greater, nat_cmp, refl, sym, ap, ◌∙◌}
+use Rattle.std.proofs.Common.{◌≡◌, ◌≢◌, ◌&&◌, ℕ, List, [], ◌∷◌, Bool, true, false, true≢false, Ordering, Less, Equal, Greater, nat_cmp, refl, sym, ap, ◌∙◌}
 use Rattle.std.specs.Cmp.Lexicographic.{slice_cmp}
 use Rattle.std.specs.Ordering.{is_lt, ordering_reverse}
-use Rattle.serde_json.specs.Data.{Data, string, number, unsigned, Members, no_members, member, put}
-use Rattle.serde_json.specs.Find.{get_member}
+use Rattle.serde_json.specs.Data.{Data, string, number, unsigned, Members, member, put}
 use Rattle.request_lines.specs.declared.table.Key.{Key}
 use Rattle.request_lines.specs.declared.table.Slot.{Slot}
 use Rattle.request_lines.specs.declared.table.Slot.TheVariants.{Id, Text, First, Second}
 use Rattle.request_lines.specs.declared.values.Values.{Values}
 use Rattle.request_lines.specs.Table.{key_name, key_slot}
 use Rattle.request_lines.specs.Inside.Parse.{without}
-use Rattle.request_lines.specs.Inside.Values.{value_in, keyed, is_slot, is_below, is_row, IsKeptBut, Taking}
+use Rattle.request_lines.specs.Inside.Values.{value_in, keyed, is_slot, is_below, IsKeptBut, Taking}
 
 -- ---- names in their order
 
@@ -29,8 +28,7 @@ less Less e = refl
 less Equal e = absurd (false≢true e)
 less Greater e = absurd (false≢true e)
 
-put_first :
-    (name : List ℕ) (d : Data) (ks : List Key) (v : Values) → is_below name ks ≡ true
+put_first : (name : List ℕ) (d : Data) (ks : List Key) (v : Values) → is_below name ks ≡ true
     → put name d (keyed ks v) ≡ member name d (keyed ks v)
 put_first name d [] v h = refl
 put_first name d (k ∷ ks) v h =
@@ -44,8 +42,7 @@ and_parts true b h = (refl, h)
 and_parts false b h = absurd (false≢true h)
 
 -- what is kept in the other slots
-kept :
-    (t s : Slot) (v w : Values) → IsKeptBut t v w → is_slot s t ≡ false → value_in s w ≡ value_in s v
+kept : (t s : Slot) (v w : Values) → IsKeptBut t v w → is_slot s t ≡ false → value_in s w ≡ value_in s v
 kept Id Id v w h other = absurd (true≢false other)
 kept Id Text v w h other = ap string h.0
 kept Id First v w h other = ap (λ n. number (unsigned n)) h.1
@@ -68,17 +65,10 @@ kept Second Second v w h other = absurd (true≢false other)
 without_first : (name : List ℕ) (d : Data) (ms : Members) → without name (member name d ms) ≡ ms
 without_first name d ms = rw (same_name name) refl
 
-get_first : (name : List ℕ) (d : Data) (ms : Members) → get_member name (member name d ms) ≡ Some d
-get_first name d ms = rw (same_name name) refl
-
-pub taking_all : (ks : List Key) (ms : Members) (v : Values) → is_row ks ≡ true → Taking ks ks ms ms v
-taking_all ks ms v h = record { row = h; onward = λ w d e. e; back = λ w e. e }
-
 pub taking_more :
     (all rest : List Key) (k : Key) (whole left after : Members) (v w : Values) → Taking all (k ∷ rest) whole left v
     → left ≡ put (key_name k) (value_in (key_slot k) w) after → IsKeptBut (key_slot k) v w
-    → after ≡ without (key_name k) left
-    → Taking all rest whole after w
+    → after ≡ without (key_name k) left → Taking all rest whole after w
 taking_more all rest k whole left after v w t taken others rest_is =
     let parts = and_parts _ _ t.row in
     let first = and_parts _ _ parts.0 in
@@ -92,25 +82,7 @@ taking_more all rest k whole left after v w t taken others rest_is =
                 let both = and_parts _ _ h in
                 d.elsewhere s both.1 ∙ kept (key_slot k) s v w others (not-true _ both.0);
           })
-          (taken
-          ∙ (ap (λ x. put (key_name k) x after) (sym same)
+          (taken ∙ (ap (λ x. put (key_name k) x after) (sym same)
           ∙ (ap (put (key_name k) (value_in (key_slot k) u)) e ∙ put_first (key_name k) _ rest u first.1)));
       back = λ u e. rest_is ∙ (ap (without (key_name k)) (t.back u e) ∙ without_first (key_name k) _ _);
     }
-
-pub taken_all :
-    (all : List Key) (whole left : Members) (v : Values) → Taking all [] whole left v → left ≡ no_members
-    → whole ≡ keyed all v
-taken_all all whole left v t none = t.onward v (record { elsewhere = λ s h. refl }) none
-
-pub others_left :
-    (all : List Key) (whole left : Members) (v : Values) → Taking all [] whole left v → left ≢ no_members
-    → (w : Values) → whole ≢ keyed all w
-others_left all whole left v t some w e = some (t.back w e)
-
-pub not_taken :
-    (all rest : List Key) (k : Key) (whole left : Members) (v : Values) → Taking all (k ∷ rest) whole left v
-    → ((w : Values) → get_member (key_name k) left ≢ Some (value_in (key_slot k) w))
-    → (w : Values) → whole ≢ keyed all w
-not_taken all rest k whole left v t none w e =
-    none w (ap (get_member (key_name k)) (t.back w e) ∙ get_first (key_name k) _ _)

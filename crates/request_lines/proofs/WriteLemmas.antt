@@ -18,8 +18,7 @@ appends_more old now next bytes at n h g =
     (Appends-trans old now next (take at bytes) (take n (drop at bytes)) h
     (subst (λ (r : List ℕ). Appends now next (take n r)) (rest_is bytes at) g))
 
-pub no_further : (bytes : List ℕ) (at n : ℕ) → at ≤ length bytes → n ≤ length (rest_of bytes at)
-    → at + n ≤ length bytes
+pub no_further : (bytes : List ℕ) (at n : ℕ) → at ≤ length bytes → n ≤ length (rest_of bytes at) → at + n ≤ length bytes
 no_further bytes at n before bound = omega (arith, before, bound, ap length (rest_is bytes at), length-drop at bytes)
 
 pub begins_take : (n : ℕ) (bytes : List ℕ) → (rest : List ℕ) × (take n bytes ++ rest ≡ bytes)

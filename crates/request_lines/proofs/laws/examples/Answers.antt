@@ -56,8 +56,7 @@ returns-clause-lease c = record {
   reads =
       record {
         short = omega arith;
-        utf8 =
-            IsUtf8-from_is_utf8 (codes "{\"op\":\"lease_add\",\"id\":\"l\",\"digest\":\"d\"}") refl;
+        utf8 = IsUtf8-from_is_utf8 (codes "{\"op\":\"lease_add\",\"id\":\"l\",\"digest\":\"d\"}") refl;
         value = refl;
       };
   asks = (_, refl, refl);

@@ -2,8 +2,7 @@ use Rattle.std.proofs.Common.{◌≡◌, ◌+◌, ◌-◌, ◌≤◌, ℕ, List,
 use Rattle.std.proofs.lemmas.List.{drop-take, drop-drop, length-take}
 use Rattle.request_lines.proofs.line_reader.Chunk.skip.Goals as goal
 
-skipped :
-    (xs : List ℕ) (start end n : ℕ) → start + n ≤ end
+skipped : (xs : List ℕ) (start end n : ℕ) → start + n ≤ end
     → take (end - (start + n)) (drop (start + n) xs) ≡ drop n (take (end - start) (drop start xs))
 skipped xs start end n h =
     let whole : end - start ≡ n + (end - (start + n)) = omega arith in
