@@ -23,8 +23,7 @@ pub all_with :
 all_with m ks more k all known is =
     subst (λ (l : List KnownPlace). All (IsKnown m) l) (sym is) (All-push (IsKnown m) ks k all known)
 
-pub there_at :
-    (ks more : List KnownPlace) (k : KnownPlace) (func place at : ℕ) → more ≡ ks ++ k ∷ [] → at ≡ length ks
+pub there_at : (ks more : List KnownPlace) (k : KnownPlace) (func place at : ℕ) → more ≡ ks ++ k ∷ [] → at ≡ length ks
     → k.func ≡ func → k.place ≡ place
     → (x : KnownPlace) × (slice_get more at ≡ Some x) × (x.func ≡ func) × (x.place ≡ place)
 there_at ks more k func place at is last called there = (
@@ -35,15 +34,13 @@ there_at ks more k func place at is last called there = (
   there,
 )
 
-is_known :
-    (m : Module) (ks : List KnownPlace) (k : KnownPlace) (at : ℕ) → All (IsKnown m) ks → slice_get ks at ≡ Some k
+is_known : (m : Module) (ks : List KnownPlace) (k : KnownPlace) (at : ℕ) → All (IsKnown m) ks → slice_get ks at ≡ Some k
     → IsKnown m k
 is_known m ks k at all is =
     subst (IsKnown m) (get_or_from_slice_get ks at k k is) (all at k (slice_get_within ks at k is))
 
 -- a frame is at the one of these that has its function and its place
-pub is_there :
-    (m : Module) (ks : List KnownPlace) (k read : KnownPlace) (w : FrameValue) (f : ShownFrame) (at : ℕ)
+pub is_there : (m : Module) (ks : List KnownPlace) (k read : KnownPlace) (w : FrameValue) (f : ShownFrame) (at : ℕ)
     → All (IsKnown m) ks → slice_get ks at ≡ Some k → read ≡ get_or ks at read → Tells m w f → k.func ≡ w.func
     → k.place ≡ w.place → IsThere m read w f
 is_there m ks k read w f at all is one told func place =
@@ -57,16 +54,14 @@ is_there m ks k read w f at all is one told func place =
 
 -- ---- several places
 
-pub each_length :
-    {A : Type 0} (IsAt : ℕ → A → Type 0) (places : List ℕ) (xs : List A) → AllZip IsAt places xs
+pub each_length : {A : Type 0} (IsAt : ℕ → A → Type 0) (places : List ℕ) (xs : List A) → AllZip IsAt places xs
     → length xs ≡ length places
 each_length IsAt [] [] h = refl
 each_length IsAt [] (x ∷ xs) h = absurd h
 each_length IsAt (p ∷ places) [] h = absurd h
 each_length IsAt (p ∷ places) (x ∷ xs) h = let rest = each_length IsAt places xs h.1 in omega (arith, rest)
 
-pub each_at :
-    {A : Type 0} (IsAt : ℕ → A → Type 0) (places : List ℕ) (xs : List A) (k : ℕ) (p : ℕ) (x : A)
+pub each_at : {A : Type 0} (IsAt : ℕ → A → Type 0) (places : List ℕ) (xs : List A) (k : ℕ) (p : ℕ) (x : A)
     → AllZip IsAt places xs → k < length places → p ≡ get_or places k p → x ≡ get_or xs k x → IsAt p x
 each_at IsAt [] xs k p x h less one two = absurd (omega (arith, less))
 each_at IsAt (q ∷ places) [] k p x h less one two = absurd h
@@ -76,8 +71,7 @@ each_at IsAt (q ∷ places) (y ∷ xs) (suc k) p x h less one two =
     each_at IsAt places xs k p x h.1 (omega (arith, less)) one two
 
 -- what is known at a place, of a module that is given in other words
-pub types_there :
-    (n m : Module) (func place : ℕ) (t : Known) → n ≡ m
+pub types_there : (n m : Module) (func place : ℕ) (t : Known) → n ≡ m
     → ((p : Point) → MatchPoint t p ↔ ReachesAt n func place p)
     → (p : Point) × PassesAt n func place p × MatchPoint t p → AreTypesAt m func place t
 types_there n m func place t same exact some = record {
@@ -86,8 +80,7 @@ types_there n m func place t same exact some = record {
   matches = some.2;
 }
 
-pub types_at_each_there :
-    (n m : Module) (func : ℕ) (places : List ℕ) (ts : List Known) → n ≡ m
+pub types_at_each_there : (n m : Module) (func : ℕ) (places : List ℕ) (ts : List Known) → n ≡ m
     → AllZip (λ place t. (p : Point) → MatchPoint t p ↔ ReachesAt n func place p) places ts
     → AllZip (λ place t. (p : Point) × PassesAt n func place p × MatchPoint t p) places ts
     → AllZip (AreTypesAt m func) places ts
@@ -100,8 +93,7 @@ types_at_each_there n m func (p ∷ places) (t ∷ ts) same exact some = (
 )
 
 -- one place more, if it is one more
-pub frames_with :
-    (m : Module) (func place : ℕ) (old new : List ℕ) → All (HasFrame m func) old → HasFrame m func place
+pub frames_with : (m : Module) (func place : ℕ) (old new : List ℕ) → All (HasFrame m func) old → HasFrame m func place
     → (new ≡ old) ⊎ (new ≡ old ++ place ∷ []) → All (HasFrame m func) new
 frames_with m func place old new all one (inl same) = subst (λ (l : List ℕ). All (HasFrame m func) l) (sym same) all
 frames_with m func place old new all one (inr more) =

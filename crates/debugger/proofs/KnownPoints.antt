@@ -47,8 +47,7 @@ reverse_some : (ts : List ValType) → reverse (all_some ts) ≡ all_some (rever
 reverse_some [] = refl
 reverse_some (t ∷ ts) =
     reverse-append (Some t ∷ []) (all_some ts)
-    ∙ ap (λ (xs : List (Option ValType)). xs ++ Some t ∷ []) (reverse_some ts)
-    ∙ sym (some_append (reverse ts) (t ∷ []))
+    ∙ ap (λ (xs : List (Option ValType)). xs ++ Some t ∷ []) (reverse_some ts) ∙ sym (some_append (reverse ts) (t ∷ []))
     ∙ ap all_some (sym (reverse-append (t ∷ []) ts))
 
 known_is : (ts : List ValType) → known_of (all_some ts) ≡ ts
@@ -56,8 +55,7 @@ known_is [] = refl
 known_is (t ∷ ts) = ap (λ (us : List ValType). t ∷ us) (known_is ts)
 
 -- types that only one list matches are known
-exactly :
-    (u : Bool) (xs : List (Option ValType)) (ts : List ValType) → MatchTypes u xs ts
+exactly : (u : Bool) (xs : List (Option ValType)) (ts : List ValType) → MatchTypes u xs ts
     → ((us : List ValType) → MatchTypes u xs us → us ≡ ts) → xs ≡ all_some ts
 exactly true [] ts m one = absurd (one_more I32 ts (one (I32 ∷ ts) tt))
 exactly false [] [] m one = refl
@@ -90,8 +88,7 @@ heads_same ts us tss uss h = cc
 tails_same : (ts us : List ValType) (tss uss : List (List ValType)) → ts ∷ tss ≡ us ∷ uss → tss ≡ uss
 tails_same ts us tss uss h = cc
 
-all_exactly :
-    (ss : List Stack) (tss : List (List ValType)) → AllZip Matches ss tss
+all_exactly : (ss : List Stack) (tss : List (List ValType)) → AllZip Matches ss tss
     → ((uss : List (List ValType)) → AllZip Matches ss uss → uss ≡ tss) → AllKnown ss tss
 all_exactly [] [] m one = tt
 all_exactly [] (ts ∷ tss) m one = absurd m
@@ -101,8 +98,7 @@ all_exactly (s ∷ ss) (ts ∷ tss) m one = (
   all_exactly ss tss m.1 (λ uss h. tails_same ts ts uss tss (one (ts ∷ uss) (m.0, h))),
 )
 
-oldest_is :
-    (ss : List Stack) (tss : List (List ValType)) → AllKnown ss tss → oldest_first ss ≡ reverse (joined tss)
+oldest_is : (ss : List Stack) (tss : List (List ValType)) → AllKnown ss tss → oldest_first ss ≡ reverse (joined tss)
 oldest_is [] [] h = refl
 oldest_is [] (ts ∷ tss) h = absurd h
 oldest_is (s ∷ ss) [] h = absurd h
@@ -115,8 +111,7 @@ oldest_is (s ∷ ss) (ts ∷ tss) h =
     cc
 
 -- what is known of a point that is the only one, and how many blocks it has
-pub oldest_of_one :
-    (k : Known) (p : Point) → MatchPoint k p → ((q : Point) → MatchPoint k q → q ≡ p)
+pub oldest_of_one : (k : Known) (p : Point) → MatchPoint k p → ((q : Point) → MatchPoint k q → q ≡ p)
     → oldest_first k.stacks ≡ reverse (joined p.stacks)
 oldest_of_one k p m one =
     oldest_is k.stacks p.stacks
@@ -137,8 +132,7 @@ record Deep (labels outside place : ℕ) (p : Point) : Type 0 where
   few : length p.labels ≤ place + labels
 
 mutual
-  reaches_deep :
-      (c : Context) (outside : List (List ValType)) (os : Ops) (old : List ValType) (k : ℕ) (p : Point)
+  reaches_deep : (c : Context) (outside : List (List ValType)) (os : Ops) (old : List ValType) (k : ℕ) (p : Point)
       → Reaches c outside os old k p → Deep (length c.labels) (length outside) k p
   reaches_deep c outside stop old k p h = absurd h
   reaches_deep c outside (next o os) old k p (inl h) = op_reaches_deep c outside o old k p h.1
@@ -146,8 +140,7 @@ mutual
       let d = reaches_deep c outside os h.1 (k - count o) p h.3 in
       record { same = d.same; few = omega (arith, d.few) }
 
-  op_reaches_deep :
-      (c : Context) (outside : List (List ValType)) (o : Op) (old : List ValType) (k : ℕ) (p : Point)
+  op_reaches_deep : (c : Context) (outside : List (List ValType)) (o : Op) (old : List ValType) (k : ℕ) (p : Point)
       → OpReaches c outside o old k p → Deep (length c.labels) (length outside) k p
   op_reaches_deep c outside o old zero p h =
       let labels : length p.labels ≡ length c.labels = ap (λ (q : Point). length q.labels) h in
@@ -168,8 +161,7 @@ mutual
       reaches_deep (under c t.results) (rest ∷ outside) else_arm (reverse t.params) (k - ops_count then_arm) p h.1 in
       record { same = omega (arith, d.same); few = omega (arith, d.few) }
 
-pub blocks_known :
-    (m : Module) (func place : ℕ) (k : Known) (p : Point) → ReachesAt m func place p → MatchPoint k p
+pub blocks_known : (m : Module) (func place : ℕ) (k : Known) (p : Point) → ReachesAt m func place p → MatchPoint k p
     → (length k.stacks ≡ length k.labels) × (length k.labels ≤ place + 1)
 blocks_known m func place k p (f, t, own, is, h) match =
     let d = reaches_deep (body_context m t f) [] f.body [] place p h in
@@ -179,8 +171,7 @@ blocks_known m func place k p (f, t, own, is, h) match =
 
 -- ---- block by block
 
-pub oldest_more :
-    (ss : List Stack) (i at j : ℕ) (s : Stack) (ts : List (Option ValType)) → i ≡ at → j ≡ at + 1
+pub oldest_more : (ss : List Stack) (i at j : ℕ) (s : Stack) (ts : List (Option ValType)) → i ≡ at → j ≡ at + 1
     → slice_get ss at ≡ Some s → reverse s.types ≡ ts
     → oldest_first (drop i ss) ≡ oldest_first (drop j ss) ++ known_of ts
 oldest_more ss i at j s ts same past is newest =

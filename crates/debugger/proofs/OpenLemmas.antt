@@ -16,20 +16,17 @@ use Rattle.debugger.specs.Inside.OpenBlocks.{arm_opens, HasBlocks}
 
 -- ---- a stop
 
-pub found_here :
-    (all : ℕ → List ℕ) (places : List ℕ) (old new : List (Vec ℕ)) (place : ℕ) (b : Vec ℕ) (blocks : List ℕ)
+pub found_here : (all : ℕ → List ℕ) (places : List ℕ) (old new : List (Vec ℕ)) (place : ℕ) (b : Vec ℕ) (blocks : List ℕ)
     → slice_get places (length old) ≡ Some place → new ≡ old ++ b ∷ [] → b.items ≡ blocks → all place ≡ blocks
     → FoundAt (λ k x. HasBlocks (all k) x) places old → FoundAt (λ k x. HasBlocks (all k) x) places new
 found_here all places old new place b blocks at more is known h =
     subst (FoundAt (λ k x. HasBlocks (all k) x) places) (sym more)
     (found_one (λ k x. HasBlocks (all k) x) places old place b at (is ∙ sym known) h)
 
-pub next_from :
-    (places : List ℕ) (old new : List (Vec ℕ)) (place : ℕ) (b : Vec ℕ) → IsStrictlyIncreasing places
+pub next_from : (places : List ℕ) (old new : List (Vec ℕ)) (place : ℕ) (b : Vec ℕ) → IsStrictlyIncreasing places
     → slice_get places (length old) ≡ Some place → new ≡ old ++ b ∷ [] → NextFrom places new (place + 1)
 next_from places old new place b rising at more later there =
-    let count : length new ≡ length old + 1 =
-    ap (λ (xs : List (Vec ℕ)). length xs) more ∙ length-append old (b ∷ []) in
+    let count : length new ≡ length old + 1 = ap (λ (xs : List (Vec ℕ)). length xs) more ∙ length-append old (b ∷ []) in
     let less =
     next_after places (length old) place later rising at
     (subst (λ (n : ℕ). slice_get places n ≡ Some later) count there) in
@@ -37,8 +34,7 @@ next_from places old new place b rising at more later there =
 
 -- ---- instructions
 
-pub finds_inside :
-    (o : Op) (outer : List ℕ) (places : List ℕ) (old mid new : List (Vec ℕ)) (number inside n : ℕ)
+pub finds_inside : (o : Op) (outer : List ℕ) (places : List ℕ) (old mid new : List (Vec ℕ)) (number inside n : ℕ)
     (part : ℕ → List ℕ) → inside ≡ number + 1 → count o ≡ 1 + n
     → ((all : ℕ → List ℕ) → all number ≡ outer → FoundAt (λ k x. HasBlocks (all k) x) places old
     → FoundAt (λ k x. HasBlocks (all k) x) places mid)
@@ -75,23 +71,20 @@ opens_in_if o b t e number first outer is after k =
 
 -- ---- parts one after the other
 
-pub finds_two :
-    (places : List ℕ) (old mid new : List (Vec ℕ)) (first between n m : ℕ) (one two : ℕ → List ℕ)
+pub finds_two : (places : List ℕ) (old mid new : List (Vec ℕ)) (first between n m : ℕ) (one two : ℕ → List ℕ)
     → between ≡ first + n → Finds HasBlocks one n first places old mid → Finds HasBlocks two m between places mid new
     → Finds HasBlocks (λ k. if nat_lt k n then one k else two (k - n)) (n + m) first places old new
 finds_two places old mid new first between n m one two same f g all follows h =
     g all (follows_at all (first + n) between m m two same refl (follows_two all first n m one two follows))
     (f all (follows_one all first n m one two follows) h)
 
-pub follows_first :
-    (o : Op) (os all_os : Ops) (at : ℕ) (outer : List ℕ) (all : ℕ → List ℕ) → all_os ≡ next o os
+pub follows_first : (o : Op) (os all_os : Ops) (at : ℕ) (outer : List ℕ) (all : ℕ → List ℕ) → all_os ≡ next o os
     → Follows all at (ops_count all_os) (opens_at all_os at outer) → Follows all at (count o) (op_opens o at outer)
 follows_first o os all_os at outer all is follows =
     follows_one all at (count o) (ops_count os) (op_opens o at outer) (opens_at os (at + count o) outer)
     (subst (λ (xs : Ops). Follows all at (ops_count xs) (opens_at xs at outer)) is follows)
 
-pub follows_others :
-    (o : Op) (os all_os : Ops) (at after : ℕ) (outer : List ℕ) (all : ℕ → List ℕ) → all_os ≡ next o os
+pub follows_others : (o : Op) (os all_os : Ops) (at after : ℕ) (outer : List ℕ) (all : ℕ → List ℕ) → all_os ≡ next o os
     → after ≡ at + count o → Follows all at (ops_count all_os) (opens_at all_os at outer)
     → Follows all after (ops_count os) (opens_at os after outer)
 follows_others o os all_os at after outer all is past follows =
@@ -130,8 +123,7 @@ finds_arms t e number first between blocks inner later places old mid new more s
 
 -- ---- whole bodies
 
-no_more :
-    (places : List ℕ) (found : List (Vec ℕ)) (n : ℕ) → All (λ place. place < n) places → NextFrom places found n
+no_more : (places : List ℕ) (found : List (Vec ℕ)) (n : ℕ) → All (λ place. place < n) places → NextFrom places found n
     → length found < length places → ⊥
 no_more places found n inside from less =
     let here = slice_get-get_or places (length found) 0 less in
@@ -146,8 +138,7 @@ at_least k n h = of (nat_lt k n) refl
     of true is = absurd (h (grind (arith, nat_tests)))
     of false is = grind (arith, nat_tests)
 
-all_found :
-    (places : List ℕ) (found : List (Vec ℕ)) (n : ℕ) (r : Option ℕ) → All (λ place. place < n) places
+all_found : (places : List ℕ) (found : List (Vec ℕ)) (n : ℕ) (r : Option ℕ) → All (λ place. place < n) places
     → IfNone r (length places ≤ length found) → IfSome r (λ after. after ≡ 0 + n)
     → IfSome r (λ after. NextFrom places found after) → length places ≤ length found
 all_found places found n None inside done after from = done
@@ -155,13 +146,11 @@ all_found places found n (Some k) inside done after from =
     at_least (length found) (length places)
     (no_more places found n inside (subst (NextFrom places found) (after ∙ omega arith) from))
 
-pub whole_found :
-    (places : List ℕ) (found old : List (Vec ℕ)) (n : ℕ) (r : Option ℕ) (part : List ℕ → ℕ → List ℕ)
+pub whole_found : (places : List ℕ) (found old : List (Vec ℕ)) (n : ℕ) (r : Option ℕ) (part : List ℕ → ℕ → List ℕ)
     (blocks : List ℕ) → All (λ place. place < n) places → old ≡ [] → blocks ≡ []
     → Finds HasBlocks (part blocks) n 0 places old found
     → IfNone r (length places ≤ length found) → IfSome r (λ after. after ≡ 0 + n)
-    → IfSome r (λ after. NextFrom places found after)
-    → AllZip (λ place b. b.items ≡ part [] place) places found
+    → IfSome r (λ after. NextFrom places found after) → AllZip (λ place b. b.items ≡ part [] place) places found
 whole_found places found old n r part blocks inside none outer finds done after from =
     found_all (λ place b. b.items ≡ part [] place) places found (all_found places found n r inside done after from)
     (finds (part []) (λ k less. let same : 0 + k ≡ k = omega arith in ap (part []) same

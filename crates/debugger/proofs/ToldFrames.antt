@@ -18,13 +18,11 @@ use Rattle.debugger.specs.Inside.KnownPlaces.{IsThere}
 use Rattle.debugger.specs.Inside.Typed.{values_of}
 use Rattle.debugger.proofs.TypedLemmas.{values_are, operands_are}
 
-words_told :
-    (m : Module) (w : FrameValue) (f : ShownFrame) → Tells m w f
+words_told : (m : Module) (w : FrameValue) (f : ShownFrame) → Tells m w f
     → w.words ≡ map number f.locals ++ map number f.operands
 words_told m w f told = told.words ∙ map-append number f.locals f.operands
 
-locals_told :
-    (m : Module) (w : FrameValue) (f : ShownFrame) (types : List ValType) (told : Tells m w f)
+locals_told : (m : Module) (w : FrameValue) (f : ShownFrame) (types : List ValType) (told : Tells m w f)
     → types ≡ told.type.params ++ told.own.locals → values_of types w.words ≡ f.locals
 locals_told m w f types told typed =
     let types_are : types ≡ map type_of f.locals = typed ∙ sym told.locals_typed in
@@ -32,10 +30,8 @@ locals_told m w f types told typed =
     ∙ ap (λ (ns : List ℕ). values_of (map type_of f.locals) ns) (words_told m w f told)
     ∙ values_are f.locals (map number f.operands)
 
-operands_told :
-    (m : Module) (w : FrameValue) (f : ShownFrame) (types : List ValType) (n : ℕ) (told : Tells m w f)
-    → n ≡ length f.locals → types ≡ reverse (joined told.point.stacks)
-    → values_of types (drop n w.words) ≡ f.operands
+operands_told : (m : Module) (w : FrameValue) (f : ShownFrame) (types : List ValType) (n : ℕ) (told : Tells m w f)
+    → n ≡ length f.locals → types ≡ reverse (joined told.point.stacks) → values_of types (drop n w.words) ≡ f.operands
 operands_told m w f types n told count is =
     let types_are : types ≡ map type_of f.operands ++ reverse told.taken =
     is ∙ ap (λ (ts : List ValType). reverse ts) told.operands_typed
@@ -48,28 +44,24 @@ operands_told m w f types n told count is =
     ∙ ap (λ (ns : List ℕ). values_of (map type_of f.operands ++ reverse told.taken) ns) words_are
     ∙ operands_are f.operands (reverse told.taken)
 
-pub locals_ranged :
-    (vs us ws : List Value) → ws ≡ vs → All RangedValue (vs ++ us) → All RangedValue ws
+pub locals_ranged : (vs us ws : List Value) → ws ≡ vs → All RangedValue (vs ++ us) → All RangedValue ws
 locals_ranged vs us ws is all =
     All-same RangedValue ws (take (length vs) (vs ++ us)) (is ∙ sym (take_at vs us (length vs) refl))
     (All-take RangedValue (length vs) (vs ++ us) all)
 
-pub operands_ranged :
-    (vs us ws : List Value) → ws ≡ us → All RangedValue (vs ++ us) → All RangedValue ws
+pub operands_ranged : (vs us ws : List Value) → ws ≡ us → All RangedValue (vs ++ us) → All RangedValue ws
 operands_ranged vs us ws is all =
     All-same RangedValue ws (drop (length vs) (vs ++ us)) (is ∙ sym (drop_at vs us (length vs) refl))
     (All-drop RangedValue (length vs) (vs ++ us) all)
 
-pub same_frame :
-    (f g : ShownFrame) → f.func ≡ g.func → f.next ≡ g.next → f.labels ≡ g.labels → f.locals ≡ g.locals
+pub same_frame : (f g : ShownFrame) → f.func ≡ g.func → f.next ≡ g.next → f.labels ≡ g.labels → f.locals ≡ g.locals
     → f.operands ≡ g.operands → f ≡ g
 same_frame f g func next labels locals operands =
     λ i. record { func = func i; next = next i; labels = labels i; locals = locals i; operands = operands i }
 
 -- ---- of what is known of the place where it is
 
-own_there :
-    (m : Module) (k : KnownPlace) (w : FrameValue) (f : ShownFrame) (there : IsThere m k w f)
+own_there : (m : Module) (k : KnownPlace) (w : FrameValue) (f : ShownFrame) (there : IsThere m k w f)
     → IsOwn m k.func there.told.own
 own_there m k w f there =
     subst (λ (n : ℕ). IsOwn m n there.told.own) (sym (there.func ∙ there.told.func)) there.told.is_own
@@ -91,8 +83,7 @@ operands_there m k w f types n there count is =
     (sym (there.func ∙ there.told.func)) there.told.exact) in
     operands_told m w f types n there.told count (is ∙ there.known.operands there.told.point exact)
 
-pub labels_there :
-    (m : Module) (k : KnownPlace) (w : FrameValue) (f : ShownFrame) (labels : List ℕ) → IsThere m k w f
+pub labels_there : (m : Module) (k : KnownPlace) (w : FrameValue) (f : ShownFrame) (labels : List ℕ) → IsThere m k w f
     → labels ≡ k.blocks.items → labels ≡ f.labels
 labels_there m k w f labels there is =
     is ∙ there.known.blocks there.told.own (own_there m k w f there)
@@ -107,8 +98,7 @@ room_told m w f told =
     omega (arith, words, locals)
 
 -- one frame more
-pub take_frame :
-    (fs : List ShownFrame) (k : ℕ) (f s : ShownFrame) → slice_get fs k ≡ Some f → s ≡ f
+pub take_frame : (fs : List ShownFrame) (k : ℕ) (f s : ShownFrame) → slice_get fs k ≡ Some f → s ≡ f
     → take (k + 1) fs ≡ take k fs ++ s ∷ []
 take_frame fs k f s is same =
     take_more fs k f (slice_get_within fs k f is)

@@ -16,13 +16,11 @@ value_is (I32 n) = refl
 value_is (I64 n) = refl
 
 -- of more values as many as there are types, and of more types as many as there are values
-pub values_are :
-    (vs : List Value) (ns : List ℕ) → values_of (map type_of vs) (map number vs ++ ns) ≡ vs
+pub values_are : (vs : List Value) (ns : List ℕ) → values_of (map type_of vs) (map number vs ++ ns) ≡ vs
 values_are [] ns = refl
 values_are (v ∷ vs) ns = let rest = values_are vs ns in let one = value_is v in cc
 
-pub operands_are :
-    (vs : List Value) (ts : List ValType) → values_of (map type_of vs ++ ts) (map number vs) ≡ vs
+pub operands_are : (vs : List Value) (ts : List ValType) → values_of (map type_of vs ++ ts) (map number vs) ≡ vs
 operands_are [] [] = refl
 operands_are [] (t ∷ ts) = refl
 operands_are (v ∷ vs) ts = let rest = operands_are vs ts in let one = value_is v in cc
@@ -32,8 +30,7 @@ length_values [] ns = omega arith
 length_values (t ∷ ts) [] = omega arith
 length_values (t ∷ ts) (n ∷ ns) = let rest = length_values ts ns in omega arith
 
-value_at :
-    (ts : List ValType) (ns : List ℕ) (k : ℕ) (t : ValType) (n : ℕ) → slice_get ts k ≡ Some t
+value_at : (ts : List ValType) (ns : List ℕ) (k : ℕ) (t : ValType) (n : ℕ) → slice_get ts k ≡ Some t
     → slice_get ns k ≡ Some n → slice_get (values_of ts ns) k ≡ Some (value_of t n)
 value_at [] ns k t n h g = cc
 value_at (t ∷ ts) [] k u n h g = cc
@@ -41,8 +38,7 @@ value_at (t ∷ ts) (n ∷ ns) zero u m h g = cc
 value_at (t ∷ ts) (n ∷ ns) (suc k) u m h g = value_at ts ns k u m h g
 
 -- one value more
-pub take_value :
-    (ts : List ValType) (ns : List ℕ) (k : ℕ) (t : ValType) (n : ℕ) → slice_get ts k ≡ Some t
+pub take_value : (ts : List ValType) (ns : List ℕ) (k : ℕ) (t : ValType) (n : ℕ) → slice_get ts k ≡ Some t
     → slice_get ns k ≡ Some n → take (k + 1) (values_of ts ns) ≡ take k (values_of ts ns) ++ value_of t n ∷ []
 take_value ts ns k t n h g =
     let vs = values_of ts ns in
@@ -51,8 +47,7 @@ take_value ts ns k t n h g =
     take_more vs k v (slice_get_within vs k v is)
     ∙ ap (λ (x : Value). take k vs ++ x ∷ []) (get_or_from_slice_get vs k v v is)
 
-pub ranged_at :
-    (ts : List ValType) (ns : List ℕ) (k : ℕ) (t : ValType) (n : ℕ) → All RangedValue (values_of ts ns)
+pub ranged_at : (ts : List ValType) (ns : List ℕ) (k : ℕ) (t : ValType) (n : ℕ) → All RangedValue (values_of ts ns)
     → slice_get ts k ≡ Some t → slice_get ns k ≡ Some n → RangedValue (value_of t n)
 ranged_at ts ns k t n all h g =
     let vs = values_of ts ns in

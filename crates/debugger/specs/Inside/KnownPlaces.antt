@@ -14,11 +14,9 @@ pub record IsKnown (m : Module) (k : KnownPlace) : Type 0 where
   pub locals :
       (own : Func) (t : FuncType) → IsOwn m k.func own → slice_get m.types own.type_index ≡ Some t
       → k.locals.items ≡ t.params ++ own.locals
-  pub operands :
-      (point : Point) → ((p : Point) → ReachesAt m k.func k.place p ↔ (p ≡ point))
+  pub operands : (point : Point) → ((p : Point) → ReachesAt m k.func k.place p ↔ (p ≡ point))
       → k.operands.items ≡ reverse (joined point.stacks)
-  pub blocks :
-      (own : Func) → IsOwn m k.func own → k.blocks.items ≡ opens_at own.body 0 [] k.place
+  pub blocks : (own : Func) → IsOwn m k.func own → k.blocks.items ≡ opens_at own.body 0 [] k.place
 
 -- the frame that is shown so, and of which these are the words, is there
 pub record IsThere (m : Module) (k : KnownPlace) (w : FrameValue) (f : ShownFrame) : Type 0 where

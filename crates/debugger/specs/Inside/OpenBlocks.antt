@@ -11,6 +11,5 @@ arm_opens then_arm else_arm number first outer k =
     if nat_lt k (ops_count then_arm) then opens_at then_arm first (number ∷ outer) k
     else opens_at else_arm (first + ops_count then_arm) (number ∷ outer) (k - ops_count then_arm)
 
--- these are the blocks
 abbrev pub HasBlocks : List ℕ → Vec ℕ → Type 0
 HasBlocks blocks b = b.items ≡ blocks

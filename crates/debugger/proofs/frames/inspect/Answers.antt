@@ -26,7 +26,6 @@ loop-index-preserved c =
     record {
       room = omega (arith, c.push_reserved.ensures.capacity);
       known = all;
-      told = c.push_reserved.ensures.items
-          ∙ ap (λ (fs : List ShownFrame). fs ++ frame ∷ []) c.loop-index.invariant.told
+      told = c.push_reserved.ensures.items ∙ ap (λ (fs : List ShownFrame). fs ++ frame ∷ []) c.loop-index.invariant.told
           ∙ sym more;
     }

@@ -47,8 +47,7 @@ pub returns : goal.returns
 returns c = λ m f there.
     let k = c.args.known.now in
     let w = c.args.words.now in
-    let locals =
-    c.in_ok-locals.ensures ∙ locals_there m k w f c.as_slice.result.now there c.as_slice.ensures.value in
+    let locals = c.in_ok-locals.ensures ∙ locals_there m k w f c.as_slice.result.now there c.as_slice.ensures.value in
     let same : length c.in_ok-locals.locals.items ≡ length f.locals = ap (λ (vs : List Value). length vs) locals in
     let count : c.len.result ≡ length f.locals = omega (arith, same, c.len.ensures, c.in_ok-locals.locals.ok.0) in
     let operands =

@@ -26,8 +26,7 @@ invariant-walk_body-loop-instr l = record {
   next : l.next + ops_count (ops_of (map op_of (drop l.instr-index l.instr-items)))
       ≡ l.fn.first + ops_count (ops_of (map op_of l.instr-items));
   from : NextFrom l.stops.places.now l.found.items l.next;
-  finds : (all : ℕ → List ℕ)
-      → Follows all l.fn.first (ops_count (ops_of (map op_of l.instr-items)))
+  finds : (all : ℕ → List ℕ) → Follows all l.fn.first (ops_count (ops_of (map op_of l.instr-items)))
       (opens_at (ops_of (map op_of l.instr-items)) l.fn.first (reverse l.fn.blocks.items))
       → FoundAt (λ k b. HasBlocks (all k) b) l.stops.places.now l.fn.found.items
       → Follows all l.next (ops_count (ops_of (map op_of (drop l.instr-index l.instr-items))))

@@ -14,6 +14,4 @@ loop-inner-preserved c =
     oldest_more c.args.types.now.stacks (count - (inner + 1)) (count - 1 - inner) (count - inner)
     (record { unreachable = c.in-Some.operands.unreachable; types = reverse types }) types (omega arith) (omega arith)
     c.in-Some.ensures (reverse-reverse types) in
-    c.in_ok-push_known.ensures
-    ∙ ap (λ (ts : List ValType). ts ++ known_of types) c.loop-inner.invariant
-    ∙ sym more
+    c.in_ok-push_known.ensures ∙ ap (λ (ts : List ValType). ts ++ known_of types) c.loop-inner.invariant ∙ sym more

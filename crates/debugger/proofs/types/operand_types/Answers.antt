@@ -18,6 +18,5 @@ known_types-requires-clause-few c =
 
 pub returns : goal.returns
 returns c = λ point one.
-    c.in_ok-known.ensures
-    ∙ oldest_of_one c.args.types.now point ((c.requires.exact point).1 ((one point).1 refl))
+    c.in_ok-known.ensures ∙ oldest_of_one c.args.types.now point ((c.requires.exact point).1 ((one point).1 refl))
     (λ q h. (one q).0 ((c.requires.exact q).0 h))

@@ -26,16 +26,13 @@ loop-index-preserved c =
     take_value types (drop c.args.from words) k (get_or types k type.I32) c.word.result
     (slice_get-get_or types k type.I32 (omega arith))
     (get_drop words c.args.from k (c.args.from + k) c.word.result (omega arith) c.word.ensures) in
-    c.in_ok-push.ensures.items
-    ∙ ap (λ (vs : List Value). vs ++ c.value_of.result ∷ []) c.loop-index.invariant
-    ∙ ap (λ (v : Value). take k values ++ v ∷ []) c.value_of.ensures
-    ∙ sym more
+    c.in_ok-push.ensures.items ∙ ap (λ (vs : List Value). vs ++ c.value_of.result ∷ []) c.loop-index.invariant
+    ∙ ap (λ (v : Value). take k values ++ v ∷ []) c.value_of.ensures ∙ sym more
 
 pub returns : goal.returns
 returns c =
     let values = values_of c.args.types.now (drop c.args.from c.args.frame.now.words) in
-    c.loop-index.invariant
-    ∙ take_all c.loop-index.index values
+    c.loop-index.invariant ∙ take_all c.loop-index.index values
     (omega (
       arith,
       length_values c.args.types.now (drop c.args.from c.args.frame.now.words),
