@@ -159,6 +159,14 @@ one_asked word ms a b x y =
 
 -- ---- what a parser may answer by its row
 
+-- no event has a word that no op has
+pub no_such_word : (word : List ℕ) (ms : Members) → op_with word all_ops ≡ None → (e : Event)
+    → IsEventAsked word ms e → ⊥
+no_such_word word ms none e a =
+    let r = row_of e ms a.keys in
+    let both : None ≡ Some r.op = sym none ∙ (ap (λ w. op_with w all_ops) (a.same ∙ r.word) ∙ found r.op) in
+    cc
+
 pub no_such_keys :
     (op : Op) (word : List ℕ) (ms : Members) → op_word op ≡ word → ((v : Values) → ms ≢ keyed (op_keys op) v)
     → (e : Event) → IsEventAsked word ms e → ⊥

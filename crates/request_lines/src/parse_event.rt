@@ -2,17 +2,16 @@
 
 ghost use Rattle.std.specs.Prelude.{◌≡◌, ◌<◌, ◌⊎◌, IfOk, IfErr, Ok, Err, Some, length};
 ghost use Rattle.hex.specs.Hex.{decode_of};
-ghost use Rattle.serde_json.specs.View.{members_view};
 ghost use Rattle.task_requests.specs.declared.event.Event.{Event};
 ghost use Rattle.task_requests.specs.declared.event.Event.TheVariants.{Call};
 ghost use Rattle.task_requests.specs.declared.request.Request.TheVariants as asked;
 ghost use Rattle.request_lines.specs.Request.{IsEvent};
 ghost use Rattle.request_lines.specs.Shape.{max_line_bytes};
-ghost use Rattle.request_lines.specs.Inside.Parse.{Parses, IsEventAsked};
+ghost use Rattle.request_lines.specs.Inside.Parse.{Parses};
 ghost use Rattle.request_lines.specs.Inside.Values.{put_read, take_read, event_read};
 
 use crate::line_error::LineError;
-use crate::members::{Members, read_value, split_op};
+use crate::members::{read_value, split_op};
 use crate::table::Op;
 use crate::values::{Values, take_values};
 use hex::FromHexError;
@@ -99,19 +98,6 @@ fn make_event(alloc: Global, op: Op, values: Values) -> Result<Event, LineError>
     }
 }
 
-/// Reads an event by its `op` and its other members.
-fn read_event(alloc: Global, word: &str, members: Members) -> Result<Event, LineError>
-    ensures { Parses (IsEventAsked word.now (members_view members.entries)) result }
-{
-    let Some(op) = Op::with_word(word) else {
-        return Err(LineError::NoRequest);
-    };
-    let Some(values) = take_values(alloc, op.keys(), members) else {
-        return Err(LineError::NoRequest);
-    };
-    make_event(alloc, op, values)
-}
-
 /// Reads a line as an event.
 pub fn read_event_line(alloc: Global, line: &[u8]) -> Result<Event, LineError>
     ensures ok { IfOk result (λ e. IsEvent line.now e) }
@@ -119,10 +105,16 @@ pub fn read_event_line(alloc: Global, line: &[u8]) -> Result<Event, LineError>
     ensures long { max_line_bytes < length line.now → result ≡ Err LineError.NoRequest }
 {
     let value = read_value(alloc, line)?;
-    let Some((op, members)) = split_op(value) else {
+    let Some((word, members)) = split_op(value) else {
         return Err(LineError::NoRequest);
     };
-    read_event(alloc, op.as_str(), members)
+    let Some(op) = Op::with_word(word.as_str()) else {
+        return Err(LineError::NoRequest);
+    };
+    let Some(values) = take_values(alloc, op.keys(), members) else {
+        return Err(LineError::NoRequest);
+    };
+    make_event(alloc, op, values)
 }
 
 /// Reads a line of a replay, given without its line feed, as an event: a request,

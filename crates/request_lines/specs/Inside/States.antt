@@ -2,7 +2,7 @@
 use Rattle.std.specs.Prelude.{[], ◌∷◌, true, codes}
 use Rattle.serde_json.specs.Data.{string, boolean, Members, put}
 use Rattle.wasm_ast.specs.Names.{trap_name}
-use Rattle.task_lifecycle.specs.Names.{status_name, signal_number}
+use Rattle.task_lifecycle.specs.Names.{signal_number}
 use Rattle.task_requests.specs.declared.request.TaskState.{TaskState}
 use Rattle.task_lifecycle.specs.declared.status.ExitRecord.{ExitRecord}
 use Rattle.task_lifecycle.specs.declared.status.ExitRecord.TheVariants.{Trapped, Kill}
