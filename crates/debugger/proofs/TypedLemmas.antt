@@ -6,10 +6,10 @@ use Rattle.std.proofs.lemmas.Option.{slice_get_within, get_or_from_slice_get}
 use Rattle.wasm_ast.specs.declared.values.ValType.{ValType}
 use Rattle.wasm_ast.specs.declared.values.Value.{Value}
 use Rattle.wasm_ast.specs.declared.values.Value.TheVariants.{I32, I64}
-use Rattle.wasm_ast.specs.Types.{type_of}
+use Rattle.wasm_ast.specs.Types.{value_of, type_of}
 use Rattle.wasm_ast.specs.Ranged.{RangedValue}
 use Rattle.step_machine.specs.Frames.{number}
-use Rattle.debugger.specs.Inside.Typed.{value_of, values_of}
+use Rattle.debugger.specs.Inside.Typed.{values_of}
 
 value_is : (v : Value) → value_of (type_of v) (number v) ≡ v
 value_is (I32 n) = refl

@@ -2,7 +2,8 @@
 
 ghost use Rattle.std.specs.Prelude.{◌≡◌, ◌≤◌, All, IfOk, length, drop};
 ghost use Rattle.wasm_ast.specs.Ranged.{RangedValue};
-ghost use Rattle.debugger.specs.Inside.Typed.{value_of, values_of};
+ghost use Rattle.wasm_ast.specs.Types.{value_of};
+ghost use Rattle.debugger.specs.Inside.Typed.{values_of};
 
 use std::alloc::{AllocError, Global};
 use step_machine::FrameWords;

@@ -1,15 +1,10 @@
 -- Numbers as values of their types, and the operands that are known of open blocks.
 use Rattle.std.specs.Prelude.{◌↔◌, ℕ, List, [], ◌∷◌, ◌++◌, reverse, Option, Some, None}
 use Rattle.wasm_ast.specs.declared.values.ValType.{ValType}
-use Rattle.wasm_ast.specs.declared.values.ValType.TheVariants as type
 use Rattle.wasm_ast.specs.declared.values.Value.{Value}
-use Rattle.wasm_ast.specs.declared.values.Value.TheVariants.{I32, I64}
 use Rattle.wasm_ast.specs.declared.module.Module.{Module}
+use Rattle.wasm_ast.specs.Types.{value_of}
 use Rattle.validator.specs.PlaceTypes.{Stack, Known, Point, ReachesAt, MatchPoint}
-
-abbrev pub value_of : ValType → (number : ℕ) → Value
-value_of type.I32 n = I32 n
-value_of type.I64 n = I64 n
 
 -- as many as have both a type and a number
 abbrev pub values_of : List ValType → (numbers : List ℕ) → List Value
