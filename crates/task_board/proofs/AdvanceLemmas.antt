@@ -52,8 +52,7 @@ goes_on bs s off =
     (none_of (ended s) (sym (same_halt s) ∙ both.0), both.1)
 
 no_cut : (bs : List Place) (s : ExecutionState) → ended s ≡ None → at_break bs s ≡ false → ends_slice bs s ≡ false
-no_cut bs s none off =
-    ap (λ (b : Bool). b || at_break bs s) (same_halt s ∙ ap is_some none) ∙ off
+no_cut bs s none off = ap (λ (b : Bool). b || at_break bs s) (same_halt s ∙ ap is_some none) ∙ off
 
 -- ---- where a task lands that is running again
 
@@ -170,8 +169,7 @@ module _ (forward : GoForward) (first : StopFirst) (most : AtMost) where
   pub by_slices : (budgets : List ℕ) (t : Task) (k : ℕ) → t.status ≡ Running
       → ended (execution_at t t.turns) ≡ None → MakeTurns t budgets k → MayAdvance t k
   by_slices [] t k is goes made = absurd made
-  by_slices (budget ∷ []) t k is goes made =
-      subst (MayAdvance t) (sym made.1) (slice t budget made.0 is goes)
+  by_slices (budget ∷ []) t k is goes made = subst (MayAdvance t) (sym made.1) (slice t budget made.0 is goes)
   by_slices (budget ∷ next ∷ budgets) t k is goes made =
       let a = slice_turns t budget in
       let lands =

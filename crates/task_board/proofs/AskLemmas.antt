@@ -22,11 +22,11 @@ use Rattle.task_board.specs.declared.prepared.Plan.{Plan}
 use Rattle.task_board.specs.declared.prepared.Plan.TheVariants as plan
 use Rattle.task_board.specs.BoardState.{Task, BoardState, entry_of, task_of}
 use Rattle.task_board.specs.BoardValue.{Room}
-use Rattle.task_board.specs.Refusals.{task_refusals, own_refusals}
+use Rattle.task_board.specs.Refusals.{task_refusals, own_refusals, place_refusals}
 use Rattle.task_board.specs.Step.{with_left, does, Answers}
 use Rattle.task_board.specs.Inside.Changes.{change_call, change_ask, IsPlain}
 use Rattle.task_board.specs.Inside.Marks.{mark_ask}
-use Rattle.task_board.specs.Inside.Plans.{RefusesOwn, IsAccepted, Names, CallPrepared, MarkPrepared, PlansAsk, Plans, place_refusals}
+use Rattle.task_board.specs.Inside.Plans.{IsAccepted, Names, CallPrepared, MarkPrepared, PlansAsk, Plans}
 use Rattle.task_board.proofs.EffectLemmas.{accepted_on, refused_on}
 use Rattle.task_board.proofs.StepLemmas.{unchanged}
 
@@ -34,7 +34,8 @@ use Rattle.task_board.proofs.StepLemmas.{unchanged}
 
 module _ (s : BoardState) (id : List ℕ) (a : Ask) where
   -- a refusal that is none of memory is answered
-  refuses : (room : Room) (e : Refusal) → e ≢ refusal.NoMemory → RefusesOwn s id (own_refusals a) e
+  refuses : (room : Room) (e : Refusal) → e ≢ refusal.NoMemory
+      → first_refusal (task_refusals id (own_refusals a) (task_of id s.tasks)) ≡ Some e
       → Plans s room (request.Task id a) (plan.Refused e)
   refuses room e known h = (known, refused_on s id (own_refusals a) (does a) (task_of id s.tasks) e h)
 
@@ -44,8 +45,7 @@ module _ (s : BoardState) (id : List ℕ) (a : Ask) where
 
     -- the id lets it through, so the request's own refusals decide
     own_first : first_refusal (task_refusals id (own_refusals a) (Some t)) ≡ first_refusal (own_refusals a t)
-    own_first =
-        ap (λ (b : Bool). cond (not b) (Some refusal.BadId) (first_refusal (own_refusals a t))) named
+    own_first = ap (λ (b : Bool). cond (not b) (Some refusal.BadId) (first_refusal (own_refusals a t))) named
 
     accepted : (b : Ask) → a ≡ b → IsAccepted a t → first_refusal (task_refusals id (own_refusals b) (Some t)) ≡ None
     accepted b is h =
@@ -93,8 +93,7 @@ module _ (s : BoardState) (id : List ℕ) (a : Ask) where
     planned room (plan.Store c) h = absurd h
     planned room (plan.Create task id') h = absurd h
 
-    pub planned_if :
-        {E : Type 0} (room : Room) (r : Result Plan E) → IfOk r (PlansAsk t slot id a)
+    pub planned_if : {E : Type 0} (room : Room) (r : Result Plan E) → IfOk r (PlansAsk t slot id a)
         → IfOk r (λ p. Plans s room (request.Task id a) p)
     planned_if {E} room (Ok p) h = planned room p h
     planned_if {E} room (Err e) h = tt
@@ -110,8 +109,7 @@ change_accepted change.Pause t plain can = rw can refl
 change_accepted change.Resume t plain can = rw can refl
 change_accepted (change.Step count) t plain can = absurd plain
 
-pub change_refused :
-    (c : Change) (t : Task) → IsPlain c → allowed (change_call c) t.status ≡ false
+pub change_refused : (c : Change) (t : Task) → IsPlain c → allowed (change_call c) t.status ≡ false
     → first_refusal (own_refusals (change_ask c) t) ≡ Some refusal.WrongStatus
 change_refused (change.Kill signal.Kill) t plain cannot = rw cannot refl
 change_refused (change.Kill signal.Terminate) t plain cannot = rw cannot refl
@@ -124,13 +122,11 @@ change_refused (change.Step count) t plain cannot = absurd plain
 
 module _ (t : Task) (func place : ℕ) (c : TaskCall) (rest : Refusals) where
   -- a refusal of the first two is one of all
-  pub place_refused :
-      (e : Refusal) → first_refusal (place_refusals c func place t) ≡ Some e
+  pub place_refused : (e : Refusal) → first_refusal (place_refusals c func place t) ≡ Some e
       → (e ≢ refusal.NoMemory) × (first_refusal (place_refusals c func place t ++ rest) ≡ Some e)
   place_refused e h = by (not (allowed c t.status)) (not (has_place t.module func place)) h
     where
-      by :
-          (a b : Bool) → cond a (Some refusal.WrongStatus) (cond b (Some refusal.OutOfRange) None) ≡ Some e
+      by : (a b : Bool) → cond a (Some refusal.WrongStatus) (cond b (Some refusal.OutOfRange) None) ≡ Some e
           → (e ≢ refusal.NoMemory)
           × (cond a (Some refusal.WrongStatus) (cond b (Some refusal.OutOfRange) (first_refusal rest)) ≡ Some e)
       by true b g = (λ is. cc, g)
@@ -138,13 +134,11 @@ module _ (t : Task) (func place : ℕ) (c : TaskCall) (rest : Refusals) where
       by false false g = cc
 
   -- if neither concerns it, the rest decide
-  pub place_accepted :
-      first_refusal (place_refusals c func place t) ≡ None
+  pub place_accepted : first_refusal (place_refusals c func place t) ≡ None
       → first_refusal (place_refusals c func place t ++ rest) ≡ first_refusal rest
   place_accepted h = by (not (allowed c t.status)) (not (has_place t.module func place)) h
     where
-      by :
-          (a b : Bool) → cond a (Some refusal.WrongStatus) (cond b (Some refusal.OutOfRange) None) ≡ None
+      by : (a b : Bool) → cond a (Some refusal.WrongStatus) (cond b (Some refusal.OutOfRange) None) ≡ None
           → cond a (Some refusal.WrongStatus) (cond b (Some refusal.OutOfRange) (first_refusal rest))
           ≡ first_refusal rest
       by true b g = cc
@@ -154,9 +148,7 @@ module _ (t : Task) (func place : ℕ) (c : TaskCall) (rest : Refusals) where
 -- what is left of the refusals of a breakpoint
 abbrev pub break_rest : (func place : ℕ) → Task → Refusals
 break_rest func place t =
-    (is_among t.breaks func place, refusal.Exists)
-    ∷ (nat_le max_breakpoints (length t.breaks), refusal.TooMany)
-    ∷ []
+    (is_among t.breaks func place, refusal.Exists) ∷ (nat_le max_breakpoints (length t.breaks), refusal.TooMany) ∷ []
 
 abbrev pub unbreak_rest : (func place : ℕ) → Task → Refusals
 unbreak_rest func place t = (not (is_among t.breaks func place), refusal.NotFound) ∷ []

@@ -14,7 +14,7 @@ use Rattle.task_requests.specs.Limits.{max_budget}
 use Rattle.task_board.specs.BoardState.{Task, Entries, BoardState, task_in, entry_of, task_of, remove_task, with_task, without_task, with_new_task}
 use Rattle.task_board.specs.Tasks.{can_lend, lent, advanced, slice_turns, state_of}
 use Rattle.content_leases.specs.Refusals.{Refusals, first_refusal}
-use Rattle.task_board.specs.Refusals.{unless_allowed, task_refusals}
+use Rattle.task_board.specs.Refusals.{unless_allowed, task_refusals, own_refusals}
 use Rattle.task_board.specs.Step.{Answers, does, taken, Returns}
 use Rattle.task_board.specs.Sound.{IsBoard}
 use Rattle.task_board.specs.Loans.{Lent, loan_of, FitsTask, Fits}
@@ -26,9 +26,9 @@ use Rattle.wasm_ast.specs.declared.place.Place.{Place}
 use Rattle.task_board.specs.declared.mark.Mark.{Mark}
 use Rattle.task_board.specs.declared.mark.Mark.TheVariants as mark
 use Rattle.task_board.specs.declared.mark.NewBreaks.{NewBreaks}
-use Rattle.task_board.specs.Inside.Marks.{mark_ask, mark_request, mark_reply, mark_refusals, marked_places, marked}
+use Rattle.task_board.specs.Inside.Marks.{mark_ask, mark_reply, marked_places, marked}
 use Rattle.task_board.specs.Inside.Plans.{CreatePrepared, CallPrepared, MarkPrepared}
-use Rattle.task_board.specs.Inside.Changes.{change_request, change_reply, change_refusals, changed as changed_by}
+use Rattle.task_board.specs.Inside.Changes.{change_reply, changed as changed_by, change_ask}
 use Rattle.task_board.specs.Inside.Shown.{board_state_of}
 use Rattle.task_board.proofs.EntryLemmas.{none_is_not, some_is, entry_at, named, in_slot, changed_in}
 use Rattle.task_board.proofs.SlabLemmas.{in_slab, changed, removed, inserted, count}
@@ -46,43 +46,36 @@ with_write b k t = with_slab b (with_value b.tasks k t) b.waiting
 
 -- ---- a write in a slot
 
-pub there :
-    (b : board.Inside) (k : ℕ) (t : Task) → get b.tasks k ≡ Some t → task_in k (board_state_of b).tasks ≡ Some t
+pub there : (b : board.Inside) (k : ℕ) (t : Task) → get b.tasks k ≡ Some t → task_in k (board_state_of b).tasks ≡ Some t
 there b k t h = in_slab b.tasks k ∙ h
 
 pub nothing_there :
     (b : board.Inside) (k : ℕ) (t : Task) → get b.tasks k ≡ None → task_in k (board_state_of b).tasks ≡ Some t → ⊥
 nothing_there b k t h is = none_is_not t (sym h ∙ (sym (in_slab b.tasks k) ∙ is))
 
-pub same_there :
-    (b : board.Inside) (k : ℕ) (t u : Task) → get b.tasks k ≡ Some t
+pub same_there : (b : board.Inside) (k : ℕ) (t u : Task) → get b.tasks k ≡ Some t
     → task_in k (board_state_of b).tasks ≡ Some u → t ≡ u
 same_there b k t u h is = some_is t u (sym h ∙ (sym (in_slab b.tasks k) ∙ is))
 
-pub written :
-    (b : board.Inside) (k : ℕ) (old new : Task) → IsBoard (board_state_of b) → get b.tasks k ≡ Some old
-    → old.id ≡ new.id
-    → board_state_of (with_write b k new) ≡ with_task (board_state_of b) new
+pub written : (b : board.Inside) (k : ℕ) (old new : Task) → IsBoard (board_state_of b) → get b.tasks k ≡ Some old
+    → old.id ≡ new.id → board_state_of (with_write b k new) ≡ with_task (board_state_of b) new
 written b k old new sound h same =
     ap (λ (es : Entries). record (board_state_of b) { tasks = es }) (sym (changed b.tasks k old new h same sound.ids))
 
 -- those that wait still do, if the task keeps its id and incarnation
-pub written_waits :
-    (b : board.Inside) (k : ℕ) (old new : Task) → IsBoard (board_state_of b)
+pub written_waits : (b : board.Inside) (k : ℕ) (old new : Task) → IsBoard (board_state_of b)
     → AreWaiting (board_state_of b).tasks b.waiting → get b.tasks k ≡ Some old → old.id ≡ new.id
     → new.incarnation ≡ old.incarnation → AreWaiting (board_state_of (with_write b k new)).tasks b.waiting
 written_waits b k old new sound waits h same number =
     let s = board_state_of b in
-    let entry :
-    entry_of new.id s.tasks ≡ Some (k, old) =
+    let entry : entry_of new.id s.tasks ≡ Some (k, old) =
     ap (λ (x : List ℕ). entry_of x s.tasks) (sym same) ∙ entry_at k old s.tasks sound.ids (there b k old h) in
     let Q : BoardState → Type 0 = λ x. AreWaiting x.tasks b.waiting in
     subst Q (sym (written b k old new sound h same)) (stay_changed s k old new b.waiting entry number waits)
 
 -- ---- take
 
-pub lent_from :
-    (b : board.Inside) (ticket : Ticket) (budget : ℕ) (t new : Task) (l : Lent) → IsBoard (board_state_of b)
+pub lent_from : (b : board.Inside) (ticket : Ticket) (budget : ℕ) (t new : Task) (l : Lent) → IsBoard (board_state_of b)
     → get b.tasks ticket.slot ≡ Some t
     → t.incarnation ≡ ticket.incarnation → can_lend t ≡ true → l ≡ loan_of ticket.slot budget t → new ≡ lent t budget
     → Lends (board_state_of b) ticket budget l (board_state_of (with_write b ticket.slot new))
@@ -94,46 +87,41 @@ lent_from b ticket budget t new l sound h of can loan is = record {
       written b ticket.slot t new sound h (ap (λ (u : Task). u.id) (sym is)) ∙ ap (with_task (board_state_of b)) is;
 }
 
-pub lends_keeps_sound :
-    (s : BoardState) (ticket : Ticket) (budget : ℕ) (l : Lent) (s' : BoardState) → IsBoard s
-    → (1 ≤ budget) × (budget ≤ max_budget)
-    → Lends s ticket budget l s' → IsBoard s'
+pub lends_keeps_sound : (s : BoardState) (ticket : Ticket) (budget : ℕ) (l : Lent) (s' : BoardState) → IsBoard s
+    → (1 ≤ budget) × (budget ≤ max_budget) → Lends s ticket budget l s' → IsBoard s'
 lends_keeps_sound s ticket budget l s' b low is =
     subst IsBoard (sym is.leaves) (lends_sound s ticket.slot is.task budget b is.can.there is.can.ready low)
 
-pub lends_is_taken :
-    (s : BoardState) (ticket : Ticket) (budget : ℕ) (l : Lent) (s' : BoardState) → IsBoard s
-    → (1 ≤ budget) × (budget ≤ max_budget)
-    → Lends s ticket budget l s' → taken s l.id budget ≡ Some s'
+pub lends_is_taken : (s : BoardState) (ticket : Ticket) (budget : ℕ) (l : Lent) (s' : BoardState) → IsBoard s
+    → (1 ≤ budget) × (budget ≤ max_budget) → Lends s ticket budget l s' → taken s l.id budget ≡ Some s'
 lends_is_taken s ticket budget l s' b low is =
     takes s ticket.slot is.task l.id budget b is.can.there is.can.ready low (ap (λ (x : Lent). x.id) is.loan)
     ∙ ap (λ (x : BoardState). Some x) (sym is.leaves)
 
 -- ---- changes
 
-pub call_there :
-    (b : board.Inside) (own : Task → Refusals) (slot : ℕ) (id : List ℕ) → IsBoard (board_state_of b)
+pub call_there : (b : board.Inside) (own : Task → Refusals) (slot : ℕ) (id : List ℕ) → IsBoard (board_state_of b)
     → (p : CallPrepared (board_state_of b) own slot id) → get b.tasks slot ≡ Some p.task
 call_there b own slot id sound p =
     sym (in_slab b.tasks slot) ∙ in_slot id (slot, p.task) (board_state_of b).tasks sound.slots p.found
 
 -- what a change in a slot does
 pub record IsChangedThere (b : board.Inside) (c : Change) (slot : ℕ) (id : List ℕ) (new : Task) : Type 0 where
-  pub answers :
-      Answers (board_state_of b) (change_request c id) (Ok (change_reply c id new))
+  pub answers : Answers (board_state_of b) (request.Task id (change_ask c)) (Ok (change_reply c id new))
       (board_state_of (with_write b slot new))
-  pub ticket :
-      running_ticket id (board_state_of (with_write b slot new)).tasks
+  pub ticket : running_ticket id (board_state_of (with_write b slot new)).tasks
       ≡ ticket_in slot (board_state_of (with_write b slot new)).tasks
   pub waiting : AreWaiting (board_state_of (with_write b slot new)).tasks b.waiting
 
 pub changed_there :
     (b : board.Inside) (c : Change) (slot : ℕ) (id : List ℕ) (old new : Task) → IsBoard (board_state_of b)
-    → AreWaiting (board_state_of b).tasks b.waiting → (p : CallPrepared (board_state_of b) (change_refusals c) slot id)
+    → AreWaiting (board_state_of b).tasks b.waiting
+    → (p : CallPrepared (board_state_of b) (own_refusals (change_ask c)) slot id)
     → get b.tasks slot ≡ Some old → new ≡ changed_by c old → IsChangedThere b c slot id new
 changed_there b c slot id old new sound waits p here is =
     let s = board_state_of b in
-    let same : old ≡ p.task = some_is old p.task (sym here ∙ call_there b (change_refusals c) slot id sound p) in
+    let same :
+    old ≡ p.task = some_is old p.task (sym here ∙ call_there b (own_refusals (change_ask c)) slot id sound p) in
     let keeps : old.id ≡ new.id = sym (ap (λ (u : Task). u.id) is ∙ change_id c old) in
     let leaves = written b slot old new sound here keeps in
     let by_task : new ≡ changed_by c p.task = is ∙ ap (changed_by c) same in
@@ -143,18 +131,17 @@ changed_there b c slot id old new sound waits p here is =
     let name : p.task.id ≡ id = named id s.tasks (slot, p.task) p.found in
     let own =
     subst
-    (λ (x : List ℕ). Answers s (change_request c id) (Ok (change_reply c x (changed_by c p.task))) s')
+    (λ (x : List ℕ). Answers s (request.Task id (change_ask c)) (Ok (change_reply c x (changed_by c p.task))) s')
     name done in
     let answers =
-    subst (λ (u : Task). Answers s (change_request c id) (Ok (change_reply c id u)) s') (sym by_task) own in
+    subst (λ (u : Task). Answers s (request.Task id (change_ask c)) (Ok (change_reply c id u)) s') (sym by_task) own in
     let after =
     subst IsBoard leaves
-    (answers_sound s (change_request c id) (Ok (change_reply c id new)) s' sound answers) in
+    (answers_sound s (request.Task id (change_ask c)) (Ok (change_reply c id new)) s' sound answers) in
     let own_id : id ≡ new.id = sym name ∙ (ap (λ (u : Task). u.id) (sym same) ∙ keeps) in
     let number :
     new.incarnation ≡ p.task.incarnation = ap (λ (u : Task). u.incarnation) by_task ∙ change_incarnation c p.task in
-    let entry :
-    entry_of new.id s.tasks ≡ Some (slot, p.task) =
+    let entry : entry_of new.id s.tasks ≡ Some (slot, p.task) =
     ap (λ (x : List ℕ). entry_of x s.tasks) (sym own_id) ∙ p.found in
     let P : BoardState → Type 0 = λ x. running_ticket id x.tasks ≡ ticket_in slot x.tasks in
     let Q : BoardState → Type 0 = λ x. AreWaiting x.tasks b.waiting in
@@ -167,24 +154,19 @@ changed_there b c slot id old new sound waits p here is =
 -- ---- delete
 
 -- what a removal from a slot answers
-pub removed_there :
-    (b : board.Inside) (slot : ℕ) (id : List ℕ) (new : Slab Task) (waiting : List Ticket) (old : Task)
+pub removed_there : (b : board.Inside) (slot : ℕ) (id : List ℕ) (new : Slab Task) (waiting : List Ticket) (old : Task)
     → IsBoard (board_state_of b)
     → CallPrepared (board_state_of b) (unless_allowed call.Delete refusal.WrongStatus) slot id
-    → get b.tasks slot ≡ Some old
-    → new.slots ≡ slice_set b.tasks.slots slot None
+    → get b.tasks slot ≡ Some old → new.slots ≡ slice_set b.tasks.slots slot None
     → Answers (board_state_of b) (request.Task id ask.Delete) (Ok (reply.Delete (state_of old)))
     (board_state_of (with_slab b new waiting))
 removed_there b slot id new waiting old sound p here slots =
     let s = board_state_of b in
-    let same :
-    old ≡ p.task =
+    let same : old ≡ p.task =
     some_is old p.task (sym here ∙ call_there b (unless_allowed call.Delete refusal.WrongStatus) slot id sound p) in
-    let left :
-    entries new ≡ remove_task old.id (entries b.tasks) =
+    let left : entries new ≡ remove_task old.id (entries b.tasks) =
     ap (λ (xs : List (Option Task)). entries_from 0 xs) slots ∙ removed b.tasks slot old here sound.ids in
-    let leaves :
-    board_state_of (with_slab b new waiting) ≡ without_task s old.id =
+    let leaves : board_state_of (with_slab b new waiting) ≡ without_task s old.id =
     ap (λ (es : Entries). record s { tasks = es }) left in
     let at : task_of id s.tasks ≡ Some p.task = ap (option_map (λ (e : ℕ × Task). e.1)) p.found in
     let done =
@@ -197,8 +179,7 @@ removed_there b slot id new waiting old sound p here slots =
 
 -- ---- create
 
-pub room_for_task :
-    (b : board.Inside) (r : Request) (t : Task) (id : List ℕ) → 64 ≤ b.tasks.capacity
+pub room_for_task : (b : board.Inside) (r : Request) (t : Task) (id : List ℕ) → 64 ≤ b.tasks.capacity
     → CreatePrepared (board_state_of b) r t id → HasRoomFor b.tasks 1
 room_for_task b r t id room p =
     let few = few_tasks (board_state_of b) p.config id p.accepted in
@@ -209,10 +190,8 @@ room_for_task b r t id room p =
 abbrev pub with_insert : board.Inside → Slab Task → board.Inside
 with_insert b s = record b { tasks = s; creates = b.creates + 1 }
 
-pub inserted_leaves :
-    (b : board.Inside) (new : Slab Task) (key : ℕ) (t : Task) → get b.tasks key ≡ None
-    → Updates b.tasks new key (Some t)
-    → board_state_of (with_insert b new) ≡ with_new_task (board_state_of b) key t
+pub inserted_leaves : (b : board.Inside) (new : Slab Task) (key : ℕ) (t : Task) → get b.tasks key ≡ None
+    → Updates b.tasks new key (Some t) → board_state_of (with_insert b new) ≡ with_new_task (board_state_of b) key t
 inserted_leaves b new key t free updates =
     ap (λ (es : Entries). record (board_state_of b) { tasks = es; creates = b.creates + 1 })
     (inserted b.tasks new key t free updates)
@@ -228,8 +207,7 @@ inserted_waits b new key t waits free updates =
 
 pub inserted_answers :
     (b : board.Inside) (new : Slab Task) (key : ℕ) (t : Task) (r : Request) (id : List ℕ) → get b.tasks key ≡ None
-    → Updates b.tasks new key (Some t)
-    → CreatePrepared (board_state_of b) r t id
+    → Updates b.tasks new key (Some t) → CreatePrepared (board_state_of b) r t id
     → Answers (board_state_of b) r (Ok (reply.Create id Created)) (board_state_of (with_insert b new))
 inserted_answers b new key t r id free updates p =
     create_answers (board_state_of b) r t id key (board_state_of (with_insert b new)) p (in_slab b.tasks key ∙ free)
@@ -258,17 +236,14 @@ pub record IsBackThere (b : board.Inside) (l : Lent) (new : Task) : Type 0 where
   pub sound : IsBoard (board_state_of (with_write b l.slot new))
   pub there : task_in l.slot (board_state_of (with_write b l.slot new)).tasks ≡ Some new
 
-pub back_there :
-    (b : board.Inside) (l : Lent) (t new : Task) → GoForward → StopFirst → IsBoard (board_state_of b)
-    → get b.tasks l.slot ≡ Some t → FitsTask l t
-    → new ≡ advanced t (slice_turns t l.budget) → IsBackThere b l new
+pub back_there : (b : board.Inside) (l : Lent) (t new : Task) → GoForward → StopFirst → IsBoard (board_state_of b)
+    → get b.tasks l.slot ≡ Some t → FitsTask l t → new ≡ advanced t (slice_turns t l.budget) → IsBackThere b l new
 back_there b l t new forward first sound here fits is =
     let s = board_state_of b in
     let at = there b l.slot t here in
     let same_id : t.id ≡ new.id = ap (λ (u : Task). u.id) (sym is) in
     let leaves = written b l.slot t new sound here same_id in
-    let by_turns :
-    board_state_of (with_write b l.slot new) ≡ with_task s (advanced t (slice_turns t l.budget)) =
+    let by_turns : board_state_of (with_write b l.slot new) ≡ with_task s (advanced t (slice_turns t l.budget)) =
     leaves ∙ ap (with_task s) is in
     record {
       leaves = leaves;
@@ -281,8 +256,7 @@ back_there b l t new forward first sound here fits is =
     }
 
 -- the task that a loan fits is the one in its slot
-pub fits_here :
-    (b : board.Inside) (l : Lent) (t : Task) → get b.tasks l.slot ≡ Some t
+pub fits_here : (b : board.Inside) (l : Lent) (t : Task) → get b.tasks l.slot ≡ Some t
     → Fits l (board_state_of b).tasks → FitsTask l t
 fits_here b l t here f = subst (FitsTask l) (sym (same_there b l.slot t f.0 here f.1)) f.2
 
@@ -314,53 +288,49 @@ pub mark_may :
     → (p : MarkPrepared (board_state_of b) m slot id n) → get b.tasks slot ≡ Some old → old.out ≡ None
 mark_may b m slot id n old sound p here =
     let s = board_state_of b in
-    let at = call_at b (mark_refusals m) slot id old sound p.call here in
-    let accepted = call_accepted b (mark_refusals m) slot id old sound p.call here in
+    let at = call_at b (own_refusals (mark_ask m)) slot id old sound p.call here in
+    let accepted = call_accepted b (own_refusals (mark_ask m)) slot id old sound p.call here in
     marked_idle s.creates m old (sound_of s id old sound at)
-    (mark_allowed m old (own_accepted id old (mark_refusals m) accepted))
+    (mark_allowed m old (own_accepted id old (own_refusals (mark_ask m)) accepted))
 
-mark_answers :
-    (s : BoardState) (id : List ℕ) (m : Mark) (t : Task) (s' : BoardState) → task_of id s.tasks ≡ Some t
-    → first_refusal (task_refusals id (mark_refusals m) (Some t)) ≡ None → s' ≡ with_task s (marked m t)
-    → Answers s (mark_request m id) (Ok (mark_reply m t.id)) s'
+mark_answers : (s : BoardState) (id : List ℕ) (m : Mark) (t : Task) (s' : BoardState) → task_of id s.tasks ≡ Some t
+    → first_refusal (task_refusals id (own_refusals (mark_ask m)) (Some t)) ≡ None → s' ≡ with_task s (marked m t)
+    → Answers s (request.Task id (mark_ask m)) (Ok (mark_reply m t.id)) s'
 mark_answers s id (mark.Set p) t s' at none is =
-    accepted_on s id (mark_refusals (mark.Set p)) (does (mark_ask (mark.Set p))) t s' at none is
+    accepted_on s id (own_refusals (mark_ask (mark.Set p))) (does (mark_ask (mark.Set p))) t s' at none is
 mark_answers s id (mark.Remove p) t s' at none is =
-    accepted_on s id (mark_refusals (mark.Remove p)) (does (mark_ask (mark.Remove p))) t s' at none is
+    accepted_on s id (own_refusals (mark_ask (mark.Remove p))) (does (mark_ask (mark.Remove p))) t s' at none is
 
 -- what a request that sets or removes a breakpoint does in a slot
 pub record IsMarkedThere (b : board.Inside) (m : Mark) (slot : ℕ) (id : List ℕ) (new : Task) : Type 0 where
   pub sound : IsBoard (board_state_of (with_write b slot new))
   pub waiting : AreWaiting (board_state_of (with_write b slot new)).tasks b.waiting
-  pub answers :
-      Answers (board_state_of b) (mark_request m id) (Ok (mark_reply m id)) (board_state_of (with_write b slot new))
+  pub answers : Answers (board_state_of b) (request.Task id (mark_ask m)) (Ok (mark_reply m id))
+      (board_state_of (with_write b slot new))
 
-pub marked_there :
-    (b : board.Inside) (m : Mark) (slot : ℕ) (id : List ℕ) (n : NewBreaks) (old new : Task)
+pub marked_there : (b : board.Inside) (m : Mark) (slot : ℕ) (id : List ℕ) (n : NewBreaks) (old new : Task)
     → IsBoard (board_state_of b) → AreWaiting (board_state_of b).tasks b.waiting
     → (p : MarkPrepared (board_state_of b) m slot id n) → get b.tasks slot ≡ Some old
     → new ≡ record old { breaks = arc_value n.own } → IsMarkedThere b m slot id new
 marked_there b m slot id n old new sound waits p here is =
     let s = board_state_of b in
-    let at = call_at b (mark_refusals m) slot id old sound p.call here in
-    let accepted = call_accepted b (mark_refusals m) slot id old sound p.call here in
-    let same = call_task b (mark_refusals m) slot id old sound p.call here in
-    let becomes :
-    new ≡ marked m old =
-    is
-    ∙ (ap (λ (bs : List Place). record old { breaks = bs }) p.own
+    let at = call_at b (own_refusals (mark_ask m)) slot id old sound p.call here in
+    let accepted = call_accepted b (own_refusals (mark_ask m)) slot id old sound p.call here in
+    let same = call_task b (own_refusals (mark_ask m)) slot id old sound p.call here in
+    let becomes : new ≡ marked m old =
+    is ∙ (ap (λ (bs : List Place). record old { breaks = bs }) p.own
     ∙ ap (λ (t : Task). record old { breaks = marked_places m t.breaks }) same) in
     let keeps : old.id ≡ new.id = sym (ap (λ (t : Task). t.id) becomes) in
     let leaves = written b slot old new sound here keeps ∙ ap (with_task s) becomes in
     record {
       sound =
           subst IsBoard (sym leaves)
-          (mark_keeps_sound s m id old sound at (own_accepted id old (mark_refusals m) accepted));
-      waiting =
-          written_waits b slot old new sound waits here keeps (ap (λ (t : Task). t.incarnation) becomes);
+          (mark_keeps_sound s m id old sound at (own_accepted id old (own_refusals (mark_ask m)) accepted));
+      waiting = written_waits b slot old new sound waits here keeps (ap (λ (t : Task). t.incarnation) becomes);
       answers =
           subst
-          (λ (x : List ℕ). Answers s (mark_request m id) (Ok (mark_reply m x)) (board_state_of (with_write b slot new)))
+          (λ (x : List ℕ). Answers s (request.Task id (mark_ask m)) (Ok (mark_reply m x))
+          (board_state_of (with_write b slot new)))
           (task_named id s.tasks old at)
           (mark_answers s id m old (board_state_of (with_write b slot new)) at accepted leaves);
     }

@@ -1,5 +1,5 @@
 -- That what replies say of tasks is true.
-use Rattle.std.proofs.Common.{◌≡◌, ℕ, List, [], ◌∷◌, Bool, true, false, cond, ◌&&◌, nat_lt, bytes_eq, Option, Some, None, is_none, is_some, option_map, Ok, inl, inr, ◌⊎◌, refl, sym, ap, ◌∙◌, subst}
+use Rattle.std.proofs.Common.{◌≡◌, ℕ, List, [], ◌∷◌, Bool, true, false, cond, ◌&&◌, nat_lt, bytes_eq, Option, Some, None, is_none, is_some, option_map, Ok, inl, inr, ◌⊎◌, refl, sym, ap, ◌∙◌, subst, unwrap_or}
 use Rattle.wasm_ast.specs.declared.refusal.Refusal.TheVariants as refusal
 use Rattle.oci_config.specs.declared.stream.Stream.{Stream}
 use Rattle.oci_config.specs.Config.{process_read}
@@ -24,7 +24,7 @@ use Rattle.task_requests.specs.declared.request.Reply.TheVariants as reply
 use Rattle.task_requests.specs.declared.request.TaskState.{TaskState}
 use Rattle.task_requests.specs.Memory.{takes_memory}
 use Rattle.task_board.specs.BoardState.{Task, Entries, BoardState, empty, created_task, entry_of, task_in, task_of, put_task, change_task, with_task}
-use Rattle.task_board.specs.Tasks.{state_of, output_of, memory_at, shown, started, paused, resumed, killed_while, killed_by, place_of, with_break, without_break, stepped}
+use Rattle.task_board.specs.Tasks.{state_of, output_of, memory_at, started, paused, resumed, killed_while, killed_by, place_of, with_break, without_break, stepped}
 use Rattle.task_board.specs.Refusals.{own_refusals, create_refusals, task_refusals}
 use Rattle.task_board.specs.Step.{Answer, Done, with_left, OnFound, OnTask, Creates, does, LeavesTask, Answers}
 use Rattle.task_board.specs.Run.{Happens, Run}
@@ -39,8 +39,7 @@ use Rattle.task_board.proofs.HeldLemmas.{AllThere, happens_there, run_there}
 
 -- ---- the task that a request leaves, by its id
 
-changed_entry :
-    (new : Task) (e : ℕ × Task) (es : Entries) → entry_of new.id es ≡ Some e
+changed_entry : (new : Task) (e : ℕ × Task) (es : Entries) → entry_of new.id es ≡ Some e
     → entry_of new.id (change_task new es) ≡ Some (e.0, new)
 changed_entry new e [] h = absurd (none_is_not e h)
 changed_entry new e (d ∷ es) h =
@@ -56,27 +55,23 @@ changed_entry new e (d ∷ es) h =
     ∙ changed_entry new e es (cond_false (bytes_eq d.1.id new.id) (Some d) (entry_of new.id es) (Some e) n h)))
 
 -- it is changed to one of its id
-left_named :
-    (s : BoardState) (id : List ℕ) (t t' : Task) (s' : BoardState) → task_of id s.tasks ≡ Some t → t'.id ≡ t.id
+left_named : (s : BoardState) (id : List ℕ) (t t' : Task) (s' : BoardState) → task_of id s.tasks ≡ Some t → t'.id ≡ t.id
     → s' ≡ with_task s t' → task_of id s'.tasks ≡ Some t'
 left_named s id t t' s' at same is =
     let f = found id s.tasks t at in
     let name : t'.id ≡ id = same ∙ task_named id s.tasks t at in
     let entry = changed_entry t' (f.0, t) s.tasks (ap (λ (x : List ℕ). entry_of x s.tasks) name ∙ f.1) in
-    ap (λ (b : BoardState). task_of id b.tasks) is
-    ∙ (ap (λ (x : List ℕ). task_of x (change_task t' s.tasks)) (sym name)
+    ap (λ (b : BoardState). task_of id b.tasks) is ∙ (ap (λ (x : List ℕ). task_of x (change_task t' s.tasks)) (sym name)
     ∙ ap (option_map (λ (e : ℕ × Task). e.1)) entry)
 
-put_before :
-    (k : ℕ) (t : Task) (e : ℕ × Task) (es : Entries) (b : Bool)
+put_before : (k : ℕ) (t : Task) (e : ℕ × Task) (es : Entries) (b : Bool)
     → entry_of t.id (e ∷ put_task k t es) ≡ Some (k, t)
     → entry_of t.id (cond b ((k, t) ∷ e ∷ es) (e ∷ put_task k t es)) ≡ Some (k, t)
 put_before k t e es true later =
     cond_is_true (bytes_eq t.id t.id) (Some (k, t)) (entry_of t.id (e ∷ es)) (same_id t.id t.id refl)
 put_before k t e es false later = later
 
-put_entry :
-    (k : ℕ) (t : Task) (es : Entries) → entry_of t.id es ≡ None → entry_of t.id (put_task k t es) ≡ Some (k, t)
+put_entry : (k : ℕ) (t : Task) (es : Entries) → entry_of t.id es ≡ None → entry_of t.id (put_task k t es) ≡ Some (k, t)
 put_entry k t [] h = cond_is_true (bytes_eq t.id t.id) (Some (k, t)) None (same_id t.id t.id refl)
 put_entry k t (e ∷ es) h =
     put_before k t e es (nat_lt k e.0)
@@ -126,14 +121,12 @@ StopsRight x = (x.status ≡ Stopped → is_some x.end ≡ true) × (is_some x.e
 
 stops_right : (creates : ℕ) (t : Task) (x : TaskState) → IsSound creates t → x ≡ state_of t → StopsRight x
 stops_right creates t x sound is =
-    let own :
-    StopsRight (state_of t) =
+    let own : StopsRight (state_of t) =
     (λ at. sym sound.stopped ∙ ap is_stopped at, λ some. stopped_is t.status (sound.stopped ∙ some)) in
     subst StopsRight (sym is) own
 
 -- on a board that events lead to, the words are true
-says :
-    (b : BoardState) (id : List ℕ) (t : Task) (q : Request) (a : Reply) → AllThere b → task_of id b.tasks ≡ Some t
+says : (b : BoardState) (id : List ℕ) (t : Task) (q : Request) (a : Reply) → AllThere b → task_of id b.tasks ≡ Some t
     → Words t q a → AnswersTruly t q a → SaysTruly b.store t q a
 says b id t q a there at words answers =
     let f = found id b.tasks t at in
@@ -185,16 +178,14 @@ module _ (s : BoardState) (id : List ℕ) (own : Task → Refusals) (does : Task
   accepted : OnTask id own does s (Ok a) s' → Accepted s id own does a s'
   accepted on = accepted_by (task_of id s.tasks) refl on
 
-config_is :
-    (config asked id name : List ℕ) → request.Create config id ≡ request.Create asked name → asked ≡ config
+config_is : (config asked id name : List ℕ) → request.Create config id ≡ request.Create asked name → asked ≡ config
 config_is config asked id name h = cc
 
 -- ---- what each request is answered
 
 -- the task of which the reply speaks, and that it speaks the truth
 abbrev Truly : BoardState → Request → Reply → BoardState → (id : List ℕ) → Type 0
-Truly s q a s' id =
-    (t : Task) × (task_of id (told_on q s s').tasks ≡ Some t) × SaysTruly (told_on q s s').store t q a
+Truly s q a s' id = (t : Task) × (task_of id (told_on q s s').tasks ≡ Some t) × SaysTruly (told_on q s s').store t q a
 
 some_of : {X : Type 0} (o : Option X) → is_none o ≡ false → (x : X) × (o ≡ Some x)
 some_of None h = cc
@@ -208,8 +199,7 @@ killed_same (Some signal) t = by t.out
     by None = refl
     by (Some n) = refl
 
-output_shows :
-    (t : Task) (id : List ℕ) (number : ℕ) → first_refusal (own_refusals (ask.Output number) t) ≡ None
+output_shows : (t : Task) (id : List ℕ) (number : ℕ) → first_refusal (own_refusals (ask.Output number) t) ≡ None
     → ShowsTruly t (request.Task id (ask.Output number)) (does (ask.Output number) t).0
 output_shows t id number none =
     let known = some_of (stream_of number) (none_first (is_none (stream_of number)) refusal.OutOfRange _ none).0 in
@@ -223,7 +213,7 @@ peek_shows t id address length none =
     let known =
     some_of (memory_at t address length)
     (none_first (is_none (memory_at t address length)) refusal.OutOfRange None rest).0 in
-    known.1 ∙ ap Some (sym (ap shown known.1))
+    known.1 ∙ ap Some (sym (ap (λ (o : Option (List ℕ)). unwrap_or o []) known.1))
 
 -- the task of which the reply speaks
 abbrev spoken : Ask → Task → Task
@@ -275,8 +265,7 @@ module _ (t : Task) (id : List ℕ) (k : Ask) (a : Reply) where
     shows = shows;
   }
 
-words_of :
-    (k : Ask) (t : Task) (id : List ℕ) → first_refusal (own_refusals k t) ≡ None
+words_of : (k : Ask) (t : Task) (id : List ℕ) → first_refusal (own_refusals k t) ≡ None
     → Words (spoken k t) (request.Task id k) (does k t).0
 words_of ask.Start t id none = status_words (started t) id ask.Start (does ask.Start t).0 refl refl refl refl refl tt
 words_of ask.Pause t id none = status_words (paused t) id ask.Pause (does ask.Pause t).0 refl refl refl refl refl tt
@@ -292,8 +281,7 @@ words_of (ask.Output number) t id none =
     (output_shows t id number none)
 words_of (ask.Step count) t id none =
     state_words (stepped t count) id (ask.Step count) (does (ask.Step count) t).0 refl refl refl refl refl tt
-words_of ask.Inspect t id none =
-    plain_words t id ask.Inspect (does ask.Inspect t).0 refl (inr refl) refl refl refl refl
+words_of ask.Inspect t id none = plain_words t id ask.Inspect (does ask.Inspect t).0 refl (inr refl) refl refl refl refl
 words_of (ask.Peek address length) t id none =
     plain_words t id (ask.Peek address length) (does (ask.Peek address length) t).0 refl (inl refl) refl refl refl
     (peek_shows t id address length none)
@@ -311,11 +299,9 @@ module _ (s s' : BoardState) (a : Reply) (left : AllThere s') where
 
   -- the task that a request leaves as it is, is the one of which it was asked
   same_answer : (k : Ask) (t t' : Task) → (does k t).1 ≡ Some t' → a ≡ (does k t).0 → LeavesTask k → a ≡ (does k t').0
-  same_answer k t t' left is leaves =
-      is ∙ ap (λ (x : Task). (does k x).0) (sym (some_is t' t (sym left ∙ leaves t)))
+  same_answer k t t' left is leaves = is ∙ ap (λ (x : Task). (does k x).0) (sym (some_is t' t (sym left ∙ leaves t)))
 
-  leaves_it :
-      (id : List ℕ) (k : Ask) → told_on (request.Task id k) s s' ≡ s'
+  leaves_it : (id : List ℕ) (k : Ask) → told_on (request.Task id k) s s' ≡ s'
       → ((t : Task) → (does k t).1 ≡ Some (spoken k t)) → ((t : Task) → (spoken k t).id ≡ t.id)
       → Answers s (request.Task id k) (Ok a) s' → Truly s (request.Task id k) a s' id
   leaves_it id k on leaves same h =
@@ -350,19 +336,16 @@ module _ (s s' : BoardState) (a : Reply) (left : AllThere s') where
   create_true :
       (config id : List ℕ) → Answers s (request.Create config id) (Ok a) s' → Truly s (request.Create config id) a s' id
   create_true config id h =
-      let is =
-      decided_ok (first_refusal (create_refusals s config id)) (Creates s config id (Ok a) s') s a s' h in
+      let is = decided_ok (first_refusal (create_refusals s config id)) (Creates s config id (Ok a) s') s a s' h in
       let p = is.1.0 in
       let opened = is.1.4 in
       let t = created_task id s.creates is.1.1 opened.0 p in
       let known = (none_first _ refusal.BadId _ is.0).1 in
       let fresh = (none_first (is_some (task_of id s.tasks)) refusal.Exists _ known).0 in
       let entry = put_entry opened.3.0 t s.tasks (no_entry (entry_of id s.tasks) fresh) in
-      let named :
-      task_of id s'.tasks ≡ Some t =
+      let named : task_of id s'.tasks ≡ Some t =
       ap (λ (b : BoardState). task_of id b.tasks) opened.3.2 ∙ ap (option_map (λ (e : ℕ × Task). e.1)) entry in
-      let words :
-      Words t (request.Create config id) (reply.Create id Created) =
+      let words : Words t (request.Create config id) (reply.Create id Created) =
       record {
         process = λ asked name same. ap process_read (config_is config asked id name same) ∙ is.1.2;
         id = refl;
@@ -417,8 +400,7 @@ moves_same t t' (stays is) = subst (λ (x : Task). SameTask x t) (sym is) (refl,
 moves_same t t' (starts can is) = subst (λ (x : Task). SameTask x t) (sym is) (refl, refl, refl, refl)
 moves_same t t' (pauses can is) = subst (λ (x : Task). SameTask x t) (sym is) (refl, refl, refl, refl)
 moves_same t t' (resumes can is) = subst (λ (x : Task). SameTask x t) (sym is) (refl, refl, refl, refl)
-moves_same t t' (is_killed signal can is) =
-    subst (λ (x : Task). SameTask x t) (sym is) (killed_task t.out signal t)
+moves_same t t' (is_killed signal can is) = subst (λ (x : Task). SameTask x t) (sym is) (killed_task t.out signal t)
 moves_same t t' (is_taken budget can is) = subst (λ (x : Task). SameTask x t) (sym is) (refl, refl, refl, refl)
 moves_same t t' (returns back) = subst (λ (x : Task). SameTask x t) (sym back.advances) (refl, refl, refl, refl)
 moves_same t t' (has_break p can is) = subst (λ (x : Task). SameTask x t) (sym is) (refl, refl, refl, refl)

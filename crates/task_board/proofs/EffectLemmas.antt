@@ -32,8 +32,8 @@ use Rattle.task_board.specs.Step.{Answer, DecidedBy, OnStore, Puts, PutsText, re
 use Rattle.task_board.specs.Sound.{IsSound, IsBoard}
 use Rattle.task_board.specs.declared.ticket.Ticket.{Ticket}
 use Rattle.task_board.specs.Waiting.{waiting_after_call}
-use Rattle.task_board.specs.Inside.Changes.{change_call, change_ask, change_request, change_reply, change_refusals, changed}
-use Rattle.task_board.specs.Inside.Marks.{mark_call, mark_refusals, marked}
+use Rattle.task_board.specs.Inside.Changes.{change_call, change_ask, change_reply, changed}
+use Rattle.task_board.specs.Inside.Marks.{mark_call, marked, mark_ask}
 use Rattle.task_board.specs.Inside.Plans.{IsQuestion}
 use Rattle.task_board.proofs.EntryLemmas.{none_is_not, some_is}
 use Rattle.task_board.proofs.MarkLemmas.{marked_sound}
@@ -98,8 +98,7 @@ stopped_only Stopped h = refl
 stopped_only _ h = cc
 
 -- a change that its status allows leaves a task sound
-change_sound :
-    (creates : ℕ) (c : Change) (t : Task) → IsSound creates t → allowed (change_call c) t.status ≡ true
+change_sound : (creates : ℕ) (c : Change) (t : Task) → IsSound creates t → allowed (change_call c) t.status ≡ true
     → IsSound creates (changed c t)
 change_sound creates change.Start t h can = started_sound creates t h
 change_sound creates change.Pause t h can = paused_sound creates t h (running_only t.status can)
@@ -113,8 +112,7 @@ pub own_accepted :
     → first_refusal (own t) ≡ None
 own_accepted id t own h = (none_first (not (is_id id)) refusal.BadId (first_refusal (own t)) h).1
 
-one_accepted :
-    (id : List ℕ) (t : Task) (c : TaskCall)
+one_accepted : (id : List ℕ) (t : Task) (c : TaskCall)
     → first_refusal ((not (is_id id), refusal.BadId) ∷ (not (allowed c t.status), refusal.WrongStatus) ∷ []) ≡ None
     → allowed c t.status ≡ true
 one_accepted id t c h =
@@ -122,8 +120,8 @@ one_accepted id t c h =
     not_true (allowed c t.status) (none_first (not (allowed c t.status)) refusal.WrongStatus None a.1).0
 
 -- a change that is not refused is allowed
-pub change_allowed :
-    (c : Change) (id : List ℕ) (t : Task) → first_refusal (task_refusals id (change_refusals c) (Some t)) ≡ None
+pub change_allowed : (c : Change) (id : List ℕ) (t : Task)
+    → first_refusal (task_refusals id (own_refusals (change_ask c)) (Some t)) ≡ None
     → allowed (change_call c) t.status ≡ true
 change_allowed change.Start id t h = one_accepted id t call.Start h
 change_allowed change.Pause id t h = one_accepted id t call.Pause h
@@ -138,8 +136,7 @@ change_allowed (change.Step count) id t h =
 -- ---- answers to requests of one task
 
 -- a refusal of its own list
-pub refused_on :
-    (s : BoardState) (id : List ℕ) (own : Task → Refusals) (does : Task → Done)
+pub refused_on : (s : BoardState) (id : List ℕ) (own : Task → Refusals) (does : Task → Done)
     (o : Option Task) (e : Refusal)
     → first_refusal (task_refusals id own o) ≡ Some e → OnFound id own does o s (Err e) s
 refused_on s id own does None e h = subst (λ (x : Option Refusal). DecidedBy x ⊥ s (Err e) s) (sym h) (refl, refl)
@@ -148,15 +145,13 @@ refused_on s id own does (Some t) e h =
     (sym h) (refl, refl)
 
 -- the effect, if no refusal's condition holds
-pub accepted_on :
-    (s : BoardState) (id : List ℕ) (own : Task → Refusals) (does : Task → Done) (t : Task)
+pub accepted_on : (s : BoardState) (id : List ℕ) (own : Task → Refusals) (does : Task → Done) (t : Task)
     (s' : BoardState)
     → task_of id s.tasks ≡ Some t → first_refusal (task_refusals id own (Some t)) ≡ None → s' ≡ with_left s t (does t).1
     → OnTask id own does s (Ok (does t).0) s'
 accepted_on s id own does t s' at none is =
     let a : Answer = Ok (does t).0 in
-    let P :
-    Option Refusal → Type 0 = λ x. DecidedBy x ((a ≡ Ok (does t).0) × (s' ≡ with_left s t (does t).1)) s a s' in
+    let P : Option Refusal → Type 0 = λ x. DecidedBy x ((a ≡ Ok (does t).0) × (s' ≡ with_left s t (does t).1)) s a s' in
     subst (λ (o : Option Task). OnFound id own does o s a s') (sym at) (subst P (sym none) (refl, is))
 
 change_does : (c : Change) (t : Task) → does (change_ask c) t ≡ (change_reply c t.id (changed c t), Some (changed c t))
@@ -170,17 +165,17 @@ change_does (change.Step count) t = refl
 -- the answer to a change that is made
 pub change_answers :
     (c : Change) (s : BoardState) (id : List ℕ) (t : Task) (s' : BoardState) → task_of id s.tasks ≡ Some t
-    → first_refusal (task_refusals id (change_refusals c) (Some t)) ≡ None → s' ≡ with_task s (changed c t)
-    → Answers s (change_request c id) (Ok (change_reply c t.id (changed c t))) s'
+    → first_refusal (task_refusals id (own_refusals (change_ask c)) (Some t)) ≡ None → s' ≡ with_task s (changed c t)
+    → Answers s (request.Task id (change_ask c)) (Ok (change_reply c t.id (changed c t))) s'
 change_answers c s id t s' at none is =
-    subst (λ (r : Reply). Answers s (change_request c id) (Ok r) s') (ap (λ (d : Done). d.0) (change_does c t))
-    (accepted_on s id (change_refusals c) (does (change_ask c)) t s' at none
+    subst (λ (r : Reply). Answers s (request.Task id (change_ask c)) (Ok r) s')
+    (ap (λ (d : Done). d.0) (change_does c t))
+    (accepted_on s id (own_refusals (change_ask c)) (does (change_ask c)) t s' at none
     (is ∙ ap (λ (d : Done). with_left s t d.1) (sym (change_does c t))))
 
 pub delete_answers : (s : BoardState) (id : List ℕ) (t : Task) (s' : BoardState) → task_of id s.tasks ≡ Some t
     → first_refusal (task_refusals id (unless_allowed call.Delete refusal.WrongStatus) (Some t)) ≡ None
-    → s' ≡ without_task s t.id
-    → Answers s (request.Task id ask.Delete) (Ok (reply.Delete (state_of t))) s'
+    → s' ≡ without_task s t.id → Answers s (request.Task id ask.Delete) (Ok (reply.Delete (state_of t))) s'
 delete_answers s id t s' at none is =
     accepted_on s id (unless_allowed call.Delete refusal.WrongStatus) (does ask.Delete) t s' at none is
 
@@ -214,18 +209,14 @@ steps_idle Stopped h = refl
 pub data Effect (s : BoardState) (q : Request) (s' : BoardState) : Type 0 where
   nothing : s' ≡ s → Effect s q s'
   stores : (new : StoreState) → StoreEffect (used_by s.tasks) s.store new → s' ≡ with_store s new → Effect s q s'
-  enters :
-      (config id : List ℕ) → (r : Answer) → first_refusal (create_refusals s config id) ≡ None
+  enters : (config id : List ℕ) → (r : Answer) → first_refusal (create_refusals s config id) ≡ None
       → Creates s config id r s' → Effect s q s'
-  changes :
-      (c : Change) → (id : List ℕ) → (t : Task) → q ≡ change_request c id → task_of id s.tasks ≡ Some t
+  changes : (c : Change) → (id : List ℕ) → (t : Task) → q ≡ request.Task id (change_ask c) → task_of id s.tasks ≡ Some t
       → allowed (change_call c) t.status ≡ true → s' ≡ with_task s (changed c t) → Effect s q s'
-  deletes :
-      (id : List ℕ) → (t : Task) → task_of id s.tasks ≡ Some t → allowed call.Delete t.status ≡ true
+  deletes : (id : List ℕ) → (t : Task) → task_of id s.tasks ≡ Some t → allowed call.Delete t.status ≡ true
       → s' ≡ without_task s t.id → Effect s q s'
-  marks :
-      (m : Mark) → (id : List ℕ) → (t : Task) → task_of id s.tasks ≡ Some t
-      → first_refusal (mark_refusals m t) ≡ None → s' ≡ with_task s (marked m t) → Effect s q s'
+  marks : (m : Mark) → (id : List ℕ) → (t : Task) → task_of id s.tasks ≡ Some t
+      → first_refusal (own_refusals (mark_ask m) t) ≡ None → s' ≡ with_task s (marked m t) → Effect s q s'
 
 effect_by :
     (s : BoardState) (q : Request) (s' : BoardState) (o : Option Refusal) (E : Type 0) → (o ≡ None → E → Effect s q s')
@@ -242,13 +233,10 @@ on_store_effect s q refusals rep new r s' on f =
     (λ none e. stores new (f none) e.1)
     (decided (first_refusal refusals) ((r ≡ Ok rep) × (s' ≡ with_store s new)) s r s' on)
 
-on_task_effect :
-    (s : BoardState) (q : Request) (id : List ℕ) (own : Task → Refusals) (does : Task → Done)
-    (o : Option Task) (r : Answer) (s' : BoardState)
-    → OnFound id own does o s r s'
+on_task_effect : (s : BoardState) (q : Request) (id : List ℕ) (own : Task → Refusals) (does : Task → Done)
+    (o : Option Task) (r : Answer) (s' : BoardState) → OnFound id own does o s r s'
     → ((t : Task) → o ≡ Some t → first_refusal (task_refusals id own (Some t)) ≡ None
-    → s' ≡ with_left s t (does t).1 → Effect s q s')
-    → Effect s q s'
+    → s' ≡ with_left s t (does t).1 → Effect s q s') → Effect s q s'
 on_task_effect s q id own does None r s' on f =
     effect_by s q s' (first_refusal (task_refusals id own None)) ⊥ (λ none e. absurd e)
     (decided (first_refusal (task_refusals id own None)) ⊥ s r s' on)
@@ -262,8 +250,7 @@ on_task_effect s q id own does (Some t) r s' on f =
 -- a kill by a number is one by its signal
 kill_effect :
     (s : BoardState) (s' : BoardState) (id : List ℕ) (number : ℕ) (t : Task) (o : Option Signal) → signal_of number ≡ o
-    → task_of id s.tasks ≡ Some t
-    → first_refusal
+    → task_of id s.tasks ≡ Some t → first_refusal
     ((not (is_id id), refusal.BadId) ∷ (is_none o, refusal.OutOfRange)
     ∷ (not (allowed call.Kill t.status), refusal.WrongStatus) ∷ []) ≡ None
     → s' ≡ with_task s (killed_by o t) → Effect s (request.Task id (ask.Kill number)) s'
@@ -293,16 +280,14 @@ text_effect s q text r s' (refused e why is same) = nothing same
 text_effect s q text r s' (stored bytes is put) = put_effect s q bytes r s' put
 
 -- what is asked of a task, and is accepted
-ask_effect :
-    (s s' : BoardState) (id : List ℕ) (k : Ask) (t : Task) → task_of id s.tasks ≡ Some t
+ask_effect : (s s' : BoardState) (id : List ℕ) (k : Ask) (t : Task) → task_of id s.tasks ≡ Some t
     → first_refusal (task_refusals id (own_refusals k) (Some t)) ≡ None → s' ≡ with_left s t (does k t).1
     → Effect s (request.Task id k) s'
 ask_effect s s' id ask.Start t at none is = changes change.Start id t refl at (change_allowed change.Start id t none) is
 ask_effect s s' id ask.Pause t at none is = changes change.Pause id t refl at (change_allowed change.Pause id t none) is
 ask_effect s s' id ask.Resume t at none is =
     changes change.Resume id t refl at (change_allowed change.Resume id t none) is
-ask_effect s s' id (ask.Kill number) t at none is =
-    kill_effect s s' id number t (signal_of number) refl at none is
+ask_effect s s' id (ask.Kill number) t at none is = kill_effect s s' id number t (signal_of number) refl at none is
 ask_effect s s' id ask.Delete t at none is = deletes id t at (one_accepted id t call.Delete none) is
 ask_effect s s' id (ask.Break func place) t at none is =
     marks (mark.Set (place_of func place)) id t at (own_accepted id t (own_refusals (ask.Break func place)) none) is
@@ -340,15 +325,13 @@ effect_of s (request.Create config id) r s' a =
     (λ none e. enters config id r none e)
     (decided (first_refusal (create_refusals s config id)) (Creates s config id r s') s r s' a)
 effect_of s (request.Task id k) r s' a =
-    on_task_effect s (request.Task id k) id (own_refusals k) (does k) (task_of id s.tasks) r s' a
-    (ask_effect s s' id k)
+    on_task_effect s (request.Task id k) id (own_refusals k) (does k) (task_of id s.tasks) r s' a (ask_effect s s' id k)
 
 -- ---- soundness
 
 pub change_keeps_sound :
     (s : BoardState) (c : Change) (id : List ℕ) (t : Task) → IsBoard s → task_of id s.tasks ≡ Some t
-    → allowed (change_call c) t.status ≡ true
-    → IsBoard (with_task s (changed c t))
+    → allowed (change_call c) t.status ≡ true → IsBoard (with_task s (changed c t))
 change_keeps_sound s c id t b at can =
     changed_sound s id t (changed c t) b at (change_id c t) (change_incarnation c t)
     (change_sound s.creates c t (sound_of s id t b at) can)
@@ -359,9 +342,8 @@ delete_keeps_sound s id t b at =
     let f = found id s.tasks t at in
     remove_sound s t.id f.0 t b (ap (λ (x : List ℕ). entry_of x s.tasks) (task_named id s.tasks t at) ∙ f.1)
 
-pub mark_keeps_sound :
-    (s : BoardState) (m : Mark) (id : List ℕ) (t : Task) → IsBoard s → task_of id s.tasks ≡ Some t
-    → first_refusal (mark_refusals m t) ≡ None → IsBoard (with_task s (marked m t))
+pub mark_keeps_sound : (s : BoardState) (m : Mark) (id : List ℕ) (t : Task) → IsBoard s → task_of id s.tasks ≡ Some t
+    → first_refusal (own_refusals (mark_ask m) t) ≡ None → IsBoard (with_task s (marked m t))
 mark_keeps_sound s m id t b at none =
     changed_sound s id t (marked m t) b at refl refl (marked_sound s.creates m t (sound_of s id t b at) none)
 
@@ -382,11 +364,9 @@ decided_ok None E s a s' d = (refl, d)
 decided_ok (Some e) E s a s' d = let is = d.0 in cc
 
 -- what is accepted is asked of a task that is there
-asked_task :
-    (s : BoardState) (id : List ℕ) (own : Task → Refusals) (does : Task → Done) (o : Option Task) (a : Reply)
+asked_task : (s : BoardState) (id : List ℕ) (own : Task → Refusals) (does : Task → Done) (o : Option Task) (a : Reply)
     (s' : BoardState) → OnFound id own does o s (Ok a) s' → Task
-asked_task s id own does None a s' on =
-    absurd (decided_ok (first_refusal (task_refusals id own None)) ⊥ s a s' on).1
+asked_task s id own does None a s' on = absurd (decided_ok (first_refusal (task_refusals id own None)) ⊥ s a s' on).1
 asked_task s id own does (Some t) a s' on = t
 
 -- what leaves each task as it is lets none enter that wait, and none leave
@@ -403,12 +383,10 @@ waits_still ask.Resume t id ts ws same =
 waits_still ask.Delete t id ts ws same = absurd (none_is_not t (same t))
 waits_still _ t id ts ws same = refl
 
-pub question_waits :
-    (s : BoardState) (r : Request) (a : Reply) (ws : List Ticket) → IsQuestion r → Answers s r (Ok a) s
+pub question_waits : (s : BoardState) (r : Request) (a : Reply) (ws : List Ticket) → IsQuestion r → Answers s r (Ok a) s
     → ws ≡ waiting_after_call r s.tasks ws
 question_waits s (request.Task id k) a ws leaves on =
-    sym
-    (waits_still k (asked_task s id (own_refusals k) (does k) (task_of id s.tasks) a s on) id s.tasks ws leaves)
+    sym (waits_still k (asked_task s id (own_refusals k) (does k) (task_of id s.tasks) a s on) id s.tasks ws leaves)
 question_waits s _ a ws leaves on = absurd leaves
 
 pub answers_sound :

@@ -22,8 +22,7 @@ cond_is_false {X} b x y is = ap (λ (c : Bool). cond c x y) is
 pub slot_tells : (a b : ℕ) → ((nat_eq a b ≡ true) × (a ≡ b)) ⊎ ((nat_eq a b ≡ false) × (a ≢ b))
 slot_tells a b = eqb_tells a b
 
-id_tells_by :
-    (x y : List ℕ) (b : Bool) → bytes_eq x y ≡ b
+id_tells_by : (x y : List ℕ) (b : Bool) → bytes_eq x y ≡ b
     → ((bytes_eq x y ≡ true) × (x ≡ y)) ⊎ ((bytes_eq x y ≡ false) × (x ≢ y))
 id_tells_by x y true is = inl (is, (bytes_eq-Decides x y).0 is)
 id_tells_by x y false is = inr (is, λ same. let yes : bytes_eq x y ≡ true = (bytes_eq-Decides x y).1 same in cc)
@@ -78,8 +77,7 @@ none_is_not {X} x h = cc
 
 -- ---- look-up
 
-pub each_in :
-    (P : Task → Type 0) (k : ℕ) (t : Task) (es : Entries) → Each (λ (e : ℕ × Task). P e.1) es
+pub each_in : (P : Task → Type 0) (k : ℕ) (t : Task) (es : Entries) → Each (λ (e : ℕ × Task). P e.1) es
     → task_in k es ≡ Some t → P t
 each_in P k t [] each h = absurd (none_is_not t h)
 each_in P k t (e ∷ es) each h =
@@ -87,8 +85,7 @@ each_in P k t (e ∷ es) each h =
     (λ y same_y. subst P (some_is e.1 t (cond_true (nat_eq e.0 k) (Some e.1) (task_in k es) (Some t) y h)) each.0)
     (λ n other_n. each_in P k t es each.1 (cond_false (nat_eq e.0 k) (Some e.1) (task_in k es) (Some t) n h))
 
-pub id_away :
-    (x : List ℕ) (k : ℕ) (t : Task) (es : Entries) → Each (λ (y : List ℕ). x ≢ y) (ids_of es)
+pub id_away : (x : List ℕ) (k : ℕ) (t : Task) (es : Entries) → Each (λ (y : List ℕ). x ≢ y) (ids_of es)
     → task_in k es ≡ Some t → x ≢ t.id
 id_away x k t [] each h = absurd (none_is_not t h)
 id_away x k t (e ∷ es) each h =
@@ -121,8 +118,7 @@ named id (x ∷ es) e h =
     (some_is x e (cond_true (bytes_eq x.1.id id) (Some x) (entry_of id es) (Some e) y h)) same_y)
     (λ n other_n. named id es e (cond_false (bytes_eq x.1.id id) (Some x) (entry_of id es) (Some e) n h))
 
-pub slot_away :
-    (j k : ℕ) (id : List ℕ) (e : ℕ × Task) (es : Entries) → Each (λ (m : ℕ). j < m) (slots_of es)
+pub slot_away : (j k : ℕ) (id : List ℕ) (e : ℕ × Task) (es : Entries) → Each (λ (m : ℕ). j < m) (slots_of es)
     → entry_of id es ≡ Some e → j < e.0
 slot_away j k id e [] each h = absurd (none_is_not e h)
 slot_away j k id e (x ∷ es) each h =
@@ -132,8 +128,7 @@ slot_away j k id e (x ∷ es) each h =
     (λ n other_n. slot_away j k id e es each.1 (cond_false (bytes_eq x.1.id id) (Some x) (entry_of id es) (Some e) n h))
 
 -- the task with an id is in its slot
-pub in_slot :
-    (id : List ℕ) (e : ℕ × Task) (es : Entries) → AreRising (slots_of es) → entry_of id es ≡ Some e
+pub in_slot : (id : List ℕ) (e : ℕ × Task) (es : Entries) → AreRising (slots_of es) → entry_of id es ≡ Some e
     → task_in e.0 es ≡ Some e.1
 in_slot id e [] r h = absurd (none_is_not e h)
 in_slot id e (x ∷ es) r h =
@@ -154,8 +149,7 @@ pub change_length : (t : Task) (es : Entries) → length (change_task t es) ≡ 
 change_length t [] = refl
 change_length t (e ∷ es) =
     (elim (bytes_eq e.1.id t.id) as
-    (λ (b : Bool). bytes_eq e.1.id t.id ≡ b
-    → length (cond b ((e.0, t) ∷ es) (e ∷ change_task t es)) ≡ length (e ∷ es))
+    (λ (b : Bool). bytes_eq e.1.id t.id ≡ b → length (cond b ((e.0, t) ∷ es) (e ∷ change_task t es)) ≡ length (e ∷ es))
     [ true ↦ λ is. refl | false ↦ λ is. ap (λ (n : ℕ). suc n) (change_length t es) ]) refl
 
 pub change_slots : (t : Task) (es : Entries) → slots_of (change_task t es) ≡ slots_of es
@@ -189,8 +183,7 @@ change_incarnations t old k (e ∷ es) h same =
       | false ↦ λ is. ap (λ (ns : List ℕ). e.1.incarnation ∷ ns) (change_incarnations t old k es is same)
     ]) h
 
-pub change_each :
-    (P : Task → Type 0) (t : Task) (es : Entries) → P t → Each (λ (e : ℕ × Task). P e.1) es
+pub change_each : (P : Task → Type 0) (t : Task) (es : Entries) → P t → Each (λ (e : ℕ × Task). P e.1) es
     → Each (λ (e : ℕ × Task). P e.1) (change_task t es)
 change_each P t [] p each = tt
 change_each P t (e ∷ es) p each =
@@ -237,8 +230,7 @@ changed_here t k e es same =
     (cond_is_false (nat_eq e.0 k) (Some t) (task_in k es) there
     ∙ sym (cond_is_false (nat_eq e.0 k) (Some e.1) (task_in k es) there)))
 
-changed_below :
-    (t : Task) (k : ℕ) (e : ℕ × Task) (es new : Entries) → nat_eq e.0 k ≡ false → IsChangedIn t k es new
+changed_below : (t : Task) (k : ℕ) (e : ℕ × Task) (es new : Entries) → nat_eq e.0 k ≡ false → IsChangedIn t k es new
     → IsChangedIn t k (e ∷ es) (e ∷ new)
 changed_below t k e es new off (inl same) =
     inl (cond_is_false (nat_eq e.0 k) (Some e.1) (task_in k new) off
@@ -280,8 +272,7 @@ put_length k t (e ∷ es) =
     (λ (b : Bool). length (cond b ((k, t) ∷ e ∷ es) (e ∷ put_task k t es)) ≡ suc (length (e ∷ es)))
     [ true ↦ refl | false ↦ ap (λ (n : ℕ). suc n) (put_length k t es) ]
 
-pub put_each :
-    (P : Task → Type 0) (k : ℕ) (t : Task) (es : Entries) → P t → Each (λ (e : ℕ × Task). P e.1) es
+pub put_each : (P : Task → Type 0) (k : ℕ) (t : Task) (es : Entries) → P t → Each (λ (e : ℕ × Task). P e.1) es
     → Each (λ (e : ℕ × Task). P e.1) (put_task k t es)
 put_each P k t [] p each = (p, tt)
 put_each P k t (e ∷ es) p each =
@@ -342,8 +333,7 @@ from_below old t j e es new off (inr one) =
       cond_is_false (nat_eq e.0 j) (Some e.1) (task_in j new) off ∙ one.1,
     )
 
-from_later :
-    (old t : Task) (j : ℕ) (e : ℕ × Task) (es new : Entries) → IsChangedFrom old t j es new
+from_later : (old t : Task) (j : ℕ) (e : ℕ × Task) (es new : Entries) → IsChangedFrom old t j es new
     → IsChangedFrom old t j (e ∷ es) (e ∷ new)
 from_later old t j e es new is =
     by_slot e.0 j
@@ -352,8 +342,7 @@ from_later old t j e es new is =
     ∙ sym (cond_is_true (nat_eq e.0 j) (Some e.1) (task_in j es) here)))
     (λ there other. from_below old t j e es new there is)
 
-pub changed_from_old :
-    (old t : Task) (k j : ℕ) (es : Entries) → entry_of t.id es ≡ Some (k, old)
+pub changed_from_old : (old t : Task) (k j : ℕ) (es : Entries) → entry_of t.id es ≡ Some (k, old)
     → IsChangedFrom old t j es (change_task t es)
 changed_from_old old t k j [] h = inl refl
 changed_from_old old t k j (e ∷ es) h =
@@ -369,8 +358,7 @@ changed_from_old old t k j (e ∷ es) h =
     (changed_from_old old t k j es
     (cond_false (bytes_eq e.1.id t.id) (Some e) (entry_of t.id es) (Some (k, old)) n h))))
 
-pub remove_each :
-    {X : Type 0} (P : X → Type 0) (f : ℕ × Task → X) (id : List ℕ) (es : Entries) → Each P (map f es)
+pub remove_each : {X : Type 0} (P : X → Type 0) (f : ℕ × Task → X) (id : List ℕ) (es : Entries) → Each P (map f es)
     → Each P (map f (remove_task id es))
 remove_each {X} P f id [] each = tt
 remove_each {X} P f id (e ∷ es) each =
@@ -383,8 +371,7 @@ remove_entries P id (e ∷ es) each =
     elim (bytes_eq e.1.id id) as (λ (b : Bool). Each P (cond b es (e ∷ remove_task id es)))
     [ true ↦ each.1 | false ↦ (each.0, remove_entries P id es each.1) ]
 
-pub remove_distinct :
-    {X : Type 0} (f : ℕ × Task → X) (id : List ℕ) (es : Entries) → AreDistinct (map f es)
+pub remove_distinct : {X : Type 0} (f : ℕ × Task → X) (id : List ℕ) (es : Entries) → AreDistinct (map f es)
     → AreDistinct (map f (remove_task id es))
 remove_distinct {X} f id [] d = tt
 remove_distinct {X} f id (e ∷ es) d =
@@ -419,8 +406,7 @@ nothing_below k (e ∷ es) each =
     ∙ nothing_below k es each.1
 
 -- its slot has no task afterwards
-pub removed_there :
-    (id : List ℕ) (e : ℕ × Task) (es : Entries) → AreRising (slots_of es) → entry_of id es ≡ Some e
+pub removed_there : (id : List ℕ) (e : ℕ × Task) (es : Entries) → AreRising (slots_of es) → entry_of id es ≡ Some e
     → task_in e.0 (remove_task id es) ≡ None
 removed_there id e [] r h = absurd (none_is_not e h)
 removed_there id e (x ∷ es) r h =
@@ -437,16 +423,14 @@ removed_there id e (x ∷ es) r h =
     (other_slot x.0 e.0 (λ same. omega (arith, below, same))) ∙ removed_there id e es r.1 rest))
 
 -- every other slot keeps what it has
-pub removed_beside :
-    (id : List ℕ) (e : ℕ × Task) (j : ℕ) (es : Entries) → entry_of id es ≡ Some e → j ≢ e.0
+pub removed_beside : (id : List ℕ) (e : ℕ × Task) (j : ℕ) (es : Entries) → entry_of id es ≡ Some e → j ≢ e.0
     → task_in j (remove_task id es) ≡ task_in j es
 removed_beside id e j [] h other = refl
 removed_beside id e j (x ∷ es) h other =
     by_id x.1.id id
     (λ y same.
     let is : x ≡ e = some_is x e (cond_true (bytes_eq x.1.id id) (Some x) (entry_of id es) (Some e) y h) in
-    ap (task_in j) (cond_is_true (bytes_eq x.1.id id) es (x ∷ remove_task id es) y)
-    ∙ sym
+    ap (task_in j) (cond_is_true (bytes_eq x.1.id id) es (x ∷ remove_task id es) y) ∙ sym
     (cond_is_false (nat_eq x.0 j) (Some x.1) (task_in j es)
     (other_slot x.0 j (λ at. other (sym at ∙ ap (λ (z : ℕ × Task). z.0) is)))))
     (λ n differs.

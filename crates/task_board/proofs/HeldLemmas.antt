@@ -93,8 +93,7 @@ used_in k t (e ∷ es) h =
     (λ n other. or_right (bytes_eq e.1.process.module t.process.module) (is_among t.process.module (used_by es))
     (used_in k t es (cond_false (nat_eq e.0 k) (Some e.1) (task_in k es) (Some t) n h)))
 
-store_tasks :
-    (s : BoardState) (new : StoreState)
+store_tasks : (s : BoardState) (new : StoreState)
     → ((digest bytes : List ℕ) → is_held (used_by s.tasks) s.store.leases digest ≡ true
     → content_in s.store.contents digest ≡ Some bytes → content_in new.contents digest ≡ Some bytes)
     → TasksHave s.store s.tasks → TasksHave new s.tasks
@@ -104,8 +103,7 @@ store_tasks s new stays all k t there =
     (used_in k t s.tasks there)) (all k t there)
 
 -- a task is changed to one of the same content
-one_changed :
-    (store : StoreState) (es us : Entries) (old new : Task) (j : ℕ) (t : Task) → new.process ≡ old.process
+one_changed : (store : StoreState) (es us : Entries) (old new : Task) (j : ℕ) (t : Task) → new.process ≡ old.process
     → new.bytes ≡ old.bytes → TasksHave store es → IsChangedFrom old new j es us
     → task_in j us ≡ Some t → content_in store.contents t.process.module ≡ Some t.bytes
 one_changed store es us old new j t process bytes all (inl same) there = all j t (sym same ∙ there)
@@ -117,14 +115,12 @@ one_changed store es us old new j t process bytes all (inr one) there =
     in
     subst P is own
 
-task_changed :
-    (s : BoardState) (id : List ℕ) (old new : Task) → task_of id s.tasks ≡ Some old → new.id ≡ old.id
+task_changed : (s : BoardState) (id : List ℕ) (old new : Task) → task_of id s.tasks ≡ Some old → new.id ≡ old.id
     → new.process ≡ old.process → new.bytes ≡ old.bytes
     → TasksHave s.store s.tasks → TasksHave s.store (change_task new s.tasks)
 task_changed s id old new at same process bytes all j t there =
     let f = found id s.tasks old at in
-    let own :
-    entry_of new.id s.tasks ≡ Some (f.0, old) =
+    let own : entry_of new.id s.tasks ≡ Some (f.0, old) =
     ap (λ (x : List ℕ). entry_of x s.tasks) (same ∙ task_named id s.tasks old at) ∙ f.1 in
     one_changed s.store s.tasks (change_task new s.tasks) old new j t process bytes all
     (changed_from_old old new f.0 j s.tasks own) there
@@ -140,8 +136,7 @@ change_process (change.Kill signal) t = by t.out
     by None = (refl, refl)
     by (Some n) = (refl, refl)
 
-create_tasks :
-    (s : BoardState) (config id : List ℕ) (r : Answer) (s' : BoardState) → Creates s config id r s'
+create_tasks : (s : BoardState) (config id : List ℕ) (r : Answer) (s' : BoardState) → Creates s config id r s'
     → TasksHave s.store s.tasks → TasksHave s'.store s'.tasks
 create_tasks s config id (Err e) s' effect all =
     subst (λ (x : BoardState). TasksHave x.store x.tasks) (sym effect.4.1) all
@@ -152,8 +147,7 @@ create_tasks s config id (Ok r) s' effect all =
     (λ k u there.
     by_slot k enters.0
     (λ y here.
-    let is :
-    t ≡ u =
+    let is : t ≡ u =
     some_is t u
     (sym (put_there enters.0 t s.tasks enters.1)
     ∙ subst (λ (j : ℕ). task_in j (put_task enters.0 t s.tasks) ≡ Some u) here there) in
@@ -165,8 +159,7 @@ delete_tasks :
     → TasksHave s.store (remove_task old.id s.tasks)
 delete_tasks s id old b at all k t there =
     let f = found id s.tasks old at in
-    let own :
-    entry_of old.id s.tasks ≡ Some (f.0, old) =
+    let own : entry_of old.id s.tasks ≡ Some (f.0, old) =
     ap (λ (x : List ℕ). entry_of x s.tasks) (task_named id s.tasks old at) ∙ f.1 in
     by_slot k f.0
     (λ y here. absurd
@@ -175,8 +168,7 @@ delete_tasks s id old b at all k t there =
     ∙ subst (λ (j : ℕ). task_in j (remove_task old.id s.tasks) ≡ Some t) here there)))
     (λ n other. all k t (sym (removed_beside old.id (f.0, old) k s.tasks own other) ∙ there))
 
-effect_tasks :
-    (s : BoardState) (q : Request) (s' : BoardState) → IsBoard s → Effect s q s' → TasksHave s.store s.tasks
+effect_tasks : (s : BoardState) (q : Request) (s' : BoardState) → IsBoard s → Effect s q s' → TasksHave s.store s.tasks
     → TasksHave s'.store s'.tasks
 effect_tasks s q s' b (nothing same) all = subst (λ (x : BoardState). TasksHave x.store x.tasks) (sym same) all
 effect_tasks s q s' b (stores new change is) all =
@@ -203,8 +195,7 @@ return_tasks s id (Some t) s' at back all =
     (task_changed s id t back.0 at (ap (λ (x : Task). x.id) is) (ap (λ (x : Task). x.process) is)
     (ap (λ (x : Task). x.bytes) is) all)
 
-step_tasks :
-    (s : BoardState) (e : Event) (r : EventReply) (s' : BoardState) → IsBoard s → Step s e r s'
+step_tasks : (s : BoardState) (e : Event) (r : EventReply) (s' : BoardState) → IsBoard s → Step s e r s'
     → TasksHave s.store s.tasks → TasksHave s'.store s'.tasks
 step_tasks s (event.Call q) (answer.Called a) s' b step all = effect_tasks s q s' b (effect_of s q a s' step) all
 step_tasks s (event.Take id budget) (answer.Taken true) s' b step all =
@@ -233,14 +224,12 @@ effect_leased s q s' (changes c id t asked at can is) all = leased_same s s' (ap
 effect_leased s q s' (deletes id t at can is) all = leased_same s s' (ap (λ (x : BoardState). x.store) is) all
 effect_leased s q s' (marks m id t at none is) all = leased_same s s' (ap (λ (x : BoardState). x.store) is) all
 
-return_leased :
-    (s : BoardState) (o : Option Task) (s' : BoardState) → Returns s o s' → LeasedAreThere s.store
+return_leased : (s : BoardState) (o : Option Task) (s' : BoardState) → Returns s o s' → LeasedAreThere s.store
     → LeasedAreThere s'.store
 return_leased s None s' back all = absurd back
 return_leased s (Some t) s' back all = leased_same s s' (ap (λ (x : BoardState). x.store) back.2) all
 
-step_leased :
-    (s : BoardState) (e : Event) (r : EventReply) (s' : BoardState) → Step s e r s' → LeasedAreThere s.store
+step_leased : (s : BoardState) (e : Event) (r : EventReply) (s' : BoardState) → Step s e r s' → LeasedAreThere s.store
     → LeasedAreThere s'.store
 step_leased s (event.Call q) (answer.Called a) s' step all = effect_leased s q s' (effect_of s q a s' step) all
 step_leased s (event.Take id budget) (answer.Taken true) s' step all =
@@ -252,8 +241,7 @@ step_leased s (event.Return id) (answer.Returned false) s' step all =
     leased_same s s' (ap (λ (x : BoardState). x.store) step.1) all
 step_leased s _ _ s' step all = absurd step
 
-there_by :
-    (s : BoardState) (e : Event) (r : EventReply) (s' : BoardState) → AllThere s → Happens s e r s'
+there_by : (s : BoardState) (e : Event) (r : EventReply) (s' : BoardState) → AllThere s → Happens s e r s'
     → (s' ≡ s) ⊎ Step s e r s' → AllThere s'
 there_by s e r s' all h (inl same) = subst AllThere (sym same) all
 there_by s e r s' all h (inr step) = record {

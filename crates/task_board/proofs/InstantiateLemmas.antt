@@ -16,8 +16,7 @@ pub record Undecoded (bytes : List ℕ) (e : Refusal) : Type 0 where
   pub over : e ≡ refusal.Limit → Over bytes
   pub none : e ≡ refusal.Limit → (m : Module) → Spells bytes m → Within m → length bytes ≤ max_module_bytes → ⊥
 
-pub undecoded :
-    (bytes : List ℕ) (p : ProcessConfig) (e : Refusal) → Undecoded bytes e
+pub undecoded : (bytes : List ℕ) (p : ProcessConfig) (e : Refusal) → Undecoded bytes e
     → (e ≡ refusal.BadModule) ⊎ ((e ≡ refusal.Limit) ⊎ (e ≡ refusal.NoMemory))
     → e ≢ refusal.NoMemory → CannotOpen bytes p e
 undecoded bytes p e u (inl bad) other = subst (CannotOpen bytes p) (sym bad) (no_module (u.bad bad))
@@ -26,8 +25,7 @@ undecoded bytes p e u (inr (inl over)) other =
 undecoded bytes p e u (inr (inr no_memory)) other = absurd (other no_memory)
 
 -- what a checker's refusal says
-pub unchecked :
-    (r : Result Module Refusal) (e : Refusal)
+pub unchecked : (r : Result Module Refusal) (e : Refusal)
     → OnErr r (((at : Option Place) × (r ≡ Err (refusal.Invalid at))) ⊎ (r ≡ Err refusal.NoMemory))
     → r ≡ Err e → e ≢ refusal.NoMemory → (at : Option Place) × (e ≡ refusal.Invalid at)
 unchecked (Ok v) e h is other = let n : ⊥ = cc in absurd n

@@ -41,7 +41,7 @@ use Rattle.task_board.specs.declared.change.Change.{Change}
 use Rattle.task_board.specs.declared.change.Change.TheVariants as change
 use Rattle.task_board.specs.declared.mark.Mark.{Mark}
 use Rattle.task_board.specs.declared.mark.Mark.TheVariants as mark
-use Rattle.task_board.specs.Inside.Changes.{change_call, change_request, changed}
+use Rattle.task_board.specs.Inside.Changes.{change_call, changed, change_ask}
 use Rattle.task_board.specs.Inside.Marks.{mark_call, marked}
 use Rattle.task_board.specs.Moves.{Moves, stays, starts, pauses, resumes, is_killed, is_taken, returns, has_break, loses_break, steps, IsStepOf, Becomes, goes, remains}
 use Rattle.task_board.specs.Choices.{IsDetermined, AgreeOnRefusal, AgreeOnCreate}
@@ -89,8 +89,7 @@ pub record IsTakenOf (s : BoardState) (id : List ℕ) (budget : ℕ) (s' : Board
   pub ready : can_lend task ≡ true
   pub leaves : s' ≡ with_task s (lent task budget)
 
-taken_task :
-    (s : BoardState) (id : List ℕ) (budget : ℕ) (t : Task) (s' : BoardState) (b : Bool)
+taken_task : (s : BoardState) (id : List ℕ) (budget : ℕ) (t : Task) (s' : BoardState) (b : Bool)
     → (1 ≤ budget) × (budget ≤ max_budget) → task_of id s.tasks ≡ Some t → can_lend t ≡ b
     → cond b (Some (with_task s (lent t budget))) None ≡ Some s' → IsTakenOf s id budget s'
 taken_task s id budget t s' true range is ready h =
@@ -103,8 +102,7 @@ taken_task s id budget t s' true range is ready h =
     }
 taken_task s id budget t s' false range is ready h = absurd (none_is_not s' h)
 
-taken_named :
-    (s : BoardState) (id : List ℕ) (budget : ℕ) (o : Option Task) (s' : BoardState)
+taken_named : (s : BoardState) (id : List ℕ) (budget : ℕ) (o : Option Task) (s' : BoardState)
     → (1 ≤ budget) × (budget ≤ max_budget) → task_of id s.tasks ≡ o
     → option_and_then (lends s budget) o ≡ Some s' → IsTakenOf s id budget s'
 taken_named s id budget None s' range is h = absurd (none_is_not s' h)
@@ -115,8 +113,7 @@ taken_by : (s : BoardState) (id : List ℕ) (budget : ℕ) (s' : BoardState) (b 
 taken_by s id budget s' true is h = taken_named s id budget (task_of id s.tasks) s' (budget_range budget is) refl h
 taken_by s id budget s' false is h = absurd (none_is_not s' h)
 
-pub taken_of :
-    (s : BoardState) (id : List ℕ) (budget : ℕ) (s' : BoardState) → taken s id budget ≡ Some s'
+pub taken_of : (s : BoardState) (id : List ℕ) (budget : ℕ) (s' : BoardState) → taken s id budget ≡ Some s'
     → IsTakenOf s id budget s'
 taken_of s id budget s' h = taken_by s id budget s' (is_budget budget) refl h
 
@@ -127,8 +124,7 @@ take_sound s id budget s' b is =
     (changed_sound s id is.task (lent is.task budget) b is.named refl refl
     (lent_sound s.creates is.task budget (sound_of s id is.task b is.named) is.ready is.range))
 
-return_sound :
-    (s : BoardState) (id : List ℕ) (o : Option Task) (s' : BoardState) → IsBoard s → task_of id s.tasks ≡ o
+return_sound : (s : BoardState) (id : List ℕ) (o : Option Task) (s' : BoardState) → IsBoard s → task_of id s.tasks ≡ o
     → Returns s o s' → IsBoard s'
 return_sound s id None s' b is back = absurd back
 return_sound s id (Some t) s' b is back =
@@ -173,15 +169,13 @@ run_sound es rs s run = run_keeps IsBoard happens_sound empty es rs s empty_soun
 -- ---- how tasks move
 
 -- the task with an id is changed in its slot alone
-change_beside :
-    (new old : Task) (k j : ℕ) (es : Entries) → entry_of new.id es ≡ Some (k, old) → j ≢ k
+change_beside : (new old : Task) (k j : ℕ) (es : Entries) → entry_of new.id es ≡ Some (k, old) → j ≢ k
     → task_in j (change_task new es) ≡ task_in j es
 change_beside new old k j [] h other = refl
 change_beside new old k j (e ∷ es) h other =
     by_id e.1.id new.id
     (λ y same.
-    let at :
-    e.0 ≡ k =
+    let at : e.0 ≡ k =
     ap (λ (x : ℕ × Task). x.0)
     (some_is e (k, old) (cond_true (bytes_eq e.1.id new.id) (Some e) (entry_of new.id es) (Some (k, old)) y h))
     in
@@ -195,15 +189,13 @@ change_beside new old k j (e ∷ es) h other =
     (change_beside new old k j es
     (cond_false (bytes_eq e.1.id new.id) (Some e) (entry_of new.id es) (Some (k, old)) n h) other))
 
-change_there :
-    (new old : Task) (k : ℕ) (es : Entries) → AreRising (slots_of es) → entry_of new.id es ≡ Some (k, old)
+change_there : (new old : Task) (k : ℕ) (es : Entries) → AreRising (slots_of es) → entry_of new.id es ≡ Some (k, old)
     → task_in k (change_task new es) ≡ Some new
 change_there new old k [] r h = absurd (none_is_not (k, old) h)
 change_there new old k (e ∷ es) r h =
     by_id e.1.id new.id
     (λ y same.
-    let at :
-    e.0 ≡ k =
+    let at : e.0 ≡ k =
     ap (λ (x : ℕ × Task). x.0)
     (some_is e (k, old) (cond_true (bytes_eq e.1.id new.id) (Some e) (entry_of new.id es) (Some (k, old)) y h))
     in
@@ -234,15 +226,14 @@ mark_moves (mark.Remove p) t can = loses_break p can refl
 -- what becomes of a task; if it takes no turns, and the event is no step of it, its turns stay
 abbrev BecomesBy : Event → Task → Option Task → Type 0
 BecomesBy e t o =
-    Becomes t o
-    × ((t' : Task) → o ≡ Some t' → takes_turns t.status ≡ false → (IsStepOf e t → ⊥) → t'.turns ≡ t.turns)
+    Becomes t o × ((t' : Task) → o ≡ Some t' → takes_turns t.status ≡ false → (IsStepOf e t → ⊥) → t'.turns ≡ t.turns)
 
 abbrev Quiet : Event → Task → Task → Type 0
 Quiet e t t' = takes_turns t.status ≡ false → (IsStepOf e t → ⊥) → t'.turns ≡ t.turns
 
 -- what adds turns is a step of the task
-change_quiet :
-    (c : Change) (id : List ℕ) (t : Task) → t.id ≡ id → Quiet (event.Call (change_request c id)) t (changed c t)
+change_quiet : (c : Change) (id : List ℕ) (t : Task) → t.id ≡ id
+    → Quiet (event.Call (request.Task id (change_ask c))) t (changed c t)
 change_quiet (change.Step count) id t own off other = absurd (other (sym own))
 change_quiet (change.Kill signal) id t own off other = killed_turns signal t t.out
 change_quiet change.Start id t own off other = refl
@@ -254,8 +245,7 @@ module _ (e : Event) where
   AllMove ts us = (k : ℕ) → (t : Task) → task_in k ts ≡ Some t → BecomesBy e t (task_in k us)
 
   -- what is in a slot is there afterwards
-  moves_to :
-      (us : Entries) (k : ℕ) (t t' : Task) → task_in k us ≡ Some t' → Moves t t' → Quiet e t t'
+  moves_to : (us : Entries) (k : ℕ) (t t' : Task) → task_in k us ≡ Some t' → Moves t t' → Quiet e t t'
       → BecomesBy e t (task_in k us)
   moves_to us k t t' at m quiet =
       subst (BecomesBy e t) (sym at) (
@@ -274,13 +264,11 @@ module _ (e : Event) where
       → new.id ≡ old.id → Moves old new → Quiet e old new → AllMove s.tasks (with_task s new).tasks
   one_moves s id old new r is same moves quiet k t there =
       let f = found id s.tasks old is in
-      let own :
-      entry_of new.id s.tasks ≡ Some (f.0, old) =
+      let own : entry_of new.id s.tasks ≡ Some (f.0, old) =
       ap (λ (x : List ℕ). entry_of x s.tasks) (same ∙ named id s.tasks (f.0, old) f.1) ∙ f.1 in
       by_slot k f.0
       (λ y here.
-      let is_old :
-      old ≡ t =
+      let is_old : old ≡ t =
       some_is old t
       (sym (in_slot id (f.0, old) s.tasks r f.1) ∙ subst (λ (j : ℕ). task_in j s.tasks ≡ Some t) here there) in
       moves_to (change_task new s.tasks) k t new
@@ -290,22 +278,18 @@ module _ (e : Event) where
       (change_beside new old f.0 k s.tasks own other ∙ there) (stays refl) (λ off step. refl))
 
   -- a task that is deleted leaves its slot, and the others stay
-  one_goes :
-      (s : BoardState) (id : List ℕ) (old : Task) → AreRising (slots_of s.tasks) → task_of id s.tasks ≡ Some old
+  one_goes : (s : BoardState) (id : List ℕ) (old : Task) → AreRising (slots_of s.tasks) → task_of id s.tasks ≡ Some old
       → allowed call.Delete old.status ≡ true → AllMove s.tasks (without_task s old.id).tasks
   one_goes s id old r is can k t there =
       let f = found id s.tasks old is in
-      let own :
-      entry_of old.id s.tasks ≡ Some (f.0, old) =
+      let own : entry_of old.id s.tasks ≡ Some (f.0, old) =
       ap (λ (x : List ℕ). entry_of x s.tasks) (named id s.tasks (f.0, old) f.1) ∙ f.1 in
       by_slot k f.0
       (λ y here.
-      let is_old :
-      old ≡ t =
+      let is_old : old ≡ t =
       some_is old t
       (sym (in_slot id (f.0, old) s.tasks r f.1) ∙ subst (λ (j : ℕ). task_in j s.tasks ≡ Some t) here there) in
-      let gone :
-      task_in k (remove_task old.id s.tasks) ≡ None =
+      let gone : task_in k (remove_task old.id s.tasks) ≡ None =
       ap (λ (j : ℕ). task_in j (remove_task old.id s.tasks)) here ∙ removed_there old.id (f.0, old) s.tasks r own in
       subst (BecomesBy e t) (sym gone) (
         goes (subst (λ (x : Task). allowed call.Delete x.status ≡ true) is_old can),
@@ -314,8 +298,7 @@ module _ (e : Event) where
       (λ n other. moves_to (remove_task old.id s.tasks) k t t
       (removed_beside old.id (f.0, old) k s.tasks own other ∙ there) (stays refl) (λ off step. refl))
 
-  create_moves :
-      (s : BoardState) (config id : List ℕ) (r : Answer) (s' : BoardState) → Creates s config id r s'
+  create_moves : (s : BoardState) (config id : List ℕ) (r : Answer) (s' : BoardState) → Creates s config id r s'
       → AllMove s.tasks s'.tasks
   create_moves s config id (Err x) s' effect = stay_same s s' effect.4.1
   create_moves s config id (Ok r) s' effect =
@@ -327,8 +310,7 @@ module _ (e : Event) where
       (λ same. none_is_not u (sym enters.1 ∙ subst (λ (j : ℕ). task_in j s.tasks ≡ Some u) same there)) ∙ there)
       (stays refl) (λ off other. refl))
 
-  effect_moves :
-      (s : BoardState) (q : Request) (s' : BoardState) → e ≡ event.Call q → AreRising (slots_of s.tasks)
+  effect_moves : (s : BoardState) (q : Request) (s' : BoardState) → e ≡ event.Call q → AreRising (slots_of s.tasks)
       → Effect s q s' → AllMove s.tasks s'.tasks
   effect_moves s q s' of rising (nothing same) = stay_same s s' same
   effect_moves s q s' of rising (stores new change is) =
@@ -350,16 +332,14 @@ module _ (e : Event) where
       → Answers s q r s' → AllMove s.tasks s'.tasks
   answers_move s q r s' of rising a = effect_moves s q s' of rising (effect_of s q r s' a)
 
-  take_moves :
-      (s : BoardState) (id : List ℕ) (budget : ℕ) (s' : BoardState) → AreRising (slots_of s.tasks)
+  take_moves : (s : BoardState) (id : List ℕ) (budget : ℕ) (s' : BoardState) → AreRising (slots_of s.tasks)
       → IsTakenOf s id budget s' → AllMove s.tasks s'.tasks
   take_moves s id budget s' r is =
       subst (λ (x : BoardState). AllMove s.tasks x.tasks) (sym is.leaves)
       (one_moves s id is.task (lent is.task budget) r is.named refl (is_taken budget is.ready refl)
       (λ off other. refl))
 
-  return_moves :
-      (s : BoardState) (id : List ℕ) (o : Option Task) (s' : BoardState) → AreRising (slots_of s.tasks)
+  return_moves : (s : BoardState) (id : List ℕ) (o : Option Task) (s' : BoardState) → AreRising (slots_of s.tasks)
       → task_of id s.tasks ≡ o → Returns s o s' → AllMove s.tasks s'.tasks
   return_moves s id None s' r is back = absurd back
   return_moves s id (Some t) s' r is back =
@@ -370,8 +350,7 @@ module _ (e : Event) where
 step_moves :
     (s : BoardState) (e : Event) (r : EventReply) (s' : BoardState) → AreRising (slots_of s.tasks) → Step s e r s'
     → AllMove e s.tasks s'.tasks
-step_moves s (event.Call q) (answer.Called a) s' b step =
-    answers_move (event.Call q) s q a s' refl b step
+step_moves s (event.Call q) (answer.Called a) s' b step = answers_move (event.Call q) s q a s' refl b step
 step_moves s (event.Take id budget) (answer.Taken true) s' b step =
     take_moves (event.Take id budget) s id budget s' b (taken_of s id budget s' step)
 step_moves s (event.Take id budget) (answer.Taken false) s' b step = stay_same (event.Take id budget) s s' step.1
@@ -380,8 +359,7 @@ step_moves s (event.Return id) (answer.Returned true) s' b step =
 step_moves s (event.Return id) (answer.Returned false) s' b step = stay_same (event.Return id) s s' step.1
 step_moves s _ _ s' b step = absurd step
 
-moves_by :
-    (s : BoardState) (e : Event) (r : EventReply) (s' : BoardState) → AreRising (slots_of s.tasks)
+moves_by : (s : BoardState) (e : Event) (r : EventReply) (s' : BoardState) → AreRising (slots_of s.tasks)
     → (s' ≡ s) ⊎ Step s e r s' → AllMove e s.tasks s'.tasks
 moves_by s e r s' b (inl same) = stay_same e s s' same
 moves_by s e r s' b (inr step) = step_moves s e r s' b step
@@ -428,8 +406,7 @@ no_signal (Some (own.Exited n)) signal h = cc
 no_signal (Some (own.Trapped t)) signal h = cc
 
 -- a task that goes on, and what ends it is a signal
-signal_ends :
-    (creates : ℕ) (t t' : Task) (signal : Signal) → IsSound creates t → is_going t.status ≡ true → Moves t t'
+signal_ends : (creates : ℕ) (t t' : Task) (signal : Signal) → IsSound creates t → is_going t.status ≡ true → Moves t t'
     → t'.end ≡ Some (exit.Kill signal) → GoesOn t'
 signal_ends creates t t' signal h going (stays is) end = subst GoesOn (sym is) (h.goes going)
 signal_ends creates t t' signal h going (starts can is) end = absurd (created_only t.status can going)
@@ -451,8 +428,7 @@ signal_ends creates t t' signal h going (returns back) end =
     let made : 1 ≤ t.turns + k = omega (arith, some) in
     subst GoesOn (sym back.advances) ((advanced_sound creates t k h).end (exit.Kill signal) at made)
 
-ends_by :
-    (creates : ℕ) (t t' : Task) (o : Option Task) (signal : Signal) → IsSound creates t → is_going t.status ≡ true
+ends_by : (creates : ℕ) (t t' : Task) (o : Option Task) (signal : Signal) → IsSound creates t → is_going t.status ≡ true
     → Becomes t o → o ≡ Some t' → t'.end ≡ Some (exit.Kill signal) → GoesOn t'
 ends_by creates t t' _ signal h going (goes can) at end = absurd (none_is_not t' at)
 ends_by creates t t' _ signal h going (remains u m) at end =
@@ -461,8 +437,7 @@ ends_by creates t t' _ signal h going (remains u m) at end =
 
 pub signals_end :
     (s : BoardState) (e : Event) (r : EventReply) (s' : BoardState) → IsBoard s → Happens s e r s' → (k : ℕ) (t : Task)
-    → task_in k s.tasks ≡ Some t → is_going t.status ≡ true
-    → (t' : Task) → task_in k s'.tasks ≡ Some t'
+    → task_in k s.tasks ≡ Some t → is_going t.status ≡ true → (t' : Task) → task_in k s'.tasks ≡ Some t'
     → (signal : Signal) → t'.end ≡ Some (exit.Kill signal) → ended (execution_at t' t'.turns) ≡ None
 signals_end s e r s' b h k t there going t' at signal end =
     ends_by s.creates t t' (task_in k s'.tasks) signal (sound_in s k t b there) going
@@ -473,8 +448,7 @@ signals_end s e r s' b h k t there going t' at signal end =
 abbrev pub Same : {A : Type 0} → A → BoardState → A → BoardState → Type 0
 Same r s1 r' s2 = (r ≡ r') × (s1 ≡ s2)
 
-decided_same :
-    (o : Option Refusal) (rep : Reply) (new s : BoardState) (r : Answer) (s1 : BoardState) (r' : Answer)
+decided_same : (o : Option Refusal) (rep : Reply) (new s : BoardState) (r : Answer) (s1 : BoardState) (r' : Answer)
     (s2 : BoardState)
     → DecidedBy o ((r ≡ Ok rep) × (s1 ≡ new)) s r s1 → DecidedBy o ((r' ≡ Ok rep) × (s2 ≡ new)) s r' s2
     → Same r s1 r' s2
@@ -497,15 +471,12 @@ on_task_same s id own does (Some t) r s1 r' s2 a b =
 
 on_store_same :
     (s : BoardState) (refusals : Refusals) (rep : Reply) (new : StoreState) (r : Answer) (s1 : BoardState) (r' : Answer)
-    (s2 : BoardState)
-    → OnStore s refusals rep new r s1 → OnStore s refusals rep new r' s2 → Same r s1 r' s2
+    (s2 : BoardState) → OnStore s refusals rep new r s1 → OnStore s refusals rep new r' s2 → Same r s1 r' s2
 on_store_same s refusals rep new r s1 r' s2 a b =
     decided_same (first_refusal refusals) rep (with_store s new) s r s1 r' s2 a b
 
-pub answers_same :
-    (s : BoardState) (q : Request) (r : Answer) (s1 : BoardState) (r' : Answer) (s2 : BoardState)
-    → IsDetermined (event.Call q)
-    → Answers s q r s1 → Answers s q r' s2 → Same r s1 r' s2
+pub answers_same : (s : BoardState) (q : Request) (r : Answer) (s1 : BoardState) (r' : Answer) (s2 : BoardState)
+    → IsDetermined (event.Call q) → Answers s q r s1 → Answers s q r' s2 → Same r s1 r' s2
 answers_same s (request.Put bytes) r s1 r' s2 d a b =
     on_store_same s (put_refusals s.store bytes) (reply.Put (digest_of bytes) (length bytes))
     (with_content s.store bytes) r s1 r' s2 a b
@@ -566,8 +537,7 @@ step_same s (event.Return id) (answer.Called x) s1 r' s2 d a b = absurd a
 step_same s (event.Return id) (answer.Taken x) s1 r' s2 d a b = absurd a
 step_same s _ _ s1 _ s2 d a b = absurd b
 
-pub is_step :
-    (s : BoardState) (e : Event) (r : EventReply) (s' : BoardState) → met_no_memory e r ≡ false
+pub is_step : (s : BoardState) (e : Event) (r : EventReply) (s' : BoardState) → met_no_memory e r ≡ false
     → Happens s e r s' → Step s e r s'
 is_step s e r s' is h = subst (λ (b : Bool). MatchBool b (s' ≡ s) (Step s e r s')) is h
 
@@ -587,8 +557,7 @@ abbrev pub Faulty : Type 0
 Faulty = (m : Module) (at : Option Place) → NamesFault m at → ValidModule m → ⊥
 
 -- bytes that can be opened are not refused
-opened_refused :
-    (bytes : List ℕ) (p : ProcessConfig) (m : Module) (e : Refusal) → One → Faulty → Openable bytes p m
+opened_refused : (bytes : List ℕ) (p : ProcessConfig) (m : Module) (e : Refusal) → One → Faulty → Openable bytes p m
     → CannotOpen bytes p e → ⊥
 opened_refused bytes p m _ one faulty opens (no_module none) = none m opens.spelled.spells
 opened_refused bytes p m _ one faulty opens (too_much over none) = none m opens.spelled
@@ -599,10 +568,8 @@ opened_refused bytes p m _ one faulty opens (refused n e spelled valid is) =
     none_is_not e (sym opens.opens ∙ subst (λ (x : Module). instantiation_refusal x p ≡ Some e) same is)
 
 -- two refusals of the same bytes
-refused_agree :
-    (bytes : List ℕ) (p : ProcessConfig) (e e' : Refusal) → One → Faulty → CannotOpen bytes p e
-    → CannotOpen bytes p e'
-    → AgreeOnRefusal e e'
+refused_agree : (bytes : List ℕ) (p : ProcessConfig) (e e' : Refusal) → One → Faulty → CannotOpen bytes p e
+    → CannotOpen bytes p e' → AgreeOnRefusal e e'
 refused_agree bytes p _ _ one faulty (no_module none) (no_module none') = inl refl
 refused_agree bytes p _ _ one faulty (no_module none) (too_much over none') = inr (inl (inl (refl, refl)))
 refused_agree bytes p _ _ one faulty (no_module none) (invalid m at spelled fault) = absurd (none m spelled.spells)
@@ -616,8 +583,7 @@ refused_agree bytes p _ _ one faulty (invalid m at spelled fault) (too_much over
 refused_agree bytes p _ _ one faulty (invalid m at spelled fault) (invalid n at' spelled' fault') = inr (inr (tt, tt))
 refused_agree bytes p _ _ one faulty (invalid m at spelled fault) (refused n e spelled' valid is) =
     absurd (faulty m at fault (subst ValidModule (one bytes n m spelled'.spells spelled.spells) valid))
-refused_agree bytes p _ _ one faulty (refused m e spelled valid is) (no_module none) =
-    absurd (none m spelled.spells)
+refused_agree bytes p _ _ one faulty (refused m e spelled valid is) (no_module none) = absurd (none m spelled.spells)
 refused_agree bytes p _ _ one faulty (refused m e spelled valid is) (too_much over none) = absurd (none m spelled)
 refused_agree bytes p _ _ one faulty (refused m e spelled valid is) (invalid n at spelled' fault) =
     absurd (faulty n at fault (subst ValidModule (one bytes m n spelled.spells spelled'.spells) valid))
@@ -625,10 +591,8 @@ refused_agree bytes p _ _ one faulty (refused m e spelled valid is) (refused n e
     let same : n ≡ m = one bytes n m spelled'.spells spelled.spells in
     inl (some_is e e' (sym is ∙ subst (λ (x : Module). instantiation_refusal x p ≡ Some e') same is'))
 
-opens_agree :
-    (s : BoardState) (id bytes : List ℕ) (p : ProcessConfig) (r : Answer) (s1 : BoardState) (r' : Answer)
-    (s2 : BoardState) → One → Faulty
-    → Opens s id bytes p r s1 → Opens s id bytes p r' s2 → AgreeOnCreate s r s1 r' s2
+opens_agree : (s : BoardState) (id bytes : List ℕ) (p : ProcessConfig) (r : Answer) (s1 : BoardState) (r' : Answer)
+    (s2 : BoardState) → One → Faulty → Opens s id bytes p r s1 → Opens s id bytes p r' s2 → AgreeOnCreate s r s1 r' s2
 opens_agree s id bytes p (Err e) s1 (Err e') s2 one faulty a b =
     (a.1, b.1, refused_agree bytes p e e' one faulty a.0 b.0)
 opens_agree s id bytes p (Err e) s1 (Ok y) s2 one faulty a b = opened_refused bytes p b.0 e one faulty b.1 a.0
@@ -649,8 +613,7 @@ creates_agree :
     → Creates s config id r s1 → Creates s config id r' s2 → AgreeOnCreate s r s1 r' s2
 creates_agree s config id r s1 r' s2 one faulty a b =
     let process : b.0 ≡ a.0 = some_is b.0 a.0 (sym b.2 ∙ a.2) in
-    let stored :
-    b.1 ≡ a.1 =
+    let stored : b.1 ≡ a.1 =
     some_is b.1 a.1 (sym b.3 ∙ (ap (λ (p : ProcessConfig). content_in s.store.contents p.module) process ∙ a.3)) in
     let moved = subst (λ (x : List ℕ). Opens s id x b.0 r' s2) stored b.4 in
     opens_agree s id a.1 a.0 r s1 r' s2 one faulty a.4
@@ -676,9 +639,7 @@ create_agrees s config id r s1 r' s2 one faulty a b =
 
 -- ---- what is never invalid
 
-never_invalid_by :
-    (a b c d : Bool) (at : Option Place)
-    → cond a (Some refusal.NoEntry)
+never_invalid_by : (a b c d : Bool) (at : Option Place) → cond a (Some refusal.NoEntry)
     (cond b (Some refusal.BadImport) (cond c (Some refusal.Limit) (cond d (Some refusal.SegmentOutOfBounds) None)))
     ≡ Some (refusal.Invalid at) → ⊥
 never_invalid_by true b c d at h = cc
@@ -687,15 +648,12 @@ never_invalid_by false false true d at h = cc
 never_invalid_by false false false true at h = cc
 never_invalid_by false false false false at h = cc
 
-never_invalid :
-    (m : Module) (p : ProcessConfig) (at : Option Place)
+never_invalid : (m : Module) (p : ProcessConfig) (at : Option Place)
     → instantiation_refusal m p ≡ Some (refusal.Invalid at) → ⊥
 never_invalid m p at h = never_invalid_by _ _ _ _ at h
 
-not_invalid_by :
-    (bytes : List ℕ) (p : ProcessConfig) (m : Module) (at : Option Place) (e : Refusal) → One → Faulty
-    → IsSpelled bytes m → ValidModule m
-    → e ≡ refusal.Invalid at → CannotOpen bytes p e → ⊥
+not_invalid_by : (bytes : List ℕ) (p : ProcessConfig) (m : Module) (at : Option Place) (e : Refusal) → One → Faulty
+    → IsSpelled bytes m → ValidModule m → e ≡ refusal.Invalid at → CannotOpen bytes p e → ⊥
 not_invalid_by bytes p m at _ one faulty spelled valid is (no_module none) = none m spelled.spells
 not_invalid_by bytes p m at _ one faulty spelled valid is (too_much over none) = none m spelled
 not_invalid_by bytes p m at _ one faulty spelled valid is (invalid n at' other fault) =

@@ -36,8 +36,7 @@ step_table : (o : Option End) → (landing o None true).0 ≡ cond (is_some o) S
 step_table (Some e) = refl
 step_table None = refl
 
-pub stepped_by_table :
-    (t : Task) (count : ℕ)
+pub stepped_by_table : (t : Task) (count : ℕ)
     → (stepped t count).status ≡ after call.Step (situation_at t (t.turns + slice_turns t count)) t.status
 stepped_by_table t count = step_table (ended (execution_at t (t.turns + slice_turns t count)))
 
@@ -52,15 +51,13 @@ own_landing : (o : Option End) (signal : Option Signal) (pauses : Bool) (e : End
 own_landing None signal pauses e is = absurd (none_is_not e is)
 own_landing (Some x) signal pauses e is = ap (λ (y : End). stopped_by (exit_of y)) (some_is x e is)
 
-signal_landing :
-    (o : Option End) (signal : Option Signal) (pauses : Bool) (s : Signal) → o ≡ None → signal ≡ Some s
+signal_landing : (o : Option End) (signal : Option Signal) (pauses : Bool) (s : Signal) → o ≡ None → signal ≡ Some s
     → landing o signal pauses ≡ stopped_by (exit.Kill s)
 signal_landing (Some e) signal pauses s none is = absurd (none_is_not e (sym none))
 signal_landing None None pauses s none is = absurd (none_is_not s is)
 signal_landing None (Some x) pauses s none is = ap (λ (y : Signal). stopped_by (exit.Kill y)) (some_is x s is)
 
-pause_landing :
-    (o : Option End) (signal : Option Signal) (pauses : Bool) → o ≡ None → signal ≡ None
+pause_landing : (o : Option End) (signal : Option Signal) (pauses : Bool) → o ≡ None → signal ≡ None
     → (landing o signal pauses).0 ≡ cond pauses Paused Running
 pause_landing (Some e) signal pauses none quiet = absurd (none_is_not e (sym none))
 pause_landing None (Some x) pauses none quiet = absurd (none_is_not x (sym quiet))
@@ -98,15 +95,13 @@ module _ (t t' : Task) (back : HasReturned t t') where
       (own_landing (ended (execution_at t (t.turns + k))) t.signal pauses e (sym same_end ∙ is))
 
   -- and else a signal
-  pub signal_stops :
-      (s : Signal) → t.signal ≡ Some s → ended (execution_at t' t'.turns) ≡ None
+  pub signal_stops : (s : Signal) → t.signal ≡ Some s → ended (execution_at t' t'.turns) ≡ None
       → (t'.status ≡ Stopped) × (t'.end ≡ Some (exit.Kill s))
   signal_stops s is none =
       lands (stopped_by (exit.Kill s))
       (signal_landing (ended (execution_at t (t.turns + k))) t.signal pauses s (sym same_end ∙ none) is)
 
-  goes_on :
-      (b : Bool) → ended (execution_at t' t'.turns) ≡ None → t.signal ≡ None → pauses ≡ b
+  goes_on : (b : Bool) → ended (execution_at t' t'.turns) ≡ None → t.signal ≡ None → pauses ≡ b
       → t'.status ≡ cond b Paused Running
   goes_on b none quiet is =
       ap (λ (u : Task). u.status) back.advances
@@ -140,10 +135,8 @@ module _ (t t' : Task) (back : HasReturned t t') where
 
 -- ---- the first signal
 
-first_kept_by :
-    (t : Task) (first second : Signal) (budget : ℕ) (o : Option ℕ) (p : Option Signal) → o ≡ Some budget
-    → p ≡ Some first → t.signal ≡ p
-    → killed_while o second t ≡ record t { signal = Some first }
+first_kept_by : (t : Task) (first second : Signal) (budget : ℕ) (o : Option ℕ) (p : Option Signal) → o ≡ Some budget
+    → p ≡ Some first → t.signal ≡ p → killed_while o second t ≡ record t { signal = Some first }
 first_kept_by t first second budget None p out is same = absurd (none_is_not budget out)
 first_kept_by t first second budget (Some n) p out is same =
     ap (λ (x : Signal). record t { signal = Some x }) (ap (λ (y : Option Signal). first_signal y second) (same ∙ is))

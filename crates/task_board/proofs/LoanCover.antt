@@ -24,8 +24,7 @@ use Rattle.task_board.proofs.EffectLemmas.{change_id, Effect, nothing, stores, e
 
 fitting_kept : (ts us : Entries) (j : ℕ) (l : Lent) → task_in j us ≡ task_in j ts → IsFitting ts j l → IsFitting us j l
 fitting_kept ts us j l same fit =
-    let there :
-    task_in l.slot us ≡ Some fit.1.0 =
+    let there : task_in l.slot us ≡ Some fit.1.0 =
     ap (λ (k : ℕ). task_in k us) fit.0 ∙ (same ∙ (ap (λ (k : ℕ). task_in k ts) (sym fit.0) ∙ fit.1.1)) in
     (fit.0, (fit.1.0, there, fit.1.2))
 
@@ -95,8 +94,7 @@ out_before (change.Kill signal) t budget h = by t.out refl h
     by (Some n) is g = g
 
 -- a change keeps the loan of a task that is out afterwards
-loan_stays :
-    (c : Change) (t : Task) (l : Lent) (budget : ℕ) → (changed c t).out ≡ Some budget → FitsTask l t
+loan_stays : (c : Change) (t : Task) (l : Lent) (budget : ℕ) → (changed c t).out ≡ Some budget → FitsTask l t
     → FitsTask l (changed c t)
 loan_stays change.Start t l budget h fits = absurd (none_is_not budget h)
 loan_stays change.Pause t l budget h fits = fits
@@ -110,8 +108,7 @@ loan_stays (change.Kill signal) t l budget h fits = by t.out h
 
 change_covered_by :
     (ls : List Lent) (c : Change) (t : Task) (es us : Entries) (j : ℕ) (u : Task) (budget : ℕ) → task_in j us ≡ Some u
-    → u.out ≡ Some budget → Covered ls es
-    → IsChangedFrom t (changed c t) j es us → SomeFits us j ls
+    → u.out ≡ Some budget → Covered ls es → IsChangedFrom t (changed c t) j es us → SomeFits us j ls
 change_covered_by ls c t es us j u budget there out covered (inl same) =
     some_kept es us j ls same (covered j u budget (sym same ∙ there) out)
 change_covered_by ls c t es us j u budget there out covered (inr one) =
@@ -124,51 +121,43 @@ change_covered_by ls c t es us j u budget there out covered (inr one) =
     (fit.0, (changed c t, at, loan_stays c t l budget stays (subst (λ (x : Task). FitsTask l x) own fit.1.2))))
     (covered j t budget one.0 (out_before c t budget stays))
 
-change_covered :
-    (ls : List Lent) (s : BoardState) (c : Change) (id : List ℕ) (t : Task) → task_of id s.tasks ≡ Some t
+change_covered : (ls : List Lent) (s : BoardState) (c : Change) (id : List ℕ) (t : Task) → task_of id s.tasks ≡ Some t
     → Covered ls s.tasks → Covered ls (change_task (changed c t) s.tasks)
 change_covered ls s c id t at covered j u budget there out =
     let f = found id s.tasks t at in
-    let own :
-    entry_of (changed c t).id s.tasks ≡ Some (f.0, t) =
+    let own : entry_of (changed c t).id s.tasks ≡ Some (f.0, t) =
     ap (λ (x : List ℕ). entry_of x s.tasks) (change_id c t ∙ task_named id s.tasks t at) ∙ f.1 in
     change_covered_by ls c t s.tasks (change_task (changed c t) s.tasks) j u budget there out covered
     (changed_from_old t (changed c t) f.0 j s.tasks own)
 
 -- what is idle afterwards needs no loan
-idle_covered_by :
-    (ls : List Lent) (old new : Task) (es us : Entries) (j : ℕ) (u : Task) (budget : ℕ) → new.out ≡ None
+idle_covered_by : (ls : List Lent) (old new : Task) (es us : Entries) (j : ℕ) (u : Task) (budget : ℕ) → new.out ≡ None
     → task_in j us ≡ Some u → u.out ≡ Some budget → Covered ls es → IsChangedFrom old new j es us → SomeFits us j ls
 idle_covered_by ls old new es us j u budget idle there out covered (inl same) =
     some_kept es us j ls same (covered j u budget (sym same ∙ there) out)
 idle_covered_by ls old new es us j u budget idle there out covered (inr one) =
     absurd (idle_not_out (task_in j us) new u budget one.1 idle there out)
 
-idle_covered :
-    (ls : List Lent) (s : BoardState) (id : List ℕ) (old new : Task) → task_of id s.tasks ≡ Some old
+idle_covered : (ls : List Lent) (s : BoardState) (id : List ℕ) (old new : Task) → task_of id s.tasks ≡ Some old
     → new.id ≡ old.id → new.out ≡ None → Covered ls s.tasks → Covered ls (change_task new s.tasks)
 idle_covered ls s id old new at same idle covered j u budget there out =
     let f = found id s.tasks old at in
-    let own :
-    entry_of new.id s.tasks ≡ Some (f.0, old) =
+    let own : entry_of new.id s.tasks ≡ Some (f.0, old) =
     ap (λ (x : List ℕ). entry_of x s.tasks) (same ∙ task_named id s.tasks old at) ∙ f.1 in
     idle_covered_by ls old new s.tasks (change_task new s.tasks) j u budget idle there out covered
     (changed_from_old old new f.0 j s.tasks own)
 
-delete_covered :
-    (ls : List Lent) (s : BoardState) (id : List ℕ) (t : Task) → IsBoard s → task_of id s.tasks ≡ Some t
+delete_covered : (ls : List Lent) (s : BoardState) (id : List ℕ) (t : Task) → IsBoard s → task_of id s.tasks ≡ Some t
     → Covered ls s.tasks → Covered ls (remove_task t.id s.tasks)
 delete_covered ls s id t b at covered j u budget there out =
     let f = found id s.tasks t at in
-    let own :
-    entry_of t.id s.tasks ≡ Some (f.0, t) =
+    let own : entry_of t.id s.tasks ≡ Some (f.0, t) =
     ap (λ (x : List ℕ). entry_of x s.tasks) (task_named id s.tasks t at) ∙ f.1 in
     let us = remove_task t.id s.tasks in
     by_slot j f.0
     (λ y here. absurd
     (none_is_not u
-    (sym (removed_there t.id (f.0, t) s.tasks b.slots own)
-    ∙ subst (λ (k : ℕ). task_in k us ≡ Some u) here there)))
+    (sym (removed_there t.id (f.0, t) s.tasks b.slots own) ∙ subst (λ (k : ℕ). task_in k us ≡ Some u) here there)))
     (λ n other.
     let stays : task_in j us ≡ task_in j s.tasks = removed_beside t.id (f.0, t) j s.tasks own other in
     some_kept s.tasks us j ls stays (covered j u budget (sym stays ∙ there) out))
@@ -213,8 +202,7 @@ change_other_by t old k j es us d there same other (inl stays) = stays
 change_other_by t old k j es us d there same other (inr one) =
     let a :
     entry_of t.id es ≡ Some (k, old) = ap (λ (x : List ℕ). entry_of x es) (sym same) ∙ entry_at k old es d there in
-    let b :
-    entry_of t.id es ≡ Some (j, one.0) =
+    let b : entry_of t.id es ≡ Some (j, one.0) =
     ap (λ (x : List ℕ). entry_of x es) (sym one.2) ∙ entry_at j one.0 es d one.1 in
     absurd (other (ap (λ (e : ℕ × Task). e.0) (some_is (j, one.0) (k, old) (sym b ∙ a))))
 
@@ -232,8 +220,7 @@ lends_covered s ticket budget l s' ls b is covered =
     let us = change_task new s.tasks in
     let slot : l.slot ≡ ticket.slot = ap (λ (x : Lent). x.slot) is.loan in
     let fits : FitsTask l new = subst (λ (x : Lent). FitsTask x new) (sym is.loan) (refl, refl) in
-    let at :
-    task_in l.slot us ≡ Some new =
+    let at : task_in l.slot us ≡ Some new =
     ap (λ (k : ℕ). task_in k us) slot ∙ changed_in new is.task ticket.slot s.tasks b.ids is.can.there refl in
     subst (λ (x : BoardState). Covered (ls ++ l ∷ []) x.tasks) (sym is.leaves)
     (λ j u n there out. by_slot j ticket.slot
@@ -244,8 +231,7 @@ lends_covered s ticket budget l s' ls b is covered =
 
 -- ---- a loan less
 
-some_but :
-    (ts : Entries) (j : ℕ) (ls : List Lent) (i : ℕ) (l : Lent) → slice_get ls i ≡ Some l → (l.slot ≡ j → ⊥)
+some_but : (ts : Entries) (j : ℕ) (ls : List Lent) (i : ℕ) (l : Lent) → slice_get ls i ≡ Some l → (l.slot ≡ j → ⊥)
     → SomeFits ts j ls → SomeFits ts j (remove ls i)
 some_but ts j [] i l at other some = absurd some
 some_but ts j (x ∷ ls) zero l at other (inl fit) =
@@ -254,8 +240,7 @@ some_but ts j (x ∷ ls) zero l at other (inr some) = some
 some_but ts j (x ∷ ls) (suc i) l at other (inl fit) = inl fit
 some_but ts j (x ∷ ls) (suc i) l at other (inr some) = inr (some_but ts j ls i l at other some)
 
-covered_less :
-    (s : BoardState) (ls : List Lent) (i : ℕ) (l : Lent) (t new : Task) → IsBoard s → slice_get ls i ≡ Some l
+covered_less : (s : BoardState) (ls : List Lent) (i : ℕ) (l : Lent) (t new : Task) → IsBoard s → slice_get ls i ≡ Some l
     → task_in l.slot s.tasks ≡ Some t → t.id ≡ new.id → new.out ≡ None
     → Covered ls s.tasks → Covered (remove ls i) (change_task new s.tasks)
 covered_less s ls i l t new b at there same idle covered j u budget is out =
@@ -296,8 +281,7 @@ not_both ts k [] none some = some
 not_both ts k (l ∷ ls) none (inl fit) = none.0 fit
 not_both ts k (l ∷ ls) none (inr some) = not_both ts k ls none.1 some
 
-one_more :
-    (ts : Entries) (slot : ℕ) (ls : List Lent) (i : ℕ) (d : Lent) → i < length ls → NoneFits ts slot (take i ls)
+one_more : (ts : Entries) (slot : ℕ) (ls : List Lent) (i : ℕ) (d : Lent) → i < length ls → NoneFits ts slot (take i ls)
     → (IsFitting ts slot (get_or ls i d) → ⊥) → NoneFits ts slot (take (suc i) ls)
 one_more ts slot [] i d below none unfit = absurd (omega arith)
 one_more ts slot (l ∷ ls) zero d below none unfit = (unfit, tt)
@@ -325,27 +309,23 @@ fits_taken ts slot ls i l at is =
 pub fits_run :
     (ts : Entries) (slot : ℕ) (l m : Lent) → m ≡ record l { ran = true } → IsFitting ts slot l → IsFitting ts slot m
 fits_run ts slot l m is fit =
-    let own :
-    FitsTask (record l { ran = true }) fit.1.0 =
+    let own : FitsTask (record l { ran = true }) fit.1.0 =
     (ap (λ (x : Lent). record x { ran = true }) fit.1.2.0, fit.1.2.1) in
     subst (λ (x : Lent). IsFitting ts slot x) (sym is) (fit.0, (fit.1.0, fit.1.1, own))
 
 -- ---- tickets
 
-ticket_by :
-    (o : Option (ℕ × Task)) (ticket : Ticket) → option_map ticket_to o ≡ Some ticket
+ticket_by : (o : Option (ℕ × Task)) (ticket : Ticket) → option_map ticket_to o ≡ Some ticket
     → (e : ℕ × Task) × (o ≡ Some e) × (ticket_to e ≡ ticket)
 ticket_by None ticket h = absurd (none_is_not ticket h)
 ticket_by (Some e) ticket h = (e, refl, some_is (ticket_to e) ticket h)
 
 -- the entry that a ticket of an id names
-pub ticket_entry :
-    (id : List ℕ) (ts : Entries) (ticket : Ticket) → ticket_of id ts ≡ Some ticket
+pub ticket_entry : (id : List ℕ) (ts : Entries) (ticket : Ticket) → ticket_of id ts ≡ Some ticket
     → (e : ℕ × Task) × (entry_of id ts ≡ Some e) × (ticket_to e ≡ ticket)
 ticket_entry id ts ticket h = ticket_by (entry_of id ts) ticket h
 
-not_lent_by :
-    (s : BoardState) (budget : ℕ) (t : Task) (b : Bool) → can_lend t ≡ b → (can_lend t ≡ true → ⊥)
+not_lent_by : (s : BoardState) (budget : ℕ) (t : Task) (b : Bool) → can_lend t ≡ b → (can_lend t ≡ true → ⊥)
     → lends s budget t ≡ None
 not_lent_by s budget t true is cannot = absurd (cannot is)
 not_lent_by s budget t false is cannot = cond_is_false (can_lend t) (Some (with_task s (lent t budget))) None is
@@ -371,15 +351,13 @@ not_taken s id ticket budget b h cannot =
     ]
 
 -- the loan of the ticket's task has the id
-pub taken_id :
-    (s : BoardState) (id : List ℕ) (ticket : Ticket) (budget : ℕ) (l : Lent) (s' : BoardState) → IsBoard s
+pub taken_id : (s : BoardState) (id : List ℕ) (ticket : Ticket) (budget : ℕ) (l : Lent) (s' : BoardState) → IsBoard s
     → ticket_of id s.tasks ≡ Some ticket → Lends s ticket budget l s' → l.id ≡ id
 taken_id s id ticket budget l s' b h is =
     let e = ticket_entry id s.tasks ticket h in
     let there = in_slot id e.0 s.tasks b.slots e.1 in
     let slot : e.0.0 ≡ ticket.slot = ap (λ (x : Ticket). x.slot) e.2 in
-    let same :
-    is.task ≡ e.0.1 =
+    let same : is.task ≡ e.0.1 =
     some_is is.task e.0.1 (sym is.can.there ∙ (ap (λ (k : ℕ). task_in k s.tasks) (sym slot) ∙ there)) in
     ap (λ (x : Lent). x.id) is.loan ∙ (ap (λ (x : Task). x.id) same ∙ named id s.tasks e.0 e.1)
 
@@ -399,8 +377,7 @@ not_out s id ticket ls b h none covered =
     let there = in_slot id e.0 s.tasks b.slots e.1 in
     let at : task_of id s.tasks ≡ Some e.0.1 = ap (option_map (λ (x : ℕ × Task). x.1)) e.1 in
     let slot : ticket.slot ≡ e.0.0 = ap (λ (x : Ticket). x.slot) (sym e.2) in
-    ap is_out at
-    ∙ not_out_by s e.0.0 e.0.1 (e.0.1).out ls refl there
+    ap is_out at ∙ not_out_by s e.0.0 e.0.1 (e.0.1).out ls refl there
     (subst (λ (k : ℕ). NoneFits s.tasks k ls) slot none) covered
 
 -- the loan that fits in the ticket's slot is of the task with the id

@@ -38,8 +38,7 @@ idle_unfit l t own idle = none_is_not l.budget (sym idle ∙ own.1)
 
 -- a loan that fits is of this task, if that is in its slot
 own_task : (l : Lent) (t : Task) (es : Entries) (fit : Fits l es) → task_in l.slot es ≡ Some t → FitsTask l t
-own_task l t es fit there =
-    subst (λ (x : Task). FitsTask l x) (some_is fit.0 t (sym fit.1 ∙ there)) fit.2
+own_task l t es fit there = subst (λ (x : Task). FitsTask l x) (some_is fit.0 t (sym fit.1 ∙ there)) fit.2
 
 idle_in : (creates : ℕ) (t : Task) → IsSound creates t → takes_turns t.status ≡ false → t.out ≡ None
 idle_in creates t h idle = not_out t.out (takes_turns t.status) h.out idle
@@ -63,8 +62,7 @@ create_stays l s config id (Ok r) s' made fit =
     let t = created_task id s.creates made.1 made.4.0 made.0 in
     subst (λ (x : BoardState). Fits l x.tasks) (sym enters.2) (enter_stays l enters.0 t s.tasks enters.1 fit)
 
-change_stays_by :
-    (l : Lent) (old new : Task) (es us : Entries) → (FitsTask l old → FitsTask l new) → Fits l es
+change_stays_by : (l : Lent) (old new : Task) (es us : Entries) → (FitsTask l old → FitsTask l new) → Fits l es
     → IsChangedFrom old new l.slot es us → Fits l us
 change_stays_by l old new es us f fit (inl same) = same_slot l es us same fit
 change_stays_by l old new es us f fit (inr one) = (new, one.1, f (own_task l old es fit one.0))
@@ -74,8 +72,7 @@ change_stays :
     → (FitsTask l old → FitsTask l new) → Fits l s.tasks → Fits l (change_task new s.tasks)
 change_stays l s id old new at same f fit =
     let g = found id s.tasks old at in
-    let own :
-    entry_of new.id s.tasks ≡ Some (g.0, old) =
+    let own : entry_of new.id s.tasks ≡ Some (g.0, old) =
     ap (λ (x : List ℕ). entry_of x s.tasks) (same ∙ task_named id s.tasks old at) ∙ g.1 in
     change_stays_by l old new s.tasks (change_task new s.tasks) f fit (changed_from_old old new g.0 l.slot s.tasks own)
 
@@ -99,8 +96,7 @@ delete_stays :
     → Fits l s.tasks → Fits l (remove_task t.id s.tasks)
 delete_stays l s id t b at idle fit =
     let g = found id s.tasks t at in
-    let own :
-    entry_of t.id s.tasks ≡ Some (g.0, t) =
+    let own : entry_of t.id s.tasks ≡ Some (g.0, t) =
     ap (λ (x : List ℕ). entry_of x s.tasks) (task_named id s.tasks t at) ∙ g.1 in
     by_slot l.slot g.0
     (λ y same. absurd
@@ -110,8 +106,7 @@ delete_stays l s id t b at idle fit =
     (λ n other. same_slot l s.tasks (remove_task t.id s.tasks)
     (removed_beside t.id (g.0, t) l.slot s.tasks own other) fit)
 
-effect_stays :
-    (l : Lent) (s : BoardState) (q : Request) (s' : BoardState) → IsBoard s → Effect s q s' → Fits l s.tasks
+effect_stays : (l : Lent) (s : BoardState) (q : Request) (s' : BoardState) → IsBoard s → Effect s q s' → Fits l s.tasks
     → Fits l s'.tasks
 effect_stays l s q s' b (nothing same) fit = same_board l s s' same fit
 effect_stays l s q s' b (stores new change is) fit = subst (λ (x : BoardState). Fits l x.tasks) (sym is) fit
@@ -148,28 +143,24 @@ lendable_idle t h = by t.out h
     by (Some n) g = absurd (none_lent (is_running t.status) g)
 
 -- the loan that is taken fits
-pub lends_fits :
-    (s : BoardState) (ticket : Ticket) (budget : ℕ) (l : Lent) (s' : BoardState) → IsBoard s
+pub lends_fits : (s : BoardState) (ticket : Ticket) (budget : ℕ) (l : Lent) (s' : BoardState) → IsBoard s
     → Lends s ticket budget l s' → Fits l s'.tasks
 lends_fits s ticket budget l s' b is =
     let new = lent is.task budget in
     let us = change_task new s.tasks in
     let slot : l.slot ≡ ticket.slot = ap (λ (x : Lent). x.slot) is.loan in
     let fits : FitsTask l new = subst (λ (x : Lent). FitsTask x new) (sym is.loan) (refl, refl) in
-    let at :
-    task_in l.slot us ≡ Some new =
+    let at : task_in l.slot us ≡ Some new =
     ap (λ (k : ℕ). task_in k us) slot ∙ changed_in new is.task ticket.slot s.tasks b.ids is.can.there refl in
     subst (λ (x : BoardState). Fits l x.tasks) (sym is.leaves) (new, at, fits)
 
 -- a slice that is taken of a task, or that returns, leaves the loans of the others
-beside_stays :
-    (l : Lent) (s : BoardState) (old new : Task) (k : ℕ) → IsBoard s → task_in k s.tasks ≡ Some old
+beside_stays : (l : Lent) (s : BoardState) (old new : Task) (k : ℕ) → IsBoard s → task_in k s.tasks ≡ Some old
     → old.id ≡ new.id → l.slot ≢ k → Fits l s.tasks → Fits l (change_task new s.tasks)
 beside_stays l s old new k b there same other fit =
     same_slot l s.tasks (change_task new s.tasks) (change_other new old k l.slot s.tasks b.ids there same other) fit
 
-pub lends_stays :
-    (s : BoardState) (ticket : Ticket) (budget : ℕ) (m : Lent) (s' : BoardState) (l : Lent) → IsBoard s
+pub lends_stays : (s : BoardState) (ticket : Ticket) (budget : ℕ) (m : Lent) (s' : BoardState) (l : Lent) → IsBoard s
     → Lends s ticket budget m s' → Fits l s.tasks → Fits l s'.tasks
 lends_stays s ticket budget m s' l b is fit =
     let new = lent is.task budget in
@@ -212,8 +203,7 @@ returns_stay :
 returns_stay l s id None s' b at back other fit = absurd back
 returns_stay l s id (Some t) s' b at back other fit = returned_stays l s id t s' b at back other fit
 
-pub steps_stay :
-    (s : BoardState) (e : Event) (a : EventReply) (s' : BoardState) (l : Lent) → IsBoard s → Step s e a s'
+pub steps_stay : (s : BoardState) (e : Event) (a : EventReply) (s' : BoardState) (l : Lent) → IsBoard s → Step s e a s'
     → (e ≡ event.Return l.id → ⊥) → Fits l s.tasks → Fits l s'.tasks
 steps_stay s (event.Call q) (answer.Called a) s' l b step other fit = answers_stay s q a s' l b step fit
 steps_stay s (event.Take id budget) (answer.Taken true) s' l b step other fit =
@@ -231,25 +221,21 @@ steps_stay s _ _ s' l b step other fit = absurd step
 -- ---- its end
 
 -- of the task whose slice has returned no loan fits
-returned_unfit :
-    (l : Lent) (s : BoardState) (t : Task) (s' : BoardState) → IsBoard s → task_in l.slot s.tasks ≡ Some t
+returned_unfit : (l : Lent) (s : BoardState) (t : Task) (s' : BoardState) → IsBoard s → task_in l.slot s.tasks ≡ Some t
     → Returns s (Some t) s' → Fits l s'.tasks → ⊥
 returned_unfit l s t s' b there back fit =
     let us = change_task back.0 s.tasks in
-    let at :
-    task_in l.slot us ≡ Some back.0 =
+    let at : task_in l.slot us ≡ Some back.0 =
     changed_in back.0 t l.slot s.tasks b.ids there (sym (ap (λ (x : Task). x.id) back.1.advances)) in
     idle_unfit l back.0
     (own_task l back.0 us (subst (λ (x : BoardState). Fits l x.tasks) back.2 fit) at)
     (ap (λ (x : Task). x.out) back.1.advances)
 
-pub returns_unfit :
-    (s : BoardState) (s' : BoardState) (l : Lent) → IsBoard s → Fits l s.tasks
+pub returns_unfit : (s : BoardState) (s' : BoardState) (l : Lent) → IsBoard s → Fits l s.tasks
     → Step s (event.Return l.id) (answer.Returned true) s' → Fits l s'.tasks → ⊥
 returns_unfit s s' l b fit step after =
     let named : (fit.0).id ≡ l.id = sym (ap (λ (x : Lent). x.id) fit.2.0) in
-    let at :
-    task_of l.id s.tasks ≡ Some fit.0 =
+    let at : task_of l.id s.tasks ≡ Some fit.0 =
     ap (λ (x : List ℕ). task_of x s.tasks) (sym named)
     ∙ ap (option_map (λ (e : ℕ × Task). e.1)) (entry_at l.slot fit.0 s.tasks b.ids fit.1) in
     returned_unfit l s fit.0 s' b fit.1 (subst (λ (o : Option Task). Returns s o s') at step) after

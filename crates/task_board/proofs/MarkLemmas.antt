@@ -9,12 +9,13 @@ use Rattle.step_machine.specs.Slices.{is_place, is_among}
 use Rattle.task_lifecycle.specs.declared.lifecycle.TaskCall.TheVariants as call
 use Rattle.task_lifecycle.specs.Lifecycle.{allowed}
 use Rattle.content_leases.specs.Refusals.{first_refusal}
+use Rattle.task_board.specs.Refusals.{own_refusals}
 use Rattle.task_board.specs.declared.mark.Mark.{Mark}
 use Rattle.task_board.specs.declared.mark.Mark.TheVariants as mark
 use Rattle.task_board.specs.BoardState.{Task}
 use Rattle.task_board.specs.Tasks.{is_other}
 use Rattle.task_board.specs.Sound.{Each, AreDistinct, IsSound}
-use Rattle.task_board.specs.Inside.Marks.{mark_call, mark_refusals, marked_places, marked}
+use Rattle.task_board.specs.Inside.Marks.{mark_call, marked_places, marked, mark_ask}
 use Rattle.task_board.proofs.SoundLemmas.{distinct_append, length_append}
 use Rattle.task_board.proofs.StepLemmas.{none_first, not_true}
 
@@ -69,7 +70,7 @@ some_few test (b ∷ bs) = some_few_by b bs (filter test bs) (test b) (some_few 
 
 -- a call that is let through has a status that allows it
 pub mark_allowed :
-    (m : Mark) (t : Task) → first_refusal (mark_refusals m t) ≡ None → allowed (mark_call m) t.status ≡ true
+    (m : Mark) (t : Task) → first_refusal (own_refusals (mark_ask m) t) ≡ None → allowed (mark_call m) t.status ≡ true
 mark_allowed (mark.Set p) t h =
     not_true (allowed call.Break t.status) (none_first (not (allowed call.Break t.status)) refusal.WrongStatus _ h).0
 mark_allowed (mark.Remove p) t h =
@@ -81,7 +82,7 @@ pub record IsNew (bs : List Place) (p : Place) : Type 0 where
   pub new : is_among bs p.func p.instr ≡ false
   pub room : length bs < max_breakpoints
 
-is_new : (p : Place) (t : Task) → first_refusal (mark_refusals (mark.Set p) t) ≡ None → IsNew t.breaks p
+is_new : (p : Place) (t : Task) → first_refusal (own_refusals (mark_ask (mark.Set p)) t) ≡ None → IsNew t.breaks p
 is_new p t h =
     let a = none_first (not (allowed call.Break t.status)) refusal.WrongStatus _ h in
     let b = none_first (not (has_place t.module p.func p.instr)) refusal.OutOfRange _ a.1 in
@@ -100,19 +101,18 @@ pub few_without :
 few_without p bs few = let less = some_few (is_other p) bs in omega (arith, less, few)
 
 pub few_after :
-    (m : Mark) (t : Task) → length t.breaks ≤ max_breakpoints → first_refusal (mark_refusals m t) ≡ None
+    (m : Mark) (t : Task) → length t.breaks ≤ max_breakpoints → first_refusal (own_refusals (mark_ask m) t) ≡ None
     → length (marked_places m t.breaks) ≤ max_breakpoints
 few_after (mark.Set p) t few h = set_few t.breaks p (is_new p t h).room
 few_after (mark.Remove p) t few h = few_without p t.breaks few
 
-distinct_after :
-    (m : Mark) (t : Task) → AreDistinct t.breaks → first_refusal (mark_refusals m t) ≡ None
+distinct_after : (m : Mark) (t : Task) → AreDistinct t.breaks → first_refusal (own_refusals (mark_ask m) t) ≡ None
     → AreDistinct (marked_places m t.breaks)
 distinct_after (mark.Set p) t d h = distinct_append t.breaks p d (away p t.breaks (is_new p t h).new)
 distinct_after (mark.Remove p) t d h = some_distinct (is_other p) t.breaks d
 
 pub marked_sound :
-    (creates : ℕ) (m : Mark) (t : Task) → IsSound creates t → first_refusal (mark_refusals m t) ≡ None
+    (creates : ℕ) (m : Mark) (t : Task) → IsSound creates t → first_refusal (own_refusals (mark_ask m) t) ≡ None
     → IsSound creates (marked m t)
 marked_sound creates m t h none = record {
   named = h.named;

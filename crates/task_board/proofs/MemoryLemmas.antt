@@ -12,10 +12,8 @@ use Rattle.task_board.specs.Run.{is_no_memory, met_no_memory}
 
 abbrev Asks : Ask → Type 0
 Asks a =
-    ((stream : ℕ) × (a ≡ ask.Output stream))
-    ⊎ ((func : ℕ) × (place : ℕ) × (a ≡ ask.Break func place))
-    ⊎ ((func : ℕ) × (place : ℕ) × (a ≡ ask.Unbreak func place))
-    ⊎ (a ≡ ask.Inspect)
+    ((stream : ℕ) × (a ≡ ask.Output stream)) ⊎ ((func : ℕ) × (place : ℕ) × (a ≡ ask.Break func place))
+    ⊎ ((func : ℕ) × (place : ℕ) × (a ≡ ask.Unbreak func place)) ⊎ (a ≡ ask.Inspect)
     ⊎ ((address : ℕ) × (length : ℕ) × (a ≡ ask.Peek address length))
 
 pub asking : (a : Ask) → asks_for_memory a ≡ true → Asks a
@@ -35,11 +33,9 @@ asks_so a (inr (inr (inr (inr x)))) = ap asks_for_memory x.2
 
 abbrev Takes : Request → Type 0
 Takes r =
-    ((bytes : List ℕ) × (r ≡ request.Put bytes))
-    ⊎ ((text : List ℕ) × (r ≡ request.PutText text))
+    ((bytes : List ℕ) × (r ≡ request.Put bytes)) ⊎ ((text : List ℕ) × (r ≡ request.PutText text))
     ⊎ ((id : List ℕ) × (r ≡ request.LeaseCreate id))
-    ⊎ ((digest : List ℕ) × (id : List ℕ) × (r ≡ request.LeaseAdd digest id))
-    ⊎ (r ≡ request.Gc)
+    ⊎ ((digest : List ℕ) × (id : List ℕ) × (r ≡ request.LeaseAdd digest id)) ⊎ (r ≡ request.Gc)
     ⊎ ((config : List ℕ) × (id : List ℕ) × (r ≡ request.Create config id))
     ⊎ ((id : List ℕ) × (a : Ask) × (r ≡ request.Task id a) × (asks_for_memory a ≡ true))
 

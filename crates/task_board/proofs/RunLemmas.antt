@@ -35,18 +35,15 @@ call_covered ls s q r s' b answers same covered =
     call_covered_by ls s q r s' (is_no_memory r) refl b answers same covered
 
 -- a run goes on by one event
-pub run_more :
-    (s : BoardState) (es : List Event) (rs : List EventReply) (mid : BoardState) (e : Event) (r : EventReply)
-    (s' : BoardState)
-    → Run s es rs mid → Happens mid e r s' → Run s (es ++ e ∷ []) (rs ++ r ∷ []) s'
+pub run_more : (s : BoardState) (es : List Event) (rs : List EventReply) (mid : BoardState) (e : Event) (r : EventReply)
+    (s' : BoardState) → Run s es rs mid → Happens mid e r s' → Run s (es ++ e ∷ []) (rs ++ r ∷ []) s'
 run_more s [] [] mid e r s' run h = (s', subst (λ (x : BoardState). Happens x e r s') run h, refl)
 run_more s [] (q ∷ rs) mid e r s' run h = absurd run
 run_more s (d ∷ es) [] mid e r s' run h = absurd run
 run_more s (d ∷ es) (q ∷ rs) mid e r s' run h = (run.0, run.1, run_more run.0 es rs mid e r s' run.2 h)
 
 -- what each event keeps, a run keeps
-pub run_keeps :
-    (P : BoardState → Type 0)
+pub run_keeps : (P : BoardState → Type 0)
     → ((s : BoardState) (e : Event) (r : EventReply) (s' : BoardState) → P s → Happens s e r s' → P s')
     → (s : BoardState) (es : List Event) (rs : List EventReply) (s' : BoardState) → P s → Run s es rs s' → P s'
 run_keeps P keeps s [] [] s' p run = subst P (sym run) p

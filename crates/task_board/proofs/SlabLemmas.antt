@@ -13,8 +13,7 @@ none_below j key [] below = refl
 none_below j key (None ∷ xs) below = none_below j (key + 1) xs (omega (arith, below))
 none_below j key (Some t ∷ xs) below =
     cond_is_false (nat_eq key j) (Some t) (task_in j (entries_from (key + 1) xs))
-    (other_slot key j (λ e. omega (arith, below, e)))
-    ∙ none_below j (key + 1) xs (omega (arith, below))
+    (other_slot key j (λ e. omega (arith, below, e))) ∙ none_below j (key + 1) xs (omega (arith, below))
 
 -- a slot has what the slab has under its key
 in_from :
@@ -26,8 +25,7 @@ in_from key zero j (Some t ∷ xs) is =
 in_from key (suc i) j (None ∷ xs) is = in_from (key + 1) i j xs (omega (arith, is))
 in_from key (suc i) j (Some t ∷ xs) is =
     cond_is_false (nat_eq key j) (Some t) (task_in j (entries_from (key + 1) xs))
-    (other_slot key j (λ e. omega (arith, is, e)))
-    ∙ in_from (key + 1) i j xs (omega (arith, is))
+    (other_slot key j (λ e. omega (arith, is, e))) ∙ in_from (key + 1) i j xs (omega (arith, is))
 
 pub in_slab : (s : Slab Task) (k : ℕ) → task_in k (entries s) ≡ get s k
 in_slab s k = in_from 0 k k s.slots (omega arith)
@@ -75,8 +73,7 @@ removed_from key (suc i) old (Some t ∷ xs) there d =
     let j = key + 1 + i in
     let at : task_in j (entries_from (key + 1) xs) ≡ Some old = in_from (key + 1) i j xs refl ∙ there in
     let away : t.id ≢ old.id = id_away t.id j old (entries_from (key + 1) xs) d.0 at in
-    ap (λ (es : Entries). (key, t) ∷ es) (removed_from (key + 1) i old xs there d.1)
-    ∙ sym
+    ap (λ (es : Entries). (key, t) ∷ es) (removed_from (key + 1) i old xs there d.1) ∙ sym
     (cond_is_false (bytes_eq t.id old.id) (entries_from (key + 1) xs)
     ((key, t) ∷ remove_task old.id (entries_from (key + 1) xs)) (other_id t.id old.id away))
 
@@ -100,8 +97,7 @@ at_placed [] (suc k) t = at_placed [] k t
 at_placed (x ∷ xs) zero t = refl
 at_placed (x ∷ xs) (suc k) t = at_placed xs k t
 
-beside_placed :
-    (xs : List (Option Task)) (k j : ℕ) (t : Task) → j ≢ k
+beside_placed : (xs : List (Option Task)) (k j : ℕ) (t : Task) → j ≢ k
     → slice_index_or (placed xs k t) j None ≡ slice_index_or xs j None
 beside_placed [] zero zero t other = absurd (other refl)
 beside_placed [] (suc k) (suc j) t other = beside_placed [] k j t (λ e. other (ap (λ (n : ℕ). suc n) e))
@@ -131,8 +127,7 @@ not_below : (k j : ℕ) → j < k → nat_lt k j ≡ false
 not_below k j h = grind (arith, nat_tests, h)
 
 -- a task before all others
-put_first :
-    (key k : ℕ) (t : Task) (xs : List (Option Task)) → k < key
+put_first : (key k : ℕ) (t : Task) (xs : List (Option Task)) → k < key
     → put_task k t (entries_from key xs) ≡ (k, t) ∷ entries_from key xs
 put_first key k t [] h = refl
 put_first key k t (None ∷ xs) h = put_first (key + 1) k t xs (omega (arith, h))
@@ -150,8 +145,7 @@ placed_from key zero k t (None ∷ xs) is free =
 placed_from key zero k t (Some u ∷ xs) is free = absurd (none_is_not u (sym free))
 placed_from key (suc i) k t (None ∷ xs) is free = placed_from (key + 1) i k t xs (omega (arith, is)) free
 placed_from key (suc i) k t (Some u ∷ xs) is free =
-    ap (λ (es : Entries). (key, u) ∷ es) (placed_from (key + 1) i k t xs (omega (arith, is)) free)
-    ∙ sym
+    ap (λ (es : Entries). (key, u) ∷ es) (placed_from (key + 1) i k t xs (omega (arith, is)) free) ∙ sym
     (cond_is_false (nat_lt k key) ((k, t) ∷ (key, u) ∷ entries_from (key + 1) xs)
     ((key, u) ∷ put_task k t (entries_from (key + 1) xs)) (not_below k key (omega (arith, is))))
 

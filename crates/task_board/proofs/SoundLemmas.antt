@@ -71,8 +71,7 @@ change_sound s k old t b found same sound = record {
 
 -- ---- one task less
 
-pub remove_sound :
-    (s : BoardState) (id : List ℕ) (k : ℕ) (old : Task) → IsBoard s → entry_of id s.tasks ≡ Some (k, old)
+pub remove_sound : (s : BoardState) (id : List ℕ) (k : ℕ) (old : Task) → IsBoard s → entry_of id s.tasks ≡ Some (k, old)
     → IsBoard (without_task s id)
 remove_sound s id k old b found = record {
   tasks = remove_entries (λ (e : ℕ × Task). IsSound s.creates e.1) id s.tasks b.tasks;
@@ -91,8 +90,7 @@ remove_sound s id k old b found = record {
 
 -- ---- one task more
 
-put_slot_each :
-    (j k : ℕ) (t : Task) (es : Entries) → Each (λ (m : ℕ). j < m) (slots_of es) → j < k
+put_slot_each : (j k : ℕ) (t : Task) (es : Entries) → Each (λ (m : ℕ). j < m) (slots_of es) → j < k
     → Each (λ (m : ℕ). j < m) (slots_of (put_task k t es))
 put_slot_each j k t [] each below = (below, tt)
 put_slot_each j k t (e ∷ es) each below =
@@ -100,15 +98,13 @@ put_slot_each j k t (e ∷ es) each below =
     (λ (b : Bool). Each (λ (m : ℕ). j < m) (slots_of (cond b ((k, t) ∷ e ∷ es) (e ∷ put_task k t es))))
     [ true ↦ (below, each) | false ↦ (each.0, put_slot_each j k t es each.1 below) ]
 
-above_all :
-    (k : ℕ) (e : ℕ × Task) (es : Entries) → k < e.0 → Each (λ (m : ℕ). e.0 < m) (slots_of es)
+above_all : (k : ℕ) (e : ℕ × Task) (es : Entries) → k < e.0 → Each (λ (m : ℕ). e.0 < m) (slots_of es)
     → Each (λ (m : ℕ). k < m) (slots_of es)
 above_all k e es below each =
     each_imp (λ (m : ℕ). e.0 < m) (λ (m : ℕ). k < m) (slots_of es) (λ m h. omega (arith, below, h)) each
 
 -- before this entry, or after it
-rising_by :
-    (k : ℕ) (t : Task) (e : ℕ × Task) (es : Entries) → AreRising (slots_of (e ∷ es)) → nat_eq e.0 k ≡ false
+rising_by : (k : ℕ) (t : Task) (e : ℕ × Task) (es : Entries) → AreRising (slots_of (e ∷ es)) → nat_eq e.0 k ≡ false
     → AreRising (slots_of (put_task k t es))
     → (b : Bool) → nat_lt k e.0 ≡ b → AreRising (slots_of (cond b ((k, t) ∷ e ∷ es) (e ∷ put_task k t es)))
 rising_by k t e es r off rest true is =
@@ -118,8 +114,7 @@ rising_by k t e es r off rest false is =
     let below : e.0 < k = grind (arith, nat_tests, is, off) in
     (put_slot_each e.0 k t es r.0 below, rest)
 
-put_rising :
-    (k : ℕ) (t : Task) (es : Entries) → AreRising (slots_of es) → task_in k es ≡ None
+put_rising : (k : ℕ) (t : Task) (es : Entries) → AreRising (slots_of es) → task_in k es ≡ None
     → AreRising (slots_of (put_task k t es))
 put_rising k t [] r free = (tt, tt)
 put_rising k t (e ∷ es) r free =
@@ -128,8 +123,7 @@ put_rising k t (e ∷ es) r free =
     (λ n other. rising_by k t e es r n
     (put_rising k t es r.1 (cond_false (nat_eq e.0 k) (Some e.1) (task_in k es) None n free)) (nat_lt k e.0) refl)
 
-put_id_each :
-    (x : List ℕ) (k : ℕ) (t : Task) (es : Entries) → x ≢ t.id → Each (λ (y : List ℕ). x ≢ y) (ids_of es)
+put_id_each : (x : List ℕ) (k : ℕ) (t : Task) (es : Entries) → x ≢ t.id → Each (λ (y : List ℕ). x ≢ y) (ids_of es)
     → Each (λ (y : List ℕ). x ≢ y) (ids_of (put_task k t es))
 put_id_each x k t [] other each = (other, tt)
 put_id_each x k t (e ∷ es) other each =
@@ -156,8 +150,7 @@ all_other id (e ∷ es) none =
           none),
     ))
 
-put_distinct :
-    (k : ℕ) (t : Task) (es : Entries) → AreDistinct (ids_of es) → Each (λ (y : List ℕ). t.id ≢ y) (ids_of es)
+put_distinct : (k : ℕ) (t : Task) (es : Entries) → AreDistinct (ids_of es) → Each (λ (y : List ℕ). t.id ≢ y) (ids_of es)
     → AreDistinct (ids_of (put_task k t es))
 put_distinct k t [] d away = (tt, tt)
 put_distinct k t (e ∷ es) d away =
@@ -166,8 +159,7 @@ put_distinct k t (e ∷ es) d away =
       | false ↦ (put_id_each e.1.id k t es (λ is. away.0 (sym is)) d.0, put_distinct k t es d.1 away.1)
     ]
 
-put_number_each :
-    (n k : ℕ) (t : Task) (es : Entries) → n ≢ t.incarnation → Each (λ (m : ℕ). n ≢ m) (incarnations_of es)
+put_number_each : (n k : ℕ) (t : Task) (es : Entries) → n ≢ t.incarnation → Each (λ (m : ℕ). n ≢ m) (incarnations_of es)
     → Each (λ (m : ℕ). n ≢ m) (incarnations_of (put_task k t es))
 put_number_each n k t [] other each = (other, tt)
 put_number_each n k t (e ∷ es) other each =
@@ -175,8 +167,7 @@ put_number_each n k t (e ∷ es) other each =
     (λ (b : Bool). Each (λ (m : ℕ). n ≢ m) (incarnations_of (cond b ((k, t) ∷ e ∷ es) (e ∷ put_task k t es))))
     [ true ↦ (other, each) | false ↦ (each.0, put_number_each n k t es other each.1) ]
 
-put_numbers :
-    (k : ℕ) (t : Task) (es : Entries) → AreDistinct (incarnations_of es)
+put_numbers : (k : ℕ) (t : Task) (es : Entries) → AreDistinct (incarnations_of es)
     → Each (λ (m : ℕ). t.incarnation ≢ m) (incarnations_of es) → AreDistinct (incarnations_of (put_task k t es))
 put_numbers k t [] d away = (tt, tt)
 put_numbers k t (e ∷ es) d away =
@@ -187,8 +178,7 @@ put_numbers k t (e ∷ es) d away =
           (put_number_each e.1.incarnation k t es (λ is. away.0 (sym is)) d.0, put_numbers k t es d.1 away.1)
     ]
 
-earlier_all :
-    (creates : ℕ) (es : Entries) → Each (λ (e : ℕ × Task). IsSound creates e.1) es
+earlier_all : (creates : ℕ) (es : Entries) → Each (λ (e : ℕ × Task). IsSound creates e.1) es
     → Each (λ (m : ℕ). creates ≢ m) (incarnations_of es)
 earlier_all creates [] each = tt
 earlier_all creates (e ∷ es) each =
@@ -213,8 +203,7 @@ later_sound creates t h = record {
 }
 
 -- a sound task that is the newest enters a free slot of a board that takes it
-pub put_sound :
-    (s : BoardState) (k : ℕ) (t : Task) → IsBoard s → task_in k s.tasks ≡ None → task_of t.id s.tasks ≡ None
+pub put_sound : (s : BoardState) (k : ℕ) (t : Task) → IsBoard s → task_in k s.tasks ≡ None → task_of t.id s.tasks ≡ None
     → t.incarnation ≡ s.creates
     → IsSound (s.creates + 1) t → length s.tasks < max_tasks → s.creates < max_creates → IsBoard (with_new_task s k t)
 put_sound s k t b free new number sound few low = record {
@@ -241,8 +230,7 @@ put_sound s k t b free new number sound few low = record {
 -- a created task is sound
 pub created_sound :
     (id : List ℕ) (creates : ℕ) (bytes : List ℕ) (m : Module) (p : _) → is_id id ≡ true → Openable bytes p m
-    → p.module ≡ digest_of bytes
-    → IsSound (creates + 1) (created_task id creates bytes m p)
+    → p.module ≡ digest_of bytes → IsSound (creates + 1) (created_task id creates bytes m p)
 created_sound id creates bytes m p named opens digest = record {
   named = named;
   earlier = omega arith;
@@ -263,15 +251,12 @@ created_sound id creates bytes m p named opens digest = record {
 -- ---- contents
 
 -- the content that a digest names has it
-pub content_named :
-    (digest bytes : List ℕ) (cs : List Content) → Each IsContent cs → content_in cs digest ≡ Some bytes
+pub content_named : (digest bytes : List ℕ) (cs : List Content) → Each IsContent cs → content_in cs digest ≡ Some bytes
     → digest ≡ digest_of bytes
 content_named digest bytes [] each h = absurd (none_is_not bytes h)
 content_named digest bytes (c ∷ cs) each h =
     by_id c.digest digest
-    (λ y same_y. sym same_y
-    ∙ (each.0.digest
-    ∙ ap digest_of
+    (λ y same_y. sym same_y ∙ (each.0.digest ∙ ap digest_of
     (some_is c.bytes bytes
     (cond_true (bytes_eq c.digest digest) (Some c.bytes) (content_in cs digest) (Some bytes) y h))))
     (λ n other_n. content_named digest bytes cs each.1
@@ -288,8 +273,7 @@ pub record IsStanding (x : Standing) (turns : ℕ) (e : ExecutionState) : Type 0
   pub end : (r : ExitRecord) → x.1 ≡ Some r → IsTrueOf r turns (ended e)
 
 -- a task that is idle in a fitting way
-pub idle_sound :
-    (creates : ℕ) (t : Task) (x : Standing) → is_id t.id ≡ true → t.incarnation < creates
+pub idle_sound : (creates : ℕ) (t : Task) (x : Standing) → is_id t.id ≡ true → t.incarnation < creates
     → Openable t.bytes t.process t.module → t.process.module ≡ digest_of t.bytes
     → length t.breaks ≤ max_breakpoints → AreDistinct t.breaks
     → IsStanding x t.turns (execution_at t t.turns) → IsSound creates (idle_task t x)
@@ -311,8 +295,7 @@ idle_sound creates t x named earlier opens digest few distinct standing = record
 }
 
 -- a standing that is not going, since the task has ended so
-stopped_standing :
-    (r : ExitRecord) (turns : ℕ) (e : ExecutionState) → IsTrueOf r turns (ended e)
+stopped_standing : (r : ExitRecord) (turns : ℕ) (e : ExecutionState) → IsTrueOf r turns (ended e)
     → IsStanding (Stopped, Some r) turns e
 stopped_standing r turns e so = record {
   begun = λ h. cc;
@@ -329,8 +312,7 @@ own_true (own.Exited n) turns o is = is
 own_true (own.Trapped t) turns o is = is
 
 -- a standing that goes on
-going_standing :
-    (status : Status) (turns : ℕ) (e : ExecutionState) → (status ≡ Created → ⊥) → (status ≡ Pausing → ⊥)
+going_standing : (status : Status) (turns : ℕ) (e : ExecutionState) → (status ≡ Created → ⊥) → (status ≡ Pausing → ⊥)
     → is_stopped status ≡ false → ended e ≡ None → IsStanding (status, None) turns e
 going_standing status turns e begun resting on is =
     record { begun = begun; resting = resting; stopped = on; goes = λ h. is; end = λ r h. cc }
@@ -339,15 +321,13 @@ going_standing status turns e begun resting on is =
 landing_stands :
     (o : Option End) (signal : Option Signal) (pauses : Bool) (turns : ℕ) (e : ExecutionState) → ended e ≡ o
     → IsStanding (landing o signal pauses) turns e
-landing_stands (Some x) signal pauses turns e is =
-    stopped_standing (exit_of x) turns e (own_true x turns (ended e) is)
+landing_stands (Some x) signal pauses turns e is = stopped_standing (exit_of x) turns e (own_true x turns (ended e) is)
 landing_stands None (Some s) pauses turns e is = stopped_standing (exit.Kill s) turns e (λ some. is)
 landing_stands None None true turns e is = going_standing Paused turns e (λ h. cc) (λ h. cc) refl is
 landing_stands None None false turns e is = going_standing Running turns e (λ h. cc) (λ h. cc) refl is
 
 -- a task that is idle again
-pub after_sound :
-    (creates : ℕ) (t : Task) (n : ℕ) (signal : Option Signal) (pauses : Bool) → IsSound creates t
+pub after_sound : (creates : ℕ) (t : Task) (n : ℕ) (signal : Option Signal) (pauses : Bool) → IsSound creates t
     → IsSound creates (idle_after t n signal pauses)
 after_sound creates t n signal pauses h =
     let e = execution_at t n in
@@ -422,8 +402,7 @@ not_ended Pausing turns o can fresh goes some = goes refl
 not_ended Paused turns o can fresh goes some = goes refl
 not_ended Stopped turns o can fresh goes some = cc
 
-killed_sound_by :
-    (creates : ℕ) (signal : Signal) (t : Task) (out : Option ℕ) → t.out ≡ out → IsSound creates t
+killed_sound_by : (creates : ℕ) (signal : Signal) (t : Task) (out : Option ℕ) → t.out ≡ out → IsSound creates t
     → allowed call.Kill t.status ≡ true → IsSound creates (killed_while out signal t)
 killed_sound_by creates signal t None is h can =
     idle_sound creates t (Stopped, Some (exit.Kill signal)) h.named h.earlier h.opens h.digest
@@ -446,7 +425,6 @@ killed_sound_by creates signal t (Some n) is h can = record {
   breaks = h.breaks;
 }
 
-pub killed_sound :
-    (creates : ℕ) (signal : Signal) (t : Task) → IsSound creates t → allowed call.Kill t.status ≡ true
+pub killed_sound : (creates : ℕ) (signal : Signal) (t : Task) → IsSound creates t → allowed call.Kill t.status ≡ true
     → IsSound creates (killed signal t)
 killed_sound creates signal t h can = killed_sound_by creates signal t t.out refl h can

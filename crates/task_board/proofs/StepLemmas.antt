@@ -22,10 +22,10 @@ use Rattle.oci_config.specs.Config.{process_read}
 use Rattle.task_lifecycle.specs.Lifecycle.{is_running, is_going, takes_turns}
 use Rattle.task_board.specs.BoardState.{Task, Entries, BoardState, created_task, task_in, entry_of, task_of, change_task, with_task, with_new_task}
 use Rattle.task_board.specs.Tasks.{advanced, can_lend, lent, slice_turns, MayAdvance, HasReturned}
-use Rattle.task_board.specs.Refusals.{create_refusals, named_bytes, is_full}
+use Rattle.task_board.specs.Refusals.{create_refusals, named_bytes, is_full, id_refusals}
 use Rattle.task_board.specs.Step.{Answer, DecidedBy, Creates, Answers, is_budget, lends, taken, Returns}
 use Rattle.task_board.specs.Sound.{IsSound, IsBoard}
-use Rattle.task_board.specs.Inside.Plans.{id_refusals, CreatePrepared}
+use Rattle.task_board.specs.Inside.Plans.{CreatePrepared}
 use Rattle.task_board.proofs.EntryLemmas.{none_is_not, some_is, by_id, cond_true, cond_false, cond_is_true, cond_is_false, each_in, entry_at, named, in_slot}
 use Rattle.task_board.proofs.SoundLemmas.{change_sound, put_sound, created_sound, content_named, advanced_sound}
 
@@ -53,8 +53,7 @@ unchanged_by t k (e ∷ es) h =
     cond_is_true (bytes_eq e.1.id t.id) ((e.0, t) ∷ es) (e ∷ change_task t es) y
     ∙ ap (λ (x : ℕ × Task). (e.0, x.1) ∷ es) (sym own))
     (λ n differs.
-    cond_is_false (bytes_eq e.1.id t.id) ((e.0, t) ∷ es) (e ∷ change_task t es) n
-    ∙ ap (λ (xs : Entries). e ∷ xs)
+    cond_is_false (bytes_eq e.1.id t.id) ((e.0, t) ∷ es) (e ∷ change_task t es) n ∙ ap (λ (xs : Entries). e ∷ xs)
     (unchanged_by t k es (cond_false (bytes_eq e.1.id t.id) (Some e) (entry_of t.id es) (Some (k, t)) n h)))
 
 -- a task that is changed to itself leaves the board as it is
@@ -79,8 +78,7 @@ changed_sound s id old new b h same number sound =
 
 -- ---- refusals
 
-pub decided :
-    (o : Option Refusal) (E : Type 0) (s : BoardState) (r : Answer) (s' : BoardState) → DecidedBy o E s r s'
+pub decided : (o : Option Refusal) (E : Type 0) (s : BoardState) (r : Answer) (s' : BoardState) → DecidedBy o E s r s'
     → (s' ≡ s) ⊎ ((o ≡ None) × E)
 decided None E s r s' d = inr (refl, d)
 decided (Some e) E s r s' d = inl d.1
@@ -104,10 +102,8 @@ neither_of : (a b : Bool) → (a || b) ≡ false → (a ≡ false) × (b ≡ fal
 neither_of true b h = cc
 neither_of false b h = (refl, h)
 
-pub create_leaves :
-    (s : BoardState) (config id : List ℕ) (r : Answer) (s' : BoardState) → IsBoard s
-    → first_refusal (create_refusals s config id) ≡ None
-    → Creates s config id r s' → IsBoard s'
+pub create_leaves : (s : BoardState) (config id : List ℕ) (r : Answer) (s' : BoardState) → IsBoard s
+    → first_refusal (create_refusals s config id) ≡ None → Creates s config id r s' → IsBoard s'
 create_leaves s config id (Err e) s' b none effect = subst IsBoard (sym effect.4.1) b
 create_leaves s config id (Ok r) s' b none effect =
     let n = none_first (not (is_id id)) refusal.BadId _ none in
@@ -123,8 +119,7 @@ create_leaves s config id (Ok r) s' b none effect =
     let opened = effect.4 in
     let digest : p.module ≡ digest_of bytes = content_named p.module bytes s.store.contents b.contents effect.3 in
     let t = created_task id s.creates bytes opened.0 p in
-    let sound :
-    IsSound (s.creates + 1) t =
+    let sound : IsSound (s.creates + 1) t =
     created_sound id s.creates bytes opened.0 p (not_true (is_id id) n.0) opened.1 digest in
     subst IsBoard (sym opened.3.2)
     (put_sound s opened.3.0 t b opened.3.1 (no_task (task_of id s.tasks) x.0) refl sound few low)
@@ -142,8 +137,7 @@ both_of false b h = cc
 budget_of : (n budget : ℕ) → (1 ≤ budget) × (budget ≤ max_budget) → Some budget ≡ Some n → (1 ≤ n) × (n ≤ max_budget)
 budget_of n budget h is = subst (λ (x : ℕ). (1 ≤ x) × (x ≤ max_budget)) (some_is budget n is) h
 
-lent_sound_by :
-    (creates : ℕ) (t : Task) (budget : ℕ) → IsSound creates t → t.status ≡ Running
+lent_sound_by : (creates : ℕ) (t : Task) (budget : ℕ) → IsSound creates t → t.status ≡ Running
     → (1 ≤ budget) × (budget ≤ max_budget) → IsSound creates (lent t budget)
 lent_sound_by creates t budget h is low = record {
   named = h.named;
@@ -183,14 +177,12 @@ of_slot s k t b h = ap (option_map (λ (e : ℕ × Task). e.1)) (entry_at k t s.
 
 pub lends_sound :
     (s : BoardState) (k : ℕ) (t : Task) (budget : ℕ) → IsBoard s → task_in k s.tasks ≡ Some t → can_lend t ≡ true
-    → (1 ≤ budget) × (budget ≤ max_budget)
-    → IsBoard (with_task s (lent t budget))
+    → (1 ≤ budget) × (budget ≤ max_budget) → IsBoard (with_task s (lent t budget))
 lends_sound s k t budget b there can low =
     changed_sound s t.id t (lent t budget) b (of_slot s k t b there) refl refl
     (lent_sound s.creates t budget (each_in (IsSound s.creates) k t s.tasks b.tasks there) can low)
 
-pub takes :
-    (s : BoardState) (k : ℕ) (t : Task) (id : List ℕ) (budget : ℕ) → IsBoard s → task_in k s.tasks ≡ Some t
+pub takes : (s : BoardState) (k : ℕ) (t : Task) (id : List ℕ) (budget : ℕ) → IsBoard s → task_in k s.tasks ≡ Some t
     → can_lend t ≡ true → (1 ≤ budget) × (budget ≤ max_budget)
     → id ≡ t.id → taken s id budget ≡ Some (with_task s (lent t budget))
 takes s k t id budget b there can low same =
@@ -201,8 +193,7 @@ takes s k t id budget b there can low same =
 -- ---- create
 
 -- a create that is accepted finds room
-pub few_tasks :
-    (s : BoardState) (config id : List ℕ) → first_refusal (create_refusals s config id) ≡ None
+pub few_tasks : (s : BoardState) (config id : List ℕ) → first_refusal (create_refusals s config id) ≡ None
     → length s.tasks < max_tasks
 few_tasks s config id none =
     let n = none_first (not (is_id id)) refusal.BadId _ none in
@@ -216,14 +207,11 @@ pub create_answers :
     (s : BoardState) (r : Request) (t : Task) (id : List ℕ) (key : ℕ) (s' : BoardState) → CreatePrepared s r t id
     → task_in key s.tasks ≡ None → s' ≡ with_new_task s key t → Answers s r (Ok (reply.Create id Created)) s'
 create_answers s r t id key s' p free leaves =
-    let made :
-    s' ≡ with_new_task s key (created_task id s.creates t.bytes t.module t.process) =
+    let made : s' ≡ with_new_task s key (created_task id s.creates t.bytes t.module t.process) =
     leaves ∙ ap (with_new_task s key) p.created in
-    let effect :
-    Creates s p.config id (Ok (reply.Create id Created)) s' =
+    let effect : Creates s p.config id (Ok (reply.Create id Created)) s' =
     (t.process, t.bytes, p.read, p.content, (t.module, p.openable, refl, (key, free, made))) in
-    let P :
-    Option Refusal → Type 0 =
+    let P : Option Refusal → Type 0 =
     λ o. DecidedBy o (Creates s p.config id (Ok (reply.Create id Created)) s') s (Ok (reply.Create id Created)) s'
     in
     let done :
@@ -271,13 +259,11 @@ returns s k t id budget s' forward first b there same out leaves =
     let at : task_of id s.tasks ≡ Some t = ap (λ (x : List ℕ). task_of x s.tasks) same ∙ of_slot s k t b there in
     let legal =
     slice_advances s.creates t budget forward first (each_in (IsSound s.creates) k t s.tasks b.tasks there) out in
-    let back :
-    HasReturned t (advanced t (slice_turns t budget)) =
+    let back : HasReturned t (advanced t (slice_turns t budget)) =
     record { budget = budget; out = out; legal = legal; advances = refl } in
     subst (λ (o : Option Task). Returns s o s') (sym at) (advanced t (slice_turns t budget), back, leaves)
 
-pub returned_sound :
-    (s : BoardState) (k : ℕ) (t : Task) (n : ℕ) → IsBoard s → task_in k s.tasks ≡ Some t
+pub returned_sound : (s : BoardState) (k : ℕ) (t : Task) (n : ℕ) → IsBoard s → task_in k s.tasks ≡ Some t
     → IsBoard (with_task s (advanced t n))
 returned_sound s k t n b there =
     changed_sound s t.id t (advanced t n) b (of_slot s k t b there) refl refl
@@ -290,8 +276,7 @@ first_append [] ds e h = absurd (none_is_not e h)
 first_append (x ∷ cs) ds e h =
     by_head x.0 x.1 (first_refusal cs) (first_refusal (cs ++ ds)) e (λ k. first_append cs ds e k) h
   where
-    by_head :
-        (b : Bool) (y : Refusal) (o p : Option Refusal) (e : Refusal) → (o ≡ Some e → p ≡ Some e)
+    by_head : (b : Bool) (y : Refusal) (o p : Option Refusal) (e : Refusal) → (o ≡ Some e → p ≡ Some e)
         → cond b (Some y) o ≡ Some e → cond b (Some y) p ≡ Some e
     by_head true y o p e f h = h
     by_head false y o p e f h = f h
@@ -307,8 +292,7 @@ id_refused s config id e E h =
     e h in
     subst (λ (o : Option Refusal). DecidedBy o E s (Err e) s) (sym all) (refl, refl)
 
-not_memory :
-    (a b c : Bool) (e : Refusal)
+not_memory : (a b c : Bool) (e : Refusal)
     → cond a (Some refusal.BadId) (cond b (Some refusal.Exists) (cond c (Some refusal.TooMany) None)) ≡ Some e
     → e ≢ refusal.NoMemory
 not_memory true b c e h is = cc

@@ -29,16 +29,13 @@ no_more t count most =
     let few = most t.module t.process t.turns t.breaks count in
     omega (arith, few)
 
-pub fewer :
-    (t : Task) (count : ℕ) → OnlyThere → ended (execution_at t t.turns) ≡ None
-    → (stepped t count).turns < t.turns + count
-    → ends_slice t.breaks (execution_at t (stepped t count).turns) ≡ true
+pub fewer : (t : Task) (count : ℕ) → OnlyThere → ended (execution_at t t.turns) ≡ None
+    → (stepped t count).turns < t.turns + count → ends_slice t.breaks (execution_at t (stepped t count).turns) ≡ true
 fewer t count only goes less =
     let made : slice_turns t count < count = omega (arith, less) in
     only t.module t.process t.turns t.breaks count goes made
 
-pub not_before :
-    (t : Task) (count n : ℕ) → StopFirst → t.turns < n → n < (stepped t count).turns
+pub not_before : (t : Task) (count n : ℕ) → StopFirst → t.turns < n → n < (stepped t count).turns
     → ends_slice t.breaks (execution_at t n) ≡ false
 not_before t count n first low high =
     let at : t.turns + (n - t.turns) ≡ n = omega (arith, low) in
@@ -56,15 +53,13 @@ no_break_by bs (suc k) s None none off h = by (at_break bs s) off h
     by true is g = cc
     by false is g = cc
 
-pub add_up :
-    (t : Task) (j k : ℕ) → Two → ended (execution_at t (stepped t j).turns) ≡ None
+pub add_up : (t : Task) (j k : ℕ) → Two → ended (execution_at t (stepped t j).turns) ≡ None
     → is_break_at t (stepped t j).turns ≡ false → stepped (stepped t j) k ≡ stepped t (j + k)
 add_up t j k two none off =
     let made =
     two t.module t.process t.turns t.breaks j k
     (no_break_by t.breaks (slice_turns t j) (execution_at t (stepped t j).turns)
     (ended (execution_at t (stepped t j).turns)) none off) in
-    let sum :
-    (t.turns + slice_turns t j) + slice_turns (stepped t j) k ≡ t.turns + slice_turns t (j + k) =
+    let sum : (t.turns + slice_turns t j) + slice_turns (stepped t j) k ≡ t.turns + slice_turns t (j + k) =
     omega (arith, made) in
     ap (λ (n : ℕ). idle_after t n None true) sum

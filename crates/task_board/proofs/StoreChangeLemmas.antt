@@ -21,18 +21,15 @@ use Rattle.task_board.specs.Inside.StoreChanges.{store_request, IsMadeFor, store
 use Rattle.task_board.specs.Inside.Shown.{board_state_of, board_of}
 
 -- the effect, if no refusal's condition holds
-accepted_store :
-    (s : BoardState) (refusals : Refusals) (rep : Reply) (new : StoreState) → first_refusal refusals ≡ None
+accepted_store : (s : BoardState) (refusals : Refusals) (rep : Reply) (new : StoreState) → first_refusal refusals ≡ None
     → OnStore s refusals rep new (Ok rep) (with_store s new)
 accepted_store s refusals rep new none =
     let a : Answer = Ok rep in
-    let P :
-    Option Refusal → Type 0 =
+    let P : Option Refusal → Type 0 =
     λ x. DecidedBy x ((a ≡ Ok rep) × (with_store s new ≡ with_store s new)) s a (with_store s new) in
     subst P (sym none) (refl, refl)
 
-pub store_answers :
-    (s : BoardState) (room : Room) (c : StoreChange) → StorePrepared s room c
+pub store_answers : (s : BoardState) (room : Room) (c : StoreChange) → StorePrepared s room c
     → Answers s (store_request c) (Ok (store_reply c)) (with_store s (store_after s.store c))
 store_answers s room (change.Put key bytes digest) p =
     let new = with_content s.store (arc_value bytes) in
@@ -58,8 +55,7 @@ store_answers s room (change.Gc used removed) p =
     let gone = unheld (used_by s.tasks) s.store in
     let new : List (List ℕ) → StoreState = λ u. collected u s.store in
     let done = accepted_store s [] (reply.Gc gone) (new (used_by s.tasks)) refl in
-    let P :
-    List (List ℕ) → List (List ℕ) → Type 0 =
+    let P : List (List ℕ) → List (List ℕ) → Type 0 =
     λ u r. OnStore s [] (reply.Gc gone) (new (used_by s.tasks)) (Ok (reply.Gc r)) (with_store s (new u)) in
     subst (λ (u : List (List ℕ)). P u removed) (sym p.fitted.0)
     (subst (λ (r : List (List ℕ)). P (used_by s.tasks) r) (sym p.fitted.1) done)
@@ -69,8 +65,7 @@ store_answers s room (change.Gc used removed) p =
 -- the change is the request's own, or it stores the bytes of a text
 pub data MadeFor (r : Request) (c : StoreChange) : Type 0 where
   own : r ≡ store_request c → MadeFor r c
-  of_text :
-      (text bytes : List ℕ) → IsAssembled text bytes → store_request c ≡ request.Put bytes
+  of_text : (text bytes : List ℕ) → IsAssembled text bytes → store_request c ≡ request.Put bytes
       → r ≡ request.PutText text → MadeFor r c
 
 made_for_text :
@@ -82,8 +77,7 @@ pub made_for : (r : Request) (c : StoreChange) → IsMadeFor r c → MadeFor r c
 made_for (request.PutText text) c is = made_for_text text c is
 made_for _ c is = own is
 
-answers_made_for :
-    (s : BoardState) (r : Request) (c : StoreChange) (a : Answer) (s' : BoardState) → MadeFor r c
+answers_made_for : (s : BoardState) (r : Request) (c : StoreChange) (a : Answer) (s' : BoardState) → MadeFor r c
     → Answers s (store_request c) a s' → Answers s r a s'
 answers_made_for s r c a s' (own is) done = subst (λ (q : Request). Answers s q a s') (sym is) done
 answers_made_for s r c a s' (of_text text bytes is put asked) done =
@@ -91,8 +85,7 @@ answers_made_for s r c a s' (of_text text bytes is put asked) done =
     subst (λ (q : Request). Answers s q a s') (sym asked) (stored bytes is puts)
 
 -- what answers the change's own request answers each for which it is made
-pub made_answers :
-    (s : BoardState) (r : Request) (c : StoreChange) (a : Answer) (s' : BoardState) → IsMadeFor r c
+pub made_answers : (s : BoardState) (r : Request) (c : StoreChange) (a : Answer) (s' : BoardState) → IsMadeFor r c
     → Answers s (store_request c) a s' → Answers s r a s'
 made_answers s r c a s' is done = answers_made_for s r c a s' (made_for r c is) done
 

@@ -19,16 +19,13 @@ use Rattle.task_board.proofs.StepLemmas.{none_first}
 pub data StoreEffect (used : List (List ℕ)) (s s' : StoreState) : Type 0 where
   puts :
       (bytes : List ℕ) → first_refusal (put_refusals s bytes) ≡ None → s' ≡ with_content s bytes → StoreEffect used s s'
-  removes :
-      (digest : List ℕ) → first_refusal (remove_refusals used s digest) ≡ None → s' ≡ without_content s digest
+  removes : (digest : List ℕ) → first_refusal (remove_refusals used s digest) ≡ None → s' ≡ without_content s digest
       → StoreEffect used s s'
   leases :
       (id : List ℕ) → first_refusal (lease_create_refusals s id) ≡ None → s' ≡ with_lease s id → StoreEffect used s s'
-  adds :
-      (digest id : List ℕ) → first_refusal (lease_add_refusals s digest id) ≡ None → s' ≡ with_member s digest id
+  adds : (digest id : List ℕ) → first_refusal (lease_add_refusals s digest id) ≡ None → s' ≡ with_member s digest id
       → StoreEffect used s s'
-  ends :
-      (id : List ℕ) → first_refusal (lease_delete_refusals s id) ≡ None → s' ≡ without_lease s id
+  ends : (id : List ℕ) → first_refusal (lease_delete_refusals s id) ≡ None → s' ≡ without_lease s id
       → StoreEffect used s s'
   collects : s' ≡ collected used s → StoreEffect used s s'
 
@@ -44,16 +41,14 @@ less_each P digest (c ∷ cs) each =
     elim (bytes_eq c.digest digest) as (λ (b : Bool). Each P (cond b cs (c ∷ remove_content digest cs)))
     [ true ↦ each.1 | false ↦ (each.0, less_each P digest cs each.1) ]
 
-less_digests :
-    (P : List ℕ → Type 0) (digest : List ℕ) (cs : List Content) → Each P (digests_of cs)
+less_digests : (P : List ℕ → Type 0) (digest : List ℕ) (cs : List Content) → Each P (digests_of cs)
     → Each P (digests_of (remove_content digest cs))
 less_digests P digest [] each = tt
 less_digests P digest (c ∷ cs) each =
     elim (bytes_eq c.digest digest) as (λ (b : Bool). Each P (digests_of (cond b cs (c ∷ remove_content digest cs))))
     [ true ↦ each.1 | false ↦ (each.0, less_digests P digest cs each.1) ]
 
-less_distinct :
-    (digest : List ℕ) (cs : List Content) → AreDistinct (digests_of cs)
+less_distinct : (digest : List ℕ) (cs : List Content) → AreDistinct (digests_of cs)
     → AreDistinct (digests_of (remove_content digest cs))
 less_distinct digest [] d = tt
 less_distinct digest (c ∷ cs) d =
@@ -75,16 +70,14 @@ some_each P test (c ∷ cs) each =
     elim (test c) as (λ (b : Bool). Each P (cond b (c ∷ filter test cs) (filter test cs)))
     [ true ↦ (each.0, some_each P test cs each.1) | false ↦ some_each P test cs each.1 ]
 
-some_digests :
-    (P : List ℕ → Type 0) (test : Content → Bool) (cs : List Content) → Each P (digests_of cs)
+some_digests : (P : List ℕ → Type 0) (test : Content → Bool) (cs : List Content) → Each P (digests_of cs)
     → Each P (digests_of (filter test cs))
 some_digests P test [] each = tt
 some_digests P test (c ∷ cs) each =
     elim (test c) as (λ (b : Bool). Each P (digests_of (cond b (c ∷ filter test cs) (filter test cs))))
     [ true ↦ (each.0, some_digests P test cs each.1) | false ↦ some_digests P test cs each.1 ]
 
-some_distinct :
-    (test : Content → Bool) (cs : List Content) → AreDistinct (digests_of cs)
+some_distinct : (test : Content → Bool) (cs : List Content) → AreDistinct (digests_of cs)
     → AreDistinct (digests_of (filter test cs))
 some_distinct test [] d = tt
 some_distinct test (c ∷ cs) d =
@@ -107,8 +100,7 @@ record AreSound (cs : List Content) : Type 0 where
   pub distinct : AreDistinct (digests_of cs)
   pub few : length cs ≤ max_contents
 
-no_content :
-    (digest : List ℕ) (cs : List Content) → content_in cs digest ≡ None
+no_content : (digest : List ℕ) (cs : List Content) → content_in cs digest ≡ None
     → Each (λ (y : List ℕ). y ≢ digest) (digests_of cs)
 no_content digest [] none = tt
 no_content digest (c ∷ cs) none =
@@ -118,12 +110,10 @@ no_content digest (c ∷ cs) none =
     (sym (cond_true (bytes_eq c.digest digest) (Some c.bytes) (content_in cs digest) None y none))))
     (λ n other_n. (
       other_n,
-      no_content digest cs
-          (cond_false (bytes_eq c.digest digest) (Some c.bytes) (content_in cs digest) None n none),
+      no_content digest cs (cond_false (bytes_eq c.digest digest) (Some c.bytes) (content_in cs digest) None n none),
     ))
 
-put_sound :
-    (s : StoreState) (bytes : List ℕ) → AreSound s.contents → first_refusal (put_refusals s bytes) ≡ None
+put_sound : (s : StoreState) (bytes : List ℕ) → AreSound s.contents → first_refusal (put_refusals s bytes) ≡ None
     → AreSound (with_content s bytes).contents
 put_sound s bytes b h =
     let l = none_first (nat_lt max_module_bytes (length bytes)) refusal.Limit _ h in
@@ -187,8 +177,7 @@ ended_each name (l ∷ ls) each =
     elim (bytes_eq l.name name) as (λ (b : Bool). Each IsLease (cond b ls (l ∷ remove_lease name ls)))
     [ true ↦ each.1 | false ↦ (each.0, ended_each name ls each.1) ]
 
-ended_names :
-    (P : List ℕ → Type 0) (name : List ℕ) (ls : List Lease) → Each P (names_of ls)
+ended_names : (P : List ℕ → Type 0) (name : List ℕ) (ls : List Lease) → Each P (names_of ls)
     → Each P (names_of (remove_lease name ls))
 ended_names P name [] each = tt
 ended_names P name (l ∷ ls) each =
@@ -209,8 +198,7 @@ ended_length name (l ∷ ls) =
     elim (bytes_eq l.name name) as (λ (b : Bool). length (cond b ls (l ∷ remove_lease name ls)) ≤ suc (length ls))
     [ true ↦ omega arith | false ↦ omega (arith, rest) ]
 
-no_lease :
-    (name : List ℕ) (ls : List Lease) → lease_in ls name ≡ None → Each (λ (y : List ℕ). y ≢ name) (names_of ls)
+no_lease : (name : List ℕ) (ls : List Lease) → lease_in ls name ≡ None → Each (λ (y : List ℕ). y ≢ name) (names_of ls)
 no_lease name [] none = tt
 no_lease name (l ∷ ls) none =
     by_id l.name name
@@ -233,8 +221,7 @@ none_among digest (m ∷ ms) off =
     rest true h = cc
     rest false h = h
 
-added_names :
-    (digest name : List ℕ) (ls : List Lease) → names_of (add_member digest name ls) ≡ names_of ls
+added_names : (digest name : List ℕ) (ls : List Lease) → names_of (add_member digest name ls) ≡ names_of ls
 added_names digest name [] = refl
 added_names digest name (l ∷ ls) =
     elim (bytes_eq l.name name) as
@@ -248,12 +235,10 @@ added_length digest name [] = refl
 added_length digest name (l ∷ ls) =
     elim (bytes_eq l.name name) as
     (λ (b : Bool). length
-    (cond b (record l { members = l.members ++ digest ∷ [] } ∷ ls) (l ∷ add_member digest name ls))
-    ≡ suc (length ls))
+    (cond b (record l { members = l.members ++ digest ∷ [] } ∷ ls) (l ∷ add_member digest name ls)) ≡ suc (length ls))
     [ true ↦ refl | false ↦ ap (λ (n : ℕ). suc n) (added_length digest name ls) ]
 
-added_each :
-    (digest name : List ℕ) (ms : List (List ℕ)) (ls : List Lease) → is_among digest ms ≡ false
+added_each : (digest name : List ℕ) (ms : List (List ℕ)) (ls : List Lease) → is_among digest ms ≡ false
     → length ms < max_members → lease_in ls name ≡ Some ms → Each IsLease ls → Each IsLease (add_member digest name ls)
 added_each digest name ms [] off few at each = tt
 added_each digest name ms (l ∷ ls) off few at each =
@@ -278,8 +263,7 @@ added_each digest name ms (l ∷ ls) off few at each =
           (cond_false (bytes_eq l.name name) (Some l.members) (lease_in ls name) (Some ms) n at) each.1,
     ))
 
-lease_sound :
-    (s : StoreState) (id : List ℕ) → AreLeases s.leases → first_refusal (lease_create_refusals s id) ≡ None
+lease_sound : (s : StoreState) (id : List ℕ) → AreLeases s.leases → first_refusal (lease_create_refusals s id) ≡ None
     → AreLeases (with_lease s id).leases
 lease_sound s id b h =
     let n = none_first (not (is_id id)) refusal.BadId _ h in
@@ -304,8 +288,7 @@ member_sound s digest id b h =
     let t = add_takes s digest id h in
     record {
       each = added_each digest id t.0 s.leases t.2 t.3 t.1 b.each;
-      distinct =
-          subst (λ (xs : List (List ℕ)). AreDistinct xs) (sym (added_names digest id s.leases)) b.distinct;
+      distinct = subst (λ (xs : List (List ℕ)). AreDistinct xs) (sym (added_names digest id s.leases)) b.distinct;
       few = subst (λ (n : ℕ). n ≤ max_leases) (sym (added_length digest id s.leases)) b.few;
     }
 
@@ -328,8 +311,7 @@ leases_after used s s' b (ends id none is) =
     })
 leases_after used s s' b (collects is) = subst (λ (x : StoreState). AreLeases x.leases) (sym is) b
 
-pub store_sound :
-    (s : BoardState) (used : List (List ℕ)) (new : StoreState) → IsBoard s → StoreEffect used s.store new
+pub store_sound : (s : BoardState) (used : List (List ℕ)) (new : StoreState) → IsBoard s → StoreEffect used s.store new
     → IsBoard (with_store s new)
 store_sound s used new b change =
     let c =
@@ -353,30 +335,26 @@ store_sound s used new b change =
 
 -- ---- what is held stays
 
-more_by :
-    (b : Bool) (v bytes : List ℕ) (o p : Option (List ℕ)) → (o ≡ Some bytes → p ≡ Some bytes)
+more_by : (b : Bool) (v bytes : List ℕ) (o p : Option (List ℕ)) → (o ≡ Some bytes → p ≡ Some bytes)
     → cond b (Some v) o ≡ Some bytes → cond b (Some v) p ≡ Some bytes
 more_by true v bytes o p f h = h
 more_by false v bytes o p f h = f h
 
-pub found_more :
-    (cs : List Content) (c : Content) (digest bytes : List ℕ) → content_in cs digest ≡ Some bytes
+pub found_more : (cs : List Content) (c : Content) (digest bytes : List ℕ) → content_in cs digest ≡ Some bytes
     → content_in (cs ++ c ∷ []) digest ≡ Some bytes
 found_more [] c digest bytes h = absurd (none_is_not bytes h)
 found_more (x ∷ cs) c digest bytes h =
     more_by (bytes_eq x.digest digest) x.bytes bytes (content_in cs digest) (content_in (cs ++ c ∷ []) digest)
     (found_more cs c digest bytes) h
 
-pub found_beside :
-    (digest other : List ℕ) (cs : List Content) → other ≢ digest
+pub found_beside : (digest other : List ℕ) (cs : List Content) → other ≢ digest
     → content_in (remove_content digest cs) other ≡ content_in cs other
 found_beside digest other [] away = refl
 found_beside digest other (c ∷ cs) away =
     by_id c.digest digest
     (λ y same.
     ap (λ (xs : List Content). content_in xs other)
-    (cond_is_true (bytes_eq c.digest digest) cs (c ∷ remove_content digest cs) y)
-    ∙ sym
+    (cond_is_true (bytes_eq c.digest digest) cs (c ∷ remove_content digest cs) y) ∙ sym
     (cond_is_false (bytes_eq c.digest other) (Some c.bytes) (content_in cs other)
     (other_id c.digest other (λ e. away (sym e ∙ same)))))
     (λ n differs.
@@ -385,8 +363,7 @@ found_beside digest other (c ∷ cs) away =
     ∙ ap (cond (bytes_eq c.digest other) (Some c.bytes)) (found_beside digest other cs away))
 
 -- a held content stays, whatever is done to the store
-pub held_stays :
-    (used : List (List ℕ)) (s s' : StoreState) → StoreEffect used s s' → (digest bytes : List ℕ)
+pub held_stays : (used : List (List ℕ)) (s s' : StoreState) → StoreEffect used s s' → (digest bytes : List ℕ)
     → is_held used s.leases digest ≡ true
     → content_in s.contents digest ≡ Some bytes → content_in s'.contents digest ≡ Some bytes
 held_stays used s s' (puts new none is) digest bytes held h =
@@ -428,16 +405,13 @@ leased_more :
 leased_more [] id digest h = h
 leased_more (l ∷ ls) id digest h = by (λ k. leased_more ls id digest k) (is_among digest l.members) h
   where
-    by :
-        (is_leased (ls ++ record { name = id; members = [] } ∷ []) digest ≡ true → is_leased ls digest ≡ true)
-        → (b : Bool)
-        → (b || is_leased (ls ++ record { name = id; members = [] } ∷ []) digest) ≡ true
+    by : (is_leased (ls ++ record { name = id; members = [] } ∷ []) digest ≡ true → is_leased ls digest ≡ true)
+        → (b : Bool) → (b || is_leased (ls ++ record { name = id; members = [] } ∷ []) digest) ≡ true
         → (b || is_leased ls digest) ≡ true
     by rest true g = refl
     by rest false g = rest g
 
-among_more :
-    (ms : List (List ℕ)) (new digest : List ℕ) → is_among digest (ms ++ new ∷ []) ≡ true
+among_more : (ms : List (List ℕ)) (new digest : List ℕ) → is_among digest (ms ++ new ∷ []) ≡ true
     → (is_among digest ms ≡ true) ⊎ (new ≡ digest)
 among_more [] new digest h = by (or_true (bytes_eq new digest) false h)
   where
@@ -459,27 +433,23 @@ right_leased : (a b : Bool) {X : Type 0} → (b ≡ true) ⊎ X → ((a || b) �
 right_leased a b {X} (inl y) = inl (or_right a b y)
 right_leased a b {X} (inr x) = inr x
 
-leased_added :
-    (ls : List Lease) (new id digest : List ℕ) → is_leased (add_member new id ls) digest ≡ true
+leased_added : (ls : List Lease) (new id digest : List ℕ) → is_leased (add_member new id ls) digest ≡ true
     → (is_leased ls digest ≡ true) ⊎ (new ≡ digest)
 leased_added [] new id digest h = inl h
 leased_added (l ∷ ls) new id digest h = by (λ k. leased_added ls new id digest k) (bytes_eq l.name id) h
   where
     by : (is_leased (add_member new id ls) digest ≡ true → (is_leased ls digest ≡ true) ⊎ (new ≡ digest)) → (b : Bool)
         → is_leased (cond b (record l { members = l.members ++ new ∷ [] } ∷ ls) (l ∷ add_member new id ls)) digest
-        ≡ true
-        → (is_leased (l ∷ ls) digest ≡ true) ⊎ (new ≡ digest)
+        ≡ true → (is_leased (l ∷ ls) digest ≡ true) ⊎ (new ≡ digest)
     by rest true g = here (or_true (is_among digest (l.members ++ new ∷ [])) (is_leased ls digest) g)
       where
-        here :
-            (is_among digest (l.members ++ new ∷ []) ≡ true) ⊎ (is_leased ls digest ≡ true)
+        here : (is_among digest (l.members ++ new ∷ []) ≡ true) ⊎ (is_leased ls digest ≡ true)
             → (is_leased (l ∷ ls) digest ≡ true) ⊎ (new ≡ digest)
         here (inl y) = left_leased (is_among digest l.members) (is_leased ls digest) (among_more l.members new digest y)
         here (inr n) = inl (or_right (is_among digest l.members) (is_leased ls digest) n)
     by rest false g = here (or_true (is_among digest l.members) (is_leased (add_member new id ls) digest) g)
       where
-        here :
-            (is_among digest l.members ≡ true) ⊎ (is_leased (add_member new id ls) digest ≡ true)
+        here : (is_among digest l.members ≡ true) ⊎ (is_leased (add_member new id ls) digest ≡ true)
             → (is_leased (l ∷ ls) digest ≡ true) ⊎ (new ≡ digest)
         here (inl y) = inl (or_left (is_among digest l.members) (is_leased ls digest) y)
         here (inr n) = right_leased (is_among digest l.members) (is_leased ls digest) (rest n)
@@ -489,23 +459,19 @@ leased_less :
 leased_less [] id digest h = h
 leased_less (l ∷ ls) id digest h = by (λ k. leased_less ls id digest k) (bytes_eq l.name id) h
   where
-    by :
-        (is_leased (remove_lease id ls) digest ≡ true → is_leased ls digest ≡ true) → (b : Bool)
+    by : (is_leased (remove_lease id ls) digest ≡ true → is_leased ls digest ≡ true) → (b : Bool)
         → is_leased (cond b ls (l ∷ remove_lease id ls)) digest ≡ true → is_leased (l ∷ ls) digest ≡ true
     by rest true g = or_right (is_among digest l.members) (is_leased ls digest) g
     by rest false g = here (or_true (is_among digest l.members) (is_leased (remove_lease id ls) digest) g)
       where
-        here :
-            (is_among digest l.members ≡ true) ⊎ (is_leased (remove_lease id ls) digest ≡ true)
+        here : (is_among digest l.members ≡ true) ⊎ (is_leased (remove_lease id ls) digest ≡ true)
             → is_leased (l ∷ ls) digest ≡ true
         here (inl y) = or_left (is_among digest l.members) (is_leased ls digest) y
         here (inr n) = or_right (is_among digest l.members) (is_leased ls digest) (rest n)
 
 -- what a lease names afterwards, one named before, or it was added
-leased_before :
-    (used : List (List ℕ)) (s s' : StoreState) → StoreEffect used s s' → (digest : List ℕ)
-    → is_leased s'.leases digest ≡ true
-    → (is_leased s.leases digest ≡ true)
+leased_before : (used : List (List ℕ)) (s s' : StoreState) → StoreEffect used s s' → (digest : List ℕ)
+    → is_leased s'.leases digest ≡ true → (is_leased s.leases digest ≡ true)
     ⊎ ((is_some (content_in s.contents digest) ≡ true) × (s'.contents ≡ s.contents))
 leased_before used s s' (puts new none is) digest h =
     inl (ap (λ (x : StoreState). is_leased x.leases digest) (sym is) ∙ h)
@@ -523,9 +489,7 @@ leased_before used s s' (adds new id none is) digest h =
         let c = none_first (is_none (content_in s.contents new)) refusal.NoContent _ b.1 in
         not_none (content_in s.contents new) c.0
 
-    by :
-        (is_leased s.leases digest ≡ true) ⊎ (new ≡ digest)
-        → (is_leased s.leases digest ≡ true)
+    by : (is_leased s.leases digest ≡ true) ⊎ (new ≡ digest) → (is_leased s.leases digest ≡ true)
         ⊎ ((is_some (content_in s.contents digest) ≡ true) × (s'.contents ≡ s.contents))
     by (inl y) = inl y
     by (inr e) =
@@ -544,8 +508,7 @@ pub leased_are_there :
     (used : List (List ℕ)) (s s' : StoreState) → StoreEffect used s s' → LeasedAreThere s → LeasedAreThere s'
 leased_are_there used s s' change all digest h = by (leased_before used s s' change digest h)
   where
-    by :
-        (is_leased s.leases digest ≡ true)
+    by : (is_leased s.leases digest ≡ true)
         ⊎ ((is_some (content_in s.contents digest) ≡ true) × (s'.contents ≡ s.contents))
         → is_some (content_in s'.contents digest) ≡ true
     by (inl y) =

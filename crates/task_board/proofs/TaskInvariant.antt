@@ -33,16 +33,13 @@ idle t o c kept is = idle_by t c t.out refl (subst (λ (x : Option Checkout). Is
 pub lent_own : (t : Task) (c : Checkout) (slot budget : ℕ) → IsOwn c t.id t.bytes t.module t.process t.breaks
     → lent_with slot t.incarnation t.turns budget c ≡ loan_of slot budget t
 lent_own t c slot budget own =
-    ap (λ (x : List ℕ). record (lent_with slot t.incarnation t.turns budget c) { id = x }) own.same_id
-    ∙ (ap
+    ap (λ (x : List ℕ). record (lent_with slot t.incarnation t.turns budget c) { id = x }) own.same_id ∙ (ap
     (λ (x : List ℕ). record (lent_with slot t.incarnation t.turns budget c) { id = t.id; bytes = x }) own.same_bytes
     ∙ (ap
     (λ (x : Module). record (lent_with slot t.incarnation t.turns budget c)
-    { id = t.id; bytes = t.bytes; «module» = x }) own.same_module
-    ∙ (ap
+    { id = t.id; bytes = t.bytes; «module» = x }) own.same_module ∙ (ap
     (λ (x : ProcessConfig). record (lent_with slot t.incarnation t.turns budget c)
-    { id = t.id; bytes = t.bytes; «module» = t.module; process = x }) own.same_process
-    ∙ ap
+    { id = t.id; bytes = t.bytes; «module» = t.module; process = x }) own.same_process ∙ ap
     (λ (x : _). record (lent_with slot t.incarnation t.turns budget c)
     { id = t.id; bytes = t.bytes; «module» = t.module; process = t.process; breaks = x }) own.same_breaks)))
 
@@ -56,14 +53,11 @@ loan_kept t c slot budget opens is =
 pub fits_parts : (l : Lent) (t : Task) → l.incarnation ≡ t.incarnation → l.turns ≡ t.turns → t.out ≡ Some l.budget
     → l.id ≡ t.id → l.bytes ≡ t.bytes → l.module ≡ t.module → l.process ≡ t.process → l.breaks ≡ t.breaks → FitsTask l t
 fits_parts l t n k out id bytes m p bs = (
-  ap (λ (x : _). record l { incarnation = x }) n
-      ∙ (ap (λ (x : _). record l { incarnation = t.incarnation; id = x }) id
+  ap (λ (x : _). record l { incarnation = x }) n ∙ (ap (λ (x : _). record l { incarnation = t.incarnation; id = x }) id
       ∙ (ap (λ (x : _). record l { incarnation = t.incarnation; id = t.id; bytes = x }) bytes
-      ∙ (ap (λ (x : _). record l { incarnation = t.incarnation; id = t.id; bytes = t.bytes; «module» = x }) m
-      ∙ (ap
+      ∙ (ap (λ (x : _). record l { incarnation = t.incarnation; id = t.id; bytes = t.bytes; «module» = x }) m ∙ (ap
       (λ (x : _). record l
-      { incarnation = t.incarnation; id = t.id; bytes = t.bytes; «module» = t.module; process = x }) p
-      ∙ (ap
+      { incarnation = t.incarnation; id = t.id; bytes = t.bytes; «module» = t.module; process = x }) p ∙ (ap
       (λ (x : _). record l {
         incarnation = t.incarnation;
         id = t.id;
@@ -71,8 +65,7 @@ fits_parts l t n k out id bytes m p bs = (
         «module» = t.module;
         process = t.process;
         turns = x;
-      }) k
-      ∙ ap
+      }) k ∙ ap
       (λ (x : _). record l {
         incarnation = t.incarnation;
         id = t.id;
@@ -93,8 +86,7 @@ same_module l m bytes p one mine other same =
     one bytes l.module m (subst (λ (bs : List ℕ). Spells bs l.module) same mine.spelled.spells) other.spelled.spells
 
 -- a loan fits a task exactly if its numbers agree, it is the task's own budget, and it shares what the task has
-pub fits_shared :
-    (l : Lent) (t : task.Inside) (r : Bool)
+pub fits_shared : (l : Lent) (t : task.Inside) (r : Bool)
     → (l.incarnation ≡ t.incarnation) × (l.turns ≡ t.turns) × (t.out ≡ Some l.budget)
     → (l.bytes ≡ arc_value (arc_value t.shared).bytes → l.module ≡ (arc_value t.shared).flat)
     → IsTrue r ↔ SharesWith l (arc_value t.shared) (arc_value t.breaks) → IsTrue r ↔ FitsTask l (task_of t)
@@ -113,11 +105,9 @@ fits_shared l t r numbers one is = (
 -- ---- a step
 
 -- a machine that has made turns
-pub ran :
-    (old new : MachineView) (m : Module) (p : ProcessConfig) (n made turns : ℕ) → IsMachine old m p n
+pub ran : (old new : MachineView) (m : Module) (p : ProcessConfig) (n made turns : ℕ) → IsMachine old m p n
     → new ≡ record old { turns = made } → turns ≡ new.turns → IsMachine new m p turns
 ran old new m p n made turns is by same =
     let counts : made ≡ turns = sym (same ∙ ap (λ (x : MachineView). x.turns) by) in
-    by
-    ∙ (ap (λ (x : MachineView). record x { turns = made }) is
+    by ∙ (ap (λ (x : MachineView). record x { turns = made }) is
     ∙ ap (λ (k : ℕ). record { «module» = m; process = p; turns = k }) counts)

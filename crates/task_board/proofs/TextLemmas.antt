@@ -23,8 +23,7 @@ use Rattle.task_board.proofs.LawLemmas.{answers_same}
 
 -- ---- what is prepared
 
-text_change :
-    (text bytes : List ℕ) (c : StoreChange) → IsAssembled text bytes → IsMadeFor (request.Put bytes) c
+text_change : (text bytes : List ℕ) (c : StoreChange) → IsAssembled text bytes → IsMadeFor (request.Put bytes) c
     → IsMadeFor (request.PutText text) c
 text_change text bytes (store.Put key given digest) is made =
     subst (λ (x : List ℕ). IsAssembled text x) (same_bytes bytes (arc_value given) made) is
@@ -34,8 +33,7 @@ text_change text bytes (store.Put key given digest) is made =
 text_change text bytes _ is made = cc
 
 -- what a put of the bytes of a text is prepared as, its put is prepared as
-text_plan :
-    (s : BoardState) (room : Room) (text bytes : List ℕ) (p : Plan) → IsAssembled text bytes
+text_plan : (s : BoardState) (room : Room) (text bytes : List ℕ) (p : Plan) → IsAssembled text bytes
     → Plans s room (request.Put bytes) p → Plans s room (request.PutText text) p
 text_plan s room text bytes (plan.Refused e) is h = (h.0, stored bytes is h.1)
 text_plan s room text bytes (plan.Answered reply) is h = absurd h.0
@@ -46,16 +44,13 @@ text_plan s room text bytes (plan.Delete slot id) is h = let asked = h.0 in cc
 text_plan s room text bytes (plan.Breaks m slot id breaks) is h = let asked = h.0 in cc
 
 module _ {E : Type 0} where
-  pub text_plans :
-      (s : BoardState) (room : Room) (text bytes : List ℕ) (r : Result Plan E) → IsAssembled text bytes
-      → IfOk r (λ p. Plans s room (request.Put bytes) p)
-      → IfOk r (λ p. Plans s room (request.PutText text) p)
+  pub text_plans : (s : BoardState) (room : Room) (text bytes : List ℕ) (r : Result Plan E) → IsAssembled text bytes
+      → IfOk r (λ p. Plans s room (request.Put bytes) p) → IfOk r (λ p. Plans s room (request.PutText text) p)
   text_plans s room text bytes (Ok p) is h = text_plan s room text bytes p is h
   text_plans s room text bytes (Err e) is h = tt
 
 -- a text of which no bytes are stored is refused
-pub refused_plan :
-    (s : BoardState) (room : Room) (text : List ℕ) (e : Refusal) → CannotAssemble text e
+pub refused_plan : (s : BoardState) (room : Room) (text : List ℕ) (e : Refusal) → CannotAssemble text e
     → Plans s room (request.PutText text) (plan.Refused e)
 refused_plan s room text e why = (not_memory e why, refused e why refl refl)
   where
@@ -72,10 +67,8 @@ bad_cause text (refusal.BadText line column) bad none = bad_text line column non
 bad_cause text _ bad none = absurd bad
 
 -- the reason of a refusal for a limit
-limit_cause :
-    (text : List ℕ) → ((m : Module) → Denotes text m → FitsLimits m → ⊥)
-    → ((m : Module) × Denotes text m) ⊎ IsTooDeep text
-    → CannotAssemble text refusal.Limit
+limit_cause : (text : List ℕ) → ((m : Module) → Denotes text m → FitsLimits m → ⊥)
+    → ((m : Module) × Denotes text m) ⊎ IsTooDeep text → CannotAssemble text refusal.Limit
 limit_cause text big (inl d) = too_much d.0 d.1 (big d.0 d.1)
 limit_cause text big (inr deep) = too_deep deep
 
@@ -98,28 +91,23 @@ abbrev pub DeepHasNone : Type 0
 DeepHasNone = (text : List ℕ) → IsTooDeep text → (m : Module) → Denotes text m → Within m → ⊥
 
 -- of a text that is assembled no refusal has a reason
-never_both :
-    (text : List ℕ) (m : Module) (e : Refusal) → One → DeepHasNone → Denotes text m → FitsLimits m
+never_both : (text : List ℕ) (m : Module) (e : Refusal) → One → DeepHasNone → Denotes text m → FitsLimits m
     → CannotAssemble text e → ⊥
 never_both text m _ one deepest denotes fits (bad_text line column none) = none m denotes
 never_both text m _ one deepest denotes fits (too_much n other big) =
     big (subst FitsLimits (one text m n denotes other) fits)
 never_both text m _ one deepest denotes fits (too_deep deep) = deepest text deep m denotes fits.0
 
-put_by :
-    (s : BoardState) (text : List ℕ) (m : Module) (r : Answer) (s' : BoardState) → One → DeepHasNone
-    → Denotes text m → FitsLimits m
-    → PutsText s text r s' → Puts s (canon m) r s'
+put_by : (s : BoardState) (text : List ℕ) (m : Module) (r : Answer) (s' : BoardState) → One → DeepHasNone
+    → Denotes text m → FitsLimits m → PutsText s text r s' → Puts s (canon m) r s'
 put_by s text m r s' one deepest denotes fits (refused e why is same) =
     absurd (never_both text m e one deepest denotes fits why)
 put_by s text m r s' one deepest denotes fits (stored bytes is puts) =
     let same : bytes ≡ canon m = is.encodes ∙ ap canon (one text is.module m is.denotes denotes) in
     subst (λ (x : List ℕ). Puts s x r s') same puts
 
-pub text_is_put :
-    (s : BoardState) (text : List ℕ) (m : Module) (r : Answer) (s' : BoardState) → One → DeepHasNone
-    → Denotes text m → FitsLimits m
-    → Answers s (request.PutText text) r s' → Answers s (request.Put (canon m)) r s'
+pub text_is_put : (s : BoardState) (text : List ℕ) (m : Module) (r : Answer) (s' : BoardState) → One → DeepHasNone
+    → Denotes text m → FitsLimits m → Answers s (request.PutText text) r s' → Answers s (request.Put (canon m)) r s'
 text_is_put s text m r s' one deepest denotes fits a = put_by s text m r s' one deepest denotes fits a
 
 stays_by :
@@ -138,10 +126,8 @@ limit_of text m _ denotes (bad_text line column none) = absurd (none m denotes)
 limit_of text m _ denotes (too_much n other big) = refl
 limit_of text m _ denotes (too_deep deep) = refl
 
-limit_by :
-    (s : BoardState) (text : List ℕ) (m : Module) (r : Answer) (s' : BoardState) → One → Denotes text m
-    → (FitsLimits m → ⊥)
-    → PutsText s text r s' → r ≡ Err refusal.Limit
+limit_by : (s : BoardState) (text : List ℕ) (m : Module) (r : Answer) (s' : BoardState) → One → Denotes text m
+    → (FitsLimits m → ⊥) → PutsText s text r s' → r ≡ Err refusal.Limit
 limit_by s text m r s' one denotes big (refused e why is same) =
     is ∙ ap (λ (x : Refusal). Err x) (limit_of text m e denotes why)
 limit_by s text m r s' one denotes big (stored bytes is puts) =
@@ -149,8 +135,7 @@ limit_by s text m r s' one denotes big (stored bytes is puts) =
 
 pub big_text_is_limit :
     (s : BoardState) (text : List ℕ) (m : Module) (r : Answer) (s' : BoardState) → One → Denotes text m
-    → (FitsLimits m → ⊥)
-    → Answers s (request.PutText text) r s' → r ≡ Err refusal.Limit
+    → (FitsLimits m → ⊥) → Answers s (request.PutText text) r s' → r ≡ Err refusal.Limit
 big_text_is_limit s text m r s' one denotes big a = limit_by s text m r s' one denotes big a
 
 bad_of : (text : List ℕ) (e : Refusal) → DenotesNone text → (IsTooDeep text → ⊥) → CannotAssemble text e → IsBadText e
@@ -171,8 +156,7 @@ no_text_is_bad s text r s' none flat a = bad_by s text r s' none flat a
 -- ---- what a put of a text leaves open
 
 -- two reasons for the same text
-reasons_agree :
-    (text : List ℕ) (e e' : Refusal) → CannotAssemble text e → CannotAssemble text e'
+reasons_agree : (text : List ℕ) (e e' : Refusal) → CannotAssemble text e → CannotAssemble text e'
     → AgreeOnText text (Err e) (Err e')
 reasons_agree text _ _ (bad_text line column none) (bad_text line' column' none') = inr (none, tt, tt)
 reasons_agree text _ _ (bad_text line column none) (too_much m denotes big) = absurd (none m denotes)

@@ -47,8 +47,7 @@ some_distinct test (w ∷ ws) d =
       | false ↦ some_distinct test ws d.1
     ]
 
-passing_by :
-    (test : Ticket → Bool) (w : Ticket) (ws : List Ticket) (b : Bool) → test w ≡ b
+passing_by : (test : Ticket → Bool) (w : Ticket) (ws : List Ticket) (b : Bool) → test w ≡ b
     → Each (λ (x : Ticket). test x ≡ true) (filter test ws)
     → Each (λ (x : Ticket). test x ≡ true) (cond b (w ∷ filter test ws) (filter test ws))
 passing_by test w ws true is each = (is, each)
@@ -58,8 +57,7 @@ passing : (test : Ticket → Bool) (ws : List Ticket) → Each (λ (x : Ticket).
 passing test [] = tt
 passing test (w ∷ ws) = passing_by test w ws (test w) refl (passing test ws)
 
-all_pass_by :
-    (test : Ticket → Bool) (w : Ticket) (ws : List Ticket) → test w ≡ true → filter test ws ≡ ws
+all_pass_by : (test : Ticket → Bool) (w : Ticket) (ws : List Ticket) → test w ≡ true → filter test ws ≡ ws
     → cond (test w) (w ∷ filter test ws) (filter test ws) ≡ w ∷ ws
 all_pass_by test w ws is same =
     cond_is_true (test w) (w ∷ filter test ws) (filter test ws) is ∙ ap (λ (xs : List Ticket). w ∷ xs) same
@@ -90,8 +88,7 @@ beside k w = not (nat_eq w.slot k)
 -- all but the one of a slot
 others_by :
     (ts : Entries) (k : ℕ) (w : Ticket) (ws : List Ticket) (b : Bool) → nat_eq w.slot k ≡ b → AreDistinct (w ∷ ws)
-    → Each (λ (x : Ticket). is_present ts x ≡ true) (w ∷ ws)
-    → length ws ≤ suc (length (filter (beside k) ws))
+    → Each (λ (x : Ticket). is_present ts x ≡ true) (w ∷ ws) → length ws ≤ suc (length (filter (beside k) ws))
     → suc (length ws) ≤ suc (length (cond (not b) (w ∷ filter (beside k) ws) (filter (beside k) ws)))
 others_by ts k w ws false is d all less = omega (arith, less)
 others_by ts k w ws true is d all less =
@@ -101,8 +98,7 @@ others_by ts k w ws true is d all less =
     at : w.slot ≡ k
     at = incarnation_is w.slot k is
 
-    each_away :
-        (xs : List Ticket) → Each (λ (x : Ticket). w ≢ x) xs → Each (λ (x : Ticket). is_present ts x ≡ true) xs
+    each_away : (xs : List Ticket) → Each (λ (x : Ticket). w ≢ x) xs → Each (λ (x : Ticket). is_present ts x ≡ true) xs
         → Each (λ (x : Ticket). beside k x ≡ true) xs
     each_away [] x y = tt
     each_away (v ∷ vs) x y = (
@@ -111,8 +107,7 @@ others_by ts k w ws true is d all less =
       each_away vs x.1 y.1,
     )
 
-others :
-    (ts : Entries) (k : ℕ) (ws : List Ticket) → AreDistinct ws → Each (λ (x : Ticket). is_present ts x ≡ true) ws
+others : (ts : Entries) (k : ℕ) (ws : List Ticket) → AreDistinct ws → Each (λ (x : Ticket). is_present ts x ≡ true) ws
     → length ws ≤ suc (length (filter (beside k) ws))
 others ts k [] d all = omega arith
 others ts k (w ∷ ws) d all = others_by ts k w ws (nat_eq w.slot k) refl d all (others ts k ws d.1 all.1)
@@ -122,24 +117,19 @@ not_false true h = cc
 not_false false h = refl
 
 -- those of other slots are there among the other tasks
-rest_present :
-    (e : ℕ × Task) (ts : Entries) (ws : List Ticket) → Each (λ (x : Ticket). is_present (e ∷ ts) x ≡ true) ws
-    → Each (λ (x : Ticket). beside e.0 x ≡ true) ws
-    → Each (λ (x : Ticket). is_present ts x ≡ true) ws
+rest_present : (e : ℕ × Task) (ts : Entries) (ws : List Ticket) → Each (λ (x : Ticket). is_present (e ∷ ts) x ≡ true) ws
+    → Each (λ (x : Ticket). beside e.0 x ≡ true) ws → Each (λ (x : Ticket). is_present ts x ≡ true) ws
 rest_present e ts [] all off = tt
 rest_present e ts (w ∷ ws) all off =
-    let differs :
-    nat_eq e.0 w.slot ≡ false =
+    let differs : nat_eq e.0 w.slot ≡ false =
     other_slot e.0 w.slot
     (λ same. true≢false (sym (same_slot w.slot e.0 (sym same)) ∙ not_false (nat_eq w.slot e.0) off.0)) in (
       ap (has_incarnation w.incarnation)
-          (sym (cond_is_false (nat_eq e.0 w.slot) (Some e.1) (task_in w.slot ts) differs))
-          ∙ all.0,
+          (sym (cond_is_false (nat_eq e.0 w.slot) (Some e.1) (task_in w.slot ts) differs)) ∙ all.0,
       rest_present e ts ws all.1 off.1,
     )
 
-no_more :
-    (ts : Entries) (ws : List Ticket) → AreDistinct ws → Each (λ (x : Ticket). is_present ts x ≡ true) ws
+no_more : (ts : Entries) (ws : List Ticket) → AreDistinct ws → Each (λ (x : Ticket). is_present ts x ≡ true) ws
     → length ws ≤ length ts
 no_more [] [] d all = omega arith
 no_more [] (w ∷ ws) d all = let h = all.0 in cc
@@ -167,8 +157,7 @@ room_to_enter s ws t b all there free =
 
 -- ---- they stay so
 
-enter_by :
-    (ts : Entries) (ws : List Ticket) (t : Ticket) (b : Bool) → is_waiting t ws ≡ b → AreWaiting ts ws
+enter_by : (ts : Entries) (ws : List Ticket) (t : Ticket) (b : Bool) → is_waiting t ws ≡ b → AreWaiting ts ws
     → is_present ts t ≡ true → AreWaiting ts (cond b ws (ws ++ t ∷ []))
 enter_by ts ws t true is all there = all
 enter_by ts ws t false is all there = record {
@@ -176,8 +165,7 @@ enter_by ts ws t false is all there = record {
   present = each_append (λ (w : Ticket). is_present ts w ≡ true) ws t all.present there;
 }
 
-pub entered :
-    (ts : Entries) (ws : List Ticket) (t : Ticket) → AreWaiting ts ws → is_present ts t ≡ true
+pub entered : (ts : Entries) (ws : List Ticket) (t : Ticket) → AreWaiting ts ws → is_present ts t ≡ true
     → AreWaiting ts (enter t ws)
 entered ts ws t all there = enter_by ts ws t (is_waiting t ws) refl all there
 
@@ -197,8 +185,7 @@ left_without ts t ws all =
       present = some_each (λ (w : Ticket). is_present ts w ≡ true) test ws all.present;
     }
 
-all_stay :
-    (ts us : Entries) (ws : List Ticket) → ((w : Ticket) → is_present ts w ≡ true → is_present us w ≡ true)
+all_stay : (ts us : Entries) (ws : List Ticket) → ((w : Ticket) → is_present ts w ≡ true → is_present us w ≡ true)
     → AreWaiting ts ws → AreWaiting us ws
 all_stay ts us ws keeps all = record {
   once = all.once;
@@ -206,8 +193,7 @@ all_stay ts us ws keeps all = record {
       each_imp (λ (w : Ticket). is_present ts w ≡ true) (λ (w : Ticket). is_present us w ≡ true) ws keeps all.present;
 }
 
-change_present :
-    (new old : Task) (ts us : Entries) (w : Ticket) → new.incarnation ≡ old.incarnation
+change_present : (new old : Task) (ts us : Entries) (w : Ticket) → new.incarnation ≡ old.incarnation
     → IsChangedFrom old new w.slot ts us → is_present ts w ≡ true → is_present us w ≡ true
 change_present new old ts us w same (inl stays) there = ap (has_incarnation w.incarnation) stays ∙ there
 change_present new old ts us w same (inr one) there =
@@ -231,8 +217,7 @@ stay_more s k t ws free all =
     all_stay s.tasks (put_task k t s.tasks) ws
     (λ w there.
     by_slot w.slot k
-    (λ y here. let none : has_incarnation w.incarnation (task_in w.slot s.tasks)
-    ≡ false =
+    (λ y here. let none : has_incarnation w.incarnation (task_in w.slot s.tasks) ≡ false =
     ap (has_incarnation w.incarnation) (ap (λ (j : ℕ). task_in j s.tasks) here ∙ free)
     in absurd (true≢false (sym there ∙ none)))
     (λ n other. ap (has_incarnation w.incarnation) (put_in k w.slot t s.tasks other) ∙ there))
@@ -244,15 +229,12 @@ stay_more s k t ws free all =
 pub running_there : (k : ℕ) (ts : Entries) (t : Ticket) → ticket_in k ts ≡ Some t → is_present ts t ≡ true
 running_there k ts t h = by (task_in k ts) refl h
   where
-    by_status :
-        (u : Task) (b : Bool) → task_in k ts ≡ Some u
+    by_status : (u : Task) (b : Bool) → task_in k ts ≡ Some u
         → cond b (Some (record { slot = k; incarnation = u.incarnation })) None ≡ Some t → is_present ts t ≡ true
     by_status u true there is =
-        let same :
-        record { slot = k; incarnation = u.incarnation } ≡ t =
+        let same : record { slot = k; incarnation = u.incarnation } ≡ t =
         some_is (record { slot = k; incarnation = u.incarnation }) t is in
-        let own :
-        is_present ts (record { slot = k; incarnation = u.incarnation }) ≡ true =
+        let own : is_present ts (record { slot = k; incarnation = u.incarnation }) ≡ true =
         ap (has_incarnation u.incarnation) there ∙ same_slot u.incarnation u.incarnation refl in
         subst (λ (x : Ticket). is_present ts x ≡ true) same own
     by_status u false there is = absurd (none_is_not t is)
@@ -262,16 +244,14 @@ running_there k ts t h = by (task_in k ts) refl h
     by None there is = absurd (none_is_not t is)
     by (Some u) there is = by_status u _ there is
 
-entry_there :
-    (new old : Task) (k : ℕ) (id : List ℕ) (ts : Entries) → id ≡ new.id → entry_of id ts ≡ Some (k, old)
+entry_there : (new old : Task) (k : ℕ) (id : List ℕ) (ts : Entries) → id ≡ new.id → entry_of id ts ≡ Some (k, old)
     → entry_of id (change_task new ts) ≡ Some (k, new)
 entry_there new old k id [] same h = absurd (none_is_not (k, old) h)
 entry_there new old k id (e ∷ ts) same h =
     by_id e.1.id new.id
     (λ y here.
     let own = same_id e.1.id id (here ∙ sym same) in
-    let at :
-    e.0 ≡ k =
+    let at : e.0 ≡ k =
     ap (λ (x : ℕ × Task). x.0)
     (some_is e (k, old) (cond_true (bytes_eq e.1.id id) (Some e) (entry_of id ts) (Some (k, old)) own h)) in
     ap (entry_of id) (cond_is_true (bytes_eq e.1.id new.id) ((e.0, new) ∷ ts) (e ∷ change_task new ts) y)
@@ -285,8 +265,7 @@ entry_there new old k id (e ∷ ts) same h =
     (cond_false (bytes_eq e.1.id id) (Some e) (entry_of id ts) (Some (k, old)) off h)))
 
 -- the ticket of a changed task by its id is that by its slot
-pub same_ticket :
-    (s : BoardState) (k : ℕ) (id : List ℕ) (old new : Task) → IsBoard (with_task s new) → id ≡ new.id
+pub same_ticket : (s : BoardState) (k : ℕ) (id : List ℕ) (old new : Task) → IsBoard (with_task s new) → id ≡ new.id
     → entry_of id s.tasks ≡ Some (k, old)
     → running_ticket id (change_task new s.tasks) ≡ ticket_in k (change_task new s.tasks)
 same_ticket s k id old new b same found =

@@ -1,5 +1,5 @@
 -- The abstract board: what a call can see of contents, leases and tasks.
-use Rattle.std.specs.Prelude.{ℕ, ◌+◌, List, [], ◌∷◌, map, bytes_eq, nat_eq, nat_lt, if◌then◌else◌, Option, Some, None, option_map}
+use Rattle.std.specs.Prelude.{ℕ, ◌+◌, List, [], ◌∷◌, map, bytes_eq, nat_eq, nat_lt, if◌then◌else◌, Option, Some, None, option_map, find}
 use Rattle.wasm_ast.specs.declared.module.Module.{Module}
 use Rattle.oci_config.specs.declared.process.ProcessConfig.{ProcessConfig}
 use Rattle.wasm_ast.specs.declared.place.Place.{Place}
@@ -81,8 +81,7 @@ task_in slot (e ∷ es) = if nat_eq e.0 slot then Some e.1 else task_in slot es
 
 -- the task with an id, and its slot
 abbrev pub entry_of : (id : List ℕ) → Entries → Option (ℕ × Task)
-entry_of id [] = None
-entry_of id (e ∷ es) = if bytes_eq e.1.id id then Some e else entry_of id es
+entry_of id = find (λ (e : ℕ × Task). bytes_eq e.1.id id)
 
 abbrev pub task_of : (id : List ℕ) → Entries → Option Task
 task_of id es = option_map (λ (e : ℕ × Task). e.1) (entry_of id es)

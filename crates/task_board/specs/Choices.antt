@@ -19,8 +19,7 @@ IsDetermined other = Unit {0}
 
 -- one of the two is BadModule and the other Limit
 abbrev pub AreEither : Refusal → Refusal → Type 0
-AreEither e e' =
-    ((e ≡ refusal.BadModule) × (e' ≡ refusal.Limit))
+AreEither e e' = ((e ≡ refusal.BadModule) × (e' ≡ refusal.Limit))
     ⊎ ((e ≡ refusal.Limit) × (e' ≡ refusal.BadModule))
 
 -- two refusals of one create: the same; BadModule and Limit, of bytes that spell no module and pass a limit;

@@ -1,14 +1,13 @@
 -- What a reply says of a task, and when that is true: each part by the reduction of the module that the
 -- task's stored bytes encode, after as many turns as the task has made.
-use Rattle.std.specs.Prelude.{◌≡◌, ℕ, List, true, Option, Some, None, is_some}
+use Rattle.std.specs.Prelude.{◌≡◌, ℕ, List, true, Option, Some, None, is_some, option_map, option_and_then}
 use Rattle.wasm_binary.specs.Spelled.{IsSpelled}
 use Rattle.validator.specs.Typing.{ValidModule}
 use Rattle.oci_config.specs.Config.{process_read}
 use Rattle.oci_config.specs.Streams.{stream_of}
 use Rattle.oci_config.specs.declared.stream.Stream.{Stream}
 use Rattle.content_leases.specs.StoreState.{StoreState, content_in}
-use Rattle.step_machine.specs.Configuration.{Configuration}
-use Rattle.step_machine.specs.Instantiation.{after, ended}
+use Rattle.step_machine.specs.Instantiation.{ended}
 use Rattle.step_machine.specs.MachineView.{written_to}
 use Rattle.step_machine.specs.Shown.{shown}
 use Rattle.debugger.specs.Peek.{peeked}
@@ -23,7 +22,7 @@ use Rattle.task_requests.specs.declared.request.Reply.{Reply}
 use Rattle.task_requests.specs.declared.request.Reply.TheVariants as reply
 use Rattle.task_requests.specs.declared.request.TaskState.{TaskState}
 use Rattle.task_board.specs.BoardState.{Task, BoardState}
-use Rattle.task_board.specs.Tasks.{IsTrueOf}
+use Rattle.task_board.specs.Tasks.{configuration_of, execution_at, EndsSo}
 use Rattle.task_board.specs.Step.{does, LeavesTask}
 
 -- the id of the task that a request is about
@@ -53,24 +52,16 @@ id_told (reply.Start id status) = Some id
 id_told (reply.Pause id status) = Some id
 id_told (reply.Resume id status) = Some id
 id_told (reply.Kill id status) = Some id
-id_told (reply.Delete state) = Some state.id
-id_told (reply.State state) = Some state.id
-id_told (reply.Wait state) = Some state.id
 id_told (reply.Output bytes id size) = Some id
 id_told (reply.Break id) = Some id
 id_told (reply.Unbreak id) = Some id
-id_told (reply.Step state) = Some state.id
 id_told (reply.Inspect frames id n) = Some id
 id_told (reply.Peek bytes id) = Some id
-id_told other = None
+id_told a = option_map (λ s. s.id) (state_told a)
 
 abbrev pub turns_told : Reply → Option ℕ
-turns_told (reply.Delete state) = Some state.n
-turns_told (reply.State state) = Some state.n
-turns_told (reply.Wait state) = Some state.n
-turns_told (reply.Step state) = Some state.n
 turns_told (reply.Inspect frames id n) = Some n
-turns_told other = None
+turns_told a = option_map (λ s. s.n) (state_told a)
 
 abbrev pub status_told : Reply → Option Status
 status_told (reply.Create id status) = Some status
@@ -78,40 +69,28 @@ status_told (reply.Start id status) = Some status
 status_told (reply.Pause id status) = Some status
 status_told (reply.Resume id status) = Some status
 status_told (reply.Kill id status) = Some status
-status_told (reply.Delete state) = Some state.status
-status_told (reply.State state) = Some state.status
-status_told (reply.Wait state) = Some state.status
-status_told (reply.Step state) = Some state.status
-status_told other = None
+status_told a = option_map (λ s. s.status) (state_told a)
 
 abbrev pub end_told : Reply → Option ExitRecord
-end_told (reply.Delete state) = state.end
-end_told (reply.State state) = state.end
-end_told (reply.Wait state) = state.end
-end_told (reply.Step state) = state.end
-end_told other = None
+end_told a = option_and_then (λ (s : TaskState). s.end) (state_told a)
 
 -- ---- when that is true
-
--- the configuration of the task's module under its process after as many turns as it has made
-abbrev pub now : Task → Configuration
-now t = after t.module t.process t.turns
 
 -- a status: what is created has made no turn, and what is running, pausing or paused has not ended
 pub record StatusIsTrue (t : Task) (status : Status) : Type 0 where
   pub own : status ≡ t.status
   pub created : status ≡ Created → t.turns ≡ 0
-  pub going : is_going status ≡ true → ended (now t).state ≡ None
+  pub going : is_going status ≡ true → ended (execution_at t t.turns) ≡ None
 
 -- the frames, the output or the bytes of memory that a request asks for
 abbrev pub ShowsTruly : Task → Request → Reply → Type 0
 ShowsTruly t (request.Task id ask.Inspect) (reply.Inspect frames name n) =
-    frames ≡ shown (now t).state
+    frames ≡ shown (execution_at t t.turns)
 ShowsTruly t (request.Task id (ask.Output number)) (reply.Output bytes name size) =
     (stream : Stream) × (stream_of number ≡ Some stream)
-    × (bytes ≡ written_to stream (now t).store)
+    × (bytes ≡ written_to stream (configuration_of t t.turns).store)
 ShowsTruly t (request.Task id (ask.Peek address length)) (reply.Peek bytes name) =
-    peeked (now t).store.memory address length ≡ Some bytes
+    peeked (configuration_of t t.turns).store.memory address length ≡ Some bytes
 ShowsTruly t (request.Task id ask.Inspect) other = ⊥
 ShowsTruly t (request.Task id (ask.Output number)) other = ⊥
 ShowsTruly t (request.Task id (ask.Peek address length)) other = ⊥
@@ -135,7 +114,7 @@ pub record SaysTruly (store : StoreState) (t : Task) (q : Request) (a : Reply) :
   pub turns : (n : ℕ) → turns_told a ≡ Some n → n ≡ t.turns
   pub status : (status : Status) → status_told a ≡ Some status → StatusIsTrue t status
   -- its end is that of the reduction, or a kill's; and exactly a stopped task has one
-  pub end : (e : ExitRecord) → end_told a ≡ Some e → IsTrueOf e t.turns (ended (now t).state)
+  pub end : (e : ExitRecord) → end_told a ≡ Some e → EndsSo t e
   pub stopped : (x : TaskState) → state_told a ≡ Some x
       → (x.status ≡ Stopped → is_some x.end ≡ true) × (is_some x.end ≡ true → x.status ≡ Stopped)
   pub shows : ShowsTruly t q a

@@ -1,5 +1,6 @@
 -- What holds of every board that events lead to.
 use Rattle.std.specs.Prelude.{◌≡◌, ◌≢◌, ℕ, ◌<◌, ◌≤◌, List, [], ◌∷◌, map, length, true, Some, None, is_some}
+pub use Rattle.std.specs.List.{AllByRecursion as Each}
 use Rattle.step_machine.specs.Instantiation.{ended}
 use Rattle.step_machine.specs.Limits.{max_breakpoints}
 use Rattle.wasm_ast.specs.Limits.{max_module_bytes}
@@ -15,11 +16,6 @@ use Rattle.task_lifecycle.specs.Lifecycle.{takes_turns, is_stopped, is_going}
 use Rattle.task_board.specs.BoardState.{Task, Entries, BoardState}
 use Rattle.task_board.specs.Tasks.{execution_at, EndsSo}
 use Rattle.task_board.specs.Refusals.{Openable}
-
--- each of them is so
-abbrev pub Each : {X : Type 0} → (X → Type 0) → List X → Type 0
-Each P [] = Unit {0}
-Each P (x ∷ xs) = P x × Each P xs
 
 -- no two of them are the same
 abbrev pub AreDistinct : {X : Type 0} → List X → Type 0

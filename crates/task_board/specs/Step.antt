@@ -1,6 +1,6 @@
 -- What may happen to a board: each request with its answer and its effect, a slice that is taken, and one
 -- that returns.
-use Rattle.std.specs.Prelude.{◌≡◌, ℕ, [], ◌&&◌, nat_le, List, length, Bool, true, false, if◌then◌else◌, Option, Some, None, is_some, option_and_then, Result, Ok, Err}
+use Rattle.std.specs.Prelude.{◌≡◌, ℕ, [], ◌&&◌, nat_le, List, length, Bool, true, false, if◌then◌else◌, Option, Some, None, is_some, option_and_then, Result, Ok, Err, unwrap_or, IsSomeAnd}
 use Rattle.wasm_ast.specs.declared.module.Module.{Module}
 use Rattle.wasm_ast.specs.declared.refusal.Refusal.{Refusal}
 use Rattle.oci_config.specs.declared.process.ProcessConfig.{ProcessConfig}
@@ -23,7 +23,7 @@ use Rattle.content_leases.specs.Refusals.{Refusals, first_refusal, put_refusals,
 use Rattle.oci_config.specs.Config.{process_read}
 use Rattle.oci_config.specs.Streams.{stream_of}
 use Rattle.task_board.specs.BoardState.{Task, created_task, BoardState, used_by, with_store, task_in, task_of, with_task, without_task, with_new_task}
-use Rattle.task_board.specs.Tasks.{state_of, output_of, frames_of, memory_at, shown, started, paused, resumed, killed_by, place_of, with_break, without_break, can_lend, lent, HasReturned, stepped}
+use Rattle.task_board.specs.Tasks.{state_of, output_of, frames_of, memory_at, started, paused, resumed, killed_by, place_of, with_break, without_break, can_lend, lent, HasReturned, stepped}
 use Rattle.task_board.specs.Texts.{IsAssembled, CannotAssemble}
 use Rattle.task_board.specs.Refusals.{create_refusals, CannotOpen, Openable, own_refusals, task_refusals}
 
@@ -38,16 +38,11 @@ abbrev pub DecidedBy :
 DecidedBy (Some e) Effect s r s' = (r ≡ Err e) × (s' ≡ s)
 DecidedBy None Effect s r s' = Effect
 
--- the first refusal whose condition holds, else the effect
-abbrev pub Decided : Refusals → (Effect : Type 0) → BoardState → Answer → BoardState → Type 0
-Decided refusals Effect s r s' = DecidedBy (first_refusal refusals) Effect s r s'
-
 -- a request to the store: its refusals, what it is answered, and the store that it leaves
 abbrev pub OnStore : BoardState → Refusals → Reply → StoreState → Answer → BoardState → Type 0
 OnStore s refusals reply new r s' =
-    Decided refusals ((r ≡ Ok reply) × (s' ≡ with_store s new)) s r s'
+    DecidedBy (first_refusal refusals) ((r ≡ Ok reply) × (s' ≡ with_store s new)) s r s'
 
--- a put of bytes
 abbrev pub Puts : BoardState → (bytes : List ℕ) → Answer → BoardState → Type 0
 Puts s bytes r s' =
     OnStore s (put_refusals s.store bytes) (reply.Put (digest_of bytes) (length bytes))
@@ -72,10 +67,9 @@ with_left s t (Some t') = with_task s t'
 -- look at the task alone
 abbrev pub OnFound : (id : List ℕ) → (own : Task → Refusals) → (does : Task → Done) → Option Task
     → BoardState → Answer → BoardState → Type 0
-OnFound id own does None s r s' = Decided (task_refusals id own None) ⊥ s r s'
-OnFound id own does (Some t) s r s' =
-    Decided (task_refusals id own (Some t))
-    ((r ≡ Ok (does t).0) × (s' ≡ with_left s t (does t).1)) s r s'
+OnFound id own does found s r s' =
+    DecidedBy (first_refusal (task_refusals id own found))
+    (IsSomeAnd found (λ (t : Task). (r ≡ Ok (does t).0) × (s' ≡ with_left s t (does t).1))) s r s'
 
 abbrev pub OnTask : (id : List ℕ) → (own : Task → Refusals) → (does : Task → Done)
     → BoardState → Answer → BoardState → Type 0
@@ -88,14 +82,12 @@ Enters s t s' = (slot : ℕ) × (task_in slot s.tasks ≡ None) × (s' ≡ with_
 -- a create from stored bytes under a process
 abbrev pub Opens : BoardState → (id bytes : List ℕ) → ProcessConfig → Answer → BoardState → Type 0
 Opens s id bytes p (Err e) s' = CannotOpen bytes p e × (s' ≡ s)
-Opens s id bytes p (Ok r) s' =
-    (m : Module) × Openable bytes p m × (r ≡ reply.Create id Created)
+Opens s id bytes p (Ok r) s' = (m : Module) × Openable bytes p m × (r ≡ reply.Create id Created)
     × Enters s (created_task id s.creates bytes m p) s'
 
 -- a create that none of the first refusals concerns
 abbrev pub Creates : BoardState → (config id : List ℕ) → Answer → BoardState → Type 0
-Creates s config id r s' =
-    (p : ProcessConfig) × (bytes : List ℕ) × (process_read config ≡ Some p)
+Creates s config id r s' = (p : ProcessConfig) × (bytes : List ℕ) × (process_read config ≡ Some p)
     × (content_in s.store.contents p.module ≡ Some bytes) × Opens s id bytes p r s'
 
 -- the reply that tells these bytes, and how many they are
@@ -117,7 +109,8 @@ does (ask.Break func place) t = (reply.Break t.id, Some (with_break t (place_of 
 does (ask.Unbreak func place) t = (reply.Unbreak t.id, Some (without_break t (place_of func place)))
 does (ask.Step count) t = (reply.Step (state_of (stepped t count)), Some (stepped t count))
 does ask.Inspect t = (reply.Inspect (frames_of t) t.id t.turns, Some t)
-does (ask.Peek address length) t = (reply.Peek (shown (memory_at t address length)) t.id, Some t)
+does (ask.Peek address length) t =
+    (reply.Peek (unwrap_or (memory_at t address length) []) t.id, Some t)
 
 -- it leaves each task as it is
 abbrev pub LeavesTask : Ask → Type 0
@@ -139,11 +132,10 @@ Answers s (request.LeaseAdd digest id) r s' =
 Answers s (request.LeaseDelete id) r s' =
     OnStore s (lease_delete_refusals s.store id) (reply.LeaseDelete id)
     (without_lease s.store id) r s'
-Answers s request.Gc r s' =
-    OnStore s [] (reply.Gc (unheld (used_by s.tasks) s.store))
+Answers s request.Gc r s' = OnStore s [] (reply.Gc (unheld (used_by s.tasks) s.store))
     (collected (used_by s.tasks) s.store) r s'
 Answers s (request.Create config id) r s' =
-    Decided (create_refusals s config id) (Creates s config id r s') s r s'
+    DecidedBy (first_refusal (create_refusals s config id)) (Creates s config id r s') s r s'
 Answers s (request.Task id a) r s' = OnTask id (own_refusals a) (does a) s r s'
 
 -- ---- slices
@@ -161,13 +153,12 @@ taken s id budget =
     if is_budget budget then option_and_then (lends s budget) (task_of id s.tasks) else None
 
 abbrev pub is_out : Option Task → Bool
-is_out None = false
-is_out (Some t) = is_some t.out
+is_out found = is_some (option_and_then (λ (t : Task). t.out) found)
 
 -- the slice of the task with an id returns
 abbrev pub Returns : BoardState → Option Task → BoardState → Type 0
-Returns s None s' = ⊥
-Returns s (Some t) s' = (t' : Task) × HasReturned t t' × (s' ≡ with_task s t')
+Returns s found s' =
+    IsSomeAnd found (λ (t : Task). (t' : Task) × HasReturned t t' × (s' ≡ with_task s t'))
 
 -- ---- events
 

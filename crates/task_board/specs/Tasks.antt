@@ -51,11 +51,6 @@ frames_of t = frames_shown (execution_at t t.turns)
 abbrev pub memory_at : Task → (address length : ℕ) → Option (List ℕ)
 memory_at t address length = peeked (configuration_of t t.turns).store.memory address length
 
--- what is shown of them
-abbrev pub shown : Option (List ℕ) → List ℕ
-shown None = []
-shown (Some bytes) = bytes
-
 -- ---- where a task lands
 
 -- a status, and how the task has ended if it is stopped

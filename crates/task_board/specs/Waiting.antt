@@ -13,7 +13,6 @@ use Rattle.task_board.specs.Tickets.{ticket_if_running, ticket_of}
 abbrev pub is_ticket : (a b : Ticket) → Bool
 is_ticket a b = nat_eq a.slot b.slot && nat_eq a.incarnation b.incarnation
 
--- the ticket is among these
 abbrev pub is_waiting : Ticket → List Ticket → Bool
 is_waiting ticket ws = list_any (λ (w : Ticket). is_ticket w ticket) ws
 
@@ -42,13 +41,10 @@ abbrev pub running_ticket : (id : List ℕ) → Entries → Option Ticket
 running_ticket id ts =
     option_and_then (λ (e : ℕ × Task). ticket_if_running e.0 e.1) (entry_of id ts)
 
-abbrev pub only_waiting : List Ticket → Option Ticket → Option Ticket
-only_waiting ws None = None
-only_waiting ws (Some ticket) = if is_waiting ticket ws then Some ticket else None
-
 -- the ticket of the task with an id, if that waits
 abbrev pub waiting_ticket : (id : List ℕ) → Entries → List Ticket → Option Ticket
-waiting_ticket id ts ws = only_waiting ws (ticket_of id ts)
+waiting_ticket id ts ws =
+    option_and_then (λ (t : Ticket). if is_waiting t ws then Some t else None) (ticket_of id ts)
 
 -- all of them but a ticket
 abbrev pub without : Ticket → List Ticket → List Ticket

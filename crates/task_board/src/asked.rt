@@ -4,11 +4,11 @@ ghost use Rattle.std.specs.Prelude.{◌≡◌, ℕ, Some, None, IfOk, IfErr, IsO
 ghost use Rattle.content_leases.specs.Refusals.{first_refusal};
 ghost use Rattle.task_requests.specs.Memory.{asks_for_memory};
 ghost use Rattle.task_requests.specs.declared.request.Ask.TheVariants as ask;
-ghost use Rattle.task_board.specs.Refusals.{is_step};
+ghost use Rattle.task_board.specs.Refusals.{is_step, place_refusals};
 ghost use Rattle.task_board.specs.Tasks.{place_of};
 ghost use Rattle.task_board.specs.Inside.Changes.{change_ask, IsPlain};
 ghost use Rattle.task_board.specs.Inside.Marks.{mark_ask};
-ghost use Rattle.task_board.specs.Inside.Plans.{IsAccepted, PlansAsk, place_refusals};
+ghost use Rattle.task_board.specs.Inside.Plans.{IsAccepted, PlansAsk};
 
 use crate::change::Change;
 use crate::mark::Mark;

@@ -7,7 +7,8 @@ ghost use Rattle.task_requests.specs.declared.event.EventReply.TheVariants as an
 ghost use Rattle.task_board.specs.BoardState.{Task as TaskValue, empty, task_of};
 ghost use Rattle.task_requests.specs.Limits.{max_budget};
 ghost use Rattle.task_board.specs.Loans.{Fits};
-ghost use Rattle.task_board.specs.Prepared.{Prepares, refusal_of, refusal_answered};
+ghost use Rattle.std.specs.Result.{result_err};
+ghost use Rattle.task_board.specs.Prepared.{Prepares, refusal_of};
 ghost use Rattle.task_requests.specs.Memory.{takes_memory};
 ghost use Rattle.task_board.specs.Sound.{IsBoard};
 ghost use Rattle.task_board.specs.Ended.{end_of};
@@ -134,7 +135,7 @@ impl Board {
         requires { (r : RequestValue) × Prepares self.old r prepared }
         ensures answers { (r : RequestValue) → Prepares self.old r prepared
             → Answers self.old.state r result self.new.state }
-        ensures refused { refusal_answered result ≡ refusal_of prepared }
+        ensures refused { result_err result ≡ refusal_of prepared }
         ensures memory { result ≢ Err Refusal.NoMemory }
         ensures waiting { (r : RequestValue) → Prepares self.old r prepared → self.new.waiting
             ≡ waiting_after r result self.new.state.tasks self.old.waiting }

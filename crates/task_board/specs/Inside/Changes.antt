@@ -5,16 +5,12 @@ use Rattle.task_lifecycle.specs.declared.lifecycle.TaskCall.TheVariants as call
 use Rattle.task_lifecycle.specs.Names.{signal_number}
 use Rattle.task_board.specs.declared.change.Change.{Change}
 use Rattle.task_board.specs.declared.change.Change.TheVariants as change
-use Rattle.task_requests.specs.declared.request.Request.{Request}
-use Rattle.task_requests.specs.declared.request.Request.TheVariants as request
 use Rattle.task_requests.specs.declared.request.Ask.{Ask}
 use Rattle.task_requests.specs.declared.request.Ask.TheVariants as ask
 use Rattle.task_requests.specs.declared.request.Reply.{Reply}
 use Rattle.task_requests.specs.declared.request.Reply.TheVariants as reply
-use Rattle.content_leases.specs.Refusals.{Refusals}
 use Rattle.task_board.specs.BoardState.{Task}
 use Rattle.task_board.specs.Tasks.{state_of, started, paused, resumed, killed, stepped}
-use Rattle.task_board.specs.Refusals.{own_refusals}
 
 abbrev pub change_call : Change → TaskCall
 change_call change.Start = call.Start
@@ -31,10 +27,8 @@ IsPlain other = Unit {0}
 -- it lets the task wait for a worker, if that is running afterwards
 abbrev pub enters : Change → Bool
 enters change.Start = true
-enters change.Pause = false
 enters change.Resume = true
-enters (change.Kill signal) = false
-enters (change.Step count) = false
+enters other = false
 
 -- what is asked with it
 abbrev pub change_ask : Change → Ask
@@ -44,9 +38,6 @@ change_ask change.Resume = ask.Resume
 change_ask (change.Kill signal) = ask.Kill (signal_number signal)
 change_ask (change.Step count) = ask.Step count
 
-abbrev pub change_request : Change → (id : List ℕ) → Request
-change_request c id = request.Task id (change_ask c)
-
 -- what is answered, under this id, with the task after the change
 abbrev pub change_reply : Change → (id : List ℕ) → Task → Reply
 change_reply change.Start id t = reply.Start id t.status
@@ -55,10 +46,6 @@ change_reply change.Resume id t = reply.Resume id t.status
 change_reply (change.Kill signal) id t = reply.Kill id t.status
 change_reply (change.Step count) id t = reply.Step (record (state_of t) { id = id })
 
-abbrev pub change_refusals : Change → Task → Refusals
-change_refusals c = own_refusals (change_ask c)
-
--- the task after the change
 abbrev pub changed : Change → Task → Task
 changed change.Start t = started t
 changed change.Pause t = paused t

@@ -1,5 +1,6 @@
 -- The loans that are held while events happen.
 use Rattle.std.specs.Prelude.{◌≡◌, ℕ, List, [], ◌∷◌, ◌⊎◌, Some, slice_get}
+use Rattle.std.specs.List.{AllByRecursion}
 use Rattle.task_board.specs.BoardState.{Task, Entries, task_in}
 use Rattle.task_board.specs.Loans.{Lent, Fits}
 
@@ -12,8 +13,7 @@ abbrev pub FitsAt : Entries → ℕ → List Lent → ℕ → Type 0
 FitsAt ts slot ls i = (l : Lent) × (slice_get ls i ≡ Some l) × IsFitting ts slot l
 
 abbrev pub NoneFits : Entries → ℕ → List Lent → Type 0
-NoneFits ts slot [] = Unit {0}
-NoneFits ts slot (l ∷ ls) = (IsFitting ts slot l → ⊥) × NoneFits ts slot ls
+NoneFits ts slot = AllByRecursion (λ (l : Lent). IsFitting ts slot l → ⊥)
 
 abbrev pub SomeFits : Entries → ℕ → List Lent → Type 0
 SomeFits ts slot [] = ⊥

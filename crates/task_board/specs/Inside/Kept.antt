@@ -26,8 +26,7 @@ pub record IsOwn (c : Checkout) (id bytes : List ℕ) (m : Module) (p : ProcessC
 -- a task is out, and then it is running or pausing; or it is idle, with its machine
 abbrev pub IsPlaced : Task → Option Checkout → (out : Option ℕ) → Type 0
 IsPlaced t None (Some budget) = takes_turns t.status ≡ true
-IsPlaced t (Some c) None =
-    IsMachine c.machine.value t.module t.process t.turns
+IsPlaced t (Some c) None = IsMachine c.machine.value t.module t.process t.turns
     × IsOwn c t.id t.bytes t.module t.process t.breaks
 IsPlaced t c out = ⊥
 
@@ -42,8 +41,7 @@ SharesWith l s breaks =
 -- the machine of a loan, before its slice is run and after
 abbrev pub IsSlice : Lent → MachineView → (ran : Bool) → Type 0
 IsSlice l r false = IsMachine r l.module l.process l.turns
-IsSlice l r true =
-    IsMachine r l.module l.process
+IsSlice l r true = IsMachine r l.module l.process
     (l.turns + turns_made l.module l.process l.turns l.breaks l.budget)
 
 abbrev pub IsLoan : Lent → MachineView → (ran : Bool) → Type 0

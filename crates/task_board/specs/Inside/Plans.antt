@@ -1,11 +1,10 @@
 -- What a request is prepared as.
-use Rattle.std.specs.Prelude.{◌≡◌, ◌≢◌, ℕ, List, [], ◌∷◌, not, Option, None, Some, is_some, Ok, Err}
+use Rattle.std.specs.Prelude.{◌≡◌, ◌≢◌, ℕ, List, Option, None, Some, Ok, Err}
 use Rattle.std.specs.Arc.{arc_value}
 use Rattle.wasm_ast.specs.declared.module.Module.{Module}
 use Rattle.wasm_ast.specs.declared.refusal.Refusal.{Refusal}
 use Rattle.wasm_ast.specs.declared.refusal.Refusal.TheVariants as refusal
 use Rattle.oci_config.specs.declared.process.ProcessConfig.{ProcessConfig}
-use Rattle.step_machine.specs.Places.{has_place}
 use Rattle.task_board.specs.declared.mark.Mark.{Mark}
 use Rattle.task_board.specs.declared.mark.NewBreaks.{NewBreaks}
 use Rattle.task_board.specs.declared.prepared.Plan.{Plan}
@@ -14,40 +13,17 @@ use Rattle.task_requests.specs.declared.request.Request.{Request}
 use Rattle.task_requests.specs.declared.request.Request.TheVariants as request
 use Rattle.task_requests.specs.declared.request.Ask.{Ask}
 use Rattle.task_requests.specs.declared.request.Ask.TheVariants as ask
-use Rattle.task_lifecycle.specs.declared.lifecycle.TaskCall.{TaskCall}
 use Rattle.task_lifecycle.specs.declared.lifecycle.TaskCall.TheVariants as call
-use Rattle.task_lifecycle.specs.Lifecycle.{allowed}
-use Rattle.wasm_ast.specs.Identifiers.{is_id}
 use Rattle.content_leases.specs.StoreState.{content_in}
 use Rattle.content_leases.specs.Refusals.{Refusals, first_refusal}
 use Rattle.oci_config.specs.Config.{process_read}
-use Rattle.task_board.specs.BoardState.{Task, created_task, BoardState, entry_of, task_of}
+use Rattle.task_board.specs.BoardState.{Task, created_task, BoardState, entry_of}
 use Rattle.task_board.specs.BoardValue.{Room}
-use Rattle.task_board.specs.Refusals.{is_full, create_refusals, unless_allowed, task_refusals, Openable, CannotOpen, own_refusals}
+use Rattle.task_board.specs.Refusals.{create_refusals, unless_allowed, task_refusals, Openable, CannotOpen, own_refusals}
 use Rattle.task_board.specs.Step.{does, LeavesTask, Answers}
-use Rattle.task_board.specs.Inside.Changes.{change_ask, change_request, change_refusals}
-use Rattle.task_board.specs.Inside.Marks.{mark_ask, mark_request, mark_refusals, marked_places}
+use Rattle.task_board.specs.Inside.Changes.{change_ask}
+use Rattle.task_board.specs.Inside.Marks.{mark_ask, marked_places}
 use Rattle.task_board.specs.Inside.StoreChanges.{IsMadeFor, StorePrepared}
-
--- those of a create that concern its id alone
-abbrev pub id_refusals : BoardState → (id : List ℕ) → Refusals
-id_refusals s id =
-    (not (is_id id), refusal.BadId)
-    ∷ (is_some (task_of id s.tasks), refusal.Exists)
-    ∷ (is_full s, refusal.TooMany)
-    ∷ []
-
--- why a request with these refusals of its own to the task with this id is refused
-abbrev pub RefusesOwn :
-    BoardState → (id : List ℕ) → (own : Task → Refusals) → (e : Refusal) → Type 0
-RefusesOwn s id own e = first_refusal (task_refusals id own (task_of id s.tasks)) ≡ Some e
-
--- those of a request for an instruction of the task
-abbrev pub place_refusals : TaskCall → (func place : ℕ) → Task → Refusals
-place_refusals c func place t =
-    (not (allowed c t.status), refusal.WrongStatus)
-    ∷ (not (has_place t.module func place), refusal.OutOfRange)
-    ∷ []
 
 -- a task that may enter in answer to a request
 pub record CreatePrepared (s : BoardState) (r : Request) (task : Task) (id : List ℕ) : Type 0 where
@@ -69,7 +45,7 @@ pub record CallPrepared (s : BoardState) (own : Task → Refusals) (slot : ℕ) 
 -- these are the breakpoints of the task of an id in that slot after a request that is accepted
 pub record MarkPrepared (s : BoardState) (m : Mark) (slot : ℕ) (id : List ℕ) (b : NewBreaks) :
     Type 0 where
-  pub call : CallPrepared s (mark_refusals m) slot id
+  pub call : CallPrepared s (own_refusals (mark_ask m)) slot id
   pub own : arc_value b.own ≡ marked_places m call.task.breaks
   pub lent : arc_value b.lent ≡ marked_places m call.task.breaks
 
@@ -115,12 +91,11 @@ Plans s room r (plan.Answered reply) = IsQuestion r × Answers s r (Ok reply) s
 Plans s room r (plan.Store c) = IsMadeFor r c × StorePrepared s room c
 Plans s room r (plan.Create task id) = CreatePrepared s r task id
 Plans s room r (plan.Change c slot id) =
-    (r ≡ change_request c id) × CallPrepared s (change_refusals c) slot id
-Plans s room r (plan.Delete slot id) =
-    (r ≡ request.Task id ask.Delete)
+    (r ≡ request.Task id (change_ask c)) × CallPrepared s (own_refusals (change_ask c)) slot id
+Plans s room r (plan.Delete slot id) = (r ≡ request.Task id ask.Delete)
     × CallPrepared s (unless_allowed call.Delete refusal.WrongStatus) slot id
 Plans s room r (plan.Breaks m slot id breaks) =
-    (r ≡ mark_request m id) × MarkPrepared s m slot id breaks
+    (r ≡ request.Task id (mark_ask m)) × MarkPrepared s m slot id breaks
 
 abbrev pub refusal_in : Plan → Option Refusal
 refusal_in (plan.Refused e) = Some e

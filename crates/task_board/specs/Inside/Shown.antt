@@ -26,8 +26,7 @@ lent_with slot incarnation turns budget c = record {
 }
 
 abbrev pub lent_of : loan.Inside → Lent
-lent_of l =
-    record (lent_with l.slot l.incarnation l.turns l.budget l.checkout) { ran = l.ran }
+lent_of l = record (lent_with l.slot l.incarnation l.turns l.budget l.checkout) { ran = l.ran }
 
 abbrev pub task_of : task.Inside → Task
 task_of t = record {
@@ -51,8 +50,5 @@ abbrev pub board_of : board.Inside → BoardValue
 board_of b = record {
   state = board_state_of b;
   waiting = b.waiting;
-  room = record {
-    contents = b.store.content_room;
-    leases = b.store.lease_room;
-  };
+  room = record { contents = b.store.content_room; leases = b.store.lease_room };
 }

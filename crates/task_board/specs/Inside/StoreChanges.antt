@@ -38,7 +38,6 @@ store_reply (change.LeaseAdd key digest id) = reply.LeaseAdd digest id
 store_reply (change.LeaseDelete id) = reply.LeaseDelete id
 store_reply (change.Gc used removed) = reply.Gc removed
 
--- the store after the change
 abbrev pub store_after : StoreState → StoreChange → StoreState
 store_after s (change.Put key bytes digest) = with_content s (arc_value bytes)
 store_after s (change.Remove digest) = without_content s digest
@@ -80,8 +79,7 @@ CanTake b (change.Put key bytes digest) =
 CanTake b (change.LeaseCreate key members id) =
     (0 < b.lease_room) × (string_bytes key ≡ id) × (members ≡ [])
     × (lease_in b.state.leases id ≡ None)
-CanTake b (change.LeaseAdd key digest id) =
-    (string_bytes key ≡ digest)
+CanTake b (change.LeaseAdd key digest id) = (string_bytes key ≡ digest)
     × (ms : List (List ℕ)) × (lease_in b.state.leases id ≡ Some ms) × (is_among digest ms ≡ false)
     × (length ms < max_members)
 CanTake b other = Unit {0}

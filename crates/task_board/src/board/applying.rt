@@ -3,14 +3,14 @@
 ghost use Rattle.std.specs.Prelude.{◌≡◌, Some, None, Ok};
 ghost use Rattle.task_requests.specs.declared.request.Request.{Request as RequestValue};
 ghost use Rattle.task_requests.specs.declared.request.Request.TheVariants as request;
-ghost use Rattle.task_board.specs.Refusals.{unless_allowed};
+ghost use Rattle.task_board.specs.Refusals.{unless_allowed, own_refusals};
 ghost use Rattle.task_board.specs.Step.{Answers, Step};
 ghost use Rattle.task_board.specs.Tickets.{ticket_in};
 ghost use Rattle.task_board.specs.Waiting.{running_ticket, waiting_after_call};
 ghost use Rattle.task_board.specs.Inside.Plans.{CreatePrepared, CallPrepared, MarkPrepared};
 ghost use Rattle.task_requests.specs.declared.request.Ask.TheVariants as ask;
-ghost use Rattle.task_board.specs.Inside.Changes.{change_request, change_refusals};
-ghost use Rattle.task_board.specs.Inside.Marks.{mark_request};
+ghost use Rattle.task_board.specs.Inside.Changes.{change_ask};
+ghost use Rattle.task_board.specs.Inside.Marks.{mark_ask};
 ghost use Rattle.task_board.specs.Inside.StoreChanges.{IsMadeFor, StorePrepared};
 ghost use Rattle.task_board.specs.declared.mark.Mark.TheVariants as mark;
 
@@ -52,9 +52,9 @@ impl Board {
 
     // Changes the task in a slot.
     fn change(&mut self, slot: usize, id: Text, change: Change) -> Reply
-        requires { CallPrepared self.old.state (change_refusals change) slot id }
+        requires { CallPrepared self.old.state (own_refusals (change_ask change)) slot id }
         ensures answers { Answers self.old.state
-            (change_request change id) (Ok result) self.new.state }
+            (request.Task id (change_ask change)) (Ok result) self.new.state }
         ensures ticket { running_ticket id self.new.state.tasks
             ≡ ticket_in slot self.new.state.tasks }
         ensures waiting { self.new.waiting ≡ self.old.waiting }
@@ -77,10 +77,11 @@ impl Board {
 
     // Changes the task in a slot, which waits afterwards if it was started or resumed and is running.
     pub(crate) fn change_and_enter(&mut self, slot: usize, id: Text, change: Change) -> Reply
-        requires { CallPrepared self.old.state (change_refusals change) slot id }
+        requires { CallPrepared self.old.state (own_refusals (change_ask change)) slot id }
         ensures answers { Answers self.old.state
-            (change_request change id) (Ok result) self.new.state }
-        ensures waiting { self.new.waiting ≡ waiting_after_call (change_request change id)
+            (request.Task id (change_ask change)) (Ok result) self.new.state }
+        ensures waiting { self.new.waiting
+            ≡ waiting_after_call (request.Task id (change_ask change))
             self.new.state.tasks self.old.waiting }
     {
         let reply = self.change(slot, id, change);
@@ -114,7 +115,7 @@ impl Board {
     pub(crate) fn mark(&mut self, mark: Mark, slot: usize, id: Text, breaks: NewBreaks) -> Reply
         requires { MarkPrepared self.old.state mark slot id breaks }
         ensures answers { Answers self.old.state
-            (mark_request mark id) (Ok result) self.new.state }
+            (request.Task id (mark_ask mark)) (Ok result) self.new.state }
         ensures waiting { self.new.waiting ≡ self.old.waiting }
     {
         let Some(task) = self.tasks.get_mut(slot) else {

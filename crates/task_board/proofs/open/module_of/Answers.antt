@@ -25,8 +25,7 @@ returns-in_err-valid-clause-refused c e p is other =
     let x = c.in_err-valid.field-0.0 in
     let same : x ≡ e = search rules in
     let m = c.in_ok-module.module in
-    let spelled :
-    IsSpelled c.args.bytes.now m =
+    let spelled : IsSpelled c.args.bytes.now m =
     record {
       spells = c.in_ok-module.ensures.spelled;
       within = c.in_ok-module.ensures.within.0;

@@ -43,7 +43,6 @@ returns-clause-answers c r given =
     let e = c.insert_reserved.ensures in
     let answers =
     inserted_answers c.self.inside new c.insert_reserved.result c.args.task r c.args.id e.was_vacant e.updates p in
-    let Q :
-    BoardValue → Type 0 =
+    let Q : BoardValue → Type 0 =
     λ v. Answers v.state r (Ok (reply.Create c.args.id Created)) (board_state_of (with_insert c.self.inside new)) in
     subst Q c.self.view_is answers

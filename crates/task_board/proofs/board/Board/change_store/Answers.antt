@@ -44,12 +44,10 @@ returns-clause-answers c r made =
     subst
     (λ (x : StoreState). Answers s (store_request c.args.change) (Ok (store_reply c.args.change))
     (with_store s x)) (sym c.make_and_drop.ensures.leaves) done in
-    let Q :
-    BoardValue → Type 0 =
+    let Q : BoardValue → Type 0 =
     λ v. Answers v.state (store_request c.args.change) (Ok (store_reply c.args.change))
     (with_store s c.make_and_drop.new.store.state) in
-    let R :
-    Reply → Type 0 =
+    let R : Reply → Type 0 =
     λ x. Answers c.args.self.now.state (store_request c.args.change) (Ok x)
     (with_store s c.make_and_drop.new.store.state) in
     let own = subst R (sym c.make_and_drop.ensures.reply) (subst Q c.self.view_is after) in

@@ -23,8 +23,7 @@ use Rattle.task_board.proofs.board.Board.delete.Goals as goal
 
 pub unreachable-requires : goal.unreachable-requires
 unreachable-requires c =
-    let P :
-    BoardValue → Type 0 =
+    let P : BoardValue → Type 0 =
     λ v. CallPrepared v.state (unless_allowed call.Delete refusal.WrongStatus) c.args.slot c.args.id in
     let p = subst P (sym c.self.view_is) c.requires in
     let at =
@@ -35,8 +34,7 @@ unreachable-requires c =
 
 pub state-requires : goal.state-requires
 state-requires c =
-    let P :
-    BoardValue → Type 0 =
+    let P : BoardValue → Type 0 =
     λ v. CallPrepared v.state (unless_allowed call.Delete refusal.WrongStatus) c.args.slot c.args.id in
     let p = subst P (sym c.self.view_is) c.requires in
     let at =
@@ -49,8 +47,7 @@ state-requires c =
 
 pub invariant_of-self : goal.invariant_of-self
 invariant_of-self c =
-    let P :
-    BoardValue → Type 0 =
+    let P : BoardValue → Type 0 =
     λ v. CallPrepared v.state (unless_allowed call.Delete refusal.WrongStatus) c.args.slot c.args.id in
     let p = subst P (sym c.self.view_is) c.requires in
     let here : get c.self.inside.tasks c.args.slot ≡ Some c.in-Some.task = search rules in
@@ -74,8 +71,7 @@ invariant_of-self c =
 
 pub returns-clause-answers : goal.returns-clause-answers
 returns-clause-answers c =
-    let P :
-    BoardValue → Type 0 =
+    let P : BoardValue → Type 0 =
     λ v. CallPrepared v.state (unless_allowed call.Delete refusal.WrongStatus) c.args.slot c.args.id in
     let p = subst P (sym c.self.view_is) c.requires in
     let here : get c.self.inside.tasks c.args.slot ≡ Some c.in-Some.task = search rules in
@@ -85,10 +81,8 @@ returns-clause-answers c =
     removed_there c.self.inside c.args.slot c.args.id new c.keep_present.new.self c.in-Some.task
     c.self.invariant.sound p here e.slots in
     let s' = board_state_of (with_slab c.self.inside new c.keep_present.new.self) in
-    let Q :
-    BoardValue → Type 0 =
+    let Q : BoardValue → Type 0 =
     λ v. Answers v.state (request.Task c.args.id ask.Delete) (Ok (reply.Delete (state_of c.in-Some.task))) s' in
-    let R :
-    TaskState → Type 0 =
+    let R : TaskState → Type 0 =
     λ x. Answers c.args.self.now.state (request.Task c.args.id ask.Delete) (Ok (reply.Delete x)) s' in
     subst R (sym c.state.ensures) (subst Q c.self.view_is done)

@@ -1,6 +1,6 @@
 use Rattle.std.proofs.Common.{◌≡◌, Some, rules}
 use Rattle.content_leases.specs.Refusals.{first_refusal}
-use Rattle.task_board.specs.Inside.Plans.{id_refusals}
+use Rattle.task_board.specs.Refusals.{id_refusals}
 use Rattle.task_board.proofs.StepLemmas.{id_refused, id_refusal_known}
 use Rattle.task_board.proofs.board.Board.prepare_create.Goals as goal
 

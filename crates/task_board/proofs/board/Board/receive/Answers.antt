@@ -65,8 +65,7 @@ returns-clause-step c =
     let back =
     back_there c.self.inside c.args.loan c.in-Some.task.now c.receive.new.self c.slices_go_forward.ensures.at_least
     c.slices_stop_first.ensures.not_before c.self.invariant.sound here fits c.receive.ensures in
-    let P :
-    ℕ → BoardValue → Type 0 =
+    let P : ℕ → BoardValue → Type 0 =
     λ k v. Returns v.state (task_of c.args.loan.id v.state.tasks)
     (board_state_of (with_write c.self.inside k c.receive.new.self)) in
     subst (λ (v : BoardValue). P c.slot-slot.result v) c.self.view_is
@@ -81,10 +80,8 @@ returns-clause-ticket c =
     let back =
     back_there c.self.inside c.args.loan c.in-Some.task.now c.receive.new.self c.slices_go_forward.ensures.at_least
     c.slices_stop_first.ensures.not_before c.self.invariant.sound here fits c.receive.ensures in
-    let P :
-    ℕ → Type 0 =
-    λ k. c.ticket.result
-    ≡ ticket_in c.args.loan.slot (entries (with_value c.self.inside.tasks k c.receive.new.self)) in
+    let P : ℕ → Type 0 =
+    λ k. c.ticket.result ≡ ticket_in c.args.loan.slot (entries (with_value c.self.inside.tasks k c.receive.new.self)) in
     let Q : ℕ → Type 0 = λ k. c.ticket.result ≡ ticket_if_running k c.receive.new.self in
     let ticket = subst Q c.slot-slot.ensures c.ticket.ensures in
     subst P (sym c.slot-slot.ensures)

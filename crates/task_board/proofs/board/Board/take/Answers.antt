@@ -69,8 +69,7 @@ returns-clause-some c =
     let is =
     lent_from b c.args.ticket c.args.budget c.in_ok-task.task.now c.lend.new.self c.in_ok-loan.loan
     c.self.invariant.sound at of done.0 done.1 done.2 in
-    let P :
-    BoardValue → Type 0 =
+    let P : BoardValue → Type 0 =
     λ v. Lends v.state c.args.ticket c.args.budget c.in_ok-loan.loan
     (board_state_of (with_write b c.args.ticket.slot c.lend.new.self)) in
     subst P c.self.view_is is

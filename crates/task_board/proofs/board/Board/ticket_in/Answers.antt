@@ -9,8 +9,7 @@ pub returns-in-Some : goal.returns-in-Some
 returns-in-Some c =
     let here : get c.self.inside.tasks c.args.slot ≡ Some c.in-Some.task.now = search rules in
     let at = in_slab c.self.inside.tasks c.args.slot ∙ here in
-    c.ticket.ensures
-    ∙ (sym (ap (option_and_then (ticket_if_running c.args.slot)) at)
+    c.ticket.ensures ∙ (sym (ap (option_and_then (ticket_if_running c.args.slot)) at)
     ∙ ap (λ (v : BoardValue). ticket_in c.args.slot v.state.tasks) c.self.view_is)
 
 pub returns-in-None : goal.returns-in-None

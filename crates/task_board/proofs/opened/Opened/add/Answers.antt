@@ -16,7 +16,6 @@ returns-clause-ok c =
     is ∙ ap
     (λ es. Rattle.indexmap.specs.IndexMap.insert_entry Rattle.std.specs.String.string_eq es c.in_ok-key.key
     c.args.flat) same in
-    ap opened_of at
-    ∙ (pushed c.in_ok-key.key c.args.flat before none
+    ap opened_of at ∙ (pushed c.in_ok-key.key c.args.flat before none
     ∙ (ap (λ (os : List OpenedModule). os ++ opened_module (c.in_ok-key.key, c.args.flat) ∷ []) c.self.view_is
     ∙ ap (λ (d : List ℕ). c.args.self.now ++ record { digest = d; «module» = c.args.flat } ∷ []) named))

@@ -7,13 +7,11 @@ use Rattle.task_board.specs.Inside.OpenedModules.{OpenedModule, module_in, IsOpe
 use Rattle.task_board.proofs.OpenedLemmas.{each_filtered, absent_filtered}
 use Rattle.task_board.proofs.opened.Opened.drop_idle.Goals as goal
 
-pub returns-then-idle_bytes-gt-MAX_IDLE_BYTES-clause-sound :
-    goal.returns-then-idle_bytes-gt-MAX_IDLE_BYTES-clause-sound
+pub returns-then-idle_bytes-gt-MAX_IDLE_BYTES-clause-sound : goal.returns-then-idle_bytes-gt-MAX_IDLE_BYTES-clause-sound
 returns-then-idle_bytes-gt-MAX_IDLE_BYTES-clause-sound c each =
     let test : OpenedModule → Bool = λ o. is_among o.digest (used_by (entries c.args.tasks.now)) in
     let P : OpenedModule → Type 0 = IsOpened c.args.store.now.state.contents in
-    subst (λ (os : List OpenedModule). Each P os) (sym c.keep_used.ensures)
-    (each_filtered P test c.args.self.now each)
+    subst (λ (os : List OpenedModule). Each P os) (sym c.keep_used.ensures) (each_filtered P test c.args.self.now each)
 
 pub returns-then-idle_bytes-gt-MAX_IDLE_BYTES-clause-absent :
     goal.returns-then-idle_bytes-gt-MAX_IDLE_BYTES-clause-absent

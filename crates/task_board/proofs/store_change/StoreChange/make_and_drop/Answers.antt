@@ -9,8 +9,7 @@ use Rattle.task_board.proofs.store_change.StoreChange.make_and_drop.Goals as goa
 pub returns-then-removes-clause-opened : goal.returns-then-removes-clause-opened
 returns-then-removes-clause-opened c =
     let os = c.args.opened.now in
-    let P :
-    StoreState → Type 0 =
+    let P : StoreState → Type 0 =
     λ s. Each (IsOpened s.contents) (filter (λ (o : OpenedModule). is_some (content_in s.contents o.digest)) os) in
     let left =
     subst P (sym c.make-reply.ensures.leaves)
