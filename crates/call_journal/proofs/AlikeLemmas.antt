@@ -16,8 +16,7 @@ Distinct es = AreDistinct (ids_of es)
 -- ---- the task with an id
 
 here : (e : ℕ × Task) (id : List ℕ) (es : Entries) → bytes_eq e.1.id id ≡ true → task_of id (e ∷ es) ≡ Some e.1
-here e id es y =
-    ap (option_map (λ (x : ℕ × Task). x.1)) (cond_is_true (bytes_eq e.1.id id) (Some e) (entry_of id es) y)
+here e id es y = ap (option_map (λ (x : ℕ × Task). x.1)) (cond_is_true (bytes_eq e.1.id id) (Some e) (entry_of id es) y)
 
 skip : (e : ℕ × Task) (id : List ℕ) (es : Entries) → bytes_eq e.1.id id ≡ false → task_of id (e ∷ es) ≡ task_of id es
 skip e id es n =
@@ -34,8 +33,7 @@ after false e o p h = h
 
 nowhere : (id : List ℕ) (es : Entries) → Each (λ y. id ≢ y) (ids_of es) → task_of id es ≡ None
 nowhere id [] each = refl
-nowhere id (e ∷ es) each =
-    skip e id es (other_id e.1.id id (λ is. each.0 (sym is))) ∙ nowhere id es each.1
+nowhere id (e ∷ es) each = skip e id es (other_id e.1.id id (λ is. each.0 (sym is))) ∙ nowhere id es each.1
 
 -- the first entry's id is not among the others
 first_away : (e : ℕ × Task) (id : List ℕ) (es : Entries) → Distinct (e ∷ es) → e.1.id ≡ id → task_of id es ≡ None
@@ -50,8 +48,7 @@ changed_own t (e ∷ es) =
     by_id e.1.id t.id
     (λ y same.
     ap (task_of t.id) (cond_is_true (bytes_eq e.1.id t.id) ((e.0, t) ∷ es) (e ∷ change_task t es) y)
-    ∙ (here (e.0, t) t.id es (same_id t.id t.id refl)
-    ∙ sym (ap (option_map (λ (x : Task). t)) (here e t.id es y))))
+    ∙ (here (e.0, t) t.id es (same_id t.id t.id refl) ∙ sym (ap (option_map (λ (x : Task). t)) (here e t.id es y))))
     (λ n other.
     ap (task_of t.id) (cond_is_false (bytes_eq e.1.id t.id) ((e.0, t) ∷ es) (e ∷ change_task t es) n)
     ∙ (skip e t.id (change_task t es) n

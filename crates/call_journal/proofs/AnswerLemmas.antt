@@ -40,8 +40,7 @@ first_told ((false, y) ∷ cs) x told is = first_told cs x (and_right (not (is_r
 -- why a module cannot be instantiated
 one_of : (a b c d : Bool) (e : Refusal)
     → (if a then Some refusal.NoEntry else if b then Some refusal.BadImport else if c then Some refusal.Limit else if d
-    then Some refusal.SegmentOutOfBounds else None) ≡ Some e
-    → is_refused e ≡ false
+    then Some refusal.SegmentOutOfBounds else None) ≡ Some e → is_refused e ≡ false
 one_of false false false false e is = cc
 one_of _ _ _ _ e is = grind arith
 

@@ -63,8 +63,7 @@ module _ (R : Entries → Entries → Type 0) (b : BoardState) (es : Entries) (h
   decided (Some e) E F a b' f d = (on b es, (d.0, refl), since b b' es h.same d.1)
 
   on_store : (refusals : Refusals) (rep : Reply) (new : StoreState) (a : Answer) (b' : BoardState)
-      → DecidedBy (first_refusal refusals) ((a ≡ Ok rep) × (b' ≡ with_store b new)) b a b'
-      → Leaves R
+      → DecidedBy (first_refusal refusals) ((a ≡ Ok rep) × (b' ≡ with_store b new)) b a b' → Leaves R
       (λ s'. DecidedBy (first_refusal refusals) ((a ≡ Ok rep) × (s' ≡ with_store (on b es) new)) (on b es) a s') b'
   on_store refusals rep new a b' d =
       decided (first_refusal refusals) ((a ≡ Ok rep) × (b' ≡ with_store b new))
@@ -72,8 +71,7 @@ module _ (R : Entries → Entries → Type 0) (b : BoardState) (es : Entries) (h
       (λ x. (on (with_store b new) es, (x.0, refl), since (with_store b new) b' es h.same x.1)) d
 
   left : (t : Task) (o : Option Task) (a : Answer) (rep : Reply) (b' : BoardState)
-      → (a ≡ Ok rep) × (b' ≡ with_left b t o)
-      → Leaves R (λ s'. (a ≡ Ok rep) × (s' ≡ with_left (on b es) t o)) b'
+      → (a ≡ Ok rep) × (b' ≡ with_left b t o) → Leaves R (λ s'. (a ≡ Ok rep) × (s' ≡ with_left (on b es) t o)) b'
   left t None a rep b' d = (
     on (without_task b t.id) (remove_task t.id es),
     (d.0, refl),
@@ -85,8 +83,7 @@ module _ (R : Entries → Entries → Type 0) (b : BoardState) (es : Entries) (h
     since (with_task b u) b' (change_task u es) (h.change u) d.1,
   )
 
-  on_found : (id : List ℕ) (own : Task → Refusals) (does : Task → Done) (o : Option Task) (a : Answer)
-      (b' : BoardState)
+  on_found : (id : List ℕ) (own : Task → Refusals) (does : Task → Done) (o : Option Task) (a : Answer) (b' : BoardState)
       → OnFound id own does o b a b' → Leaves R (λ s'. OnFound id own does o (on b es) a s') b'
   on_found id own does None a b' d =
       decided (first_refusal (task_refusals id own None)) ⊥ (λ s'. ⊥) a b' (λ x. absurd x) d

@@ -188,8 +188,7 @@ comes_again t _ v (is_retaken k budget may spans can ok) next =
 pub comes_back : (t u : Task) → HasReturned t u → ComesTo t u
 comes_back t u h =
     let k = slice_turns t h.budget in
-    subst (ComesTo t) (sym h.advances)
-    (advances k h.legal (subst (Spans t k) (sym h.out) (inl refl)))
+    subst (ComesTo t) (sym h.advances) (advances k h.legal (subst (Spans t k) (sym h.out) (inl refl)))
 
 -- ---- what an entry determines
 

@@ -13,8 +13,8 @@ use Rattle.task_board.specs.Tickets.{Lends}
 use Rattle.task_lifecycle.specs.Lifecycle.{is_running}
 use Rattle.task_board.proofs.EntryLemmas.{by_slot}
 use Rattle.task_board.proofs.LoanStays.{answers_stay, lends_fits, lends_stays, one_slot, steps_stay, run_stays}
-use Rattle.call_journal.specs.Desks.{Spot, spot_names, name_at, lent_at, IsSetAt}
-use Rattle.call_journal.specs.Inside.Desks.{AllFit}
+use Rattle.call_journal.specs.Desks.{Spot, spot_names, lent_at}
+use Rattle.call_journal.specs.Inside.Desks.{AllFit, IsSetAt}
 
 none_not_some : {X : Type 0} (x : X) → None ≡ Some x → ⊥
 none_not_some x h = cc
@@ -24,21 +24,18 @@ some_one x y h = cc
 
 -- ---- a place is set
 
-names_set :
-    (ps : List Spot) (i : ℕ) (p : Spot) (to : Option Lent) → slice_get ps i ≡ Some p
+names_set : (ps : List Spot) (i : ℕ) (p : Spot) (to : Option Lent) → slice_get ps i ≡ Some p
     → spot_names (slice_set ps i (record p { lent = to })) ≡ spot_names ps
 names_set [] i p to at = absurd (none_not_some p at)
 names_set (x ∷ ps) zero p to at = ap (λ (y : Spot). y.name ∷ spot_names ps) (sym (some_one x p at))
 names_set (x ∷ ps) (suc i) p to at = ap (λ (ns : List ℕ). x.name ∷ ns) (names_set ps i p to at)
 
-there_set :
-    (ps : List Spot) (i : ℕ) (p q : Spot) → slice_get ps i ≡ Some p → slice_get (slice_set ps i q) i ≡ Some q
+there_set : (ps : List Spot) (i : ℕ) (p q : Spot) → slice_get ps i ≡ Some p → slice_get (slice_set ps i q) i ≡ Some q
 there_set [] i p q at = absurd (none_not_some p at)
 there_set (x ∷ ps) zero p q at = refl
 there_set (x ∷ ps) (suc i) p q at = there_set ps i p q at
 
-other_set :
-    (ps : List Spot) (i j : ℕ) (q : Spot) → j ≢ i → slice_get (slice_set ps i q) j ≡ slice_get ps j
+other_set : (ps : List Spot) (i j : ℕ) (q : Spot) → j ≢ i → slice_get (slice_set ps i q) j ≡ slice_get ps j
 other_set [] i j q other = refl
 other_set (x ∷ ps) zero zero q other = absurd (other refl)
 other_set (x ∷ ps) zero (suc j) q other = refl
@@ -48,8 +45,7 @@ other_set (x ∷ ps) (suc i) (suc j) q other = other_set ps i j q (λ e. other (
 abbrev lent_of : Option Spot → Option Lent
 lent_of o = option_and_then (λ (p : Spot). p.lent) o
 
-set_at :
-    (ps : List Spot) (i : ℕ) (p : Spot) (to : Option Lent) → slice_get ps i ≡ Some p
+set_at : (ps : List Spot) (i : ℕ) (p : Spot) (to : Option Lent) → slice_get ps i ≡ Some p
     → IsSetAt i to ps (slice_set ps i (record p { lent = to }))
 set_at ps i p to at = record {
   names = names_set ps i p to at;
@@ -65,15 +61,13 @@ is_set ps i p q to at is = subst (λ (x : Spot). IsSetAt i to ps (slice_set ps i
 pub lent_is : (ps : List Spot) (i : ℕ) (p : Spot) → slice_get ps i ≡ Some p → lent_at i ps ≡ p.lent
 lent_is ps i p at = ap lent_of at
 
-pub lent_set :
-    {S : Type 0} (A B : S → Type 0) (r : Option S) (ps : List Spot) (i : ℕ) (p q : Spot) (to : Option Lent)
+pub lent_set : {S : Type 0} (A B : S → Type 0) (r : Option S) (ps : List Spot) (i : ℕ) (p q : Spot) (to : Option Lent)
     → slice_get ps i ≡ Some p → IfSome r (λ s. A s × B s × (q ≡ record p { lent = to }))
     → IfSome r (λ s. IsSetAt i to ps (slice_set ps i q))
 lent_set A B None ps i p q to at is = tt
 lent_set A B (Some s) ps i p q to at is = is_set ps i p q to at is.2
 
-pub lent_there :
-    {S : Type 0} (A : Type 0) (r : Option S) (ps : List Spot) (i : ℕ) (p : Spot) → slice_get ps i ≡ Some p
+pub lent_there : {S : Type 0} (A : Type 0) (r : Option S) (ps : List Spot) (i : ℕ) (p : Spot) → slice_get ps i ≡ Some p
     → IfNone r (is_some p.lent ≡ true) → IfNone r (A ⊎ (is_some (lent_at i ps) ≡ true))
 lent_there A None ps i p at is = inr (ap is_some (lent_is ps i p at) ∙ is)
 lent_there A (Some s) ps i p at is = tt
@@ -87,8 +81,7 @@ pub answered_fit :
     → AllFit desk s.tasks → AllFit desk s'.tasks
 answered_fit desk s r a s' b is all i l at = ((all i l at).0, answers_stay s r a s' l b is (all i l at).1)
 
-pub names_kept :
-    {S : Type 0} (r : Option S) (slot : ℕ) (to : Option Lent) (ps qs : List Spot) (names : List ℕ)
+pub names_kept : {S : Type 0} (r : Option S) (slot : ℕ) (to : Option Lent) (ps qs : List Spot) (names : List ℕ)
     → IfSome r (λ x. IsSetAt slot to ps qs) → IfNone r (qs ≡ ps) → spot_names ps ≡ names → spot_names qs ≡ names
 names_kept None slot to ps qs names set same is = ap spot_names same ∙ is
 names_kept (Some x) slot to ps qs names set same is = set.names ∙ is
@@ -116,8 +109,7 @@ pub taken_fit :
 taken_fit None ps qs s ticket budget l s' b is all set same = λ i m at.
     let was = all i m (subst (λ (ds : List Spot). lent_at i ds ≡ Some m) same at) in
     (was.0, lends_stays s ticket budget l s' m b is was.1)
-taken_fit (Some x) ps qs s ticket budget l s' b is all set same =
-    taken_fit_set ps qs s ticket budget l s' b is all set
+taken_fit (Some x) ps qs s ticket budget l s' b is all set same = taken_fit_set ps qs s ticket budget l s' b is all set
 
 -- no place has a machine of a task that can be lent
 
@@ -133,12 +125,10 @@ none_is : (o : Option ℕ) (n : ℕ) → is_none o ≡ true → o ≡ Some n →
 none_is None n h e = none_not_some n e
 none_is (Some k) n h e = true≢false (sym h)
 
-not_lent :
-    (s : BoardState) (ticket : Ticket) (budget : ℕ) (l m : Lent) (s' : BoardState) → Lends s ticket budget l s'
+not_lent : (s : BoardState) (ticket : Ticket) (budget : ℕ) (l m : Lent) (s' : BoardState) → Lends s ticket budget l s'
     → m.slot ≡ ticket.slot → Fits m s.tasks → ⊥
 not_lent s ticket budget l m s' is slot fit =
-    let same :
-    fit.0 ≡ is.task =
+    let same : fit.0 ≡ is.task =
     some_one fit.0 is.task (sym fit.1 ∙ (ap (λ (k : ℕ). task_in k s.tasks) slot ∙ is.can.there)) in
     let idle = both_true (is_running (is.task).status) (is_none (is.task).out) is.can.ready in
     none_is (is.task).out m.budget idle (subst (λ (t : Task). t.out ≡ Some m.budget) same fit.2.1)
@@ -146,11 +136,11 @@ not_lent s ticket budget l m s' is slot fit =
 pub no_place :
     {S : Type 0} (r : Option S) (ps : List Spot) (names : List ℕ) (s : BoardState) (ticket : Ticket) (budget : ℕ)
     (l : Lent) (s' : BoardState) → spot_names ps ≡ names → Lends s ticket budget l s' → AllFit ps s.tasks
-    → IfNone r ((name_at ticket.slot (spot_names ps) ≡ None) ⊎ (is_some (lent_at ticket.slot ps) ≡ true))
-    → IfNone r (name_at ticket.slot names ≡ None)
+    → IfNone r ((slice_get (spot_names ps) ticket.slot ≡ None) ⊎ (is_some (lent_at ticket.slot ps) ≡ true))
+    → IfNone r (slice_get names ticket.slot ≡ None)
 no_place (Some x) ps names s ticket budget l s' same is all none = tt
 no_place None ps names s ticket budget l s' same is all (inl none) =
-    subst (λ (ns : List ℕ). name_at ticket.slot ns ≡ None) same none
+    subst (λ (ns : List ℕ). slice_get ns ticket.slot ≡ None) same none
 no_place None ps names s ticket budget l s' same is all (inr out) =
     let m = some_lent (lent_at ticket.slot ps) out in
     let fit = all ticket.slot m.0 m.1 in
@@ -164,8 +154,7 @@ pub known_fits :
 known_fits ps s slot l m all at is =
     subst (λ (x : Lent). Fits x s.tasks) (sym is) (run_stays s.tasks m (all slot m at).1)
 
-returned_fit_by :
-    (ps qs : List Spot) (s : BoardState) (l : Lent) (s' : BoardState) → IsBoard s → Fits l s.tasks
+returned_fit_by : (ps qs : List Spot) (s : BoardState) (l : Lent) (s' : BoardState) → IsBoard s → Fits l s.tasks
     → Step s (event.Return l.id) (answer.Returned true) s' → AllFit ps s.tasks → lent_at l.slot qs ≡ None
     → ((i : ℕ) → i ≢ l.slot → lent_at i qs ≡ lent_at i ps) → AllFit qs s'.tasks
 returned_fit_by ps qs s l s' b fit step all none others i m at =
@@ -180,8 +169,7 @@ returned_fit_by ps qs s l s' b fit step all none others i m at =
           other (sym was.0 ∙ one_slot s m l b was.1 fit ids)) was.1,
     ))
 
-pub returned_fit :
-    (ps qs : List Spot) (s : BoardState) (l m : Lent) (s' : BoardState) → IsBoard s → Fits l s.tasks
+pub returned_fit : (ps qs : List Spot) (s : BoardState) (l m : Lent) (s' : BoardState) → IsBoard s → Fits l s.tasks
     → Step s (event.Return l.id) (answer.Returned true) s' → AllFit ps s.tasks → l ≡ record m { ran = true }
     → IsSetAt m.slot None ps qs → AllFit qs s'.tasks
 returned_fit ps qs s l m s' b fit step all is set =
@@ -190,8 +178,7 @@ returned_fit ps qs s l m s' b fit step all is set =
     (λ i other. set.others i (λ e. other (e ∙ sym slot)))
 
 -- or one that was not of this desk
-pub other_fit :
-    (ps : List Spot) (s : BoardState) (l m : Lent) (s' : BoardState) → IsBoard s
+pub other_fit : (ps : List Spot) (s : BoardState) (l m : Lent) (s' : BoardState) → IsBoard s
     → (Fits l s.tasks → Step s (event.Return l.id) (answer.Returned true) s') → ((Fits l s.tasks → ⊥) → s' ≡ s)
     → Fits l s.tasks ⊎ (Fits l s.tasks → ⊥) → AllFit ps s.tasks → l ≡ record m { ran = true }
     → lent_at m.slot ps ≡ None → AllFit ps s'.tasks

@@ -32,8 +32,7 @@ module _ (s s' : BoardState) (a : Answer) (busy : a ≡ Err refusal.Busy) where
   settled id (Some t) due d =
       allowed_task (is_id id) (allowed call.Wait t.status) _ due (λ both. let is = both.0 in cc) d
 
-due_or_full :
-    (old new : BookValue) (was now : Known) (id : List ℕ) (a : Answer) (b : Bool)
+due_or_full : (old new : BookValue) (was now : Known) (id : List ℕ) (a : Answer) (b : Bool)
     → (b || is_settled (task_of id old.board.tasks)) ≡ true → (b ≡ true → a ≡ Err refusal.JournalFull)
     → HasCalled old new was now (request.Task id ask.Wait) a → a ≡ Err refusal.Busy → ⊥
 due_or_full old new was now id a true due full called busy = let none = full refl in cc
@@ -41,23 +40,18 @@ due_or_full old new was now id a false due full called busy =
     settled old.board new.board a busy id (task_of id old.board.tasks) due
     called.answers
 
-due_or_closed :
-    (old new : BookValue) (was now : Known) (id : List ℕ) (a : Answer) (b : Bool)
-    → (b || (is_full old || is_settled (task_of id old.board.tasks))) ≡ true
-    → (b ≡ true → a ≡ Err refusal.Closed)
+due_or_closed : (old new : BookValue) (was now : Known) (id : List ℕ) (a : Answer) (b : Bool)
+    → (b || (is_full old || is_settled (task_of id old.board.tasks))) ≡ true → (b ≡ true → a ≡ Err refusal.Closed)
     → (b ≡ false → is_full old ≡ true → a ≡ Err refusal.JournalFull)
     → HasCalled old new was now (request.Task id ask.Wait) a → a ≡ Err refusal.Busy → ⊥
 due_or_closed old new was now id a true due closed full called busy = let shut = closed refl in cc
 due_or_closed old new was now id a false due closed full called busy =
     due_or_full old new was now id a (is_full old) due (full refl) called busy
 
-pub never_busy :
-    (old new : BookValue) (was now : Known) (id : List ℕ) (a : Answer) → is_due old id ≡ true
-    → ((a ≡ Err refusal.Closed) ↔ (old.closed ≡ true))
-    → ((a ≡ Err refusal.JournalFull) ↔ ((old.closed ≡ false)
+pub never_busy : (old new : BookValue) (was now : Known) (id : List ℕ) (a : Answer) → is_due old id ≡ true
+    → ((a ≡ Err refusal.Closed) ↔ (old.closed ≡ true)) → ((a ≡ Err refusal.JournalFull) ↔ ((old.closed ≡ false)
     × (length old.journal ≡ most_entries)))
     → (is_journalled a ≡ true → HasCalled old new was now (request.Task id ask.Wait) a) → a ≡ Err refusal.Busy → ⊥
 never_busy old new was now id a due closed full called busy =
     due_or_closed old new was now id a old.closed due closed.1
-    (λ shut most. full.1 (shut, eqb-true (length old.journal) most_entries most))
-    (called (ap is_journalled busy)) busy
+    (λ shut most. full.1 (shut, eqb-true (length old.journal) most_entries most)) (called (ap is_journalled busy)) busy

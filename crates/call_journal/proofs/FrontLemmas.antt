@@ -28,9 +28,7 @@ more cs γ None = cs
 more cs γ (Some x) = cs ++ (γ, x) ∷ []
 
 module _ {M : Type 1} {𝓤 : Ura M} (𝓛 : Logic 𝓤) (R : RattleType) where
-  pub front_made :
-      (cs : List (ℕ × R.Denot))
-      → ent 𝓤 (sem 𝓛 (known R cs))
+  pub front_made : (cs : List (ℕ × R.Denot)) → ent 𝓤 (sem 𝓛 (known R cs))
       (sem 𝓛 ((Front.the_row R).own_val (record { marker = record {}; seen = cs }) (token ∷ [])))
   front_made cs = let F = (Struct (shape (Front.the_type R))).own_val (tt, tt) (token ∷ []) in
       qed 𝓛 (‵ (known R cs) ∷ []) ∵
@@ -48,8 +46,7 @@ module _ {M : Type 1} {𝓤 : Ura M} (𝓛 : Logic 𝓤) (R : RattleType) where
       -- [K; K; N; N]
       move ! (2 ∷ 0 ∷ []) $ fjoin ! $ move ! (2 ∷ 1 ∷ []) $ fjoin ! $ done !
 
-  pub known_more :
-      (cs : List (ℕ × R.Denot)) (γ : ℕ) (k : Option R.Denot)
+  pub known_more : (cs : List (ℕ × R.Denot)) (γ : ℕ) (k : Option R.Denot)
       → ent 𝓤 (sep 𝓤 (sem 𝓛 (known R cs)) (sem 𝓛 (noted R γ k))) (sem 𝓛 (known R (more cs γ k)))
   known_more cs γ None = qed 𝓛 (‵ (known R cs) ∷ ‵ (noted R γ None) ∷ []) ∵ keep ! (0 ∷ []) $ done !
   known_more [] γ (Some x) = let N : Fml = noted R γ (Some x) in qed 𝓛 (‵ (known R []) ∷ ‵ N ∷ []) ∵
@@ -61,8 +58,7 @@ module _ {M : Type 1} {𝓤 : Ura M} (𝓛 : Logic 𝓤) (R : RattleType) where
       use2 𝓛 (‵ (known R (cs ++ (γ, x) ∷ []))) (known_more cs γ (Some x)) $ move ! (1 ∷ 0 ∷ []) $ fjoin ! $ done !
 
   -- the cell at an index
-  pub known_at :
-      (cs : List (ℕ × R.Denot)) (i γ : ℕ) → option_map (λ c. c.0) (slice_get cs i) ≡ Some γ
+  pub known_at : (cs : List (ℕ × R.Denot)) (i γ : ℕ) → option_map (λ c. c.0) (slice_get cs i) ≡ Some γ
       → ent 𝓤 (sem 𝓛 (known R cs)) (sem 𝓛 (noted R γ (option_map (λ c. c.1) (slice_get cs i))))
   known_at [] i γ e = absurd cc
   known_at (c ∷ cs) zero γ e =
@@ -75,8 +71,7 @@ module _ {M : Type 1} {𝓤 : Ura M} (𝓛 : Logic 𝓤) (R : RattleType) where
       (c d : ℕ × R.Denot) (cs ds : List (ℕ × R.Denot)) → Begins (names_of (c ∷ cs)) (names_of (d ∷ ds)) → d.0 ≡ c.0
   begins_head c d cs ds h = let e : c.0 ∷ (names_of cs ++ h.0) ≡ d.0 ∷ names_of ds = h.1 in cc
 
-  begins_tail :
-      (c d : ℕ × R.Denot) (cs ds : List (ℕ × R.Denot)) → Begins (names_of (c ∷ cs)) (names_of (d ∷ ds))
+  begins_tail : (c d : ℕ × R.Denot) (cs ds : List (ℕ × R.Denot)) → Begins (names_of (c ∷ cs)) (names_of (d ∷ ds))
       → Begins (names_of cs) (names_of ds)
   begins_tail c d cs ds h = let e : c.0 ∷ (names_of cs ++ h.0) ≡ d.0 ∷ names_of ds = h.1 in
       let t : names_of cs ++ h.0 ≡ names_of ds = cc in (h.0, t)
@@ -85,8 +80,7 @@ module _ {M : Type 1} {𝓤 : Ura M} (𝓛 : Logic 𝓤) (R : RattleType) where
       (c d : ℕ × R.Denot) (cs ds : List (ℕ × R.Denot)) → d.0 ≡ c.0 → c.1 ≡ d.1 → Begins cs ds → Begins (c ∷ cs) (d ∷ ds)
   begins_both c d cs ds n v t = let e : c ≡ d = λ i. (sym n i, v i) in (t.0, rw (t.1) (ap (λ x. x ∷ ds) e))
 
-  pub known_agree :
-      (cs ds : List (ℕ × R.Denot)) → Begins (names_of cs) (names_of ds)
+  pub known_agree : (cs ds : List (ℕ × R.Denot)) → Begins (names_of cs) (names_of ds)
       → ent 𝓤 (sep 𝓤 (sem 𝓛 (known R cs)) (sem 𝓛 (known R ds))) (fact 𝓤 (Begins cs ds))
   known_agree [] ds h = fact_i 𝓤 _ _ (ds, refl)
   known_agree (c ∷ cs) [] h = let e : c.0 ∷ (names_of cs ++ h.0) ≡ [] = h.1 in absurd cc

@@ -19,8 +19,7 @@ join (e ∷ front) back s mid s' r rest = (r.0, r.1, r.2, r.3, r.4, join front b
 
 pub one_more : (h : List Entry) (e : Entry) (a : Answer) (s last mid next : BoardState) → Replays s h last
     → Finds last e.request e.found mid → Answers mid e.request a next → Replays s (h ++ e ∷ []) next
-one_more h e a s last mid next r finds answers =
-    join h (e ∷ []) s last next r (mid, next, a, finds, answers, refl)
+one_more h e a s last mid next r finds answers = join h (e ∷ []) s last next r (mid, next, a, finds, answers, refl)
 
 pub legal_front : (front back : List Entry) → IsLegal (front ++ back) → IsLegal front
 legal_front front back legal = let parts = cut front back empty legal.0 legal.1 in (parts.0, parts.1)

@@ -77,8 +77,7 @@ replay_slice h b b' e a r is step = (r.0, r.1, since_slice r.0 b b' e a r.2 is s
 
 -- what a call finds now is found on the earlier board, and then only slices of other tasks are between
 abbrev pub Meets : BoardState → BoardState → Request → Type 0
-Meets s b r =
-    (mid : BoardState) × Finds s r (found_of b r) mid × IsSince mid b × HaveSame r mid.tasks b.tasks
+Meets s b r = (mid : BoardState) × Finds s r (found_of b r) mid × IsSince mid b × HaveSame r mid.tasks b.tasks
 
 meets_none : (s b : BoardState) (r : Request) → IsSince s b → named r ≡ None → Meets s b r
 meets_none s b r between is =
@@ -228,5 +227,4 @@ pub journal_of : (s : BoardState) (es : List Event) (rs : List EventReply) (s' :
 journal_of s [] [] s' run = ([], subst (λ (x : BoardState). Records s [] [] [] x) (sym run) (ends s))
 journal_of s [] (a ∷ rs) s' run = absurd run
 journal_of s (e ∷ es) [] s' run = absurd run
-journal_of s (e ∷ es) (a ∷ rs) s' run =
-    event_by s run.0 s' e a es rs run.1 (journal_of run.0 es rs s' run.2)
+journal_of s (e ∷ es) (a ∷ rs) s' run = event_by s run.0 s' e a es rs run.1 (journal_of run.0 es rs s' run.2)

@@ -39,8 +39,7 @@ found_there [] e es d =
 found_there (x ∷ front) e es d =
     ap (option_map (λ (y : ℕ × Task). y.1))
     (cond_is_false (bytes_eq x.1.id e.1.id) (Some x) (entry_of e.1.id (front ++ e ∷ es))
-    (other_id x.1.id e.1.id (each_at (λ y. x.1.id ≢ y) front e es d.0)))
-    ∙ found_there front e es d.1
+    (other_id x.1.id e.1.id (each_at (λ y. x.1.id ≢ y) front e es d.0))) ∙ found_there front e es d.1
 
 changed_there : (front : Entries) (e : ℕ × Task) (es : Entries) (u : Task) → u.id ≡ e.1.id
     → AreDistinct (ids_of (front ++ e ∷ es)) → change_task u (front ++ e ∷ es) ≡ front ++ (e.0, u) ∷ es
@@ -98,8 +97,7 @@ module _ (legal : SlicesAdvance) (slices : AdvancesAreSlices) where
                   (λ (f : Option Found).
                   Records r.0 (event.Call e.request ∷ next.0) (answer.Called r.2 ∷ next.1)
                   (record { seat = e.seat; request = e.request; found = f } ∷ h ++ back) last)
-                  found.2
-                  (call r.0 r.1 last e.seat e.request r.2 next.0 next.1 (h ++ back) r.4 next.2),
+                  found.2 (call r.0 r.1 last e.seat e.request r.2 next.0 next.1 (h ++ back) r.4 next.2),
             ),
       )
 
@@ -118,8 +116,7 @@ module _ (legal : SlicesAdvance) (slices : AdvancesAreSlices) where
       let at : task_of e.1.id s.tasks ≡ Some e.1 = ap (task_of e.1.id) is ∙ found_there front e es d in
       let to = task_leads s e.1 u.1 b at come.1 in
       let tasks : change_task u.1 s.tasks ≡ (front ++ u ∷ []) ++ es =
-      ap (change_task u.1) is
-      ∙ (changed_there front e es u.1 (same_id_of e.1 u.1 come.1) d
+      ap (change_task u.1) is ∙ (changed_there front e es u.1 (same_id_of e.1 u.1 come.1) d
       ∙ (ap (λ (k : ℕ). front ++ (k, u.1) ∷ es) come.0 ∙ sym (append_assoc front (u ∷ []) es))) in
       let rest = since_leads (with_task s u.1) (front ++ u ∷ []) es us to.1 tasks come.2 in
       let now : record s { tasks = (front ++ u ∷ []) ++ us } ≡ record s { tasks = front ++ u ∷ us } =

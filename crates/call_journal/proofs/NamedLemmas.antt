@@ -52,24 +52,21 @@ module _ (s : BoardState) (a : Answer) (s' : BoardState) (id : List ℕ) where
 
   left : (t : Task) (o : Option Task) → ((u : Task) → o ≡ Some u → u.id ≡ t.id) → t.id ≢ id → s' ≡ with_left s t o
       → task_of id s'.tasks ≡ task_of id s.tasks
-  left t None keeps away is =
-      ap (λ (y : BoardState). task_of id y.tasks) is ∙ removed_beside t.id id s.tasks away
+  left t None keeps away is = ap (λ (y : BoardState). task_of id y.tasks) is ∙ removed_beside t.id id s.tasks away
   left t (Some u) keeps away is =
       ap (λ (y : BoardState). task_of id y.tasks) is
       ∙ changed_beside u id s.tasks (λ same. away (sym (keeps u refl) ∙ same))
 
   on_found : (x : List ℕ) (own : Task → Refusals) (does : Task → Done) (o : Option Task) → KeepsId does → x ≢ id
       → task_of x s.tasks ≡ o → OnFound x own does o s a s' → task_of id s'.tasks ≡ task_of id s.tasks
-  on_found x own does None keeps away at d =
-      decided (first_refusal (task_refusals x own None)) ⊥ (λ y. absurd y) d
+  on_found x own does None keeps away at d = decided (first_refusal (task_refusals x own None)) ⊥ (λ y. absurd y) d
   on_found x own does (Some t) keeps away at d =
       decided (first_refusal (task_refusals x own (Some t))) ((a ≡ Ok (does t).0) × (s' ≡ with_left s t (does t).1))
       (λ y. left t (does t).1 (keeps t) (λ same. away (sym (task_named x s.tasks t at) ∙ same)) y.1) d
 
   on_task : (x : List ℕ) (own : Task → Refusals) (does : Task → Done) → KeepsId does → (Some x ≡ Some id → ⊥)
       → OnFound x own does (task_of x s.tasks) s a s' → task_of id s'.tasks ≡ task_of id s.tasks
-  on_task x own does keeps other d =
-      on_found x own does (task_of x s.tasks) keeps (λ same. other (ap Some same)) refl d
+  on_task x own does keeps other d = on_found x own does (task_of x s.tasks) keeps (λ same. other (ap Some same)) refl d
 
   puts : (bytes : List ℕ) → Puts s bytes a s' → task_of id s'.tasks ≡ task_of id s.tasks
   puts bytes d =
@@ -109,5 +106,4 @@ only_named s request.Gc a s' id d other =
 only_named s (request.Create config x) a s' id d other =
     decided s a s' id (first_refusal (create_refusals s config x)) (Creates s config x a s')
     (λ made. makes s config x a s' id (λ same. other (ap Some same)) made) d
-only_named s (request.Task x k) a s' id d other =
-    on_task s a s' id x (own_refusals k) (does k) (keeps_id k) other d
+only_named s (request.Task x k) a s' id d other = on_task s a s' id x (own_refusals k) (does k) (keeps_id k) other d

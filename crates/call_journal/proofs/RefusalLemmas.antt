@@ -54,8 +54,7 @@ module _ (s : BoardState) (e : Refusal) (s' : BoardState) where
       on_store (lease_add_refusals s.store digest id) (reply.LeaseAdd digest id) (with_member s.store digest id) d
   stays (request.LeaseDelete id) d =
       on_store (lease_delete_refusals s.store id) (reply.LeaseDelete id) (without_lease s.store id) d
-  stays request.Gc d =
-      on_store [] (reply.Gc (unheld (used_by s.tasks) s.store)) (collected (used_by s.tasks) s.store) d
+  stays request.Gc d = on_store [] (reply.Gc (unheld (used_by s.tasks) s.store)) (collected (used_by s.tasks) s.store) d
   stays (request.Create config id) d =
       decided (first_refusal (create_refusals s config id)) (Creates s config id (Err e) s') (λ made. made.4.1) d
   stays (request.Task id k) d = on_found id (own_refusals k) (does k) (task_of id s.tasks) d

@@ -45,8 +45,7 @@ not_both bytes p m _ one faulty opens (unopened n e spelled valid is) =
 -- what the board promises of texts
 abbrev pub TextsAgree : Type 0
 TextsAgree = (s : BoardState) (text : List ℕ) (r : Answer) (s1 : BoardState) (r' : Answer) (s2 : BoardState)
-    → Answers s (request.PutText text) r s1 → Answers s (request.PutText text) r' s2
-    → AgreeOnText text r r' × (s1 ≡ s2)
+    → Answers s (request.PutText text) r s1 → Answers s (request.PutText text) r' s2 → AgreeOnText text r r' × (s1 ≡ s2)
 
 module _ (one : One) (faulty : Faulty) (texts : TextsAgree) (b : BoardState) (es : Entries) (same : Same es b.tasks)
     (d : Distinct es) (d' : Distinct b.tasks) (a a' : Answer) (n n' : BoardState) where
@@ -73,8 +72,7 @@ module _ (one : One) (faulty : Faulty) (texts : TextsAgree) (b : BoardState) (es
       (λ none p q. alike (with_store b new) es n n' same p.1 q.1) x y
 
   left : (t : Task) (o : Option Task) → n ≡ with_left (on b es) t o → n' ≡ with_left b t o → IsAlike n n'
-  left t None x y =
-      alike (without_task b t.id) (remove_task t.id es) n n' (both_removed t.id es b.tasks d d' same) x y
+  left t None x y = alike (without_task b t.id) (remove_task t.id es) n n' (both_removed t.id es b.tasks d d' same) x y
   left t (Some u) x y = alike (with_task b u) (change_task u es) n n' (both_changed u es b.tasks same) x y
 
   on_found : (id : List ℕ) (own : Task → Refusals) (does : Task → Done) (o : Option Task)
@@ -114,8 +112,7 @@ module _ (one : One) (faulty : Faulty) (texts : TextsAgree) (b : BoardState) (es
       (with_content b.store bytes) put in
       subst (IsAlike n) (texts b text a m.0 a' n' (stored bytes is m.1) y).1 m.2
 
-  held :
-      (leases : List Lease) (digest : List ℕ)
+  held : (leases : List Lease) (digest : List ℕ)
       → is_held (used_by es) leases digest ≡ is_held (used_by b.tasks) leases digest
   held leases digest = ap (λ (x : Bool). is_leased leases digest || x) (same_uses digest es b.tasks d d' same)
 

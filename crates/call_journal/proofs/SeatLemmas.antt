@@ -8,8 +8,7 @@ use Rattle.call_journal.specs.Seats.{own_calls}
 use Rattle.call_journal.specs.Inside.Calls.{EndsWithCall}
 
 -- where no entry after a front is of the seat, none of the rest is
-pub none_own :
-    (n : ℕ) (front rest : List Entry)
+pub none_own : (n : ℕ) (front rest : List Entry)
     → ((k : ℕ) → (e : Entry) → length front ≤ k → slice_get (front ++ rest) k ≡ Some e → (e.seat == n) ≡ false)
     → own_calls n rest ≡ 0
 none_own n [] [] f = refl
@@ -40,17 +39,14 @@ own_there n [] (x ∷ rest) (suc k) e le p same none =
 own_there n (x ∷ front) rest zero e le p same none = absurd (omega (arith, le))
 own_there n (x ∷ front) rest (suc k) e le p same none = own_there n front rest k e (omega (arith, le)) p same none
 
-pub one_more :
-    (n : ℕ) (history journal : List Entry) → EndsWithCall n history journal
+pub one_more : (n : ℕ) (history journal : List Entry) → EndsWithCall n history journal
     → own_calls n journal ≡ own_calls n history + 1
 one_more n history journal h =
     let e = h.entry in
     let on = h.on in
-    let a :
-    own_calls n (h.before ++ e ∷ []) ≡ own_calls n h.before + own_calls n (e ∷ []) =
+    let a : own_calls n (h.before ++ e ∷ []) ≡ own_calls n h.before + own_calls n (e ∷ []) =
     sum_by-append _ h.before (e ∷ []) in
-    let b :
-    own_calls n (history ++ on.rest) ≡ own_calls n history + own_calls n on.rest =
+    let b : own_calls n (history ++ on.rest) ≡ own_calls n history + own_calls n on.rest =
     sum_by-append _ history on.rest in
     let seat = h.seat in
     let yes : (e.seat == n) ≡ true = grind (arith, nat_tests) in

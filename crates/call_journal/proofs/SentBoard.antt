@@ -78,5 +78,4 @@ opened_send : IsSend openeds.the_row
 opened_send = search (sendable, std_sent.crosses, maps_sent.crosses, flat_send) depth 60
 
 pub board_send : IsSend boards.the_row
-board_send =
-    search (sendable, std_sent.crosses, store.the_send, opened_send, task_send, waiting.the_send) depth 60
+board_send = search (sendable, std_sent.crosses, store.the_send, opened_send, task_send, waiting.the_send) depth 60

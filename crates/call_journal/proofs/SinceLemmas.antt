@@ -142,8 +142,7 @@ later v y (e ∷ es) (u ∷ us) h at come = by (λ is. later v y es us h.2 is co
     by rest false is = (h.0, h.1, rest is)
 
 -- in the first, to where it is in the second
-pub reached : (u : Task) (es us : Entries) → HaveCome es us → task_of u.id us ≡ Some u
-    → HaveCome (change_task u es) us
+pub reached : (u : Task) (es us : Entries) → HaveCome es us → task_of u.id us ≡ Some u → HaveCome (change_task u es) us
 reached u [] [] h at = tt
 reached u [] (v ∷ us) h at = absurd h
 reached u (e ∷ es) [] h at = absurd h
@@ -159,8 +158,7 @@ pub now_there : (t old : Task) (es : Entries) → task_of t.id es ≡ Some old �
 now_there t old [] at = absurd (none_is_not old at)
 now_there t old (e ∷ es) at = by (λ is. now_there t old es is) (bytes_eq e.1.id t.id) refl at
   where
-    by : (task_of t.id es ≡ Some old → task_of t.id (change_task t es) ≡ Some t) → (b : Bool)
-        → bytes_eq e.1.id t.id ≡ b
+    by : (task_of t.id es ≡ Some old → task_of t.id (change_task t es) ≡ Some t) → (b : Bool) → bytes_eq e.1.id t.id ≡ b
         → option_map (λ (x : ℕ × Task). x.1) (cond b (Some e) (entry_of t.id es)) ≡ Some old
         → task_of t.id (cond b ((e.0, t) ∷ es) (e ∷ change_task t es)) ≡ Some t
     by rest true test is =
@@ -168,5 +166,4 @@ now_there t old (e ∷ es) at = by (λ is. now_there t old es is) (bytes_eq e.1.
         (cond_is_true (bytes_eq t.id t.id) (Some (e.0, t)) (entry_of t.id es) (same_id t.id t.id refl))
     by rest false test is =
         ap (option_map (λ (x : ℕ × Task). x.1))
-        (cond_is_false (bytes_eq e.1.id t.id) (Some e) (entry_of t.id (change_task t es)) test)
-        ∙ rest is
+        (cond_is_false (bytes_eq e.1.id t.id) (Some e) (entry_of t.id (change_task t es)) test) ∙ rest is

@@ -40,8 +40,7 @@ Leads s mid = (h : List Entry) (s' : BoardState) → HasRun mid h s' → HasRun 
 
 one_slice : (s mid : BoardState) (e : Event) (a : EventReply) → Step s e a mid → (s' : BoardState) → (h : List Entry)
     → HasRun mid h s' → (e' : IsOfSlice e) → HasRun s h s'
-one_slice s mid e a step s' h rest of =
-    (e ∷ rest.0, a ∷ rest.1, slice s mid s' e a rest.0 rest.1 h of step rest.2)
+one_slice s mid e a step s' h rest of = (e ∷ rest.0, a ∷ rest.1, slice s mid s' e a rest.0 rest.1 h of step rest.2)
 
 take_leads : (s : BoardState) (t : Task) (budget : ℕ) → task_of t.id s.tasks ≡ Some t → can_lend t ≡ true
     → is_budget budget ≡ true → Leads s (with_task s (lent t budget))
@@ -67,8 +66,7 @@ change_twice u v (e ∷ es) same =
     by_id e.1.id u.id
     (λ y is.
     ap (change_task v) (cond_is_true (bytes_eq e.1.id u.id) ((e.0, u) ∷ es) (e ∷ change_task u es) y)
-    ∙ (cond_is_true (bytes_eq u.id v.id) ((e.0, v) ∷ es) ((e.0, u) ∷ change_task v es) (same_id u.id v.id same)
-    ∙ sym
+    ∙ (cond_is_true (bytes_eq u.id v.id) ((e.0, v) ∷ es) ((e.0, u) ∷ change_task v es) (same_id u.id v.id same) ∙ sym
     (cond_is_true (bytes_eq e.1.id v.id) ((e.0, v) ∷ es) (e ∷ change_task v es) (same_id e.1.id v.id (is ∙ same)))))
     (λ n other.
     let off : bytes_eq e.1.id v.id ≡ false = ap (bytes_eq e.1.id) (sym same) ∙ n in
@@ -160,8 +158,7 @@ module _ (legal : SlicesAdvance) (slices : AdvancesAreSlices) (c : ℕ) where
   -- ---- a task that is idle and running
 
   back : (t : Task) (budget : ℕ) → IsSound c t → t.out ≡ Some budget → HasReturned t (advanced t (slice_turns t budget))
-  back t budget sound out =
-      record { budget = budget; out = out; legal = legal c t budget sound out; advances = refl }
+  back t budget sound out = record { budget = budget; out = out; legal = legal c t budget sound out; advances = refl }
 
   slice_leads : (s : BoardState) (t : Task) (budget : ℕ) → IsSound c t → task_of t.id s.tasks ≡ Some t
       → can_lend t ≡ true → is_budget budget ≡ true → Leads s (with_task s (advanced t (slice_turns t budget)))
@@ -175,8 +172,7 @@ module _ (legal : SlicesAdvance) (slices : AdvancesAreSlices) (c : ℕ) where
       → can_lend t ≡ true → MakeTurns t budgets k → Leads s (with_task s (advanced t k))
   turns_lead [] s t k sound at can made = absurd made
   turns_lead (budget ∷ []) s t k sound at can made =
-      subst (λ (n : ℕ). Leads s (with_task s (advanced t n))) (sym made.1)
-      (slice_leads s t budget sound at can made.0)
+      subst (λ (n : ℕ). Leads s (with_task s (advanced t n))) (sym made.1) (slice_leads s t budget sound at can made.0)
   turns_lead (budget ∷ next ∷ budgets) s t k sound at can made =
       let a = slice_turns t budget in
       let u = advanced t a in

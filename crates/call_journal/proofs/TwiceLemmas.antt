@@ -18,15 +18,13 @@ use Rattle.call_journal.proofs.AlikeLemmas.{both_changed}
 use Rattle.call_journal.proofs.SameLemmas.{TextsAgree, calls_alike}
 
 same_found : (t u v : Task) → ComesTo t u → ComesTo t v → found_in u ≡ found_in v → u ≡ v
-same_found t u v come come' is =
-    same_task t u v come come' (ap (λ (f : Found). f.n) is) (ap (λ (f : Found). f.out) is)
+same_found t u v come come' is = same_task t u v come come' (ap (λ (f : Found). f.n) is) (ap (λ (f : Found). f.out) is)
 
 -- what a call finds on two boards that are alike makes them alike
 finds_alike : (s s' : BoardState) (r : Request) (f g : Option Found) (mid mid' : BoardState) → IsAlike s s'
     → Finds s r f mid → Finds s' r g mid' → f ≡ g → IsAlike mid mid'
 finds_alike s s' r _ _ _ _ same (no_task none) (no_task none') is = same
-finds_alike s s' r _ _ _ _ same (no_task none) (task id u u' named at come) is =
-    absurd (none_is_not (found_in u') is)
+finds_alike s s' r _ _ _ _ same (no_task none) (task id u u' named at come) is = absurd (none_is_not (found_in u') is)
 finds_alike s s' r _ _ _ _ same (task id t t' named at come) (no_task none) is =
     absurd (none_is_not (found_in t') (sym is))
 finds_alike s s' r _ _ _ _ same (task id t t' named at come) (task id' u u' named' at' come') is =

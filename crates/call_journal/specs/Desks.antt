@@ -1,5 +1,5 @@
 -- The desk of a book, at which machines are checked out: a place for each slot of the board.
-use Rattle.std.specs.Prelude.{◌≡◌, ◌≢◌, ℕ, List, map, Option, None, option_and_then, slice_get}
+use Rattle.std.specs.Prelude.{◌≡◌, ℕ, List, map, Option, None, option_and_then, slice_get}
 use Rattle.task_board.specs.Loans.{Lent}
 
 -- a place has a name, and a loan while its machine is checked out
@@ -7,23 +7,11 @@ pub record Spot : Type 0 where
   pub name : ℕ
   pub lent : Option Lent
 
--- the names of all places
 abbrev pub spot_names : List Spot → List ℕ
 spot_names ps = map (λ p. p.name) ps
 
--- the name of a place
-abbrev pub name_at : ℕ → List ℕ → Option ℕ
-name_at i names = slice_get names i
-
--- the loan of a place
 abbrev pub lent_at : ℕ → List Spot → Option Lent
 lent_at i ps = option_and_then (λ (p : Spot). p.lent) (slice_get ps i)
-
--- the desk is as it was, but for the loan of one place
-pub record IsSetAt (slot : ℕ) (to : Option Lent) (old new : List Spot) : Type 0 where
-  pub names : spot_names new ≡ spot_names old
-  pub there : lent_at slot new ≡ to
-  pub others : (i : ℕ) → i ≢ slot → lent_at i new ≡ lent_at i old
 
 -- nothing is checked out
 abbrev pub AreIdle : List Spot → Type 0

@@ -12,7 +12,6 @@ named (request.Create config id) = Some id
 named (request.Task id a) = Some id
 named other = None
 
--- the count of a task, and its out mark
 abbrev pub found_in : Task → Found
 found_in t = record { n = t.turns; out = t.out }
 

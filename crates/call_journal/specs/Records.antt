@@ -25,18 +25,14 @@ IsOfSlice other = Unit {0}
 pub data Records :
     BoardState → List Event → List EventReply → List Entry → BoardState → Type 0 where
   ends : (s : BoardState) → Records s [] [] [] s
-  call :
-      (s mid s' : BoardState) → (seat : ℕ) → (r : Request) → (a : Answer) → (es : List Event)
+  call : (s mid s' : BoardState) → (seat : ℕ) → (r : Request) → (a : Answer) → (es : List Event)
       → (answers : List EventReply) → (h : List Entry)
       → Answers s r a mid → Records mid es answers h s'
       → Records s (event.Call r ∷ es) (answer.Called a ∷ answers) (entry_on s seat r ∷ h) s'
-  slice :
-      (s mid s' : BoardState) → (e : Event) → (a : EventReply) → (es : List Event)
+  slice : (s mid s' : BoardState) → (e : Event) → (a : EventReply) → (es : List Event)
       → (answers : List EventReply) → (h : List Entry)
       → IsOfSlice e → Step s e a mid → Records mid es answers h s'
       → Records s (e ∷ es) (a ∷ answers) h s'
-  no_memory :
-      (s s' : BoardState) → (e : Event) → (a : EventReply) → (es : List Event)
+  no_memory : (s s' : BoardState) → (e : Event) → (a : EventReply) → (es : List Event)
       → (answers : List EventReply) → (h : List Entry)
-      → met_no_memory e a ≡ true → Records s es answers h s'
-      → Records s (e ∷ es) (a ∷ answers) h s'
+      → met_no_memory e a ≡ true → Records s es answers h s' → Records s (e ∷ es) (a ∷ answers) h s'

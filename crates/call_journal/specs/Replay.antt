@@ -18,8 +18,7 @@ use Rattle.call_journal.specs.Finding.{named, found_in, found_of}
 -- with no signal pending has
 abbrev pub Spans : Task → (k : ℕ) → (out : Option ℕ) → Type 0
 Spans t k None = Unit {0}
-Spans t k (Some budget) =
-    (k ≡ slice_turns t budget)
+Spans t k (Some budget) = (k ≡ slice_turns t budget)
     ⊎ ((slice_turns t budget < k) × (t.status ≡ Running) × (t.signal ≡ None))
 
 -- What takes and returns may have made of a task since: it advances at most once, and then its slice may be
@@ -28,10 +27,8 @@ pub data ComesTo (t : Task) : Task → Type 0 where
   stays : ComesTo t t
   is_taken : (budget : ℕ) → can_lend t ≡ true → is_budget budget ≡ true → ComesTo t (lent t budget)
   advances : (k : ℕ) → MayAdvance t k → Spans t k t.out → ComesTo t (advanced t k)
-  is_retaken :
-      (k budget : ℕ) → MayAdvance t k → Spans t k t.out → can_lend (advanced t k) ≡ true
-      → is_budget budget ≡ true
-      → ComesTo t (lent (advanced t k) budget)
+  is_retaken : (k budget : ℕ) → MayAdvance t k → Spans t k t.out → can_lend (advanced t k) ≡ true
+      → is_budget budget ≡ true → ComesTo t (lent (advanced t k) budget)
 
 -- ---- one entry
 
@@ -57,8 +54,7 @@ IsLegal es = (s : BoardState) × Replays empty es s
 
 -- after a history, a call with this entry may be answered so
 abbrev pub MayAnswer : List Entry → Entry → Answer → Type 0
-MayAnswer es e a =
-    (s : BoardState) × (mid : BoardState) × (next : BoardState) × Replays empty es s
+MayAnswer es e a = (s : BoardState) × (mid : BoardState) × (next : BoardState) × Replays empty es s
     × Finds s e.request e.found mid × Answers mid e.request a next
 
 -- ---- the present

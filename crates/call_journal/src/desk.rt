@@ -1,6 +1,7 @@
 //! The desk of a book, at which machines are checked out.
-ghost use Rattle.std.specs.Prelude.{◌≡◌, ◌⊎◌, Some, None, option_map, true, false, IfSome, IfNone, is_some};
-ghost use Rattle.call_journal.specs.Desks.{Spot, AreIdle, IsSetAt, spot_names, name_at, lent_at};
+ghost use Rattle.std.specs.Prelude.{◌≡◌, ◌⊎◌, Some, None, option_map, true, false, IfSome, IfNone, is_some, slice_get};
+ghost use Rattle.call_journal.specs.Desks.{Spot, AreIdle, spot_names, lent_at};
+ghost use Rattle.call_journal.specs.Inside.Desks.{IsSetAt};
 
 use std::alloc::Global;
 use std::marker::Model;
@@ -118,10 +119,10 @@ impl Desk {
     // Checks a machine out at the place of its slot. None, and nothing has changed, if there is no such
     // place, or a machine is out there.
     pub(crate) fn lend(&mut self, slot: usize, loan: &Loan) -> Option<Slip<Lending>>
-        ensures name { IfSome result (λ s. name_at slot (spot_names self.old) ≡ Some s.name) }
+        ensures name { IfSome result (λ s. slice_get (spot_names self.old) slot ≡ Some s.name) }
         ensures value { IfSome result (λ s. option_map (λ l. l.value) s.value ≡ Some loan.now) }
         ensures set { IfSome result (λ s. IsSetAt slot (Some loan.now) self.old self.new) }
-        ensures none { IfNone result ((name_at slot (spot_names self.old) ≡ None)
+        ensures none { IfNone result ((slice_get (spot_names self.old) slot ≡ None)
             ⊎ (is_some (lent_at slot self.old) ≡ true)) }
         ensures same { IfNone result (self.new ≡ self.old) }
     {
@@ -132,7 +133,7 @@ impl Desk {
     // Takes the slip of a place back, and tells what was checked out there. False, and nothing has changed,
     // if nothing was.
     pub(crate) fn receive(&mut self, slot: usize, slip: Slip<Lending>) -> bool
-        requires { name_at slot (spot_names self.old) ≡ Some slip.name }
+        requires { slice_get (spot_names self.old) slot ≡ Some slip.name }
         ensures known { result ≡ true
             → lent_at slot self.old ≡ option_map (λ l. l.value) slip.value }
         ensures set { result ≡ true → IsSetAt slot None self.old self.new }

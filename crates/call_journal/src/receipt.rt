@@ -1,6 +1,7 @@
 //! The receipts of loans.
-ghost use Rattle.std.specs.Prelude.{◌≡◌, Some, None, option_map, true, false, IfSome, IfNone};
-ghost use Rattle.call_journal.specs.Desks.{IsSetAt, lent_at, name_at, spot_names};
+ghost use Rattle.std.specs.Prelude.{◌≡◌, Some, None, option_map, true, false, IfSome, IfNone, slice_get};
+ghost use Rattle.call_journal.specs.Desks.{lent_at, spot_names};
+ghost use Rattle.call_journal.specs.Inside.Desks.{IsSetAt};
 
 use crate::desk::{Desk, Lending};
 use crate::row::Row;
@@ -20,10 +21,9 @@ pub struct Receipt<R: Row> {
 }
 
 impl<R: Row> Model for Receipt<R> {
-    ghost use Rattle.std.specs.Prelude.{◌≡◌, MatchOption, Some, None, option_map};
+    ghost use Rattle.std.specs.Prelude.{◌≡◌, MatchOption, Some, None, option_map, slice_get};
     ghost use Rattle.task_board.specs.Loans.{Lent};
     ghost use Rattle.task_board.specs.Inside.Code.{lent_code};
-    ghost use Rattle.call_journal.specs.Desks.{name_at};
 
     ghost Value = { Lent };
 
@@ -32,8 +32,8 @@ impl<R: Row> Model for Receipt<R> {
     ghost view = { λ r. r.of.value };
 
     ghost invariant = { λ r. (r.of.value.slot ≡ r.slot)
-        × MatchOption r.slip (name_at r.slot R.slots ≡ None)
-        (λ s. (name_at r.slot R.slots ≡ Some s.name)
+        × MatchOption r.slip (slice_get R.slots r.slot ≡ None)
+        (λ s. (slice_get R.slots r.slot ≡ Some s.name)
         × (option_map (λ l. l.value) s.value ≡ Some r.of.value)) };
 }
 
@@ -41,9 +41,9 @@ impl<R: Row> Receipt<R> {
     // The receipt of a loan of the task in this slot, with the slip of its place, if there is one.
     pub(crate) fn new(slot: usize, loan: &Loan, slip: Option<Slip<Lending>>) -> Receipt<R>
         requires slot { loan.now.slot ≡ slot }
-        requires name { IfSome slip (λ s. name_at slot R.slots ≡ Some s.name) }
+        requires name { IfSome slip (λ s. slice_get R.slots slot ≡ Some s.name) }
         requires value { IfSome slip (λ s. option_map (λ l. l.value) s.value ≡ Some loan.now) }
-        requires none { IfNone slip (name_at slot R.slots ≡ None) }
+        requires none { IfNone slip (slice_get R.slots slot ≡ None) }
         ensures { result ≡ loan.now }
     {
         Receipt {

@@ -12,6 +12,5 @@ known R (c ∷ cs) = fsep (noted R c.0 (Some c.1)) (known R cs)
 abbrev pub names_of : {T : Type 0} → List (ℕ × T) → List ℕ
 names_of cs = map (λ c. c.0) cs
 
--- their values
 abbrev pub values_of : {T : Type 0} → List (ℕ × T) → List T
 values_of cs = map (λ c. c.1) cs

@@ -42,8 +42,7 @@ invariant_of-self g c =
     let is =
     subst (λ (b : BookValue). IsEntered b was.number r c.args.prepared c.args.seen) (sym c.self.view_is)
     c.requires.call.1 in
-    let few =
-    subst (λ (b : BookValue). length b.journal < most_entries) (sym c.self.view_is) c.requires.room in
+    let few = subst (λ (b : BookValue). length b.journal < most_entries) (sym c.self.view_is) c.requires.room in
     let answers = c.apply-answer.ensures.answers r is.prepares in
     record {
       replay =
@@ -67,8 +66,7 @@ returns-clause-called g c r entered =
     let was = c.args.seat.now in
     let is =
     subst (λ (b : BookValue). IsEntered b was.number r c.args.prepared c.args.seen) (sym c.self.view_is) entered in
-    let on =
-    subst (λ (b : BookValue). GoesOn was.number was.history b.journal) (sym c.self.view_is) c.requires.on in
+    let on = subst (λ (b : BookValue). GoesOn was.number was.history b.journal) (sym c.self.view_is) c.requires.on in
     let made =
     c.made.ensures.seat
     ∙ ap (λ h. record { number = was.number; history = h; share = was.share + 1 }) c.again.ensures in

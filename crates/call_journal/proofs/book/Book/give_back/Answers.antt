@@ -67,8 +67,7 @@ invariant_of-self-then-fits g c =
       seats = c.self.invariant.seats;
       unused = c.self.invariant.unused;
       places = ap spot_names same ∙ c.self.invariant.places;
-      fit =
-          subst (λ (ds : List Spot). AllFit ds c.receive-then-fits.new.self.state.tasks) (sym same) all;
+      fit = subst (λ (ds : List Spot). AllFit ds c.receive-then-fits.new.self.state.tasks) (sym same) all;
     }
 
 pub invariant_of-self-else-fits : goal.invariant_of-self-else-fits

@@ -44,8 +44,7 @@ with_spec 𝓤 𝓛 𝓜 𝓡 wired T L =
     let fn = inst_fn inst code.function in
     let c = clauses T 𝓛 𝓜.mem 𝓡.returns in
     let self = RefOf (0 ∷ []) tt (plain (λ _. S)) (λ _. tt) in
-    let hs :
-    Stays En.signature.params En.kept =
+    let hs : Stays En.signature.params En.kept =
     (stay_dropped self yes, (stay_ref (1 ∷ []) tt (plain (λ _. Note 𝓛 R)), tt)) in
     proved 𝓛 En hs c 𝓜 𝓡 (Goes-dropped 𝓛 3 self yes (λ κs x f. refl), (Goes-ref 𝓛 3 1 tt (plain (λ _. Note 𝓛 R)), tt))
     (#self inst) fn (code.unfolded 𝓤 H 𝓜 𝓡 wired (T, tt))

@@ -8,8 +8,7 @@ use Rattle.call_journal.proofs.seat.Seat.may_follow.Goals as goal
 
 pub returns-clause-on : goal.returns-clause-on
 returns-clause-on g c h =
-    let le :
-    length c.self.inside.seen ≤ length c.args.journal.now =
+    let le : length c.self.inside.seen ≤ length c.args.journal.now =
     omega (arith, c.len.ensures, c.len-2.ensures, c.if-len.false) in
     let b : Begins c.self.inside.seen c.args.journal.now = c.meet.ensures.first le in
     let none = none_own c.self.inside.number c.self.inside.seen b.0 (λ k e at p.
