@@ -1,5 +1,6 @@
 -- The rule of the queue of tickets.
 use Rattle.std.specs.Prelude.{◌≡◌, ◌+◌, ℕ, List, [], ◌∷◌, ◌++◌, map, slice_set}
+use Rattle.std.specs.List.{AllByRecursion}
 use mathlib.Core.Option.{some}
 use lib.ListN.{get_elem?}
 use Rattle.task_board.specs.declared.ticket.Ticket.{Ticket}
@@ -14,20 +15,17 @@ abbrev pub hand : (put taken : List Ticket) → Hand
 hand put taken = record { put = put; taken = taken }
 
 abbrev pub AreEmpty : List (List Ticket) → Type 0
-AreEmpty [] = Unit {0}
-AreEmpty (xs ∷ xss) = (xs ≡ []) × AreEmpty xss
+AreEmpty = AllByRecursion (λ xs. xs ≡ [])
 
 -- the list is a merge of the others, each in its order
 abbrev pub IsMergeOf : List (List Ticket) → List Ticket → Type 0
 IsMergeOf xss [] = AreEmpty xss
-IsMergeOf xss (x ∷ xs) =
-    (k : ℕ) × (rest : List Ticket) × (get_elem? xss k ≡ some (x ∷ rest))
+IsMergeOf xss (x ∷ xs) = (k : ℕ) × (rest : List Ticket) × (get_elem? xss k ≡ some (x ∷ rest))
     × IsMergeOf (slice_set xss k rest) xs
 
 -- some merge of what the passes took, followed by what the queue holds, is a merge of what they put
 abbrev pub Merged : (items : List Ticket) → (passes : List Hand) → Type 0
-Merged items passes =
-    (taken : List Ticket) × IsMergeOf (map (λ v. v.taken) passes) taken
+Merged items passes = (taken : List Ticket) × IsMergeOf (map (λ v. v.taken) passes) taken
     × IsMergeOf (map (λ v. v.put) passes) (taken ++ items)
 
 -- ---- how often a ticket is there
@@ -37,7 +35,6 @@ abbrev pub weigh : (weight : Ticket → ℕ) → List Ticket → ℕ
 weigh weight [] = 0
 weigh weight (x ∷ xs) = weight x + weigh weight xs
 
--- the same of several lists
 abbrev pub weigh_all : (weight : Ticket → ℕ) → List (List Ticket) → ℕ
 weigh_all weight [] = 0
 weigh_all weight (xs ∷ xss) = weigh weight xs + weigh_all weight xss
