@@ -62,10 +62,6 @@ faulty_from_kind arguments kind (inl memory) (failed.Arguments text) g = absurd 
 faulty_from_kind arguments kind (inr among) (failed.Arguments text) g =
     inl (record { kind = kind; fault = among; no_help = g.1; no_version = g.2 })
 
-pub is_refused_for : (found : Option (Text × List Row)) → IsUnfit found → (f : CommandError) → IsRefusedFor found f
-is_refused_for found h failed.OutOfMemory = tt
-is_refused_for found h (failed.Arguments text) = h
-
 pub faulty_from_unfit :
     (arguments : List Text) (found : Option (Text × List Row)) → found ≡ command_in arguments → faults_in arguments ≡ []
     → (f : CommandError) → IsRefusedFor found f → AreFaulty arguments f
@@ -86,8 +82,7 @@ both_true : (a b : Bool) → (a && b) ≡ true → (a ≡ true) × (b ≡ true)
 both_true true b h = (refl, h)
 both_true false b h = cc
 
-pub workers_within :
-    (n : ℕ) (a b : Bool) → (is_no_count n || a || b) ≡ false → (1 ≤ n) × (n ≤ most_workers)
+pub workers_within : (n : ℕ) (a b : Bool) → (is_no_count n || a || b) ≡ false → (1 ≤ n) × (n ≤ most_workers)
 workers_within n a b h =
     let fits = first_false (is_no_count n) a (first_false (is_no_count n || a) b h) in
     let within = not_false (nat_le 1 n && nat_le n most_workers) fits in

@@ -1,5 +1,5 @@
 -- What a line is answered is determined by the line and the board.
-use Rattle.std.proofs.Common.{◌≡◌, ◌≢◌, ◌&&◌, ℕ, List, Bool, true, false, Ok, Err, inl, inr, ◌⊎◌, refl, sym, ap, ◌∙◌, subst}
+use Rattle.std.proofs.Common.{◌≡◌, ◌≢◌, ◌&&◌, ℕ, List, Bool, true, false, Err, inl, inr, ◌⊎◌, refl, sym, ap, ◌∙◌, subst}
 use Rattle.wasm_ast.specs.declared.refusal.Refusal.TheVariants as refusal
 use Rattle.task_requests.specs.declared.event.Event.{Event}
 use Rattle.task_requests.specs.declared.event.Event.TheVariants as event
@@ -7,11 +7,11 @@ use Rattle.task_requests.specs.declared.event.EventReply.{EventReply}
 use Rattle.task_requests.specs.declared.event.EventReply.TheVariants as answer
 use Rattle.task_board.specs.BoardState.{BoardState}
 use Rattle.task_board.specs.Choices.{IsDetermined}
-use Rattle.task_board.specs.Step.{Answer}
 use Rattle.task_requests.specs.Memory.{takes_memory}
 use Rattle.task_board.specs.Run.{is_no_memory, met_no_memory, Happens}
 use Rattle.request_lines.specs.Request.{IsEvent}
 use Rattle.request_lines.specs.Reply.{json_of, event_data, line_text}
+use Rattle.task_board.proofs.RunLemmas.{no_memory_is}
 use Rattle.file_commands.specs.Replay.{IsPlayed, IsBad, IsReplied}
 use Rattle.request_lines.proofs.OneEvent.{one_event}
 
@@ -24,39 +24,13 @@ EventsAreDetermined =
 
 -- ---- lack of memory shows in the text
 
-met_answer : (a : Answer) → is_no_memory a ≡ true → a ≡ Err refusal.NoMemory
-met_answer (Ok reply) h = cc
-met_answer (Err refusal.BadRequest) h = cc
-met_answer (Err refusal.BadId) h = cc
-met_answer (Err refusal.Exists) h = cc
-met_answer (Err refusal.NotFound) h = cc
-met_answer (Err refusal.NoContent) h = cc
-met_answer (Err refusal.InUse) h = cc
-met_answer (Err refusal.BadModule) h = cc
-met_answer (Err (refusal.Invalid at)) h = cc
-met_answer (Err refusal.Limit) h = cc
-met_answer (Err refusal.BadConfig) h = cc
-met_answer (Err refusal.WrongStatus) h = cc
-met_answer (Err refusal.Busy) h = cc
-met_answer (Err refusal.OutOfRange) h = cc
-met_answer (Err refusal.TooMany) h = cc
-met_answer (Err refusal.JournalFull) h = cc
-met_answer (Err refusal.DigestConflict) h = cc
-met_answer (Err refusal.NoMemory) h = refl
-met_answer (Err (refusal.BadText line column)) h = cc
-met_answer (Err refusal.Closed) h = cc
-met_answer (Err refusal.JournalFault) h = cc
-met_answer (Err refusal.NoEntry) h = cc
-met_answer (Err refusal.BadImport) h = cc
-met_answer (Err refusal.SegmentOutOfBounds) h = cc
-
 and_right : (a b : Bool) → (a && b) ≡ true → b ≡ true
 and_right true b h = h
 and_right false b h = cc
 
 met_reply : (e : Event) (r : EventReply) → met_no_memory e r ≡ true → r ≡ answer.Called (Err refusal.NoMemory)
 met_reply (event.Call q) (answer.Called a) h =
-    ap answer.Called (met_answer a (and_right (takes_memory q) (is_no_memory a) h))
+    ap answer.Called (no_memory_is a (and_right (takes_memory q) (is_no_memory a) h))
 met_reply (event.Call q) (answer.Taken b) h = cc
 met_reply (event.Call q) (answer.Returned b) h = cc
 met_reply (event.Take id n) r h = cc
@@ -66,17 +40,14 @@ not_true : (b : Bool) → (b ≡ true → ⊥) → b ≡ false
 not_true true h = absurd (h refl)
 not_true false h = refl
 
-not_met :
-    (e : Event) (r : EventReply) (text : List ℕ) → text ≡ line_text (event_data r)
-    → text ≢ line_text (json_of (Err refusal.NoMemory))
-    → met_no_memory e r ≡ false
+not_met : (e : Event) (r : EventReply) (text : List ℕ) → text ≡ line_text (event_data r)
+    → text ≢ line_text (json_of (Err refusal.NoMemory)) → met_no_memory e r ≡ false
 not_met e r text is other =
     not_true (met_no_memory e r) (λ h. other (is ∙ ap (λ r. line_text (event_data r)) (met_reply e r h)))
 
 -- ---- a line of a script
 
-same_reply :
-    EventsAreDetermined
+same_reply : EventsAreDetermined
     → (s : BoardState) (line : List ℕ) (r : EventReply) (s1 : BoardState) (r' : EventReply) (s2 : BoardState)
     → ((e : Event) → IsEvent line e → IsDetermined e)
     → ((e : Event) → met_no_memory e r ≡ false) → ((e : Event) → met_no_memory e r' ≡ false)

@@ -6,8 +6,7 @@ use Rattle.file_commands.specs.declared.ran.Ran.{Ran}
 use Rattle.file_commands.specs.Ran.{line}
 use Rattle.file_commands.specs.Explained.{IsExplained, AnswersAs}
 
-pub answers_as :
-    {Is : Ran → Type 0} (refuse : Refusal → Ran) (r : Ran) → IsExplained refuse Is r → AnswersAs Is r
+pub answers_as : {Is : Ran → Type 0} (refuse : Refusal → Ran) (r : Ran) → IsExplained refuse Is r → AnswersAs Is r
 answers_as refuse r (inl is) = (r, is, refl, refl, ([], sym (append-nil r.err)))
 answers_as refuse r (inr (e, is, inl same)) = (
   refuse e,

@@ -25,7 +25,7 @@ use Rattle.file_commands.specs.Assembled.{IsAssembled}
 use Rattle.file_commands.specs.Assembled as asm
 use Rattle.file_commands.specs.Checked.{IsChecked, IsTaskChecked, list_if}
 use Rattle.file_commands.specs.Checked as check
-use Rattle.file_commands.specs.TaskRun.{Given, can_have, process_given, CannotRun, IsEnd, IsRun, ran_to}
+use Rattle.file_commands.specs.TaskRun.{Given, process_given, CannotRun, IsRun, ran_to, CanRun, HasEnded}
 use Rattle.file_commands.specs.TaskRun as task
 
 -- ---- modules
@@ -94,8 +94,7 @@ assembled_alike one never bytes r s (asm.IsAssembled.no_module e h) (asm.IsAssem
 assembled_alike one never bytes r s (asm.IsAssembled.no_module e h) (asm.IsAssembled.too_long n g long) = (refl, refl)
 assembled_alike one never bytes r s (asm.IsAssembled.no_module e h) (asm.IsAssembled.no_module d g) = (refl, refl)
 
-pub checked_alike :
-    OneModule → Either → (bytes : List ℕ) (list : Bool) (r s : Ran) → IsChecked bytes list r
+pub checked_alike : OneModule → Either → (bytes : List ℕ) (list : Bool) (r s : Ran) → IsChecked bytes list r
     → IsChecked bytes list s → Alike r s
 checked_alike one never bytes list r s (check.IsChecked.valid m h v) (check.IsChecked.valid n g w) =
     (ap (λ (x : Module). line (codes "ok") ++ list_if list x) (one bytes m n h g), refl)
@@ -138,23 +137,19 @@ total zero b = inl (b, omega arith)
 total (suc a) zero = inr (suc a, omega arith)
 total (suc a) (suc b) = up (total a b)
   where
-    up :
-        ((k : ℕ) × (b ≡ a + k)) ⊎ ((k : ℕ) × (a ≡ b + k))
+    up : ((k : ℕ) × (b ≡ a + k)) ⊎ ((k : ℕ) × (a ≡ b + k))
         → ((k : ℕ) × (suc b ≡ suc a + k)) ⊎ ((k : ℕ) × (suc a ≡ suc b + k))
     up (inl (k, e)) = inl (k, omega (arith, e))
     up (inr (k, e)) = inr (k, omega (arith, e))
 
-stays :
-    HaltedStays → CutsCommute → (m : Module) (p : ProcessConfig) (a b k : ℕ) (e : End)
+stays : HaltedStays → CutsCommute → (m : Module) (p : ProcessConfig) (a b k : ℕ) (e : End)
     → ended (after m p a).state ≡ Some e → b ≡ a + k → after m p b ≡ after m p a
 stays halted cuts m p a b k e h is =
-    ap (λ n. after m p n) is
-    ∙ (cuts (program m p) 0 a k (initial m p)
+    ap (λ n. after m p n) is ∙ (cuts (program m p) 0 a k (initial m p)
     ∙ halted (program m p) (0 + a) k (after m p a) (has_halted (after m p a).state e h))
 
 -- two numbers of turns that have come to an end have come to the same configuration
-pub one_end :
-    HaltedStays → CutsCommute → (m : Module) (p : ProcessConfig) (a b : ℕ) (d e : End)
+pub one_end : HaltedStays → CutsCommute → (m : Module) (p : ProcessConfig) (a b : ℕ) (d e : End)
     → ended (after m p a).state ≡ Some d → ended (after m p b).state ≡ Some e → after m p a ≡ after m p b
 one_end halted cuts m p a b d e h g = by_order (total a b)
   where
@@ -165,78 +160,62 @@ one_end halted cuts m p a b d e h g = by_order (total a b)
 same_some : {A : Type 0} (x y : A) → Some x ≡ Some y → x ≡ y
 same_some x y h = cc
 
-ends_alike :
-    OneModule → HaltedStays → CutsCommute → (bytes : List ℕ) (given : Given) (r s : Ran) → IsEnd bytes given r
-    → IsEnd bytes given s → r ≡ s
-ends_alike one halted cuts bytes given r s h g = by_module (one bytes g.module h.module g.source h.source)
+ends_alike : OneModule → HaltedStays → CutsCommute → (bytes : List ℕ) (given : Given) (m n : Module) (r s : Ran)
+    → IsSource bytes m → IsSource bytes n → HasEnded m (process_given given) r → HasEnded n (process_given given) s
+    → r ≡ s
+ends_alike one halted cuts bytes given m n r s from_m from_n h g = by_module (one bytes n m from_n from_m)
   where
     p : ProcessConfig
     p = process_given given
 
     at :
-        (m : Module) (n : ℕ) (e : End) → ended (after m p n).state ≡ Some e → m ≡ h.module
-        → ended (after h.module p n).state ≡ Some e
-    at m n e x is = subst (λ (y : Module). ended (after y p n).state ≡ Some e) is x
+        (y : Module) (k : ℕ) (e : End) → ended (after y p k).state ≡ Some e → y ≡ m → ended (after m p k).state ≡ Some e
+    at y k e x is = subst (λ (z : Module). ended (after z p k).state ≡ Some e) is x
 
-    by_module : g.module ≡ h.module → r ≡ s
+    by_module : n ≡ m → r ≡ s
     by_module is =
-        let there = at g.module g.turns g.end g.ends is in
-        let same = one_end halted cuts h.module p h.turns g.turns h.end g.end h.ends there in
-        let end :
-        h.end ≡ g.end =
+        let there = at n g.turns g.end g.ends is in
+        let same = one_end halted cuts m p h.turns g.turns h.end g.end h.ends there in
+        let end : h.end ≡ g.end =
         same_some h.end g.end (sym h.ends ∙ (ap (λ (c : Configuration). ended c.state) same ∙ there)) in
-        h.is
-        ∙ (ap (λ (c : Configuration). ran_to c.store h.end) same
-        ∙ (ap (λ (e : End). ran_to (after h.module p g.turns).store e) end
+        h.is ∙ (ap (λ (c : Configuration). ran_to c.store h.end) same
+        ∙ (ap (λ (e : End). ran_to (after m p g.turns).store e) end
         ∙ (ap (λ (y : Module). ran_to (after y p g.turns).store g.end) (sym is) ∙ sym g.is)))
 
 -- a module of which a task can be made is not refused
-no_refusal_of :
-    OneModule → Either → (bytes : List ℕ) (given : Given) (n : Module) (e : Refusal) → IsSource bytes n
-    → can_have given ≡ true
-    → ValidModule n → instantiation_refusal n (process_given given) ≡ None → CannotRun bytes given e → ⊥
-no_refusal_of one never bytes given n e source taken valid opens (task.CannotRun.no_module x none) =
-    never bytes n x source none
-no_refusal_of one never bytes given n e source taken valid opens (task.CannotRun.bad_arguments m h bad) = both taken bad
-no_refusal_of one never bytes given n e source taken valid opens (task.CannotRun.invalid m at h had fault) =
-    fault_not_valid m at fault (subst ValidModule (one bytes n m source h) valid)
-no_refusal_of one never bytes given n e source taken valid opens
-    (task.CannotRun.not_instantiated m x h had ok refused) =
+no_refusal : OneModule → Either → (bytes : List ℕ) (given : Given) (n : Module) (e : Refusal) → CanRun bytes given n
+    → CannotRun bytes given e → ⊥
+no_refusal one never bytes given n e runs (task.CannotRun.no_module x none) = never bytes n x runs.source none
+no_refusal one never bytes given n e runs (task.CannotRun.bad_arguments m h bad) = both runs.arguments bad
+no_refusal one never bytes given n e runs (task.CannotRun.invalid m at h had fault) =
+    fault_not_valid m at fault (subst ValidModule (one bytes n m runs.source h) runs.valid)
+no_refusal one never bytes given n e runs (task.CannotRun.not_instantiated m x h had ok refused) =
     let here =
-    subst (λ (y : Module). instantiation_refusal y (process_given given) ≡ None) (one bytes n m source h) opens in
+    subst (λ (y : Module). instantiation_refusal y (process_given given) ≡ None)
+    (one bytes n m runs.source h) runs.opens
+    in
     let clash : None ≡ Some x = sym here ∙ refused in
     absurd cc
 
--- a task that can be run is not refused
-no_refusal :
-    OneModule → Either → (bytes : List ℕ) (given : Given) (r : Ran) (e : Refusal) → IsEnd bytes given r
-    → CannotRun bytes given e → ⊥
-no_refusal one never bytes given r e h why =
-    no_refusal_of one never bytes given h.module e h.source h.arguments h.valid h.opens why
-
-pub run_alike :
-    OneModule → Either → HaltedStays → CutsCommute → (bytes : List ℕ) (given : Given) (r s : Ran)
+pub run_alike : OneModule → Either → HaltedStays → CutsCommute → (bytes : List ℕ) (given : Given) (r s : Ran)
     → IsRun bytes given r → IsRun bytes given s → Alike r s
-run_alike one never halted cuts bytes given r s (task.IsRun.ran x h) (task.IsRun.ran y g) =
-    let same = ends_alike one halted cuts bytes given x y h g in
+run_alike one never halted cuts bytes given r s (task.IsRun.ran m x runs h) (task.IsRun.ran n y goes g) =
+    let same = ends_alike one halted cuts bytes given m n x y runs.source goes.source h g in
     (ap (λ (z : Ran). z.out) same, ap (λ (z : Ran). z.status) same)
-run_alike one never halted cuts bytes given r s (task.IsRun.ran x h) (task.IsRun.no_task e g) =
-    absurd (no_refusal one never bytes given x e h g)
-run_alike one never halted cuts bytes given r s (task.IsRun.no_task e g) (task.IsRun.ran x h) =
-    absurd (no_refusal one never bytes given x e h g)
+run_alike one never halted cuts bytes given r s (task.IsRun.ran m x runs h) (task.IsRun.no_task e g) =
+    absurd (no_refusal one never bytes given m e runs g)
+run_alike one never halted cuts bytes given r s (task.IsRun.no_task e g) (task.IsRun.ran m x runs h) =
+    absurd (no_refusal one never bytes given m e runs g)
 run_alike one never halted cuts bytes given r s (task.IsRun.no_task e h) (task.IsRun.no_task d g) = (refl, refl)
 
 pub task_checked_alike :
     OneModule → Either → (bytes : List ℕ) (given : Given) (list : Bool) (r s : Ran) → IsTaskChecked bytes given list r
     → IsTaskChecked bytes given list s → Alike r s
-task_checked_alike one never bytes given list r s (check.IsTaskChecked.task m h t v o)
-    (check.IsTaskChecked.task n k u w p) =
-    (ap (λ (x : Module). line (codes "ok") ++ list_if list x) (one bytes m n h k), refl)
-task_checked_alike one never bytes given list r s (check.IsTaskChecked.task m h t v o)
-    (check.IsTaskChecked.no_task e why) =
-    absurd (no_refusal_of one never bytes given m e h t v o why)
-task_checked_alike one never bytes given list r s (check.IsTaskChecked.no_task e why)
-    (check.IsTaskChecked.task m h t v o) =
-    absurd (no_refusal_of one never bytes given m e h t v o why)
+task_checked_alike one never bytes given list r s (check.IsTaskChecked.task m h) (check.IsTaskChecked.task n k) =
+    (ap (λ (x : Module). line (codes "ok") ++ list_if list x) (one bytes m n h.source k.source), refl)
+task_checked_alike one never bytes given list r s (check.IsTaskChecked.task m h) (check.IsTaskChecked.no_task e why) =
+    absurd (no_refusal one never bytes given m e h why)
+task_checked_alike one never bytes given list r s (check.IsTaskChecked.no_task e why) (check.IsTaskChecked.task m h) =
+    absurd (no_refusal one never bytes given m e h why)
 task_checked_alike one never bytes given list r s (check.IsTaskChecked.no_task e h) (check.IsTaskChecked.no_task d k) =
     (refl, refl)

@@ -34,10 +34,6 @@ Numbers id v = is_number_name id ≡ true → IsNumber v
 no_number : (a : Rule) → is_number_name a.id ≡ false → TakenAs Numbers a
 no_number a other v h named = cc
 
-both_true : (a b : Bool) → (a && b) ≡ true → (a ≡ true) × (b ≡ true)
-both_true true b h = (refl, h)
-both_true false b h = cc
-
 number_within : (low high : ℕ) (text : Text) → is_unsigned_in low high text ≡ true → high ≤ 18446744073709551615
     → IsNumber text
 number_within low high text h most = grind (arith, nat_tests, h, most)
@@ -139,10 +135,8 @@ given_has id rows good given =
     some_of [] some = absurd (omega arith)
     some_of (v ∷ vs) some = (v, vs, refl)
 
-    go :
-        (o : Option Row) → find (λ r. bytes_eq r.id id) rows ≡ o
-        → IfSome (find (λ r. bytes_eq r.id id) rows) (Good Numbers)
-        → is_given id rows ≡ true → Has id rows
+    go : (o : Option Row) → find (λ r. bytes_eq r.id id) rows ≡ o
+        → IfSome (find (λ r. bytes_eq r.id id) rows) (Good Numbers) → is_given id rows ≡ true → Has id rows
     go None e h given = let bad = rw e at given in cc
     go (Some r) e h given =
         let here : Good Numbers r = subst (λ o. IfSome o (Good Numbers)) e h in
@@ -236,8 +230,7 @@ required_given (a ∷ rest) rows id none there =
   where
     go : (r e : Bool) → a.required ≡ r → bytes_eq a.id id ≡ e
         → (list_any (λ a. a.required && not (is_given a.id rows)) rest ≡ false → needs id rest ≡ true
-        → is_given id rows ≡ true)
-        → is_given id rows ≡ true
+        → is_given id rows ≡ true) → is_given id rows ≡ true
     go true true p q later =
         let here = is_asked (is_given a.id rows) _ (rw p at none) in
         subst (λ i. is_given i rows ≡ true) ((bytes_eq-Decides a.id id).0 q) here
@@ -266,8 +259,7 @@ flag a taken some counts = (use_good Numbers false a taken (has_meant a some) co
 
 asks :
     (a : Rule) → ((values : List Text) (rows : List Row) → used a values rows ≡ rows) → TakenAs Numbers a → RuleGood a
-asks a same taken =
-    (λ values rows h good. subst (Each (Good Numbers)) (sym (same values rows)) good, taken)
+asks a same taken = (λ values rows h good. subst (Each (Good Numbers)) (sym (same values rows)) good, taken)
 
 -- the words of a command that was met, where it has no fault
 abbrev Leaf : (word : Text) → List Text → Shape → Type 0

@@ -8,6 +8,5 @@ pub mod FileLaws
 pub mod ExplainedLemmas
 pub mod ReplayLemmas
 pub mod DeterminedLemmas
-pub mod RowLemmas
 pub mod WalkedRows
 pub mod FoundLemmas

@@ -17,7 +17,7 @@ use Rattle.wasm_ast.specs.declared.module.Module.{Module}
 use Rattle.wasm_ast.specs.Access.{load_bytes, store_bytes}
 use Rattle.wasm_ast.specs.Syntax.{Op, simple, block, loop, if', Ops, stop, next, count, ops_count, ops_of}
 use Rattle.wasm_ast.specs.View.{op_of}
-use Rattle.text_assembler.specs.Lines.{HasAlignment, IsAligned}
+use Rattle.text_assembler.specs.Lines.{HasAlignment}
 use Rattle.validator.specs.Typing.{Context, under, SimpleTyped, Typed, OpTyped, ValidBody, ValidModule, body_context}
 use Rattle.file_commands.specs.Checked.{op_lines, ops_lines}
 use Rattle.file_commands.specs.Inside.Written.{OpAligned, OpsAligned}
@@ -129,14 +129,7 @@ funcs_aligned m valid =
         (aligned fs (All-tail (λ (f : Func). f.type_index < length m.types) f fs there)
         (All-tail (ValidBody m) f fs bodies))
 
-pub line_aligned : (o : Op) → OpAligned o → IsAligned o
-line_aligned (simple s) h = h
-line_aligned (block type body) h = tt
-line_aligned (loop type body) h = tt
-line_aligned (if' type then_arm else_arm) h = tt
-
-pub item_aligned :
-    (is : List Instr) (n : ℕ) (d : Instr) → n < length is → OpsAligned (ops_of (map op_of is))
+pub item_aligned : (is : List Instr) (n : ℕ) (d : Instr) → n < length is → OpsAligned (ops_of (map op_of is))
     → OpAligned (op_of (get_or is n d))
 item_aligned [] n d lt h = absurd (omega arith)
 item_aligned (i ∷ is) zero d lt h = h.0
@@ -144,31 +137,27 @@ item_aligned (i ∷ is) (suc n) d lt h = item_aligned is n d (omega arith) h.1
 
 -- ---- lists of instructions
 
-rest_at :
-    (is : List Instr) (n : ℕ) (i : Instr) → n < length is → i ≡ get_or is n i
+rest_at : (is : List Instr) (n : ℕ) (i : Instr) → n < length is → i ≡ get_or is n i
     → ops_of (map op_of (drop n is)) ≡ next (op_of i) (ops_of (map op_of (drop (suc n) is)))
 rest_at [] n i h e = absurd (omega arith)
 rest_at (x ∷ xs) zero i h e = ap (λ (j : Instr). next (op_of j) (ops_of (map op_of xs))) (sym e)
 rest_at (x ∷ xs) (suc n) i h e = rest_at xs n i (omega arith) e
 
 -- what is left of a sequence is an instruction and what is left after it
-pub rest_of :
-    (is : List Instr) (n : ℕ) (i : Instr) → n < length is → i ≡ get_or is n i
+pub rest_of : (is : List Instr) (n : ℕ) (i : Instr) → n < length is → i ≡ get_or is n i
     → ops_of (map op_of (drop n is)) ≡ next (op_of i) (ops_of (map op_of (drop (n + 1) is)))
 rest_of is n i h e =
     let after : suc n ≡ n + 1 = omega arith in
     rest_at is n i h e ∙ ap (λ m. next (op_of i) (ops_of (map op_of (drop m is)))) after
 
-pub item_le_count :
-    (is : List Instr) (k : ℕ) (i : Instr) → k < length is
+pub item_le_count : (is : List Instr) (k : ℕ) (i : Instr) → k < length is
     → count (op_of (get_or is k i)) ≤ ops_count (ops_of (map op_of is))
 item_le_count [] k i h = absurd (omega arith)
 item_le_count (x ∷ xs) zero i h = omega arith
 item_le_count (x ∷ xs) (suc k) i h = let rest = item_le_count xs k i (omega arith) in omega (arith, rest)
 
 -- the lines of one instruction more
-pub one_more :
-    (func here there : ℕ) (o : Op) (rest : Ops) (list new all : List ℕ) → there ≡ here + count o
+pub one_more : (func here there : ℕ) (o : Op) (rest : Ops) (list new all : List ℕ) → there ≡ here + count o
     → new ≡ list ++ op_lines func here o → list ++ ops_lines func here (next o rest) ≡ all
     → new ++ ops_lines func there rest ≡ all
 one_more func here there o rest list new all place added so_far =

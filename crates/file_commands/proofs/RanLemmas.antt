@@ -50,8 +50,7 @@ not_checked bytes e (inl p) = inl p
 not_checked bytes e (inr h) = inr (why.CannotCheck.no_module e h)
 
 -- why a module is not validated
-pub not_validated :
-    {V : Type 0} (P : Refusal → Type 0) (r : Result V Refusal) (e : Refusal) → r ≡ Err e
+pub not_validated : {V : Type 0} (P : Refusal → Type 0) (r : Result V Refusal) (e : Refusal) → r ≡ Err e
     → OnErr r (((at : Option Place) × (r ≡ Err (refusal.Invalid at))) ⊎ (r ≡ Err refusal.NoMemory))
     → ((at : Option Place) → r ≡ Err (refusal.Invalid at) → P (refusal.Invalid at)) → Told P e
 not_validated P (Ok v) e is why invalid = absurd cc
@@ -59,8 +58,7 @@ not_validated P (Err x) e is (inl (at, p)) invalid =
     let same : e ≡ refusal.Invalid at = cc in inr (subst P (sym same) (invalid at p))
 not_validated P (Err x) e is (inr p) invalid = let same : e ≡ refusal.NoMemory = cc in inl same
 
-checked_refused :
-    (bytes : List ℕ) (list : Bool) (e : Refusal) (r : Ran) → r ≡ refused e → e ≢ refusal.NoMemory
+checked_refused : (bytes : List ℕ) (list : Bool) (e : Refusal) (r : Ran) → r ≡ refused e → e ≢ refusal.NoMemory
     → Told (CannotCheck bytes) e → IsChecked bytes list r
 checked_refused bytes list e r is told (inl p) = absurd (told p)
 checked_refused bytes list e r is told (inr (why.CannotCheck.no_module x h)) =
@@ -83,8 +81,7 @@ asm_told bytes e true (Ok x) is told h = inr (e, assembled_refused bytes e (refu
 asm_told bytes e false (Ok x) is told h = assembled_refused bytes e x is told h
 asm_told bytes e explain (Err x) is told h = tt
 
-pub check_told :
-    (bytes : List ℕ) (list : Bool) (e : Refusal) (explain : Bool) (r : Result Ran Refusal)
+pub check_told : (bytes : List ℕ) (list : Bool) (e : Refusal) (explain : Bool) (r : Result Ran Refusal)
     → IfOk r (IsTold explain (refused e)) → OnOk r (e ≢ refusal.NoMemory) → Told (CannotCheck bytes) e
     → IfOk r (IsToldBy explain refused (IsChecked bytes list))
 check_told bytes list e true (Ok x) is told h = inr (e, checked_refused bytes list e (refused e) refl told h, is)

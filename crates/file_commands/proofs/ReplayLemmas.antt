@@ -28,10 +28,8 @@ are_marked_append (l ∷ ls) (mark.Event ∷ ms) (e ∷ es) bs ns fs h g = (h.0,
 are_marked_append (l ∷ ls) (mark.Bad ∷ ms) es bs ns fs h g = (h.0, are_marked_append ls ms es bs ns fs h.1 g)
 
 -- one line more of the bytes
-pub one_line_more :
-    (bytes left rest line : List ℕ) (old_marks marks : List Mark) (old_events events : List Event)
-    (done : List (List ℕ))
-    → lines_of bytes ≡ done ++ lines_of left → AreMarked done old_marks old_events
+pub one_line_more : (bytes left rest line : List ℕ) (old_marks marks : List Mark) (old_events events : List Event)
+    (done : List (List ℕ)) → lines_of bytes ≡ done ++ lines_of left → AreMarked done old_marks old_events
     → lines_of left ≡ line ∷ lines_of rest → Adds line old_marks old_events marks events
     → (more : List (List ℕ)) × (lines_of bytes ≡ more ++ lines_of rest) × AreMarked more marks events
 one_line_more bytes left rest line old_marks marks old_events events done cut read here adds = (
@@ -73,8 +71,7 @@ replay_session (l ∷ ls) (mark.Event ∷ ms) [] replies s s' h run = absurd h
 replay_session (l ∷ ls) (mark.Event ∷ ms) (e ∷ es) [] s s' h run = absurd run
 replay_session (l ∷ ls) (mark.Event ∷ ms) (e ∷ es) (r ∷ rs) s s' h run =
     let rest = replay_session ls ms es rs run.0 s' h.1 run.2 in
-    let answered :
-    IsReplied s l (line_text (event_data r)) run.0 =
+    let answered : IsReplied s l (line_text (event_data r)) run.0 =
     (r, inl (record { event = e; is = h.0; happens = run.1 }), refl) in (
       line_text (event_data r) ∷ rest.0,
       (run.0, answered, rest.1),
@@ -82,8 +79,7 @@ replay_session (l ∷ ls) (mark.Event ∷ ms) (e ∷ es) (r ∷ rs) s s' h run =
     )
 replay_session (l ∷ ls) (mark.Bad ∷ ms) events replies s s' h run =
     let rest = replay_session ls ms events replies s s' h.1 run in
-    let answered :
-    IsReplied s l (line_text (refusal_data BadRequest)) s =
+    let answered : IsReplied s l (line_text (refusal_data BadRequest)) s =
     (Called (Err BadRequest), inr (record { none = h.0; refused = refl; same = refl }), refl) in (
       line_text (refusal_data BadRequest) ∷ rest.0,
       (s, answered, rest.1),

@@ -1,5 +1,5 @@
 -- The task of a file, or why there is none.
-use Rattle.std.proofs.Common.{◌≡◌, ◌≢◌, ◌⊎◌, inl, inr, ℕ, List, ◌++◌, codes, ap, ◌∙◌, Bool, true, false, Result, Ok, Err, Some, None, refl, sym, subst}
+use Rattle.std.proofs.Common.{◌≡◌, ◌≢◌, ◌⊎◌, inl, inr, ℕ, List, ◌++◌, codes, ap, ◌∙◌, Bool, true, false, Result, Ok, Err, Some, refl, sym, subst}
 use Rattle.std.specs.Prelude.{IfOk, IfErr, OnOk, OnErr}
 use Rattle.wasm_ast.specs.declared.module.Module.{Module}
 use Rattle.wasm_ast.specs.declared.refusal.Refusal.{Refusal}
@@ -10,13 +10,13 @@ use Rattle.step_machine.specs.Instantiation.{instantiation_refusal}
 use Rattle.step_machine.specs.MachineView.{MachineView}
 use Rattle.file_commands.specs.declared.ran.Ran.{Ran}
 use Rattle.file_commands.specs.Source.{IsSource, IsNoSource}
-use Rattle.file_commands.specs.TaskRun.{Given, can_have, process_given, ran_to, CannotRun, IsEnd, IsRun}
+use Rattle.file_commands.specs.TaskRun.{Given, can_have, process_given, CannotRun, IsRun, HasEnded}
 use Rattle.file_commands.specs.TaskRun as task
 use Rattle.file_commands.specs.Ran.{line, succeeded, refused}
 use Rattle.file_commands.specs.Explained.{IsToldBy}
 use Rattle.file_commands.specs.Checked.{list_if, IsTaskChecked}
 use Rattle.file_commands.specs.Checked as checked
-use Rattle.file_commands.specs.Inside.Written.{CannotStart, IsOpened, HasEnded, IsTold}
+use Rattle.file_commands.specs.Inside.Written.{CannotStart, IsOpened, IsTold}
 use Rattle.file_commands.specs.Inside.Written as why
 use Rattle.file_commands.proofs.RanLemmas.{Told}
 
@@ -24,17 +24,13 @@ use Rattle.file_commands.proofs.RanLemmas.{Told}
 abbrev pub Unless : (Refusal → Type 0) → Refusal → Type 0
 Unless P e = e ≢ refusal.NoMemory → P e
 
-pub handed_up :
-    {W : Type 0} (P : Refusal → Type 0) (r : Result W Refusal) (e : Refusal) → r ≡ Err e → Unless P e
+pub handed_up : {W : Type 0} (P : Refusal → Type 0) (r : Result W Refusal) (e : Refusal) → r ≡ Err e → Unless P e
     → IfErr r (Unless P)
 handed_up {W} P r e same h = subst (λ (q : Result W Refusal). IfErr q (Unless P)) (sym same) h
 
 pub told_unless : (P : Refusal → Type 0) (e : Refusal) → Told P e → Unless P e
 told_unless P e (inl p) other = absurd (other p)
 told_unless P e (inr h) other = h
-
-pub by_memory : (P : Refusal → Type 0) (e : Refusal) → e ≡ refusal.NoMemory → Unless P e
-by_memory P e p other = absurd (other p)
 
 abbrev BadArguments : Bool → Refusal → Type 0
 BadArguments b e = (e ≡ refusal.BadConfig) × (b ≡ false)
@@ -46,8 +42,7 @@ not_taken b (Ok v) h bad = tt
 not_taken b (Err x) (inl p) bad = λ other. ((let same : x ≡ refusal.BadConfig = cc in same), bad p)
 not_taken b (Err x) (inr p) bad = λ other. let same : x ≡ refusal.NoMemory = cc in absurd (other same)
 
-pub not_started :
-    {W : Type 0} (m : Module) (p : ProcessConfig) (r : Result W Refusal) → ValidModule m
+pub not_started : {W : Type 0} (m : Module) (p : ProcessConfig) (r : Result W Refusal) → ValidModule m
     → ((e : Refusal) → r ≡ Err e → e ≢ refusal.NoMemory → instantiation_refusal m p ≡ Some e)
     → IfErr r (Unless (CannotStart m p))
 not_started m p (Ok v) valid refused = tt
@@ -55,19 +50,16 @@ not_started m p (Err e) valid refused = λ other. why.CannotStart.not_instantiat
 
 -- ---- the task
 
-pub no_module :
-    (bytes : List ℕ) (g : Given) (e : Refusal) → Told (IsNoSource bytes) e → Unless (CannotRun bytes g) e
+pub no_module : (bytes : List ℕ) (g : Given) (e : Refusal) → Told (IsNoSource bytes) e → Unless (CannotRun bytes g) e
 no_module bytes g e h other = task.CannotRun.no_module e (told_unless (IsNoSource bytes) e h other)
 
-pub no_process :
-    (bytes : List ℕ) (g : Given) (m : Module) (e : Refusal) → IsSource bytes m
+pub no_process : (bytes : List ℕ) (g : Given) (m : Module) (e : Refusal) → IsSource bytes m
     → Unless (BadArguments (can_have g)) e → Unless (CannotRun bytes g) e
 no_process bytes g m e source h other =
     let bad = h other in
     subst (CannotRun bytes g) (sym bad.0) (task.CannotRun.bad_arguments m source bad.1)
 
-no_start :
-    (bytes : List ℕ) (g : Given) (m : Module) (p : ProcessConfig) (e : Refusal) → IsSource bytes m
+no_start : (bytes : List ℕ) (g : Given) (m : Module) (p : ProcessConfig) (e : Refusal) → IsSource bytes m
     → can_have g ≡ true → p ≡ process_given g → CannotStart m p e → CannotRun bytes g e
 no_start bytes g m p e source taken same (why.CannotStart.not_valid at fault) =
     task.CannotRun.invalid m at source taken fault
@@ -75,48 +67,19 @@ no_start bytes g m p e source taken same (why.CannotStart.not_instantiated x val
     task.CannotRun.not_instantiated m e source taken valid
     (subst (λ (q : ProcessConfig). instantiation_refusal m q ≡ Some e) same refused)
 
-pub no_machine :
-    {W : Type 0} (bytes : List ℕ) (g : Given) (m : Module) (p : ProcessConfig) (r : Result W Refusal)
+pub no_machine : {W : Type 0} (bytes : List ℕ) (g : Given) (m : Module) (p : ProcessConfig) (r : Result W Refusal)
     → IsSource bytes m → can_have g ≡ true → p ≡ process_given g
     → IfErr r (Unless (CannotStart m p)) → IfErr r (Unless (CannotRun bytes g))
 no_machine bytes g m p (Ok v) source taken same h = tt
 no_machine bytes g m p (Err e) source taken same h = λ other. no_start bytes g m p e source taken same (h other)
 
-pub opened :
-    (bytes : List ℕ) (g : Given) (m : Module) (p : ProcessConfig) (r : Result MachineView Refusal)
-    → IsSource bytes m → can_have g ≡ true → p ≡ process_given g
-    → OnOk r (ValidModule m) → OnOk r (instantiation_refusal m p ≡ None)
-    → IfOk r (λ v. v ≡ record { «module» = m; process = p; turns = 0 }) → IfOk r (IsOpened bytes g)
-opened bytes g m p (Ok v) source taken same valid opens is =
-    let its : IsOpened bytes g (record { «module» = m; process = p; turns = 0 }) = record {
-      source = source;
-      arguments = taken;
-      valid = valid;
-      opens = subst (λ (q : ProcessConfig). instantiation_refusal m q ≡ None) same opens;
-      process = same;
-    } in
-    subst (IsOpened bytes g) (sym is) its
-opened bytes g m p (Err e) source taken same valid opens is = tt
-
 -- ---- its end
 
-pub is_run :
-    (bytes : List ℕ) (g : Given) (v : MachineView) (x : Ran) → IsOpened bytes g v
+pub is_run : (bytes : List ℕ) (g : Given) (v : MachineView) (x : Ran) → IsOpened bytes g v
     → HasEnded v.module v.process x → IsRun bytes g x
 is_run bytes g v x opened_so h =
-    let p = process_given g in
-    let its : HasEnded v.module p x = subst (λ (q : ProcessConfig). HasEnded v.module q x) opened_so.process h in
-    task.IsRun.ran x (record {
-      «module» = v.module;
-      turns = its.turns;
-      end = its.end;
-      source = opened_so.source;
-      arguments = opened_so.arguments;
-      valid = opened_so.valid;
-      opens = opened_so.opens;
-      ends = its.ends;
-      is = its.is;
-    })
+    task.IsRun.ran v.module x opened_so.runs
+    (subst (λ (q : ProcessConfig). HasEnded v.module q x) opened_so.process h)
 
 -- ---- whether there could be one
 
@@ -126,11 +89,10 @@ pub task_checked :
     → text ≡ line (codes "ok") ++ list_if list v.module → r ≡ succeeded text → IsTaskChecked bytes g list r
 task_checked bytes g list v text r opened_so same is =
     subst (IsTaskChecked bytes g list) (sym (is ∙ ap succeeded same))
-    (checked.IsTaskChecked.task v.module opened_so.source opened_so.arguments opened_so.valid opened_so.opens)
+    (checked.IsTaskChecked.task v.module opened_so.runs)
 
 -- one of which none was made
-pub task_told :
-    (bytes : List ℕ) (g : Given) (list : Bool) (e : Refusal) (explain : Bool) (r : Result Ran Refusal)
+pub task_told : (bytes : List ℕ) (g : Given) (list : Bool) (e : Refusal) (explain : Bool) (r : Result Ran Refusal)
     → IfOk r (IsTold explain (refused e)) → OnOk r (e ≢ refusal.NoMemory) → Unless (CannotRun bytes g) e
     → IfOk r (IsToldBy explain refused (IsTaskChecked bytes g list))
 task_told bytes g list e true (Ok x) is told why = inr (e, checked.IsTaskChecked.no_task e (why told), is)

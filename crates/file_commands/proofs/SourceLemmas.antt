@@ -24,8 +24,7 @@ no_text bs h = false_by (is_utf8 bs) (λ e. h (IsUtf8-from_is_utf8 bs e))
 
 -- ---- the binary format
 
-pub binary_refused :
-    (bytes : List ℕ) (r : Result Module Refusal) → is_binary bytes ≡ true
+pub binary_refused : (bytes : List ℕ) (r : Result Module Refusal) → is_binary bytes ≡ true
     → IfErr r (λ e. (e ≡ refusal.BadModule) ⊎ ((e ≡ refusal.Limit) ⊎ (e ≡ refusal.NoMemory)))
     → (r ≡ Err refusal.BadModule → (m : Module) → Spells bytes m → ⊥) → (r ≡ Err refusal.Limit → Over bytes)
     → IfErr r (λ e. (e ≡ refusal.NoMemory) ⊎ IsNoSource bytes e)
@@ -69,8 +68,7 @@ place_of refusal.SegmentOutOfBounds h = absurd h
 abbrev pub IsTextRefusal : List ℕ → Refusal → Type 0
 IsTextRefusal text e = (e ≡ refusal.NoMemory) ⊎ (is_binary text ≡ false → is_utf8 text ≡ true → IsNoSource text e)
 
-pub text_refused :
-    (text : List ℕ) (e : Refusal) → IsBadText e ⊎ ((e ≡ refusal.Limit) ⊎ (e ≡ refusal.NoMemory))
+pub text_refused : (text : List ℕ) (e : Refusal) → IsBadText e ⊎ ((e ≡ refusal.Limit) ⊎ (e ≡ refusal.NoMemory))
     → (IsBadText e → (m : Module) → Denotes text m → ⊥)
     → (e ≡ refusal.Limit → (m : Module) → Denotes text m → FitsLimits m → ⊥)
     → (e ≡ refusal.Limit → ((m : Module) × Denotes text m) ⊎ IsTooDeep text) → IsTextRefusal text e

@@ -1,5 +1,5 @@
 -- Streams that are written piece by piece.
-use Rattle.std.proofs.Common.{◌≡◌, ◌≢◌, inl, inr, [], ap, ℕ, ◌+◌, ◌%◌, List, ◌++◌, length, length-append, take, drop, take-append-drop, Option, Some, Result, Ok, Err, refl, sym, subst, arith, Bool, true, false}
+use Rattle.std.proofs.Common.{◌≡◌, ◌≢◌, inr, ℕ, ◌+◌, ◌%◌, List, ◌++◌, length, length-append, take, drop, take-append-drop, Option, Some, Result, Ok, Err, refl, sym, subst, arith, Bool, true, false}
 use lib.Seq.{take-append_seam}
 use Rattle.std.specs.Prelude.{IfOk, OnOk}
 use Rattle.std.specs.Io.KnownBytes.{Appends}
@@ -18,9 +18,9 @@ use Rattle.file_commands.specs.declared.ran.Ran.{Ran}
 use Rattle.file_commands.specs.declared.run_error.RunError.{RunError}
 use Rattle.file_commands.specs.Ran.{refused_run}
 use Rattle.file_commands.specs.Explained.{IsToldBy}
-use Rattle.file_commands.specs.TaskRun.{Given, end_lines, status_of, ran_to, CannotRun, IsRun, IsWritten}
+use Rattle.file_commands.specs.TaskRun.{Given, end_lines, status_of, ran_to, CannotRun, IsRun, IsWritten, HasEnded}
 use Rattle.file_commands.specs.TaskRun as task
-use Rattle.file_commands.specs.Inside.Written.{IsOpened, HasEnded, IsCopied, IsTold}
+use Rattle.file_commands.specs.Inside.Written.{IsOpened, IsCopied, IsTold}
 use Rattle.file_commands.proofs.RanLemmas.{told_plain}
 use Rattle.file_commands.proofs.RunLemmas.{Unless, is_run}
 
@@ -42,8 +42,7 @@ none_copied s a = (omega arith, Appends-nil a)
 -- the rest was appended
 pub all_copied : (s : List ℕ) (n : ℕ) (a b c : Option (List ℕ))
     → IsCopied s n a b → Appends b c (drop n s) → Appends a c s
-all_copied s n a b c h k =
-    subst (Appends a c) (take-append-drop n s) (Appends-trans a b c (take n s) (drop n s) h.1 k)
+all_copied s n a b c h k = subst (Appends a c) (take-append-drop n s) (Appends-trans a b c (take n s) (drop n s) h.1 k)
 
 -- all of a stream was appended, which has grown since
 pub then_grown : (s t : List ℕ) (n : ℕ) (a b : Option (List ℕ))
@@ -93,8 +92,7 @@ run_told bytes g cause false ran why is = subst (IsRun bytes g) (sym is) (task.I
 pub refusal_written : (bytes : List ℕ) (g : Given) (cause : Refusal) (explain : Bool) (told : Result Ran Refusal)
     (r : Result ℕ RunError) (o o' e e' : Option (List ℕ))
     → Unless (CannotRun bytes g) cause → IfOk told (IsTold explain (refused_run cause))
-    → OnOk told (cause ≢ refusal.NoMemory)
-    → IfOk r
+    → OnOk told (cause ≢ refusal.NoMemory) → IfOk r
     (λ s. (ran : Ran) × (told ≡ Ok ran) × Appends o o' ran.out × Appends e e' ran.err × (s ≡ ran.status))
     → IfOk r (IsWritten (IsToldBy explain refused_run (IsRun bytes g)) o o' e e')
 refusal_written bytes g cause explain told (Ok n) o o' e e' why is some (ran, same, out, err, status) =

@@ -1,12 +1,12 @@
 -- What a parse without a fault has found: each row has a value, and each of its values is one that its argument takes.
 use Rattle.std.proofs.Common.{zero, suc, ◌≡◌, ◌∙◌, ◌<◌, ℕ, Bool, true, false, not, ◌&&◌, ◌||◌, List, [], ◌∷◌, ◌++◌, length, Option, Some, None, refl, sym, ap, subst, arith}
+use Rattle.clap.specs.Values.{reading_of}
 use Rattle.std.specs.Prelude.{IfSome, find, fold, drop, unwrap_or, slice_get, encode_utf8, codes, if◌then◌else◌, is_some}
 use Rattle.std.specs.Option.{option_map_or}
 use Rattle.std.specs.Str.{bytes_eq, chars}
 use Rattle.std.proofs.lemmas.Slice.Eq.{bytes_eq-Decides}
 use Rattle.clap.specs.Facts.{parser_of_value, unwrap_or_range}
 use Rattle.clap.specs.Lexer.{long_of, short_of}
-use Rattle.clap.specs.Values.{reading_of}
 use Rattle.clap.specs.Walk.{Held, Names, Outcome, Row, Rule, Step, Text, Waiting, Walk, action_of, arg_by_id, arg_by_index, arg_by_long, arg_by_short, at_row, attached_value, bundle_met, bundle_step, done, idle, is_pending, long_met, more_values, most_values, next, option, option_met, option_word, plain, plain_word, positional, positional_held, reacted, reading_by, refused, settled, settled_rows, short_met, subcommand, subcommand_met, subcommand_or_other, takes_several, takes_values, to_positional, trailing, used, used_as, used_by_id, value, values_or_missing, waits, walk, walk_from, walked, walked_from, with_default, with_values, without, word_met, after_flag, after_step, long_or_other, short_or_plain, flag_met}
 use Rattle.clap.specs.Simple.{Shape}
 use Rattle.clap.specs.Kinds.{Kinds, or_else, range_kinds, value_kinds, values_kinds}
@@ -61,8 +61,7 @@ Values = Text → Text → Type 0
 abbrev pub Good : Values → Row → Type 0
 Good G r = (0 < length r.values) × Each (G r.id) r.values
 
-at_row_good :
-    (G : Values) (id : Text) (change : Row → List Row) (missing rows : List Row)
+at_row_good : (G : Values) (id : Text) (change : Row → List Row) (missing rows : List Row)
     → ((r : Row) → r.id ≡ id → Good G r → Each (Good G) (change r)) → Each (Good G) missing → Each (Good G) rows
     → Each (Good G) (at_row id change missing rows)
 at_row_good G id change missing [] f m h = m
@@ -74,8 +73,7 @@ at_row_good G id change missing (r ∷ rs) f m (g, h) =
     go true e rest = rw e (each_append (Good G) (change r) rs (f r ((bytes_eq-Decides r.id id).0 e) g) h)
     go false e rest = rw e (g, rest)
 
-pub with_values_good :
-    (G : Values) (id : Text) (how : Reading) (s : ValueSource) (values : List Text) (rows : List Row)
+pub with_values_good : (G : Values) (id : Text) (how : Reading) (s : ValueSource) (values : List Text) (rows : List Row)
     → 0 < length values → Each (G id) values → Each (Good G) rows → Each (Good G) (with_values id how s values rows)
 with_values_good G id how s values rows some h good =
     at_row_good G id (more_values s values) _ rows
@@ -186,8 +184,7 @@ option_good G c again a (Some v) h all here none good = reacted_good G c again a
 option_good G c again a None h all here none good = settled_good G c again h all none good
 
 flag_good : (G : Values) (c : List Rule) (again : Bool) (a : Rule) (v : Option Text) (h : Held)
-    → Each (UseGood G again) c → UseGood G again a
-    → (v ≡ None → react_fault c again a [] h ≡ []) → Each (Good G) h.rows
+    → Each (UseGood G again) c → UseGood G again a → (v ≡ None → react_fault c again a [] h ≡ []) → Each (Good G) h.rows
     → Each (Good G) (flag_met c a v h).0.rows
 flag_good G c again a (Some v) h all here none good = good
 flag_good G c again a None h all here none good = reacted_good G c again a [] h all here (none refl) good
@@ -281,8 +278,7 @@ flag_word_good G s waiting word (Some p) h all none good =
     (each_found (UseGood G s.args_override_self) _ s.rules all) none good)
 flag_word_good G s waiting word None h all none good = go (short_of word) none
   where
-    go : (o : Option Text)
-        → option_map_or (λ flags.
+    go : (o : Option Text) → option_map_or (λ flags.
         flags_fault s.rules s.args_override_self (length flags) flags h.skip (record h { skip = 0 })) o [] ≡ []
         → Each (Good G) (short_or_plain s.rules waiting word o h).0.rows
     go None none = same_rows G _ h.rows (plain_rows s.rules waiting word h) good

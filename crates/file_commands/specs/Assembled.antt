@@ -11,11 +11,9 @@ use Rattle.file_commands.specs.Ran.{line, succeeded, refused}
 
 pub data IsAssembled (bytes : List ℕ) : Ran → Type 0 where
   -- the canonical encoding of the module in the file, in lower-case hexadecimal
-  assembled :
-      (m : Module) → IsSource bytes m → FitsLimits m
+  assembled : (m : Module) → IsSource bytes m → FitsLimits m
       → IsAssembled bytes (succeeded (line (encode_lower (canon m))))
   -- that encoding is too long
-  too_long :
-      (m : Module) → IsSource bytes m → (FitsLimits m → ⊥)
+  too_long : (m : Module) → IsSource bytes m → (FitsLimits m → ⊥)
       → IsAssembled bytes (refused refusal.Limit)
   no_module : (e : Refusal) → IsNoSource bytes e → IsAssembled bytes (refused e)

@@ -1,5 +1,5 @@
 -- The words of `--caller`: each names a file of lines and a file for replies.
-use Rattle.std.specs.Prelude.{ℕ, ◌<◌, ◌==◌, Bool, true, false, not, ◌&&◌, ◌||◌, List, [], ◌∷◌, length, map, bytes_eq, nat_lt}
+use Rattle.std.specs.Prelude.{ℕ, ◌==◌, Bool, true, false, ◌&&◌, ◌||◌, List, [], ◌∷◌, length, map, bytes_eq, nat_lt}
 use Rattle.std.specs.List.{list_any, before_first, after_first}
 use Rattle.clap.specs.Walk.{Text}
 
@@ -38,6 +38,5 @@ are_some (word ∷ words) = true
 -- There are SCRIPTs too, or more callers than there may be; a word does not name two files, or two callers
 -- have one file for their replies
 abbrev pub are_unfit : (scripts words : List Text) → Bool
-are_unfit scripts words =
-    (are_some scripts && are_some words) || nat_lt most_callers (length words)
+are_unfit scripts words = (are_some scripts && are_some words) || nat_lt most_callers (length words)
     || list_any lacks_file words || has_repeat (map replies_file words)

@@ -1,5 +1,5 @@
 -- What `check` writes.
-use Rattle.std.specs.Prelude.{◌≡◌, ℕ, ◌+◌, List, [], ◌∷◌, ◌++◌, length, Bool, true, false, codes, decimal, if◌then◌else◌, Option, None}
+use Rattle.std.specs.Prelude.{ℕ, ◌+◌, List, [], ◌∷◌, ◌++◌, length, Bool, true, false, codes, decimal, if◌then◌else◌, Option}
 use Rattle.wasm_ast.specs.declared.module.Func.{Func}
 use Rattle.wasm_ast.specs.declared.module.Module.{Module}
 use Rattle.wasm_ast.specs.declared.place.Place.{Place}
@@ -9,11 +9,10 @@ use Rattle.wasm_ast.specs.Syntax.{Op, simple, block, loop, if', Ops, stop, next,
 use Rattle.text_assembler.specs.Lines.{line_of}
 use Rattle.validator.specs.Typing.{ValidModule}
 use Rattle.validator.specs.Faults.{NamesFault}
-use Rattle.step_machine.specs.Instantiation.{instantiation_refusal}
 use Rattle.file_commands.specs.declared.ran.Ran.{Ran}
 use Rattle.file_commands.specs.Source.{IsSource, IsNoSource}
 use Rattle.file_commands.specs.Ran.{line, succeeded, refused}
-use Rattle.file_commands.specs.TaskRun.{Given, can_have, process_given, CannotRun}
+use Rattle.file_commands.specs.TaskRun.{Given, CannotRun, CanRun}
 
 -- ---- the list of instructions
 
@@ -31,8 +30,7 @@ abbrev mutual
   op_lines func place (loop type body) =
       instr_line func place (loop type body) ++ ops_lines func (place + 1) body
   op_lines func place (if' type then_arm else_arm) =
-      instr_line func place (if' type then_arm else_arm)
-      ++ (ops_lines func (place + 1) then_arm
+      instr_line func place (if' type then_arm else_arm) ++ (ops_lines func (place + 1) then_arm
       ++ ops_lines func (place + 1 + ops_count then_arm) else_arm)
 
   pub ops_lines : (func place : ℕ) → Ops → List ℕ
@@ -55,20 +53,16 @@ list_if list m = if list then listing m else []
 
 pub data IsChecked (bytes : List ℕ) (list : Bool) : Ran → Type 0 where
   -- the file has a valid module
-  valid :
-      (m : Module) → IsSource bytes m → ValidModule m
+  valid : (m : Module) → IsSource bytes m → ValidModule m
       → IsChecked bytes list (succeeded (line (codes "ok") ++ list_if list m))
   -- it has one that is not valid, and the place is that of a fault of it
-  invalid :
-      (m : Module) → (at : Option Place) → IsSource bytes m → NamesFault m at
+  invalid : (m : Module) → (at : Option Place) → IsSource bytes m → NamesFault m at
       → IsChecked bytes list (refused (refusal.Invalid at))
   no_module : (e : Refusal) → IsNoSource bytes e → IsChecked bytes list (refused e)
 
 -- what `check --task` writes: whether `run` could make a task of the file
 pub data IsTaskChecked (bytes : List ℕ) (g : Given) (list : Bool) : Ran → Type 0 where
-  task :
-      (m : Module) → IsSource bytes m → can_have g ≡ true → ValidModule m
-      → instantiation_refusal m (process_given g) ≡ None
+  task : (m : Module) → CanRun bytes g m
       → IsTaskChecked bytes g list (succeeded (line (codes "ok") ++ list_if list m))
   no_task : (e : Refusal) → CannotRun bytes g e → IsTaskChecked bytes g list (refused e)
 

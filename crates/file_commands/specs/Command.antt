@@ -1,5 +1,5 @@
 -- How the program's command line is read, by `clap`'s own reading of its arguments.
-use Rattle.std.specs.Prelude.{ℕ, ◌≡◌, ◌≢◌, ◌⊎◌, List, [], ◌∷◌, map, Bool, true, false, not, ◌&&◌, ◌||◌, nat_le, bytes_eq, Option, Some, None, is_some, option_map, unwrap_or, fold, codes, string_bytes}
+use Rattle.std.specs.Prelude.{ℕ, ◌≡◌, ◌≢◌, ◌⊎◌, List, [], ◌∷◌, map, Bool, true, false, not, ◌&&◌, ◌||◌, nat_le, bytes_eq, Option, Some, None, is_some, option_map, unwrap_or, fold, codes, string_bytes, IsSomeAnd}
 use Rattle.std.specs.Str.Parse.{digits_value, without_leading_plus}
 use Rattle.clap.specs.Faults.{fault_of}
 use Rattle.clap.specs.Kinds.{Kinds, IsAmong}
@@ -65,17 +65,15 @@ command_shape name rules = record (new_shape name) { rules = rules; has_version 
 
 -- the program without its commands, of which it wants one
 abbrev pub bare_program : App
-bare_program =
-    record {
-      top = record (new_shape (codes "wasm-shim"))
-          { has_version = true; subcommand_required = true };
-      subs = [];
-    }
+bare_program = record {
+  top = record (new_shape (codes "wasm-shim"))
+      { has_version = true; subcommand_required = true };
+  subs = [];
+}
 
 -- `serve [--workers N] [--explain] [--log] [--log-format FORMAT] [--caller IN:OUT]* [SCRIPT..]`
 abbrev pub serve_shape : Shape
-serve_shape =
-    command_shape (codes "serve")
+serve_shape = command_shape (codes "serve")
     (number_rule (codes "workers") 1 16 ∷ flag_rule (codes "explain") ∷ flag_rule (codes "log")
     ∷ option_rule (codes "log-format") ∷ repeated_rule (codes "caller") ∷ script_rule ∷ [])
 
@@ -89,20 +87,17 @@ asm_shape = command_shape (codes "asm") (output_rule ∷ flag_rule (codes "expla
 
 -- `check [--task [--memory BYTES]] [--list] [--explain] FILE`
 abbrev pub check_shape : Shape
-check_shape =
-    command_shape (codes "check")
+check_shape = command_shape (codes "check")
     (flag_rule (codes "task") ∷ memory_rule ∷ flag_rule (codes "list") ∷ flag_rule (codes "explain")
     ∷ file_rule ∷ [])
 
 -- `run [--env NAME=VALUE]* [--memory BYTES] [--explain] MODULE [ARG..]`
 abbrev pub run_shape : Shape
-run_shape =
-    command_shape (codes "run")
+run_shape = command_shape (codes "run")
     (repeated_rule (codes "env") ∷ memory_rule ∷ flag_rule (codes "explain") ∷ module_rule ∷ [])
 
 abbrev pub program : App
-program =
-    fold with_subcommand bare_program
+program = fold with_subcommand bare_program
     (serve_shape ∷ replay_shape ∷ asm_shape ∷ check_shape ∷ run_shape ∷ [])
 
 -- ---- what is found of the arguments of a command
@@ -154,8 +149,7 @@ IsRead name rows (Serve workers scripts callers explain log format) =
     × (texts_in (codes "caller") rows ≡ map string_bytes callers.items)
     × (has_flag (codes "explain") rows ≡ explain) × (has_flag (codes "log") rows ≡ log)
     × (first_of (codes "log-format") rows ≡ option_map string_bytes format)
-IsRead name rows (Replay file) =
-    (name ≡ codes "replay") × (file_in rows ≡ Some (string_bytes file))
+IsRead name rows (Replay file) = (name ≡ codes "replay") × (file_in rows ≡ Some (string_bytes file))
 IsRead name rows (Asm file output explain) =
     (name ≡ codes "asm") × (file_in rows ≡ Some (string_bytes file))
     × (first_of (codes "output") rows ≡ option_map string_bytes output)
@@ -173,8 +167,7 @@ IsRead name rows (Show text) = ⊥
 
 -- this is the command that was found
 abbrev pub IsCommand : Option (Text × List Row) → Command → Type 0
-IsCommand None command = ⊥
-IsCommand (Some found) command = IsRead found.0 found.1 command
+IsCommand found command = IsSomeAnd found (λ f. IsRead f.0 f.1 command)
 
 -- what is wrong with the arguments, help and version included; empty where nothing is
 abbrev pub faults_in : List Text → Kinds
@@ -196,8 +189,7 @@ is_no_count workers = not (nat_le 1 workers && nat_le workers most_workers)
 -- a serve whose workers, whose callers or whose log's format do not fit, or a check with a limit on
 -- the memory of a task that is not asked for
 abbrev pub is_unfit : Command → Bool
-is_unfit (Serve workers scripts callers explain log format) =
-    is_no_count workers
+is_unfit (Serve workers scripts callers explain log format) = is_no_count workers
     || are_unfit (map string_bytes scripts.items) (map string_bytes callers.items)
     || is_no_format (option_map string_bytes format)
 is_unfit (Check file list task memory explain) = is_some memory && not task
@@ -206,8 +198,7 @@ is_unfit other = false
 -- the arguments name this command
 abbrev pub Name : List Text → Command → Type 0
 Name arguments (Show text) = AskToShow arguments
-Name arguments command =
-    (faults_in arguments ≡ []) × IsCommand (command_in arguments) command
+Name arguments command = (faults_in arguments ≡ []) × IsCommand (command_in arguments) command
     × (is_unfit command ≡ false)
 
 -- one of the faults of the arguments is no wish for help or the version

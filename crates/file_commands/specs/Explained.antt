@@ -1,5 +1,5 @@
 -- What a command writes with `--explain`: what it writes without, and after a refusal a line that says why.
-use Rattle.std.specs.Prelude.{◌≡◌, ◌≢◌, ◌⊎◌, ℕ, List, ◌++◌, All, Bool, true, false, codes}
+use Rattle.std.specs.Prelude.{◌≡◌, ◌≢◌, ◌⊎◌, ℕ, List, ◌++◌, All, Bool, MatchBool, codes}
 use Rattle.wasm_ast.specs.declared.refusal.Refusal.{Refusal}
 use Rattle.file_commands.specs.declared.ran.Ran.{Ran}
 use Rattle.file_commands.specs.Ran.{line}
@@ -23,11 +23,9 @@ IsExplained refuse Is ran = Is ran ⊎ ((e : Refusal) × Is (refuse e) × IsTold
 
 -- with an explanation, or without
 abbrev pub IsToldBy : (explain : Bool) → (refuse : Refusal → Ran) → (Ran → Type 0) → Ran → Type 0
-IsToldBy true refuse Is = IsExplained refuse Is
-IsToldBy false refuse Is = Is
+IsToldBy explain refuse Is ran = MatchBool explain (IsExplained refuse Is ran) (Is ran)
 
 -- the output and the status of one of these, and on standard error what is there and then perhaps more
 abbrev pub AnswersAs : (Ran → Type 0) → Ran → Type 0
-AnswersAs Is ran =
-    (plain : Ran) × Is plain × (ran.out ≡ plain.out) × (ran.status ≡ plain.status)
+AnswersAs Is ran = (plain : Ran) × Is plain × (ran.out ≡ plain.out) × (ran.status ≡ plain.status)
     × ((later : List ℕ) × (ran.err ≡ plain.err ++ later))

@@ -25,7 +25,6 @@ IsPerformed (Replay file) bytes = λ ran. IsReplay bytes ran.out × (ran ≡ suc
 IsPerformed (Asm file output explain) bytes = IsToldBy explain refused (IsAssembled bytes)
 IsPerformed (Check file list task memory explain) bytes =
     IsToldBy explain refused (IsCheck task (string_bytes file) bytes list memory)
-IsPerformed (Run name args settings explain) bytes =
-    IsToldBy explain refused_run
+IsPerformed (Run name args settings explain) bytes = IsToldBy explain refused_run
     (IsRun bytes (given (string_bytes name) (map string_bytes args.items) settings))
 IsPerformed (Show text) bytes = λ ran. ran ≡ succeeded (string_bytes text)

@@ -9,7 +9,6 @@ use Rattle.file_commands.specs.declared.ran.Ran.{Ran}
 abbrev pub line : List ℕ → List ℕ
 line text = text ++ 10 ∷ []
 
--- it has done what it was asked to
 abbrev pub succeeded : (out : List ℕ) → Ran
 succeeded out = record { out = out; err = []; status = 0 }
 

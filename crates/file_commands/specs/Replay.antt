@@ -27,8 +27,7 @@ pub record IsBad (s : BoardState) (line : List ℕ) (reply : EventReply) (s' : B
 
 -- a line of a script is answered by this text
 abbrev pub IsReplied : BoardState → (line text : List ℕ) → BoardState → Type 0
-IsReplied s line text s' =
-    (reply : EventReply) × (IsPlayed s line reply s' ⊎ IsBad s line reply s')
+IsReplied s line text s' = (reply : EventReply) × (IsPlayed s line reply s' ⊎ IsBad s line reply s')
     × (text ≡ line_text (event_data reply))
 
 -- the bytes are the answers to the lines of a script, on a board of their own

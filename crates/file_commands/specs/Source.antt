@@ -19,27 +19,22 @@ is_binary (byte ∷ bytes) = nat_eq byte 0
 -- the file has this module, within the limits of the profile
 pub data IsSource (bytes : List ℕ) (m : Module) : Type 0 where
   binary : is_binary bytes ≡ true → IsSpelled bytes m → IsSource bytes m
-  text :
-      is_binary bytes ≡ false → is_utf8 bytes ≡ true → Denotes bytes m → FitsLimits m
+  text : is_binary bytes ≡ false → is_utf8 bytes ≡ true → Denotes bytes m → FitsLimits m
       → IsSource bytes m
 
 -- why a file has no module within the limits, and how that is refused
 pub data IsNoSource (bytes : List ℕ) : Refusal → Type 0 where
   -- the bytes encode no module
-  bad_module :
-      is_binary bytes ≡ true → ((m : Module) → Spells bytes m → ⊥)
+  bad_module : is_binary bytes ≡ true → ((m : Module) → Spells bytes m → ⊥)
       → IsNoSource bytes refusal.BadModule
   -- they pass a limit
   large_module : is_binary bytes ≡ true → Over bytes → IsNoSource bytes refusal.Limit
   -- they are neither in the binary format nor a text
   no_text : is_binary bytes ≡ false → is_utf8 bytes ≡ false → IsNoSource bytes (refusal.BadText 1 1)
   -- the text denotes no module; at which line and column is open
-  bad_text :
-      (line column : ℕ) → is_binary bytes ≡ false → is_utf8 bytes ≡ true
-      → ((m : Module) → Denotes bytes m → ⊥)
-      → IsNoSource bytes (refusal.BadText line column)
+  bad_text : (line column : ℕ) → is_binary bytes ≡ false → is_utf8 bytes ≡ true
+      → ((m : Module) → Denotes bytes m → ⊥) → IsNoSource bytes (refusal.BadText line column)
   -- it denotes none that fits the limits: it denotes one, or has more blocks open at one word than they allow
-  large_text :
-      is_binary bytes ≡ false → is_utf8 bytes ≡ true
+  large_text : is_binary bytes ≡ false → is_utf8 bytes ≡ true
       → ((m : Module) → Denotes bytes m → FitsLimits m → ⊥)
       → ((m : Module) × Denotes bytes m) ⊎ IsTooDeep bytes → IsNoSource bytes refusal.Limit

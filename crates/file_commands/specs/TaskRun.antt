@@ -36,11 +36,9 @@ given name words settings = record {
   limit = settings.memory;
 }
 
--- a process can have them
 abbrev pub can_have : Given → Bool
 can_have g = are_taken g.args g.env
 
--- the process that has them
 abbrev pub process_given : Given → ProcessConfig
 process_given g = process_under g.args g.env g.limit
 
@@ -51,8 +49,7 @@ pub data CannotRun (bytes : List ℕ) (g : Given) : Refusal → Type 0 where
   bad_arguments :
       (m : Module) → IsSource bytes m → can_have g ≡ false → CannotRun bytes g refusal.BadConfig
   -- the place is that of a fault of the module
-  invalid :
-      (m : Module) → (at : Option Place) → IsSource bytes m → can_have g ≡ true
+  invalid : (m : Module) → (at : Option Place) → IsSource bytes m → can_have g ≡ true
       → NamesFault m at → CannotRun bytes g (refusal.Invalid at)
   not_instantiated :
       (m : Module) (e : Refusal) → IsSource bytes m → can_have g ≡ true → ValidModule m
@@ -71,9 +68,7 @@ full_line name count =
 
 -- what is added to standard error at the end of a task that has written these outputs
 abbrev pub end_lines : (out err : List ℕ) → End → List ℕ
-end_lines out err end =
-    trap_line end
-    ++ (full_line (codes "standard output") (length out)
+end_lines out err end = trap_line end ++ (full_line (codes "standard output") (length out)
     ++ full_line (codes "standard error") (length err))
 
 -- the exit status of a task that ended so
@@ -90,21 +85,23 @@ ran_to store end = record {
   status = status_of end % 256;
 }
 
--- the file's valid module, run so, has this end after some number of turns
-pub record IsEnd (bytes : List ℕ) (g : Given) (ran : Ran) : Type 0 where
-  pub «module» : Module
+-- the module in a file can be run so
+pub record CanRun (bytes : List ℕ) (g : Given) (m : Module) : Type 0 where
+  pub source : IsSource bytes m
+  pub arguments : can_have g ≡ true
+  pub valid : ValidModule m
+  pub opens : instantiation_refusal m (process_given g) ≡ None
+
+-- the module, under the process, comes to an end after some number of turns, and this is what it leaves
+pub record HasEnded (m : Module) (p : ProcessConfig) (ran : Ran) : Type 0 where
   pub turns : ℕ
   pub end : End
-  pub source : IsSource bytes «module»
-  pub arguments : can_have g ≡ true
-  pub valid : ValidModule «module»
-  pub opens : instantiation_refusal «module» (process_given g) ≡ None
-  pub ends : ended (after «module» (process_given g) turns).state ≡ Some end
-  pub is : ran ≡ ran_to (after «module» (process_given g) turns).store end
+  pub ends : ended (after m p turns).state ≡ Some end
+  pub is : ran ≡ ran_to (after m p turns).store end
 
 -- the task runs to its end, or there is none
 pub data IsRun (bytes : List ℕ) (g : Given) : Ran → Type 0 where
-  ran : (r : Ran) → IsEnd bytes g r → IsRun bytes g r
+  ran : (m : Module) (r : Ran) → CanRun bytes g m → HasEnded m (process_given g) r → IsRun bytes g r
   no_task : (e : Refusal) → CannotRun bytes g e → IsRun bytes g (refused_run e)
 
 -- to two streams is appended what one `Ran` of these writes, and the status is its own

@@ -15,8 +15,8 @@ ghost use Rattle.step_machine.specs.MachineView.{state_of, output_of};
 ghost use Rattle.file_commands.specs.Command.{repeated_rule, module_rule, run_shape, module_in, texts_in, number_in, IsRead};
 ghost use Rattle.file_commands.specs.Ran.{line, refused_run};
 ghost use Rattle.file_commands.specs.Explained.{IsExplained, IsToldBy};
-ghost use Rattle.file_commands.specs.TaskRun.{given, can_have, process_given, trap_line, full_line, end_lines, CannotRun, IsRun, IsWritten, status_of};
-ghost use Rattle.file_commands.specs.Inside.Written.{CannotStart, IsOpened, HasEnded};
+ghost use Rattle.file_commands.specs.TaskRun.{given, can_have, process_given, trap_line, full_line, end_lines, CannotRun, IsRun, IsWritten, status_of, HasEnded};
+ghost use Rattle.file_commands.specs.Inside.Written.{CannotStart, IsOpened};
 ghost use Rattle.file_commands.specs.Inside.Chosen.{Has, IsNumberIn, IsComplete};
 
 use crate::arguments::{

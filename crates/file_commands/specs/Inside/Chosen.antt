@@ -1,5 +1,5 @@
 -- What the parts of the command line's reader promise.
-use Rattle.std.specs.Prelude.{◌≡◌, ◌≢◌, ◌⊎◌, List, [], ◌∷◌, Bool, true, bytes_eq, codes, Option, Some, None}
+use Rattle.std.specs.Prelude.{◌≡◌, ◌≢◌, ◌⊎◌, List, [], ◌∷◌, Bool, true, bytes_eq, codes, Option, Some, IsSomeAnd}
 use Rattle.std.specs.List.{list_any}
 use Rattle.clap.specs.Simple.{Shape}
 use Rattle.clap.specs.ValueTests.{is_unsigned_in}
@@ -31,8 +31,7 @@ reads_file name = list_any (bytes_eq name) (codes "replay" ∷ codes "asm" ∷ c
 
 -- of the command of this name its file or module is there, and its numbers are some
 abbrev pub IsComplete : (name : Text) → List Row → Type 0
-IsComplete name rows =
-    (reads_file name ≡ true → Has (codes "FILE") rows)
+IsComplete name rows = (reads_file name ≡ true → Has (codes "FILE") rows)
     × (bytes_eq name (codes "run") ≡ true → Has (codes "MODULE") rows)
     × IsNumberIn rows (codes "workers") × IsNumberIn rows (codes "memory")
 
@@ -69,5 +68,4 @@ is_row_name rows name = list_any (λ r. bytes_eq (row_shape r).name name) rows
 
 -- a command was found, and is complete
 abbrev pub IsFound : Option (Text × List Row) → Type 0
-IsFound None = ⊥
-IsFound (Some found) = (is_row_name rows found.0 ≡ true) × IsComplete found.0 found.1
+IsFound found = IsSomeAnd found (λ f. (is_row_name rows f.0 ≡ true) × IsComplete f.0 f.1)

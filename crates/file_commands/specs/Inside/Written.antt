@@ -1,5 +1,5 @@
 -- What the parts of the commands promise.
-use Rattle.std.specs.Prelude.{◌≡◌, ℕ, ◌≤◌, List, length, take, Bool, true, false, Option, None, Some}
+use Rattle.std.specs.Prelude.{◌≡◌, ℕ, ◌≤◌, List, length, take, Bool, Option, Some, MatchBool}
 use Rattle.std.specs.Io.KnownBytes.{Appends}
 use Rattle.wasm_ast.specs.declared.module.Module.{Module}
 use Rattle.wasm_ast.specs.declared.place.Place.{Place}
@@ -11,13 +11,12 @@ use Rattle.text_assembler.specs.Lines.{HasAlignment}
 use Rattle.validator.specs.Typing.{ValidModule}
 use Rattle.validator.specs.Faults.{NamesFault}
 use Rattle.oci_config.specs.declared.process.ProcessConfig.{ProcessConfig}
-use Rattle.step_machine.specs.declared.ends.End.{End}
-use Rattle.step_machine.specs.Instantiation.{instantiation_refusal, after, ended}
+use Rattle.step_machine.specs.Instantiation.{instantiation_refusal}
 use Rattle.step_machine.specs.MachineView.{MachineView}
 use Rattle.file_commands.specs.declared.ran.Ran.{Ran}
 use Rattle.file_commands.specs.Explained.{IsToldWhy}
 use Rattle.file_commands.specs.Source.{IsSource, IsNoSource}
-use Rattle.file_commands.specs.TaskRun.{Given, can_have, process_given, ran_to}
+use Rattle.file_commands.specs.TaskRun.{Given, process_given, CanRun}
 
 -- why `asm` is refused
 pub data CannotAssemble (bytes : List ℕ) : Refusal → Type 0 where
@@ -28,8 +27,7 @@ pub data CannotAssemble (bytes : List ℕ) : Refusal → Type 0 where
 -- why `check` is refused
 pub data CannotCheck (bytes : List ℕ) : Refusal → Type 0 where
   no_module : (e : Refusal) → IsNoSource bytes e → CannotCheck bytes e
-  invalid :
-      (m : Module) → (at : Option Place) → IsSource bytes m → NamesFault m at
+  invalid : (m : Module) → (at : Option Place) → IsSource bytes m → NamesFault m at
       → CannotCheck bytes (refusal.Invalid at)
 
 -- the exponents of alignments are below 32, inside blocks too
@@ -52,23 +50,12 @@ pub data CannotStart (m : Module) (p : ProcessConfig) : Refusal → Type 0 where
 
 -- the machine runs the module in a file with what the task is given
 pub record IsOpened (bytes : List ℕ) (g : Given) (v : MachineView) : Type 0 where
-  pub source : IsSource bytes v.module
-  pub arguments : can_have g ≡ true
-  pub valid : ValidModule v.module
-  pub opens : instantiation_refusal v.module (process_given g) ≡ None
+  pub runs : CanRun bytes g v.module
   pub process : v.process ≡ process_given g
-
--- the module, under the process, comes to an end after some number of turns, and this is what it leaves
-pub record HasEnded (m : Module) (p : ProcessConfig) (ran : Ran) : Type 0 where
-  pub turns : ℕ
-  pub end : End
-  pub ends : ended (after m p turns).state ≡ Some end
-  pub is : ran ≡ ran_to (after m p turns).store end
 
 -- the same, or with the line of some reason if an explanation is wanted
 abbrev pub IsTold : (explain : Bool) → (plain ran : Ran) → Type 0
-IsTold true plain ran = IsToldWhy plain ran
-IsTold false plain ran = ran ≡ plain
+IsTold explain plain ran = MatchBool explain (IsToldWhy plain ran) (ran ≡ plain)
 
 -- of a stream, the first bytes, of this number, were appended to what a writer holds
 abbrev pub IsCopied : (stream : List ℕ) → (count : ℕ) → (old new : Option (List ℕ)) → Type 0

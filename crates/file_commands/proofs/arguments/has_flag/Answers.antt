@@ -9,5 +9,4 @@ returns-in-Some c =
     sym (c.eq.ensures ∙ ap is_set (c.in-Some.ensures ∙ first_value-rows (found_of c.args.found.now) c.args.name.now))
 
 pub returns-in-None : goal.returns-in-None
-returns-in-None c =
-    sym (ap is_set (c.in-None.ensures ∙ first_value-rows (found_of c.args.found.now) c.args.name.now))
+returns-in-None c = sym (ap is_set (c.in-None.ensures ∙ first_value-rows (found_of c.args.found.now) c.args.name.now))

@@ -7,8 +7,7 @@ pub returns-in-Ok : goal.returns-in-Ok
 returns-in-Ok g c =
     run_written c.args.bytes.now
     (given c.args.name.now (map string_bytes c.args.args.now) c.args.settings.now) c.args.explain c.in-Ok.machine
-    c.run_task.result
-    (g.O.Write.contents c.args.out.now) (g.O.Write.contents c.run_task.new.out)
+    c.run_task.result (g.O.Write.contents c.args.out.now) (g.O.Write.contents c.run_task.new.out)
     (g.E.Write.contents c.args.err.now) (g.E.Write.contents c.run_task.new.err)
     c.in-Ok.ensures.ok c.run_task.ensures
 

@@ -16,8 +16,7 @@ returns-clause-fewer c =
     let v = c.args.machine.now in
     let bs = c.args.none.now in
     let early : v.turns < last_turn = c.turns_are_limited.ensures v.module v.process v.turns c.requires in
-    let some :
-    1 ≤ turns_made v.module v.process v.turns bs 1000000 =
+    let some : 1 ≤ turns_made v.module v.process v.turns bs 1000000 =
     c.slices_go_forward.ensures.at_least v.module v.process v.turns bs 1000000 c.requires (omega arith) in
     let made = ap (λ (w : MachineView). w.turns) c.run.ensures.turns in
     omega (arith, early, some, made)

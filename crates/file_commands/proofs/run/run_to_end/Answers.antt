@@ -18,12 +18,10 @@ write_new-requires-clause-out g c = c.loop-machine.invariant.out.0
 pub write_new-requires-clause-err : goal.write_new-requires-clause-err
 write_new-requires-clause-err g c = c.loop-machine.invariant.err.0
 
-pub returns-in_err-write_new-clause-same_module :
-    goal.returns-in_err-write_new-clause-same_module
+pub returns-in_err-write_new-clause-same_module : goal.returns-in_err-write_new-clause-same_module
 returns-in_err-write_new-clause-same_module g c = c.loop-machine.invariant.same_module
 
-pub returns-in_err-write_new-clause-same_process :
-    goal.returns-in_err-write_new-clause-same_process
+pub returns-in_err-write_new-clause-same_process : goal.returns-in_err-write_new-clause-same_process
 returns-in_err-write_new-clause-same_process g c = c.loop-machine.invariant.same_process
 
 pub returns-in-Some-clause-same_module : goal.returns-in-Some-clause-same_module

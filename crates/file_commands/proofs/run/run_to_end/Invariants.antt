@@ -9,10 +9,8 @@ abbrev pub invariant-loop-machine : goal.invariant-loop-machine
 invariant-loop-machine g l = record {
   same_module : l.machine.module ≡ l.fn.machine.module;
   same_process : l.machine.process ≡ l.fn.machine.process;
-  out : IsCopied (output_of l.machine Out) l.written.out
-      (g.O.Write.contents l.fn.out) (g.O.Write.contents l.out);
-  err : IsCopied (output_of l.machine Err) l.written.err
-      (g.E.Write.contents l.fn.err) (g.E.Write.contents l.err);
+  out : IsCopied (output_of l.machine Out) l.written.out (g.O.Write.contents l.fn.out) (g.O.Write.contents l.out);
+  err : IsCopied (output_of l.machine Err) l.written.err (g.E.Write.contents l.fn.err) (g.E.Write.contents l.err);
 }
 
 -- the turns that are left
