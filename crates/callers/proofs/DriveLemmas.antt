@@ -1,13 +1,11 @@
 -- The lines of a caller, and their answers.
-use Rattle.std.proofs.Common.{suc, Result, ◌≡◌, ℕ, ◌<◌, ◌≤◌, length, List, [], ◌∷◌, ◌++◌, Option, None, Some, Ok, Err, Bool, true, false, inl, inr, arith, append_assoc, sym, ap, ◌∙◌, refl, subst}
-use Rattle.std.specs.Prelude.{MatchBool}
+use Rattle.std.proofs.Common.{suc, Result, ◌≡◌, ℕ, ◌<◌, ◌≤◌, length, List, [], ◌∷◌, ◌++◌, Option, None, Some, Ok, Err, Bool, false, inl, inr, arith, append_assoc, sym, ap, ◌∙◌, refl, subst}
 use Rattle.std.proofs.Math.Nat.{lt_of_not-le}
 use Rattle.std.proofs.KnownBytes.{Appends-trans, Appends-kept}
-use Rattle.std.specs.Io.KnownBytes.{Appends, Consumes, IsAtEnd, prepend_known}
+use Rattle.std.specs.Io.KnownBytes.{Appends, Consumes, prepend_known}
 use Rattle.std.proofs.lemmas.List.{append-nil}
 use Rattle.wasm_ast.specs.declared.refusal.Refusal.{Refusal}
 use Rattle.task_requests.specs.declared.request.Request.{Request}
-use Rattle.task_board.specs.Step.{Answer}
 use Rattle.request_lines.specs.declared.line_error.LineError.{LineError}
 use Rattle.request_lines.specs.declared.line_error.LineError.TheVariants.{NoRequest, OutOfMemory}
 use Rattle.request_lines.specs.declared.line_reader.Stop.{Stop}
@@ -18,29 +16,19 @@ use Rattle.request_lines.specs.Inside.Parse.{refusal_of}
 use Rattle.request_lines.specs.Input.{IsKept, TakesLine, TakesPart}
 use Rattle.request_lines.specs.Lines.{lines_of, joined}
 use Rattle.request_lines.specs.Session.{Session}
-use Rattle.call_journal.specs.Books.{is_journalled}
 use Rattle.call_journal.specs.Fronts.{Begins}
-use Rattle.call_journal.specs.Seats.{Known, Extends}
+use Rattle.call_journal.specs.Seats.{Known}
 use Rattle.callers.specs.declared.caller.Driven.{Driven}
 use Rattle.callers.specs.declared.caller.Driven.TheVariants as driven
 use Rattle.callers.specs.declared.caller.WriteError.{WriteError}
 use Rattle.callers.specs.declared.caller.WriteError.TheVariants as why
-use Rattle.callers.specs.Answered.{IsCall, IsAnswered, IsServed}
-use Rattle.callers.specs.Driving.{HaveLines, BeginWithLines, AllButLast, Drives, IsTold, fed}
+use Rattle.callers.specs.Answered.{IsAnswered, IsServed}
+use Rattle.callers.specs.Driving.{BeginWithLines, AllButLast, Drives, IsTold, fed}
 use Rattle.request_lines.proofs.LineLemmas.{consumes_more}
 use Rattle.callers.specs.Inside.Ends.{of_read, of_write}
 use Rattle.callers.specs.Inside.Writing.{Writes}
 
 -- ---- one line
-
--- a call that was journalled, or changed nothing
-either_way : (b : Bool) (X Y : Type 0) → (b ≡ true → X) → (b ≡ false → Y) → MatchBool b X Y
-either_way true X Y f g = f refl
-either_way false X Y f g = g refl
-
-pub is_call : (was now : Known) (r : Request) (a : Answer) → (is_journalled a ≡ true → Extends was now r a)
-    → (is_journalled a ≡ false → now ≡ was) → IsCall was now r a
-is_call was now r a called same = either_way (is_journalled a) (Extends was now r a) (now ≡ was) called same
 
 -- the bytes of a line that is kept are the line
 pub kept_whole : (kept : Option (List ℕ)) (bytes line : List ℕ) → Some bytes ≡ kept → IsKept kept line → bytes ≡ line
@@ -48,8 +36,7 @@ kept_whole None bytes line e h = cc
 kept_whole (Some k) bytes line e h = cc
 
 -- a line that could not be read
-pub answered_unread :
-    (was : Known) (line : List ℕ) (e : LineError) (x : Refusal) → x ≡ refusal_of e
+pub answered_unread : (was : Known) (line : List ℕ) (e : LineError) (x : Refusal) → x ≡ refusal_of e
     → (e ≡ NoRequest → (r : Request) → IsRequest line r → ⊥)
     → (e ≡ OutOfMemory → length line ≤ max_line_bytes) → IsAnswered was line (Err x) was
 answered_unread was line NoRequest x is none short =
@@ -64,10 +51,8 @@ one_error : {X : Type 0} (r : Result X LineError) → r ≡ Err NoRequest → r 
 one_error r none memory = cc
 
 -- a line that is refused for lack of memory is not too long
-pub short_unless_long :
-    {X : Type 0} (line : List ℕ) (r : Result X LineError) (e : LineError)
-    → (max_line_bytes < length line → r ≡ Err NoRequest) → r ≡ Err e → e ≡ OutOfMemory
-    → length line ≤ max_line_bytes
+pub short_unless_long : {X : Type 0} (line : List ℕ) (r : Result X LineError) (e : LineError)
+    → (max_line_bytes < length line → r ≡ Err NoRequest) → r ≡ Err e → e ≡ OutOfMemory → length line ≤ max_line_bytes
 short_unless_long line r e long was memory = not_longer (λ longer. one_error r (long longer) (was ∙ ap Err memory))
 
 -- ---- many lines
@@ -104,8 +89,7 @@ prepend_none : (known : Option (List ℕ)) → known ≡ prepend_known [] known
 prepend_none None = refl
 prepend_none (Some xs) = refl
 
-pub driving_none :
-    (was : Known) (at_end : Bool) (input before : Option (List ℕ)) (chunk : List ℕ) → chunk ≡ []
+pub driving_none : (was : Known) (at_end : Bool) (input before : Option (List ℕ)) (chunk : List ℕ) → chunk ≡ []
     → Driving was at_end input (prepend_known chunk input) before before was
 driving_none was at_end input before chunk empty = record {
   lines = [];
@@ -120,8 +104,7 @@ driving_none was at_end input before chunk empty = record {
   appended = appends_none before;
 }
 
-takes_more :
-    (input left next : Option (List ℕ)) (lines : List (List ℕ)) (line : List ℕ) → TakesLines input left lines
+takes_more : (input left next : Option (List ℕ)) (lines : List (List ℕ)) (line : List ℕ) → TakesLines input left lines
     → TakesLine left next line → TakesLines input next (lines ++ line ∷ [])
 takes_more None left next lines line h g = tt
 takes_more (Some xs) None next lines line h g = absurd h
@@ -133,8 +116,7 @@ joined_more : (texts : List (List ℕ)) (text : List ℕ) → joined (texts ++ t
 joined_more [] text = append-nil text
 joined_more (t ∷ texts) text = ap (λ r. t ++ r) (joined_more texts text) ∙ sym (append_assoc t (joined texts) text)
 
-appends_more :
-    (old now next : Option (List ℕ)) (texts : List (List ℕ)) (text : List ℕ) → Appends old now (joined texts)
+appends_more : (old now next : Option (List ℕ)) (texts : List (List ℕ)) (text : List ℕ) → Appends old now (joined texts)
     → Appends now next text → Appends old next (joined (texts ++ text ∷ []))
 appends_more old now next texts text h g =
     subst (Appends old next) (sym (joined_more texts text)) (Appends-trans old now next (joined texts) text h g)
@@ -151,8 +133,7 @@ whole_more input left next lines line h g =
     subst (Consumes input next) (sym (fed_more lines line))
     (consumes_more input left next (fed lines) (line ++ 10 ∷ []) h g)
 
-session_more :
-    (was : Known) (lines texts : List (List ℕ)) (mid : Known) (line text : List ℕ) (now : Known)
+session_more : (was : Known) (lines texts : List (List ℕ)) (mid : Known) (line text : List ℕ) (now : Known)
     → Session IsServed was lines texts mid → IsServed mid line text now
     → Session IsServed was (lines ++ line ∷ []) (texts ++ text ∷ []) now
 session_more was [] [] mid line text now h g = (now, subst (λ m. IsServed m line text now) h g, refl)
@@ -163,10 +144,8 @@ session_more was (l ∷ lines) (t ∷ texts) mid line text now h g =
 
 pub driving_more :
     (was : Known) (was_end at_end : Bool) (input left next before writes after : Option (List ℕ)) (mid now : Known)
-    (line text : List ℕ)
-    → Driving was was_end input left before writes mid → was_end ≡ false → TakesLine left next line
-    → (at_end ≡ false → Consumes left next (line ++ 10 ∷ [])) → IsServed mid line text now
-    → Appends writes after text
+    (line text : List ℕ) → Driving was was_end input left before writes mid → was_end ≡ false → TakesLine left next line
+    → (at_end ≡ false → Consumes left next (line ++ 10 ∷ [])) → IsServed mid line text now → Appends writes after text
     → Driving was at_end input next before after now
 driving_more was was_end at_end input left next before writes after mid now line text d live takes whole served
     appends = record {
@@ -179,12 +158,6 @@ driving_more was was_end at_end input left next before writes after mid now line
     }
 
 -- ---- ends
-
-have_all : (input left : Option (List ℕ)) (lines : List (List ℕ)) → TakesLines input left lines → IsAtEnd left
-    → HaveLines input lines
-have_all None left lines h end = tt
-have_all (Some xs) None lines h end = absurd h
-have_all (Some xs) (Some ys) lines h end = h ∙ (ap (λ r. lines ++ lines_of r) end ∙ append-nil lines)
 
 begin_with : (input left : Option (List ℕ)) (lines : List (List ℕ)) → TakesLines input left lines
     → BeginWithLines input lines
@@ -208,16 +181,6 @@ drives_none was input left before = record {
   read = no_lines input;
   session = refl;
   written = ([], all_written [], appends_none before);
-}
-
-pub drives_end : (was : Known) (at_end : Bool) (input left rest before after : Option (List ℕ)) (now : Known)
-    → Driving was at_end input left before after now → IsAtEnd left → Drives driven.End was now input rest before after
-drives_end was at_end input left rest before after now d end = record {
-  lines = d.lines;
-  texts = d.texts;
-  read = have_all input left d.lines d.read end;
-  session = d.session;
-  written = d.appended;
 }
 
 pub drives_read_fault : (was : Known) (at_end : Bool) (input left rest before after : Option (List ℕ)) (now : Known)
@@ -252,13 +215,11 @@ begins_joined : (texts : List (List ℕ)) (text front : List ℕ) → Begins fro
     → Begins (joined texts ++ front) (joined (texts ++ text ∷ []))
 begins_joined texts text front begins = (
   begins.0,
-  append_assoc (joined texts) front begins.0
-      ∙ (ap (λ r. joined texts ++ r) begins.1 ∙ sym (joined_more texts text)),
+  append_assoc (joined texts) front begins.0 ∙ (ap (λ r. joined texts ++ r) begins.1 ∙ sym (joined_more texts text)),
 )
 
 -- the same, by how the lines end
-pub drives_stopped :
-    (was : Known) (at_end : Bool) (input left rest before after : Option (List ℕ)) (now : Known)
+pub drives_stopped : (was : Known) (at_end : Bool) (input left rest before after : Option (List ℕ)) (now : Known)
     (e : Stop) (how : Driven)
     → Driving was at_end input left before after now → (e ≡ stop.Stream → (at_end ≡ false) × TakesPart left rest)
     → how ≡ of_read e → Drives how was now input rest before after
@@ -271,8 +232,7 @@ pub drives_unwritten :
     (was : Known) (at_end : Bool) (input left next rest before writes after : Option (List ℕ)) (mid now : Known)
     (line text : List ℕ) (e : WriteError)
     → Driving was at_end input left before writes mid → TakesLine left next line → IsServed mid line text now
-    → Writes (Err e) text writes after
-    → Drives (of_write e) was now input rest before after
+    → Writes (Err e) text writes after → Drives (of_write e) was now input rest before after
 drives_unwritten was at_end input left next rest before writes after mid now line text why.Stream d takes served
     wrote = record {
       lines = d.lines ++ line ∷ [];
@@ -323,8 +283,7 @@ pub drives_after :
     (was : Known) (was_end at_end : Bool) (input left next rest before writes after kept kept' : Option (List ℕ))
     (mid now : Known) (r : Result Unit WriteError) (e : WriteError) (how : Driven)
     → Driving was was_end input left before writes mid → Came at_end kept left next → kept' ≡ kept
-    → Served kept' mid now r writes after → r ≡ Err e → how ≡ of_write e
-    → Drives how was now input rest before after
+    → Served kept' mid now r writes after → r ≡ Err e → how ≡ of_write e → Drives how was now input rest before after
 drives_after was was_end at_end input left next rest before writes after kept kept' mid now r e how d came same served
     is ends =
     let line = served_line at_end kept kept' left next writes after mid now r came same served in
@@ -336,8 +295,7 @@ pub driving_after :
     (was : Known) (was_end at_end : Bool) (input left next before writes after kept kept' : Option (List ℕ))
     (mid now : Known) (r : Result Unit WriteError) (done : Unit)
     → Driving was was_end input left before writes mid → was_end ≡ false → Came at_end kept left next → kept' ≡ kept
-    → Served kept' mid now r writes after → r ≡ Ok done
-    → Driving was at_end input next before after now
+    → Served kept' mid now r writes after → r ≡ Ok done → Driving was at_end input next before after now
 driving_after was was_end at_end input left next before writes after kept kept' mid now r done d live came same served
     is =
     let line = served_line at_end kept kept' left next writes after mid now r came same served in
@@ -345,13 +303,6 @@ driving_after was was_end at_end input left next before writes after kept kept' 
     line.1 (subst (λ x. Writes x line.0 writes after) is line.2)
 
 -- ---- faults
-
-told_of_read : (e : Stop) (X Y : Type 0) → (e ≡ stop.Stream → X) → IsTold (of_read e) X Y
-told_of_read stop.Stream X Y h = h refl
-told_of_read stop.OutOfMemory X Y h = tt
-
-pub told_unread : (e : Stop) (how : Driven) (X Y : Type 0) → how ≡ of_read e → (e ≡ stop.Stream → X) → IsTold how X Y
-told_unread e how X Y is h = subst (λ d. IsTold d X Y) (sym is) (told_of_read e X Y h)
 
 told_of_write : (e : WriteError) (X Y : Type 0) → (e ≡ why.Stream → Y) → IsTold (of_write e) X Y
 told_of_write why.Stream X Y h = h refl

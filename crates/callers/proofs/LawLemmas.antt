@@ -16,10 +16,8 @@ use Rattle.call_journal.specs.Seats.{Known}
 use Rattle.callers.specs.Answered.{IsAnswered, IsDue, IsServed}
 use Rattle.callers.specs.Driving.{AllButLast}
 
-pub long_refused :
-    (was : Known) (line : List ℕ) (a : Answer) (now : Known) → max_line_bytes < length line
-    → IsAnswered was line a now
-    → (a ≡ Err refusal.BadRequest) × (now ≡ was)
+pub long_refused : (was : Known) (line : List ℕ) (a : Answer) (now : Known) → max_line_bytes < length line
+    → IsAnswered was line a now → (a ≡ Err refusal.BadRequest) × (now ≡ was)
 long_refused was line a now long (inl p) = let short = p.is.reads.short in absurd (omega arith)
 long_refused was line a now long (inr (inl p)) = (p.refused, p.same)
 long_refused was line a now long (inr (inr p)) = let short = p.short in absurd (omega arith)
@@ -28,8 +26,7 @@ abbrev request_of : Request → Event → Request
 request_of other (Call r) = r
 request_of other _ = other
 
-pub never_busy :
-    ((line : List ℕ) (x y : Event) → IsEvent line x → IsEvent line y → x ≡ y)
+pub never_busy : ((line : List ℕ) (x y : Event) → IsEvent line x → IsEvent line y → x ≡ y)
     → ((line : List ℕ) (r : Request) → IsRequest line r ↔ IsEvent line (Call r))
     → (was : Known) (line : List ℕ) (a : Answer) (now : Known) (id : List ℕ)
     → IsAnswered was line a now → IsRequest line (Task id Wait) → a ≢ Err refusal.Busy
@@ -54,13 +51,11 @@ some_lines was line lines [] now s = absurd s
 some_lines was line lines (text ∷ rest) now s = (text, rest, s.0, refl, s.1, s.2)
 
 pub all_or_but_one : (before after : List ℕ) (texts written : List (List ℕ)) → AllButLast texts written
-    → after ≡ before ++ joined written
-    → (after ≡ before ++ joined texts)
+    → after ≡ before ++ joined written → (after ≡ before ++ joined texts)
     ⊎ ((all : List (List ℕ)) × (last : List ℕ) × (texts ≡ all ++ last ∷ []) × (after ≡ before ++ joined all))
 all_or_but_one before after texts written b is = but_one b.last b.one b.joins
   where
-    but_one : (last : List (List ℕ)) → length last ≤ 1 → written ++ last ≡ texts
-        → (after ≡ before ++ joined texts)
+    but_one : (last : List (List ℕ)) → length last ≤ 1 → written ++ last ≡ texts → (after ≡ before ++ joined texts)
         ⊎ ((all : List (List ℕ)) × (last : List ℕ) × (texts ≡ all ++ last ∷ []) × (after ≡ before ++ joined all))
     but_one [] few joins = inl (is ∙ ap (λ ts. before ++ joined ts) (sym (append-nil written) ∙ joins))
     but_one (x ∷ []) few joins = inr (written, x, sym joins, is)

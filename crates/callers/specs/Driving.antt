@@ -1,5 +1,5 @@
 -- What is answered to the lines of a stream.
-use Rattle.std.specs.Prelude.{◌≡◌, ◌≤◌, ◌++◌, ℕ, List, [], ◌∷◌, length, Option, None, Some}
+use Rattle.std.specs.Prelude.{◌≡◌, ◌≤◌, ◌++◌, ℕ, List, [], ◌∷◌, length, Option, IfSome}
 use Rattle.std.specs.Io.KnownBytes.{Appends, Consumes}
 use Rattle.request_lines.specs.Input.{HasNoFeed}
 use Rattle.request_lines.specs.Lines.{lines_of, joined}
@@ -12,13 +12,11 @@ use Rattle.callers.specs.Answered.{IsServed}
 
 -- the known bytes have these lines
 abbrev pub HaveLines : Option (List ℕ) → List (List ℕ) → Type 0
-HaveLines None lines = Unit {0}
-HaveLines (Some bytes) lines = lines_of bytes ≡ lines
+HaveLines known lines = IfSome known (λ bytes. lines_of bytes ≡ lines)
 
 -- the known bytes begin with these lines
 abbrev pub BeginWithLines : Option (List ℕ) → List (List ℕ) → Type 0
-BeginWithLines None lines = Unit {0}
-BeginWithLines (Some bytes) lines = Begins lines (lines_of bytes)
+BeginWithLines known lines = IfSome known (λ bytes. Begins lines (lines_of bytes))
 
 -- the lines, each with its line feed
 abbrev pub fed : List (List ℕ) → List ℕ
@@ -45,8 +43,7 @@ pub record AllButLast (texts written : List (List ℕ)) : Type 0 where
 
 -- What was written of the texts of the answers: all of them. If the writer failed, a beginning; if memory ran
 -- out for a text, those before it
-abbrev pub AreWritten :
-    Driven → (before after : Option (List ℕ)) → (texts : List (List ℕ)) → Type 0
+abbrev pub AreWritten : Driven → (before after : Option (List ℕ)) → (texts : List (List ℕ)) → Type 0
 AreWritten driven.WriteFault before after texts =
     (bytes : List ℕ) × Begins bytes (joined texts) × Appends before after bytes
 AreWritten driven.NoMemory before after texts =

@@ -3,7 +3,7 @@
 ghost use Rattle.std.specs.Prelude.{◌≡◌, ◌++◌, [], ⊤, option_map, Some, IfSome, IfOk};
 ghost use Rattle.std.specs.Thread.{IsSend, IsSync};
 ghost use Rattle.callers.specs.Driving.{Drives, IsTold};
-ghost use Rattle.callers.specs.Pairs.{Each};
+ghost use Rattle.std.specs.List.{AllZip};
 
 use crate::caller::{Driven, drive};
 use crate::notes::Notes;
@@ -108,7 +108,7 @@ pub fn answer_all<
     shim: &Shim<J>,
     callers: Vec<Caller<J, R, N>>,
 ) -> Result<Vec<Option<Answered<J, R, N>>>, AllocError>
-    ensures { IfOk result (λ all. Each
+    ensures { IfOk result (λ all. AllZip
         (λ c a. IfSome a (λ a. Drives a.driven c.seat a.caller.seat (R.remaining c.reader)
         (R.remaining a.caller.reader) (Some []) (Some a.replies.items)
         × IsTold a.driven (R.has_failed a.caller.reader) ⊤))
@@ -119,7 +119,7 @@ pub fn answer_all<
         rt,
         move |scope| -> Result<Vec<Option<Answered<J, R, N>>>, AllocError>
             requires { IsSend J.row × IsSync J.row × IsSync H.row × IsSend R.row × IsSend N.row }
-            ensures { IfOk result (λ all. Each
+            ensures { IfOk result (λ all. AllZip
                 (λ c a. IfSome a (λ a. Drives a.driven c.seat a.caller.seat (R.remaining c.reader)
                 (R.remaining a.caller.reader) (Some []) (Some a.replies.items)
                 × IsTold a.driven (R.has_failed a.caller.reader) ⊤))

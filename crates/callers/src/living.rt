@@ -2,7 +2,7 @@
 
 ghost use Rattle.std.specs.Prelude.{◌≡◌, IfOk};
 ghost use Rattle.callers.specs.Driving.{Drives, IsTold};
-ghost use Rattle.callers.specs.Pairs.{Each};
+ghost use Rattle.std.specs.List.{AllZip};
 
 use crate::caller::{Driven, drive};
 use crate::flight::InFlight;
@@ -109,7 +109,7 @@ fn start_all<
     callers: Vec<LiveCaller<J, R, W, N>>,
 ) -> Result<Vec<Thread<J, R, W, N>>, StartError>
     ensures { IfOk result
-        (λ all. Each (λ c t. t.promise.caller.value ≡ c) callers.items all.items) }
+        (λ all. AllZip (λ c t. t.promise.caller.value ≡ c) callers.items all.items) }
 {
     let mut threads = Vec::with_capacity(alloc, callers.len())?;
     for caller in callers {
@@ -153,7 +153,7 @@ pub fn answer_live<
     ensures told { IfOk result (λ p. IsTold p.0.driven (R.has_failed p.0.caller.value.reader)
         (W.has_failed p.0.caller.value.writer)) }
     ensures others { IfOk result
-        (λ p. Each (λ c t. t.promise.caller.value ≡ c) others.items p.1.items) }
+        (λ p. AllZip (λ c t. t.promise.caller.value ≡ c) others.items p.1.items) }
 {
     let threads = start_all(rt, alloc, shim, flight, others)?;
     let ended = answer_and_report(&rt, alloc, shim, flight, owner);

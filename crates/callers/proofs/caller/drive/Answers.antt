@@ -26,8 +26,7 @@ returns-in-Err-clause-lines g c =
 
 pub returns-in-Err-written-clause-lines : goal.returns-in-Err-written-clause-lines
 returns-in-Err-written-clause-lines g c =
-    drives_after c.args.seat c.loop-spare.lines.at_end c.next.new.self.at_end
-    (g.R.Source.remaining c.args.reader.now)
+    drives_after c.args.seat c.loop-spare.lines.at_end c.next.new.self.at_end (g.R.Source.remaining c.args.reader.now)
     (prepend_known c.loop-spare.lines.chunk (g.R.Source.remaining c.loop-spare.reader))
     (prepend_known c.next.new.self.chunk (g.R.Source.remaining c.next.new.reader))
     (g.R.Source.remaining c.next.new.reader)
@@ -45,8 +44,7 @@ returns-in-Err-written-clause-told g c =
 pub loop-spare-preserved : goal.loop-spare-preserved
 loop-spare-preserved g c = (
   c.in-Ok-true.ensures.ends,
-  driving_after c.args.seat c.loop-spare.lines.at_end c.next.new.self.at_end
-      (g.R.Source.remaining c.args.reader.now)
+  driving_after c.args.seat c.loop-spare.lines.at_end c.next.new.self.at_end (g.R.Source.remaining c.args.reader.now)
       (prepend_known c.loop-spare.lines.chunk (g.R.Source.remaining c.loop-spare.reader))
       (prepend_known c.next.new.self.chunk (g.R.Source.remaining c.next.new.reader))
       (g.W.Sink.contents c.args.writer.now) (g.W.Sink.contents c.loop-spare.writer)

@@ -6,7 +6,7 @@ use Rattle.call_journal.proofs.SentShim.{shim_send, shim_sync}
 use Rattle.callers.proofs.flight.InFlight.TheSendSync as flight
 use Rattle.callers.proofs.living.LiveCaller.TheSendSync as caller
 use Rattle.std.proofs.Common.{◌≡◌, refl, sym, subst, ap, ◌∙◌, ◌++◌, [], ◌∷◌, append_assoc}
-use Rattle.callers.specs.Pairs.{Each}
+use Rattle.std.specs.List.{AllZip}
 use Rattle.callers.proofs.PairLemmas.{each-more, passed-all}
 use Rattle.callers.proofs.living.start_all.Goals as goal
 
@@ -14,7 +14,7 @@ pub loop-caller-init : goal.loop-caller-init
 loop-caller-init g c = (
   [],
   refl,
-  subst (λ ts. Each (λ c' t. t.promise.caller.value ≡ c') [] ts) (sym c.in_ok-threads.ensures.items) tt,
+  subst (λ ts. AllZip (λ c' t. t.promise.caller.value ≡ c') [] ts) (sym c.in_ok-threads.ensures.items) tt,
 )
 
 pub loop-caller-preserved : goal.loop-caller-preserved
@@ -32,7 +32,7 @@ loop-caller-preserved g c =
 pub returns : goal.returns
 returns g c =
     let outer = c.loop-caller.invariant in
-    subst (λ xs. Each (λ c' t. t.promise.caller.value ≡ c') xs c.loop-caller.threads.items)
+    subst (λ xs. AllZip (λ c' t. t.promise.caller.value ≡ c') xs c.loop-caller.threads.items)
     (passed-all outer.0 c.loop-caller.caller-iterator.rest.items c.args.callers.items
     (sym c.loop-caller.caller-iterator.rest.ok.0 ∙ c.in-None.ensures.steps.0)
     (outer.1 ∙ c.into_iter-caller-iterator.ensures.into_iter_gives.0)) outer.2

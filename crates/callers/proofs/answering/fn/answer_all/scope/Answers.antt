@@ -6,7 +6,7 @@ use Rattle.call_journal.proofs.seat.Seat.TheSendSync as seat
 use Rattle.std.proofs.Common.{◌≡◌, refl, sym, subst, ap, ◌∙◌, ◌++◌, [], ◌∷◌, append_assoc, option_map, Some, None, IfSome}
 use Rattle.std.specs.Prelude.{⊤}
 use Rattle.callers.specs.Driving.{Drives, IsTold}
-use Rattle.callers.specs.Pairs.{Each}
+use Rattle.std.specs.List.{AllZip}
 use Rattle.callers.proofs.PairLemmas.{each-more, each-through, some_of_ok, ok_map, passed-all, joined_is}
 use Rattle.callers.proofs.answering.fn.answer_all.scope.Goals as goal
 
@@ -14,7 +14,7 @@ pub loop-caller-init : goal.loop-caller-init
 loop-caller-init g c = (
   [],
   refl,
-  subst (λ ts. Each (λ c' t. IfSome t (λ h. h.promise.caller.value ≡ c')) [] ts)
+  subst (λ ts. AllZip (λ c' t. IfSome t (λ h. h.promise.caller.value ≡ c')) [] ts)
       (sym c.in_ok-threads.ensures.items) tt,
 )
 
@@ -60,11 +60,10 @@ returns g c =
     × IsTold b.driven (g.R.Source.has_failed b.caller.reader) ⊤) c' t a)
     c.captures.callers.items c.loop-caller.threads.items c.loop-thread.all.items
     (subst
-    (λ xs. Each (λ c' t. IfSome t (λ h. h.promise.caller.value ≡ c')) xs c.loop-caller.threads.items) asked outer.2)
-    (subst (λ ts. Each (λ t a. IfSome a (λ a. (p : _) × (option_map (λ h. h.promise) t ≡ Some p)
+    (λ xs. AllZip (λ c' t. IfSome t (λ h. h.promise.caller.value ≡ c')) xs c.loop-caller.threads.items) asked outer.2)
+    (subst (λ ts. AllZip (λ t a. IfSome a (λ a. (p : _) × (option_map (λ h. h.promise) t ≡ Some p)
     × (Drives a.driven p.caller.value.seat a.caller.seat (g.R.Source.remaining p.caller.value.reader)
-    (g.R.Source.remaining a.caller.reader) (Some [])
-    (Some a.replies.items)
+    (g.R.Source.remaining a.caller.reader) (Some []) (Some a.replies.items)
     × IsTold a.driven (g.R.Source.has_failed a.caller.reader) ⊤))) ts c.loop-thread.all.items) joined inner.2)
 
 pub spawn_with-requires-send-F : goal.spawn_with-requires-send-F
