@@ -45,8 +45,15 @@ class Command:
 
     def is_told(self, written: str) -> bool:
         """Whether this is what the page says that the command writes, but for how long it took."""
-        text = re.escape(self.lines).replace(re.escape("...\n"), "(?s:.*)").replace(re.escape("..."), ".*")
-        return re.fullmatch(text, PROGRESS.sub("", written)) is not None
+        text = re.escape(in_order(self.lines)).replace(re.escape("...\n"), "(?s:.*)").replace(re.escape("..."), ".*")
+        return re.fullmatch(text, in_order(PROGRESS.sub("", written))) is not None
+
+
+def in_order(text: str) -> str:
+    """The lines of a log by what they say, since several threads write them; any other text as it is."""
+    lines = text.splitlines(keepends=True)
+    is_log = all(line.startswith("log: ") for line in lines)
+    return "".join(sorted(lines, key=lambda line: line.split(" ", 3)[3:])) if is_log else text
 
 
 def blocks(text: str) -> list[tuple[str, str]]:
@@ -108,6 +115,8 @@ def test_a_difference_is_seen() -> None:
     first, second = commands(text)
     assert (first.words, second) == ("a \\\n  b", Command("c", ""))
     assert first.is_told("one two three\nlast\n") and first.is_told("one 2 three\nmore\nand more\nlast\n")
+    log = Command("e", "log: ...Z ... worker ended\nlog: ...Z ... caller-ended\n")
+    assert log.is_told("log: 1Z 0.1 caller-ended\nlog: 2Z 0.2 worker ended\n") and not log.is_told("log: 1Z 0.1 caller-ended\n")
     assert first.is_told("one two three\nlooking for writes since 3 seconds; Ctrl-C breaks it off\nlast\n")
     assert second.is_told("looking for writes since 3 seconds; Ctrl-C breaks it off\n" * 2)
     for written in ("one two three\n", "one two three\nlast", "one two four\nlast\n", "one\ntwo three\nlast\n", ""):
