@@ -7,7 +7,7 @@ use Rattle.wasm_ast.proofs.sequence.Sequence.TheSendSync as sequence
 use Rattle.step_machine.specs.contracts.flat_module.FlatModule as flats
 use Rattle.step_machine.specs.contracts.machine.Machine as machines
 use Rattle.step_machine.proofs.flat_module.Code.TheSendSync as code
-use Rattle.step_machine.proofs.CurrentSent.{current_send, current_field_send}
+use Rattle.step_machine.proofs.RestingSent.{resting_send, resting_field_send}
 use Rattle.step_machine.proofs.KeptSent.{kept_send}
 use Rattle.step_machine.proofs.callers.Callers.TheSendSync as callers
 use Rattle.linear_memory.proofs.Crosses.{memory_send}
@@ -40,7 +40,7 @@ kept_field_send = search (sendable, std_sent.crosses, memory_send, callers.the_s
 machine_send : IsSend machines.the_row
 machine_send =
     search
-    (sendable, std_sent.crosses, flat_send, current_send, current_field_send, kept_send, kept_field_send, end.the_send)
+    (sendable, std_sent.crosses, flat_send, resting_send, resting_field_send, kept_send, kept_field_send, end.the_send)
     depth 40 fits 100000
 
 shared_send : IsSend shareds.the_row

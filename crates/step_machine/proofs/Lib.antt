@@ -1,4 +1,4 @@
-pub mod CurrentSent
+pub mod RestingSent
 pub mod KeptSent
 pub mod ListLemmas
 pub mod MarkLemmas

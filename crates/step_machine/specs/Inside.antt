@@ -12,10 +12,13 @@ pub mod Standing
 pub mod Going
 pub mod Superinstructions
 pub mod Ran
+pub mod Sliced
 pub mod UnderWay
 pub mod LocalThere
 pub mod RoomThere
 pub mod OperandsThere
+pub mod Does
+pub mod Branches
 pub mod Ahead
 pub mod SharedCode
 pub mod Marks

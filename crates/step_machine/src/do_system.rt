@@ -1,14 +1,11 @@
 //! System calls, which are made in the turn of their call (4.4.7).
 
-ghost use Rattle.std.specs.Prelude.{◌≡◌, length, ◌≢◌, ◌+◌, ◌<◌, ◌∷◌, ◌^◌, None, Some, [], is_some, map};
+ghost use Rattle.std.specs.Prelude.{◌≡◌, ◌+◌, ◌<◌, ◌^◌, true, ◌∷◌, [], is_some, map};
 ghost use Rattle.wasm_ast.specs.declared.values.ValType.TheVariants.{I32};
 ghost use Rattle.wasm_ast.specs.Types.{type_of};
 ghost use Rattle.wasi_calls.specs.HostCalls.{host_type};
-ghost use Rattle.wasi_calls.specs.SystemCalls.{host};
-ghost use Rattle.step_machine.specs.declared.kept.Kept.{Kept as KeptValue};
-ghost use Rattle.step_machine.specs.Limits.{max_values};
 ghost use Rattle.step_machine.specs.Inside.FlatState.{call_system, made_with, leaves, host_answered};
-ghost use Rattle.step_machine.specs.Inside.FlatView.{flat_from, stepped_to, SameStore};
+ghost use Rattle.step_machine.specs.Inside.Does.{Pushes, Goes, Answers};
 
 use crate::current::{Current, MAX_VALUES};
 use crate::do_values::{FAULT, low};
@@ -22,12 +19,8 @@ const EXHAUSTED: Option<End> = Some(End::Trapped(Trap::Exhausted));
 /// Pushes the result of a system call, if it has one; or ends the task.
 #[inline(always)]
 fn answer(at: &mut Current, answer: HostEnd) -> Option<End>
-    requires cell { at.old.cell + 1 < 2 ^ 64 }
-    requires limit { at.old.stack.limit ≡ max_values }
-    requires room { length at.old.stack.words < max_values }
-    ensures step { (k : KeptValue) → host_answered answer at.old.stack.words (flat_from at.old k)
-        ≡ stepped_to result (flat_from at.new k) }
-    ensures limit { at.new.stack.limit ≡ at.old.stack.limit }
+    requires { Pushes true at.old }
+    ensures goes { Goes (λ x. host_answered answer x.words x) at.old result at.new }
     ensures ended { is_some result ≡ leaves answer }
 {
     match answer {
@@ -48,13 +41,9 @@ fn answer(at: &mut Current, answer: HostEnd) -> Option<End>
 #[inline(always)]
 fn make(at: &mut Current, kept: &mut Kept, call: HostCall, args: &[Value]) -> Option<End>
     requires cell { at.old.cell + 1 < 2 ^ 64 }
-    requires limit { at.old.stack.limit ≡ max_values }
     requires types { map type_of args.now ≡ (host_type call).params }
-    ensures step { made_with call args.now at.old.stack.words (flat_from at.old kept.old)
-        ≡ stepped_to result (flat_from at.new kept.new) }
-    ensures limit { at.new.stack.limit ≡ at.old.stack.limit }
-    ensures ended { result ≢ None → SameStore kept.old kept.new }
-    ensures calls { (kept.new.callers ≡ kept.old.callers) × (kept.new.pending ≡ kept.old.pending) }
+    ensures { Answers (λ x. made_with call args.now x.words x) at.old kept.old
+        result at.new kept.new }
 {
     if at.stack.len() >= MAX_VALUES {
         return EXHAUSTED;
@@ -67,13 +56,8 @@ fn make(at: &mut Current, kept: &mut Kept, call: HostCall, args: &[Value]) -> Op
 #[inline(always)]
 fn make_with_one(at: &mut Current, kept: &mut Kept, call: HostCall) -> Option<End>
     requires cell { at.old.cell + 1 < 2 ^ 64 }
-    requires limit { at.old.stack.limit ≡ max_values }
     requires types { (host_type call).params ≡ I32 ∷ [] }
-    ensures step { call_system call at.old.stack.words (flat_from at.old kept.old)
-        ≡ stepped_to result (flat_from at.new kept.new) }
-    ensures limit { at.new.stack.limit ≡ at.old.stack.limit }
-    ensures ended { result ≢ None → SameStore kept.old kept.new }
-    ensures calls { (kept.new.callers ≡ kept.old.callers) × (kept.new.pending ≡ kept.old.pending) }
+    ensures { Answers (λ x. call_system call x.words x) at.old kept.old result at.new kept.new }
 {
     let Some(first) = at.stack.pop() else {
         return FAULT;
@@ -85,13 +69,8 @@ fn make_with_one(at: &mut Current, kept: &mut Kept, call: HostCall) -> Option<En
 #[inline(always)]
 fn make_with_two(at: &mut Current, kept: &mut Kept, call: HostCall) -> Option<End>
     requires cell { at.old.cell + 1 < 2 ^ 64 }
-    requires limit { at.old.stack.limit ≡ max_values }
     requires types { (host_type call).params ≡ I32 ∷ I32 ∷ [] }
-    ensures step { call_system call at.old.stack.words (flat_from at.old kept.old)
-        ≡ stepped_to result (flat_from at.new kept.new) }
-    ensures limit { at.new.stack.limit ≡ at.old.stack.limit }
-    ensures ended { result ≢ None → SameStore kept.old kept.new }
-    ensures calls { (kept.new.callers ≡ kept.old.callers) × (kept.new.pending ≡ kept.old.pending) }
+    ensures { Answers (λ x. call_system call x.words x) at.old kept.old result at.new kept.new }
 {
     let Some(second) = at.stack.pop() else {
         return FAULT;
@@ -107,13 +86,8 @@ fn make_with_two(at: &mut Current, kept: &mut Kept, call: HostCall) -> Option<En
 #[inline(always)]
 fn make_with_four(at: &mut Current, kept: &mut Kept, call: HostCall) -> Option<End>
     requires cell { at.old.cell + 1 < 2 ^ 64 }
-    requires limit { at.old.stack.limit ≡ max_values }
     requires types { (host_type call).params ≡ I32 ∷ I32 ∷ I32 ∷ I32 ∷ [] }
-    ensures step { call_system call at.old.stack.words (flat_from at.old kept.old)
-        ≡ stepped_to result (flat_from at.new kept.new) }
-    ensures limit { at.new.stack.limit ≡ at.old.stack.limit }
-    ensures ended { result ≢ None → SameStore kept.old kept.new }
-    ensures calls { (kept.new.callers ≡ kept.old.callers) × (kept.new.pending ≡ kept.old.pending) }
+    ensures { Answers (λ x. call_system call x.words x) at.old kept.old result at.new kept.new }
 {
     let Some(fourth) = at.stack.pop() else {
         return FAULT;
@@ -139,13 +113,8 @@ fn make_with_four(at: &mut Current, kept: &mut Kept, call: HostCall) -> Option<E
 /// A system call, with arguments from the stack.
 #[inline(always)]
 pub fn call_system(at: &mut Current, kept: &mut Kept, call: HostCall) -> Option<End>
-    requires cell { at.old.cell + 1 < 2 ^ 64 }
-    requires limit { at.old.stack.limit ≡ max_values }
-    ensures step { call_system call at.old.stack.words (flat_from at.old kept.old)
-        ≡ stepped_to result (flat_from at.new kept.new) }
-    ensures limit { at.new.stack.limit ≡ at.old.stack.limit }
-    ensures ended { result ≢ None → SameStore kept.old kept.new }
-    ensures calls { (kept.new.callers ≡ kept.old.callers) × (kept.new.pending ≡ kept.old.pending) }
+    requires { at.old.cell + 1 < 2 ^ 64 }
+    ensures { Answers (λ x. call_system call x.words x) at.old kept.old result at.new kept.new }
 {
     match call {
         HostCall::SchedYield => make(at, kept, call, &[]),

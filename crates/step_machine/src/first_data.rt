@@ -5,10 +5,9 @@ ghost use Rattle.wasm_ast.specs.Limits.{is_within};
 ghost use Rattle.validator.specs.Typing.{ValidModule};
 ghost use Rattle.oci_config.specs.Processes.{config_of};
 ghost use Rattle.step_machine.specs.HostCalls.{all_known};
-ghost use Rattle.step_machine.specs.Limits.{max_values};
 ghost use Rattle.step_machine.specs.Instantiation.{entry as entry_of, first_global, zero_memory, empty_table, first_table, first_memory, are_pages_within, are_elements_inside, are_segments_inside};
 ghost use Rattle.step_machine.specs.Inside.FlatState.{word_of};
-ghost use Rattle.step_machine.specs.Inside.FlatView.{flat_from};
+ghost use Rattle.step_machine.specs.Inside.FlatView.{flat_at};
 ghost use Rattle.step_machine.specs.Inside.Going.{Holds};
 
 use crate::callers::Callers;
@@ -17,6 +16,7 @@ use crate::ends::End;
 use crate::flat_module::FlatModule;
 use crate::kept::Kept;
 use crate::process_texts::process_ranged;
+use crate::resting::Resting;
 use crate::start_up::start_up;
 use crate::store::{first_globals, first_memory, first_table};
 use oci_config::Process;
@@ -27,7 +27,7 @@ use wasm_ast::Module;
 /// A machine's data before its first turn.
 #[derive(Drop)]
 pub struct First {
-    pub at: Current,
+    pub at: Resting,
     pub kept: Kept,
     pub end: Option<End>,
 }
@@ -56,9 +56,7 @@ fn first_kept(alloc: Global, of: &Module, process: Process) -> Result<Kept, Allo
 }
 
 /// An empty stack. An error if the room for it cannot be allocated.
-fn first_current(alloc: Global) -> Result<Current, AllocError>
-    ensures { IfOk result (λ a. a.stack.limit ≡ max_values) }
-{
+fn first_current(alloc: Global) -> Result<Current, AllocError> {
     match OperandStack::new(alloc, MAX_VALUES) {
         Some(stack) => Ok(Current {
             stack,
@@ -85,7 +83,7 @@ pub fn first_data(
     requires inside { are_elements_inside (length (empty_table of.now.tables)) of.now.elements
         && are_segments_inside (zero_memory of.now.memories process.cap) of.now.segments ≡ true }
     ensures holds { IfOk result (λ d. Holds of.now (config_of process) d.at.stack.limit
-        d.end (flat_from d.at d.kept) 0) }
+        d.end (flat_at d.at d.kept) 0) }
     ensures process { IfOk result (λ d. config_of d.kept.process ≡ config_of process) }
 {
     process.cap.bounded();
@@ -94,5 +92,9 @@ pub fn first_data(
     let mut at = first_current(alloc)?;
     let start = of.module().start;
     let end = start_up(of.cells(), of.callees(), &mut at, &mut kept, start, entry);
-    Ok(First { at, kept, end })
+    Ok(First {
+        at: Resting::of(at),
+        kept,
+        end,
+    })
 }

@@ -56,6 +56,7 @@ mod machine;
 mod needed_memory;
 mod parts;
 mod process_texts;
+mod resting;
 mod room;
 mod run_loop;
 mod settle;

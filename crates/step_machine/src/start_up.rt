@@ -6,7 +6,6 @@ ghost use Rattle.flat_code.specs.Inside.Layout.{cells_of};
 ghost use Rattle.flat_code.specs.Inside.FlatCode.{flat_of};
 ghost use Rattle.oci_config.specs.declared.process.ProcessConfig.{ProcessConfig};
 ghost use Rattle.oci_config.specs.Processes.{config_of};
-ghost use Rattle.step_machine.specs.Limits.{max_values};
 ghost use Rattle.step_machine.specs.Instantiation.{entry as entry_of, first_store};
 ghost use Rattle.step_machine.specs.Inside.FlatState.{callees as all_callees};
 ghost use Rattle.step_machine.specs.Inside.FlatView.{callee_of, flat_from};
@@ -41,14 +40,12 @@ pub fn start_up(
     start: Option<u32>,
     entry: u32,
 ) -> Option<End>
-    requires limit { at.old.stack.limit ≡ max_values }
-    ensures stopped { (m : ModuleValue) → (p : ProcessConfig) → HasTexts p
+    ensures { (m : ModuleValue) → (p : ProcessConfig) → HasTexts p
         → config_of kept.old.process ≡ p → Runnable m
         → cells_of code.entry ≡ map (λ l. l.cell) (flat_of m).lines
         → map callee_of callees.now ≡ all_callees m → start ≡ m.start → entry_of m ≡ Some entry
         → Stored m (flat_from at.old kept.old) (first_store m p)
         → Stopped m p result (flat_from at.new kept.new) 0 }
-    ensures limit { at.new.stack.limit ≡ at.old.stack.limit }
 {
     let (first, pending) = invocations(start, entry);
     kept.pending = Some(first);

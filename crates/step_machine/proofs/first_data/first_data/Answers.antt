@@ -1,14 +1,14 @@
 use Rattle.oci_config.specs.Processes.{config_of}
 use Rattle.oci_config.specs.declared.process.Process.{Process}
-use Rattle.std.proofs.Common.{◌^◌, ◌<◌, ◌≤◌, map, length, subst, ap, ◌∙◌, arith}
+use Rattle.std.proofs.Common.{◌^◌, ◌<◌, ◌≤◌, map, length, subst, sym, ap, ◌∙◌, arith}
 use Rattle.std.specs.Prelude.{All}
 use Rattle.linear_memory.specs.Memory.{Memory, max_pages}
 use Rattle.wasm_ast.specs.declared.module.Module.{Module}
 use Rattle.step_machine.specs.Instantiation.{first_store, first_global, first_memory, first_table, zero_memory, empty_table, are_elements_inside, are_segments_inside}
-use Rattle.step_machine.specs.Inside.FlatState.{word_of}
-use Rattle.step_machine.specs.Inside.FlatView.{flat_from}
+use Rattle.step_machine.specs.Inside.FlatState.{Flat, word_of}
+use Rattle.step_machine.specs.Inside.FlatView.{flat_at, flat_from}
 use Rattle.step_machine.specs.Inside.Simulates.{Stored}
-use Rattle.step_machine.specs.Inside.Going.{Runnable}
+use Rattle.step_machine.specs.Inside.Going.{Runnable, Stopped}
 use Rattle.step_machine.proofs.HostCallLemmas.{both}
 use Rattle.step_machine.proofs.MachineLemmas.{process_of}
 use Rattle.step_machine.proofs.FirstStore.{first_typed, first_in_table, first_ranged}
@@ -50,14 +50,16 @@ returns-clause-holds c =
     } in
     record {
       runnable = facts;
-      limited = c.start_up-end.ensures.limit ∙ c.in_ok-at.ensures;
+      limited = c.of.ensures.limit;
       stopped =
-          c.start_up-end.ensures.stopped m p c.process_ranged.ensures (ap config_of c.in_ok-kept.ensures.process) facts
-          c.cells.ensures.cells c.callees.ensures start c.requires.entry stored;
+          subst (λ (x : Flat). Stopped m p c.start_up-end.result x 0)
+          (sym (c.of.ensures.data c.start_up-end.new.kept))
+          (c.start_up-end.ensures m p c.process_ranged.ensures (ap config_of c.in_ok-kept.ensures.process) facts
+          c.cells.ensures.cells c.callees.ensures start c.requires.entry stored);
     }
 
 pub returns-clause-process : goal.returns-clause-process
 returns-clause-process c =
     let h = returns-clause-holds c in
-    process_of c.args.of.now (config_of c.args.process) (flat_from c.start_up-end.new.at c.start_up-end.new.kept) 0
+    process_of c.args.of.now (config_of c.args.process) (flat_at c.of.result c.start_up-end.new.kept) 0
     c.start_up-end.result h.stopped

@@ -7,8 +7,8 @@ use Rattle.step_machine.specs.Inside.Simulates.{Stored}
 use Rattle.step_machine.proofs.StartLemmas.{going_first, begins_so}
 use Rattle.step_machine.proofs.start_up.start_up.Goals as goal
 
-pub returns-in-Some-clause-stopped : goal.returns-in-Some-clause-stopped
-returns-in-Some-clause-stopped c m p texts same facts codes all start is_entry stored =
+pub returns-in-Some : goal.returns-in-Some
+returns-in-Some c m p texts same facts codes all start is_entry stored =
     let f = c.invocations-first.result.0 in
     let fs = option_to_list c.invocations-first.result.1 in
     let x = flat_from c.args.at.now (record c.args.kept.now { pending = Some f }) in
@@ -28,11 +28,11 @@ returns-in-Some-clause-stopped c m p texts same facts codes all start is_entry s
     } in
     let step =
     ap (λ (cs : List Callee). begin cs (f ∷ []) x) (sym all)
-    ∙ (c.begin.ensures.step ∙ ap (λ o. stepped_to o (flat_from c.begin.new.at c.begin.new.kept)) c.in-Some.is) in
+    ∙ (c.begin.ensures.leaves.step ∙ ap (λ o. stepped_to o (flat_from c.begin.new.at c.begin.new.kept)) c.in-Some.is) in
     absurd (begins_so m p facts x f fs c.args.entry order is_entry there same texts c.in-Some.end step)
 
-pub returns-clause-stopped : goal.returns-clause-stopped
-returns-clause-stopped c m p texts same facts codes all start is_entry stored =
+pub returns : goal.returns
+returns c m p texts same facts codes all start is_entry stored =
     let f = c.invocations-first.result.0 in
     let fs = option_to_list c.invocations-first.result.1 in
     let x = flat_from c.args.at.now (record c.args.kept.now { pending = Some f }) in
@@ -52,7 +52,8 @@ returns-clause-stopped c m p texts same facts codes all start is_entry stored =
     } in
     let step =
     ap (λ (cs : List Callee). begin cs (f ∷ []) x) (sym all)
-    ∙ (c.begin.ensures.step ∙ ap (λ o. stepped_to o (flat_from c.begin.new.at c.begin.new.kept)) c.in_default.is) in
-    c.settle.ensures.stopped m p 0 facts codes all
+    ∙ (c.begin.ensures.leaves.step ∙ ap (λ o. stepped_to o (flat_from c.begin.new.at c.begin.new.kept)) c.in_default.is)
+    in
+    c.settle.ensures m p 0 facts codes all
     (going_first m p facts x f fs c.args.entry order is_entry there same texts
     (flat_from c.begin.new.at c.begin.new.kept) step)
