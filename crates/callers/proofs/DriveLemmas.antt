@@ -1,5 +1,6 @@
 -- The lines of a caller, and their answers.
 use Rattle.std.proofs.Common.{suc, Result, ◌≡◌, ℕ, ◌<◌, ◌≤◌, length, List, [], ◌∷◌, ◌++◌, Option, None, Some, Ok, Err, Bool, false, inl, inr, arith, append_assoc, sym, ap, ◌∙◌, refl, subst}
+use Rattle.std.specs.List.{concat}
 use Rattle.std.proofs.Math.Nat.{lt_of_not-le}
 use Rattle.std.proofs.KnownBytes.{Appends-trans, Appends-kept}
 use Rattle.std.specs.Io.KnownBytes.{Appends, Consumes, prepend_known}
@@ -14,7 +15,7 @@ use Rattle.request_lines.specs.Shape.{max_line_bytes}
 use Rattle.request_lines.specs.Request.{IsRequest}
 use Rattle.request_lines.specs.Inside.Parse.{refusal_of}
 use Rattle.request_lines.specs.Input.{IsKept, TakesLine, TakesPart}
-use Rattle.request_lines.specs.Lines.{lines_of, joined}
+use Rattle.request_lines.specs.Lines.{lines_of}
 use Rattle.request_lines.specs.Session.{Session}
 use Rattle.call_journal.specs.Fronts.{Begins}
 use Rattle.call_journal.specs.Seats.{Known}
@@ -71,7 +72,7 @@ pub record Driving (was : Known) (at_end : Bool) (input left before after : Opti
     pub read : TakesLines input left lines
     pub whole : at_end ≡ false → Consumes input left (fed lines)
     pub session : Session IsServed was lines texts now
-    pub appended : Appends before after (joined texts)
+    pub appended : Appends before after (concat texts)
 
 takes_none : (known : Option (List ℕ)) → TakesLines known known []
 takes_none None = tt
@@ -112,14 +113,14 @@ takes_more (Some xs) (Some ys) None lines line h g = g
 takes_more (Some xs) (Some ys) (Some zs) lines line h g =
     h ∙ (ap (λ r. lines ++ r) g ∙ sym (append_assoc lines (line ∷ []) (lines_of zs)))
 
-joined_more : (texts : List (List ℕ)) (text : List ℕ) → joined (texts ++ text ∷ []) ≡ joined texts ++ text
-joined_more [] text = append-nil text
-joined_more (t ∷ texts) text = ap (λ r. t ++ r) (joined_more texts text) ∙ sym (append_assoc t (joined texts) text)
+concat_more : (texts : List (List ℕ)) (text : List ℕ) → concat (texts ++ text ∷ []) ≡ concat texts ++ text
+concat_more [] text = append-nil text
+concat_more (t ∷ texts) text = ap (λ r. t ++ r) (concat_more texts text) ∙ sym (append_assoc t (concat texts) text)
 
-appends_more : (old now next : Option (List ℕ)) (texts : List (List ℕ)) (text : List ℕ) → Appends old now (joined texts)
-    → Appends now next text → Appends old next (joined (texts ++ text ∷ []))
+appends_more : (old now next : Option (List ℕ)) (texts : List (List ℕ)) (text : List ℕ) → Appends old now (concat texts)
+    → Appends now next text → Appends old next (concat (texts ++ text ∷ []))
 appends_more old now next texts text h g =
-    subst (Appends old next) (sym (joined_more texts text)) (Appends-trans old now next (joined texts) text h g)
+    subst (Appends old next) (sym (concat_more texts text)) (Appends-trans old now next (concat texts) text h g)
 
 fed_more : (lines : List (List ℕ)) (line : List ℕ) → fed (lines ++ line ∷ []) ≡ fed lines ++ (line ++ 10 ∷ [])
 fed_more [] line = refl
@@ -212,10 +213,10 @@ drives_unread was at_end input left rest before after now stop.OutOfMemory d par
 }
 
 begins_joined : (texts : List (List ℕ)) (text front : List ℕ) → Begins front text
-    → Begins (joined texts ++ front) (joined (texts ++ text ∷ []))
+    → Begins (concat texts ++ front) (concat (texts ++ text ∷ []))
 begins_joined texts text front begins = (
   begins.0,
-  append_assoc (joined texts) front begins.0 ∙ (ap (λ r. joined texts ++ r) begins.1 ∙ sym (joined_more texts text)),
+  append_assoc (concat texts) front begins.0 ∙ (ap (λ r. concat texts ++ r) begins.1 ∙ sym (concat_more texts text)),
 )
 
 -- the same, by how the lines end
@@ -240,9 +241,9 @@ drives_unwritten was at_end input left next rest before writes after mid now lin
       read = begin_with input next (d.lines ++ line ∷ []) (takes_more input left next d.lines line d.read takes);
       session = session_more was d.lines d.texts mid line text now d.session served;
       written = (
-        joined d.texts ++ wrote.0,
+        concat d.texts ++ wrote.0,
         begins_joined d.texts text wrote.0 wrote.1,
-        Appends-trans before writes after (joined d.texts) wrote.0 d.appended wrote.2,
+        Appends-trans before writes after (concat d.texts) wrote.0 d.appended wrote.2,
       );
     }
 drives_unwritten was at_end input left next rest before writes after mid now line text why.OutOfMemory d takes
@@ -254,7 +255,7 @@ drives_unwritten was at_end input left next rest before writes after mid now lin
       written = (
         d.texts,
         record { last = text ∷ []; one = omega arith; joins = refl },
-        Appends-kept before writes after (joined d.texts) d.appended wrote,
+        Appends-kept before writes after (concat d.texts) d.appended wrote,
       );
     }
 

@@ -1,5 +1,6 @@
 -- What the definitions of a caller's lines say, case by case.
 use Rattle.std.proofs.Common.{◌≡◌, ◌≢◌, ◌↔◌, ◌<◌, ◌≤◌, ◌⊎◌, ◌++◌, ℕ, List, [], ◌∷◌, length, Err, inl, inr, refl, sym, ap, ◌∙◌, subst, arith}
+use Rattle.std.specs.List.{concat}
 use Rattle.std.proofs.lemmas.List.{append-nil}
 use Rattle.wasm_ast.specs.declared.refusal.Refusal.TheVariants as refusal
 use Rattle.task_requests.specs.declared.request.Request.{Request}
@@ -9,7 +10,6 @@ use Rattle.task_requests.specs.declared.event.Event.{Event}
 use Rattle.task_requests.specs.declared.event.Event.TheVariants.{Call}
 use Rattle.task_board.specs.Step.{Answer}
 use Rattle.request_lines.specs.Request.{IsRequest, IsEvent}
-use Rattle.request_lines.specs.Lines.{joined}
 use Rattle.request_lines.specs.Session.{Session}
 use Rattle.request_lines.specs.Shape.{max_line_bytes}
 use Rattle.call_journal.specs.Seats.{Known}
@@ -51,12 +51,12 @@ some_lines was line lines [] now s = absurd s
 some_lines was line lines (text ∷ rest) now s = (text, rest, s.0, refl, s.1, s.2)
 
 pub all_or_but_one : (before after : List ℕ) (texts written : List (List ℕ)) → AllButLast texts written
-    → after ≡ before ++ joined written → (after ≡ before ++ joined texts)
-    ⊎ ((all : List (List ℕ)) × (last : List ℕ) × (texts ≡ all ++ last ∷ []) × (after ≡ before ++ joined all))
+    → after ≡ before ++ concat written → (after ≡ before ++ concat texts)
+    ⊎ ((all : List (List ℕ)) × (last : List ℕ) × (texts ≡ all ++ last ∷ []) × (after ≡ before ++ concat all))
 all_or_but_one before after texts written b is = but_one b.last b.one b.joins
   where
-    but_one : (last : List (List ℕ)) → length last ≤ 1 → written ++ last ≡ texts → (after ≡ before ++ joined texts)
-        ⊎ ((all : List (List ℕ)) × (last : List ℕ) × (texts ≡ all ++ last ∷ []) × (after ≡ before ++ joined all))
-    but_one [] few joins = inl (is ∙ ap (λ ts. before ++ joined ts) (sym (append-nil written) ∙ joins))
+    but_one : (last : List (List ℕ)) → length last ≤ 1 → written ++ last ≡ texts → (after ≡ before ++ concat texts)
+        ⊎ ((all : List (List ℕ)) × (last : List ℕ) × (texts ≡ all ++ last ∷ []) × (after ≡ before ++ concat all))
+    but_one [] few joins = inl (is ∙ ap (λ ts. before ++ concat ts) (sym (append-nil written) ∙ joins))
     but_one (x ∷ []) few joins = inr (written, x, sym joins, is)
     but_one (x ∷ y ∷ rest) few joins = absurd (omega (arith, few))

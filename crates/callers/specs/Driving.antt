@@ -1,8 +1,9 @@
 -- What is answered to the lines of a stream.
 use Rattle.std.specs.Prelude.{◌≡◌, ◌≤◌, ◌++◌, ℕ, List, [], ◌∷◌, length, Option, IfSome}
+use Rattle.std.specs.List.{concat}
 use Rattle.std.specs.Io.KnownBytes.{Appends, Consumes}
 use Rattle.request_lines.specs.Input.{HasNoFeed}
-use Rattle.request_lines.specs.Lines.{lines_of, joined}
+use Rattle.request_lines.specs.Lines.{lines_of}
 use Rattle.request_lines.specs.Session.{Session}
 use Rattle.call_journal.specs.Fronts.{Begins}
 use Rattle.call_journal.specs.Seats.{Known}
@@ -45,10 +46,10 @@ pub record AllButLast (texts written : List (List ℕ)) : Type 0 where
 -- out for a text, those before it
 abbrev pub AreWritten : Driven → (before after : Option (List ℕ)) → (texts : List (List ℕ)) → Type 0
 AreWritten driven.WriteFault before after texts =
-    (bytes : List ℕ) × Begins bytes (joined texts) × Appends before after bytes
+    (bytes : List ℕ) × Begins bytes (concat texts) × Appends before after bytes
 AreWritten driven.NoMemory before after texts =
-    (written : List (List ℕ)) × AllButLast texts written × Appends before after (joined written)
-AreWritten other before after texts = Appends before after (joined texts)
+    (written : List (List ℕ)) × AllButLast texts written × Appends before after (concat written)
+AreWritten other before after texts = Appends before after (concat texts)
 
 -- a fault is told only of a stream that has failed
 abbrev pub IsTold : Driven → (reader writer : Type 0) → Type 0

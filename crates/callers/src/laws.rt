@@ -1,13 +1,14 @@
 //! What is proved of the answers to lines. Each function does nothing, and its contract is the law.
 
 ghost use Rattle.std.specs.Prelude.{◌≡◌, ◌≢◌, ◌<◌, ◌⊎◌, ◌++◌, [], ◌∷◌, ⊤, List, ℕ, length, Option, Some, Err};
+ghost use Rattle.std.specs.List.{concat};
 ghost use Rattle.wasm_ast.specs.declared.refusal.Refusal.TheVariants as refusal;
 ghost use Rattle.task_requests.specs.declared.request.Request.TheVariants as request;
 ghost use Rattle.task_requests.specs.declared.request.Ask.TheVariants as ask;
 ghost use Rattle.task_board.specs.Step.{Answer};
 ghost use Rattle.request_lines.specs.Request.{IsRequest};
 ghost use Rattle.request_lines.specs.Input.{HasNoFeed};
-ghost use Rattle.request_lines.specs.Lines.{lines_of, joined};
+ghost use Rattle.request_lines.specs.Lines.{lines_of};
 ghost use Rattle.request_lines.specs.Session.{Session};
 ghost use Rattle.request_lines.specs.Shape.{max_line_bytes};
 ghost use Rattle.call_journal.specs.Fronts.{Begins};
@@ -51,7 +52,7 @@ pub fn lines_are_answered_in_their_order()
 pub fn all_lines_are_answered_at_the_end()
     ensures { (was now : Known) (input before after : List ℕ) (left : Option (List ℕ))
         → (d : Drives driven.End was now (Some input) left (Some before) (Some after))
-        → (d.lines ≡ lines_of input) × (after ≡ before ++ joined d.texts) }
+        → (d.lines ≡ lines_of input) × (after ≡ before ++ concat d.texts) }
 {}
 
 /// Where the reader fails first lines have been answered, and all texts are written. They are all that the
@@ -59,7 +60,7 @@ pub fn all_lines_are_answered_at_the_end()
 pub fn first_lines_are_answered_where_the_reader_fails()
     ensures first { (was now : Known) (input before after : List ℕ) (left : Option (List ℕ))
         → (d : Drives driven.ReadFault was now (Some input) left (Some before) (Some after))
-        → Begins d.lines (lines_of input) × (after ≡ before ++ joined d.texts) }
+        → Begins d.lines (lines_of input) × (after ≡ before ++ concat d.texts) }
     ensures whole { (was now : Known) (input left before after : List ℕ)
         → (d : Drives driven.ReadFault was now (Some input) (Some left) (Some before) (Some after))
         → (part : List ℕ) × HasNoFeed part × (input ≡ (fed d.lines ++ part) ++ left) }
@@ -69,7 +70,7 @@ pub fn first_lines_are_answered_where_the_reader_fails()
 pub fn first_lines_are_answered_where_the_writer_fails()
     ensures { (was now : Known) (input before after : List ℕ) (left : Option (List ℕ))
         → (d : Drives driven.WriteFault was now (Some input) left (Some before) (Some after))
-        → (front : List ℕ) × Begins d.lines (lines_of input) × Begins front (joined d.texts)
+        → (front : List ℕ) × Begins d.lines (lines_of input) × Begins front (concat d.texts)
         × (after ≡ before ++ front) }
 {}
 
@@ -80,9 +81,9 @@ pub fn first_lines_are_answered_where_memory_runs_out()
         → Begins d.lines (lines_of input) }
     ensures texts { (was now : Known) (input before after : List ℕ) (left : Option (List ℕ))
         → (d : Drives driven.NoMemory was now (Some input) left (Some before) (Some after))
-        → (after ≡ before ++ joined d.texts)
+        → (after ≡ before ++ concat d.texts)
         ⊎ ((all : List (List ℕ)) × (last : List ℕ) × (d.texts ≡ all ++ last ∷ [])
-        × (after ≡ before ++ joined all)) }
+        × (after ≡ before ++ concat all)) }
 {}
 
 /// A fault is told of no stream that is well.

@@ -1,11 +1,12 @@
 -- A script as it is read line by line, and its run as a session.
 use Rattle.std.proofs.Common.{◌≡◌, ℕ, List, [], ◌∷◌, ◌++◌, Err, inl, inr, append_assoc, refl, sym, ap, ◌∙◌}
+use Rattle.std.specs.List.{concat}
 use Rattle.std.proofs.lemmas.List.{append-nil}
 use Rattle.task_requests.specs.declared.event.Event.{Event}
 use Rattle.file_commands.specs.declared.replay.Mark.{Mark}
 use Rattle.file_commands.specs.declared.replay.Mark.TheVariants as mark
 use Rattle.request_lines.specs.Request.{IsEvent}
-use Rattle.request_lines.specs.Lines.{lines_of, joined}
+use Rattle.request_lines.specs.Lines.{lines_of}
 use Rattle.file_commands.specs.Inside.Script.{AreMarked, Adds, replay_text}
 use Rattle.request_lines.specs.Reply.{event_data, refusal_data, line_text}
 use Rattle.file_commands.specs.Replay.{IsReplied}
@@ -61,7 +62,7 @@ adds_bad line old_marks marks old_events events bad marked same =
 pub replay_session :
     (lines : List (List ℕ)) (marks : List Mark) (events : List Event) (replies : List EventReply) (s s' : BoardState)
     → AreMarked lines marks events → Run s events replies s'
-    → (texts : List (List ℕ)) × Session IsReplied s lines texts s' × (replay_text marks replies ≡ joined texts)
+    → (texts : List (List ℕ)) × Session IsReplied s lines texts s' × (replay_text marks replies ≡ concat texts)
 replay_session [] [] [] [] s s' h run = ([], run, refl)
 replay_session [] [] [] (r ∷ rs) s s' h run = absurd run
 replay_session [] [] (e ∷ es) replies s s' h run = absurd h

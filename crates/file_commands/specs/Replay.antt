@@ -1,12 +1,13 @@
 -- What is answered to the lines of a script.
 use Rattle.std.specs.Prelude.{◌≡◌, ◌⊎◌, ℕ, List, Err}
+use Rattle.std.specs.List.{concat}
 use Rattle.wasm_ast.specs.declared.refusal.Refusal.TheVariants.{BadRequest}
 use Rattle.task_requests.specs.declared.event.Event.{Event}
 use Rattle.task_requests.specs.declared.event.EventReply.{EventReply}
 use Rattle.task_requests.specs.declared.event.EventReply.TheVariants.{Called}
 use Rattle.task_board.specs.BoardState.{BoardState, empty}
 use Rattle.task_board.specs.Run.{Happens}
-use Rattle.request_lines.specs.Lines.{lines_of, joined}
+use Rattle.request_lines.specs.Lines.{lines_of}
 use Rattle.request_lines.specs.Request.{IsEvent}
 use Rattle.request_lines.specs.Reply.{event_data, line_text}
 use Rattle.request_lines.specs.Session.{Session}
@@ -35,4 +36,4 @@ pub record IsReplay (script out : List ℕ) : Type 0 where
   pub texts : List (List ℕ)
   pub last : BoardState
   pub session : Session IsReplied empty (lines_of script) texts last
-  pub written : out ≡ joined texts
+  pub written : out ≡ concat texts

@@ -1,5 +1,5 @@
 -- The lines of some bytes.
-use Rattle.std.specs.Prelude.{ℕ, List, [], ◌∷◌, ◌++◌, ◌==◌, if◌then◌else◌}
+use Rattle.std.specs.Prelude.{ℕ, List, [], ◌∷◌, ◌==◌, if◌then◌else◌}
 
 -- the lines, the first of them with this byte in front
 abbrev pub with_first : ℕ → List (List ℕ) → List (List ℕ)
@@ -10,7 +10,3 @@ with_first b (line ∷ lines) = (b ∷ line) ∷ lines
 abbrev pub lines_of : List ℕ → List (List ℕ)
 lines_of [] = []
 lines_of (b ∷ rest) = if b == 10 then [] ∷ lines_of rest else with_first b (lines_of rest)
-
-abbrev pub joined : List (List ℕ) → List ℕ
-joined [] = []
-joined (text ∷ texts) = text ++ joined texts
