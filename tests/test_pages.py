@@ -116,7 +116,8 @@ def test_a_difference_is_seen() -> None:
     assert (first.words, second) == ("a \\\n  b", Command("c", ""))
     assert first.is_told("one two three\nlast\n") and first.is_told("one 2 three\nmore\nand more\nlast\n")
     log = Command("e", "log: ...Z ... worker ended\nlog: ...Z ... caller-ended\n")
-    assert log.is_told("log: 1Z 0.1 caller-ended\nlog: 2Z 0.2 worker ended\n") and not log.is_told("log: 1Z 0.1 caller-ended\n")
+    assert log.is_told("log: 1Z 0.1 caller-ended\nlog: 2Z 0.2 worker ended\n")
+    assert not log.is_told("log: 1Z 0.1 caller-ended\n")
     assert first.is_told("one two three\nlooking for writes since 3 seconds; Ctrl-C breaks it off\nlast\n")
     assert second.is_told("looking for writes since 3 seconds; Ctrl-C breaks it off\n" * 2)
     for written in ("one two three\n", "one two three\nlast", "one two four\nlast\n", "one\ntwo three\nlast\n", ""):
