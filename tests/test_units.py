@@ -66,6 +66,21 @@ def activated(path: Path, words: list[str]) -> Iterator[None]:
         process.wait()
 
 
+def connected(path: Path) -> socket.socket:
+    """A connection to a socket that is there. For a moment after it is made it is not listened to."""
+    until = time.monotonic() + 20
+    while True:
+        host = socket.socket(socket.AF_UNIX)
+        host.settimeout(60)
+        try:
+            host.connect(str(path))
+            return host
+        except ConnectionRefusedError:
+            host.close()
+            assert time.monotonic() < until
+            time.sleep(0.01)
+
+
 def words_of(service: str) -> list[str]:
     """The command of a service."""
     line = re.search(r"^ExecStart=(.*)$", (UNITS / service).read_text(), re.MULTILINE)
@@ -78,9 +93,7 @@ def test_each_connection_has_a_shim(tmp_path: Path) -> None:
     path = tmp_path / "shim.sock"
     with activated(path, words_of("feulgama@.service")):
         for _ in range(2):
-            with socket.socket(socket.AF_UNIX) as host:
-                host.settimeout(60)
-                host.connect(str(path))
+            with connected(path) as host:
                 host.sendall(FIRST_RUN.read_bytes())
                 host.shutdown(socket.SHUT_WR)
                 replies = host.makefile("rb").read().splitlines()
