@@ -101,7 +101,8 @@ def main() -> None:
         Case("4,096 bytes", size=4_096), Case("65,536 bytes", size=65_536), Case("262,144 bytes", size=LIMIT),
         Case("arguments of 65,536 bytes", arguments=65_536), Case("32 breakpoints", breaks=32),
     ]
-    print(f"{'speed over that of the plain module':36} {'workers':>8} {'tasks':>6} {'median':>8} {'least':>7} {'most':>7} {'best':>7}")
+    print(f"{'speed over that of the plain module':36} {'workers':>8} {'tasks':>6} {'median':>8} {'least':>7} {'most':>7} "
+          f"{'best':>7}")
     with tempfile.TemporaryDirectory() as name:
         folder = Path(name)
         for workers, tasks in ((1, 1), (2, 2), (4, 4), (4, 64)):
