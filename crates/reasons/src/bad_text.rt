@@ -22,16 +22,18 @@ const NO_STRING: &str =
 
 // The word at the front of a text, which may be empty, and what follows it.
 fn split_word(text: &str) -> (&str, &str) {
-    let bytes = text.as_bytes();
-    let end = bytes.iter().position(|byte| !is_word_char(*byte));
-    let end = end.unwrap_or(bytes.len());
-    (text.get(..end).unwrap_or(""), text.get(end..).unwrap_or(""))
+    for (end, byte) in text.as_bytes().iter().enumerate() {
+        if !is_word_char(*byte) {
+            return (text.get(..end).unwrap_or(""), text.get(end..).unwrap_or(""));
+        }
+    }
+    (text, "")
 }
 
-// The string at the front of a text that begins with a quote, with its quotes if both are there.
-// Escaped quotes end it too.
+// The string at the front of a text that begins with a quote, with its quotes if both are there. Escaped
+// quotes end it too.
 fn string_at(text: &str) -> &str {
-    match text.strip_prefix('"').and_then(|inside| inside.find('"')) {
+    match text.strip_prefix('"').unwrap_or("").find('"') {
         Some(at) => text.get(..at.saturating_add(2)).unwrap_or(text),
         None => text,
     }
@@ -54,18 +56,18 @@ fn offset_at(text: &str, line: u64, column: u64) -> Option<usize> {
     None
 }
 
-// What is said of a word that the place names.
 fn word_reason(before: &str, word: &str) -> &'static str {
     if before.trim().is_empty() {
         return "the text of a module begins with (module";
     }
-    let outside = before.trim_end().strip_suffix('(');
-    let hint = outside.and_then(|outside| group_hint(outside, word));
+    let hint = match before.trim_end().strip_suffix('(') {
+        Some(outside) => group_hint(outside, word),
+        None => None,
+    };
     let hint = hint.or(word_hint(word)).or(field_hint(before));
     hint.unwrap_or(lone_reason(word))
 }
 
-// What is said of a word that is written nowhere otherwise.
 fn lone_reason(word: &str) -> &'static str {
     match word.as_bytes().first() {
         Some(b'$') => "an id that is declared nowhere, is declared twice, or cannot be here",
@@ -95,7 +97,6 @@ fn token_text(alloc: Global, before: &str, text: &str) -> Told {
     format!(in alloc; "`{front}{}`: {reason}", Shown(word))
 }
 
-// Why a text has its fault at this line and column.
 fn why_utf8(alloc: Global, text: &str, line: u64, column: u64) -> Told {
     let at = offset_at(text, line, column).unwrap_or(text.len());
     let before = text.get(..at).unwrap_or("");

@@ -26,39 +26,41 @@ const LIMIT: &str = "linux.resources.memory.limit";
 
 // That there is no text at a key, or one that does not begin so.
 fn why_front(alloc: Global, path: &str, found: Option<&Value>, front: &str) -> Told {
-    match found.and_then(|value| value.as_str()) {
-        Some(text) if text.starts_with(front) => Ok(String::new(alloc)),
-        Some(text) => {
-            format!(in alloc; "{path}: \"{}\" does not begin with {front}", Shown(text))
+    match found {
+        Some(Value::String(text)) if text.as_str().starts_with(front) => Ok(String::new(alloc)),
+        Some(Value::String(text)) => {
+            format!(in alloc;
+                "{path}: \"{}\" does not begin with {front}",
+                Shown(text.as_str())
+            )
         }
-        None => why_kind(alloc, path, found, "a text"),
+        _ => why_kind(alloc, path, found, "a text"),
     }
 }
 
 fn why_directory(alloc: Global, found: Option<&Value>) -> Told {
-    match found.and_then(|value| value.as_str()) {
-        Some(path) if path.starts_with('/') && path.as_bytes().contains(&0) => {
-            String::from_str(alloc, "process.cwd has a NUL byte")
+    let text = why_front(alloc, "process.cwd", found, "/");
+    match found {
+        Some(Value::String(path)) if path.as_bytes().contains(&0) => {
+            or(text, String::from_str(alloc, "process.cwd has a NUL byte"))
         }
-        _ => why_front(alloc, "process.cwd", found, "/"),
+        _ => text,
     }
 }
 
-// That there is no list of texts at a path.
 fn why_list(alloc: Global, path: &str, found: Option<&Value>) -> Told {
     let Some(Value::Array(items)) = found else {
         return why_kind(alloc, path, found, "a list of texts");
     };
-    match items.iter().position(|item| !item.is_string()) {
-        Some(i) => {
-            let item = format!(in alloc; "{path}[{i}]")?;
-            why_kind(alloc, item.as_str(), items.get(i), "a text")
+    for (i, item) in items.iter().enumerate() {
+        if !item.is_string() {
+            let path = format!(in alloc; "{path}[{i}]")?;
+            return why_kind(alloc, path.as_str(), Some(item), "a text");
         }
-        None => Ok(String::new(alloc)),
     }
+    Ok(String::new(alloc))
 }
 
-// The texts of a list.
 fn texts_of<'a>(alloc: Global, list: Option<&'a Value>) -> Result<Vec<&'a str>, AllocError> {
     let mut texts = Vec::new(alloc);
     if let Some(Value::Array(items)) = list {
@@ -72,10 +74,10 @@ fn texts_of<'a>(alloc: Global, list: Option<&'a Value>) -> Result<Vec<&'a str>, 
 fn why_texts(alloc: Global, process: &Value) -> Told {
     let (args, env) = (process.get("args"), process.get("env"));
     let text = why_list(alloc, "process.args", args);
-    let envs = env.map_or(
-        Ok(String::new(alloc)),
-        |_| why_list(alloc, "process.env", env),
-    );
+    let envs = match env {
+        Some(_) => why_list(alloc, "process.env", env),
+        None => Ok(String::new(alloc)),
+    };
     let (args, env) = (texts_of(alloc, args)?, texts_of(alloc, env)?);
     let (args, env) = (args.as_slice(), env.as_slice());
     let text = if args.is_empty() {
@@ -123,7 +125,7 @@ fn why_annotations(alloc: Global, found: Option<&Value>) -> Told {
 fn why_limit(alloc: Global, config: &Value) -> Told {
     let mut part = config;
     for path in ["linux", "linux.resources", "linux.resources.memory"] {
-        let key = path.rsplit_once('.').map_or(path, |parts| parts.1);
+        let key = path.rsplit_once('.').unwrap_or(("", path)).1;
         match part.get(key) {
             Some(found) if found.is_object() => part = found,
             Some(found) => return why_kind(alloc, path, Some(found), "an object"),
@@ -141,7 +143,6 @@ fn why_limit(alloc: Global, config: &Value) -> Told {
     }
 }
 
-// Why a JSON value is no config: the first demand that it does not meet.
 fn why_value(alloc: Global, config: &Value) -> Told {
     let version = why_front(alloc, "ociVersion", config.get("ociVersion"), "1.");
     let process = why_process(alloc, config.get("process"));
@@ -150,7 +151,6 @@ fn why_value(alloc: Global, config: &Value) -> Told {
     or(or(text, annotations), why_limit(alloc, config))
 }
 
-// The first demand that a text does not meet.
 fn find_reason(alloc: Global, text: &str) -> Told {
     match parse(alloc, text)? {
         Ok(config) => why_value(alloc, &config),
@@ -170,9 +170,9 @@ fn why_refused(alloc: Global, text: &str) -> Told
     }
 }
 
-/// Why a text is no config that the profile takes, in one line without its line feed: the path of
-/// the property, what is there, and what has to be; an empty text exactly if it is one. Items of
-/// lists are counted from 0. An error only if memory runs out.
+/// Why a text is no config that the profile takes, in one line without its line feed: the path of the
+/// property, what is there, and what has to be; an empty text exactly if it is one. Items of lists are
+/// counted from 0. An error only if memory runs out.
 pub fn why_config(alloc: Global, text: &str) -> Told
     ensures accepted { IfOk result
         (λ s. string_bytes s ≡ [] → is_some (process_read text.now) ≡ true) }

@@ -53,12 +53,14 @@ fn block_types<'a>(of: &'a Module, instr: &Instr) -> Option<BlockTypes<'a>> {
 fn can_be(operands: KnownOperands<'_>, types: &[ValType]) -> bool {
     let known = last_of(operands.types, types.len());
     let wanted = last_of(types, known.len());
-    let mut pairs = known.iter().zip(wanted.iter());
-    (known.len() == types.len() || operands.unreachable)
-        && pairs.all(|pair| pair.0.is_none_or(|found| found == *pair.1))
+    for (found, wanted) in known.iter().zip(wanted.iter()) {
+        if found.unwrap_or(*wanted) != *wanted {
+            return false;
+        }
+    }
+    known.len() == types.len() || operands.unreachable
 }
 
-// Whether a block finds what it takes.
 fn finds(operands: KnownOperands<'_>, block: BlockTypes<'_>) -> bool {
     let types = match (block.has_condition, operands.types.split_last()) {
         (true, Some((Some(ValType::I64), _))) => return false,
@@ -72,8 +74,8 @@ fn finds(operands: KnownOperands<'_>, block: BlockTypes<'_>) -> bool {
 /// The labels inside a block, the outermost first.
 type Labels<'a> = Vec<&'a [ValType]>;
 
-// The labels inside a block of a function, outside of which so much is known. None if one takes
-// very many types, with which the check of its body may take long.
+// The labels inside a block of a function, outside of which so much is known. None if one takes very many
+// types, with which the check of its body may take long.
 fn labels_in<'a>(
     of: Function<'a>,
     types: &Types<'a>,
@@ -81,14 +83,18 @@ fn labels_in<'a>(
 ) -> Result<Option<Labels<'a>>, AllocError> {
     let mut labels = Vec::new(of.alloc);
     for outer in (0..types.open_blocks()).rev() {
-        let outer = u32::try_from(outer).ok();
-        if let Some(label) = outer.and_then(|outer| types.label(outer)) {
+        let outer = u32::try_from(outer).unwrap_or(u32::MAX);
+        if let Some(label) = types.label(outer) {
             labels.push(label)?;
         }
     }
     labels.push(block.label)?;
-    let are_short = labels.iter().all(|label| label.len() <= MAX_RESULTS);
-    Ok(are_short.then_some(labels))
+    for label in labels.as_slice() {
+        if label.len() > MAX_RESULTS {
+            return Ok(None);
+        }
+    }
+    Ok(Some(labels))
 }
 
 /// The bodies of an instruction, each with what it is called.
@@ -108,17 +114,18 @@ fn are_results(operands: KnownOperands<'_>, results: &[ValType]) -> bool {
     operands.types.len() <= results.len() && can_be(operands, results)
 }
 
-// What is said of the ends of the bodies of a block that finds what it takes.
 fn why_ends<'a>(of: Function<'a>, types: &Types<'a>, block: BlockTypes<'a>, instr: &Instr) -> Told {
     let (alloc, module, results) = (of.alloc, of.of, block.results);
     let labels = labels_in(of, types, block)?;
     for arm in bodies_of(instr) {
         if let (Some((arm, body)), Some(labels)) = (arm, &labels) {
             let labels = labels.as_slice();
-            let end = module.types_after(alloc, of.number, labels, block.params, body)?;
-            if let Some(end) = end.filter(|end| !are_results(end.operands(), results)) {
-                let text = end_text(alloc, end.operands(), results)?;
-                return format!(in alloc; "at the end of its {arm} {text}");
+            match module.types_after(alloc, of.number, labels, block.params, body)? {
+                Some(end) if !are_results(end.operands(), results) => {
+                    let text = end_text(alloc, end.operands(), results)?;
+                    return format!(in alloc; "at the end of its {arm} {text}");
+                }
+                _ => {}
             }
         }
     }

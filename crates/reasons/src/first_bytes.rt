@@ -1,4 +1,10 @@
-//! Files of other kinds, by their first bytes.
+//! What a file is by its first bytes: its module, or a file of another kind.
+
+use std::alloc::{AllocError, Global};
+use std::str::from_utf8;
+use text_assembler::assemble_module;
+use wasm_ast::{Module, Refusal};
+use wasm_binary::decode;
 
 const KINDS: &[(&[u8], &str)] = rows! {
     b"\x7FELF" => "an ELF file, of machine code; a module is built for a wasm32 target";
@@ -20,7 +26,37 @@ const KINDS: &[(&[u8], &str)] = rows! {
     b"\x00asm\x0D\x00\x01\x00" => "a component; the profile has modules of version 1 alone";
 };
 
+/// The text of the first row whose bytes are at the front of these.
+pub fn row_at_front(rows: &[(&[u8], &'static str)], bytes: &[u8]) -> Option<&'static str> {
+    for row in rows {
+        if bytes.starts_with(row.0) {
+            return Some(row.1);
+        }
+    }
+    None
+}
+
 /// What kind of file begins with these bytes, if it is a known one.
 pub fn kind_of(bytes: &[u8]) -> Option<&'static str> {
-    Some(KINDS.iter().find(|kind| bytes.starts_with(kind.0))?.1)
+    row_at_front(KINDS, bytes)
+}
+
+fn text_module(alloc: Global, bytes: &[u8]) -> Result<Module, Refusal> {
+    match from_utf8(bytes) {
+        Ok(text) => Ok(assemble_module(alloc, text)?.module),
+        Err(_) => Err(Refusal::BadModule),
+    }
+}
+
+/// The module of a file, if it has one. An error only if memory runs out.
+pub fn module_of(alloc: Global, bytes: &[u8]) -> Result<Option<Module>, AllocError> {
+    let read = match bytes.first() {
+        Some(0) => decode(alloc, bytes),
+        _ => text_module(alloc, bytes),
+    };
+    match read {
+        Ok(found) => Ok(Some(found)),
+        Err(Refusal::NoMemory) => Err(AllocError),
+        Err(_) => Ok(None),
+    }
 }

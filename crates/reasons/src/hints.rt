@@ -1,5 +1,7 @@
 //! How the text format of the profile writes what other assemblers take too.
 
+use crate::first_bytes::row_at_front;
+
 // Words after a parenthesis, each with what to write in its place.
 const GROUPS: &[(&str, &str)] = rows! {
     "export" => "an export is a field of its own: (export \"f\" (func $f))";
@@ -28,18 +30,18 @@ const OLD_WORDS: &[(&str, &str)] = rows! {
 };
 
 // How words begin that are outside the profile.
-const FRONTS: &[(&str, &str)] = rows! {
-    "f32" => "floats are outside the profile";
-    "f64" => "floats are outside the profile";
-    "i32.trunc" => "floats are outside the profile";
-    "i64.trunc" => "floats are outside the profile";
-    "v128" => "vectors of 128 bits are outside the profile";
-    "memory." => "of memory the profile has memory.size and memory.grow alone";
-    "data." => "bulk memory is outside the profile";
-    "table." => "reference types and bulk memory are outside the profile";
-    "ref." => "reference types are outside the profile";
-    "externref" => "reference types are outside the profile";
-    "return_call" => "tail calls are outside the profile";
+const FRONTS: &[(&[u8], &str)] = rows! {
+    b"f32" => "floats are outside the profile";
+    b"f64" => "floats are outside the profile";
+    b"i32.trunc" => "floats are outside the profile";
+    b"i64.trunc" => "floats are outside the profile";
+    b"v128" => "vectors of 128 bits are outside the profile";
+    b"memory." => "of memory the profile has memory.size and memory.grow alone";
+    b"data." => "bulk memory is outside the profile";
+    b"table." => "reference types and bulk memory are outside the profile";
+    b"ref." => "reference types are outside the profile";
+    b"externref" => "reference types are outside the profile";
+    b"return_call" => "tail calls are outside the profile";
 };
 
 // Instructions whose words have no full stop.
@@ -53,12 +55,21 @@ const NO_TYPE: &str =
     "a function names its type first: (type $t (func (param i32))) and (func (type $t) ..)";
 
 fn find(hints: &'static [(&'static str, &'static str)], word: &str) -> Option<&'static str> {
-    Some(hints.iter().find(|row| row.0 == word)?.1)
+    for row in hints {
+        if row.0 == word {
+            return Some(row.1);
+        }
+    }
+    None
 }
 
-// What is said of words that begin like this one.
-fn find_front(word: &str) -> Option<&'static str> {
-    Some(FRONTS.iter().find(|row| word.starts_with(row.0))?.1)
+fn is_instr(word: &str) -> bool {
+    for each in CONTROL.split(' ') {
+        if each == word {
+            return true;
+        }
+    }
+    word.contains('.')
 }
 
 // What is before the last parenthesis of a text, and after it; empty texts if it has none.
@@ -70,8 +81,12 @@ fn last_group(text: &str) -> (&str, &str) {
 fn open_word(group: &str) -> &str {
     let mut words = group.split_whitespace();
     let first = words.next().unwrap_or("");
-    let is_open = !group.contains(')') && words.all(|word| word.starts_with('$'));
-    if is_open { first } else { "" }
+    for word in words {
+        if !word.starts_with('$') {
+            return "";
+        }
+    }
+    if group.contains(')') { "" } else { first }
 }
 
 /// What has to be next, if this text ends where a field has to go on in one way.
@@ -92,7 +107,7 @@ pub fn field_hint(text: &str) -> Option<&'static str> {
 
 /// How a word is written that is none of the profile.
 pub fn word_hint(word: &str) -> Option<&'static str> {
-    find(OLD_WORDS, word).or(find_front(word))
+    find(OLD_WORDS, word).or(row_at_front(FRONTS, word.as_bytes()))
 }
 
 /// How a group with this word is written, whose parenthesis follows this text.
@@ -100,7 +115,7 @@ pub fn group_hint(before: &str, word: &str) -> Option<&'static str> {
     if !before.contains("(module") {
         return Some("fields are inside (module ..)");
     }
-    let is_instr = word.contains('.') || CONTROL.split(' ').any(|each| each == word);
     let hint = find(GROUPS, word).or(field_hint(before));
-    hint.or(word_hint(word)).or(is_instr.then_some(FOLDED))
+    hint.or(word_hint(word))
+        .or(is_instr(word).then_some(FOLDED))
 }

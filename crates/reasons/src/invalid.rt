@@ -6,7 +6,7 @@ ghost use Rattle.text_assembler.specs.Lines.{IsAligned};
 
 use crate::ends::{block_text, bodies_of, body_end_text};
 use crate::fields::find_field;
-use crate::module::module_of;
+use crate::first_bytes::module_of;
 use crate::operands::{Function, simple_text};
 use crate::texts::{Shown, Told};
 use std::alloc::{AllocError, Global};
@@ -14,8 +14,8 @@ use text_assembler::instr_text;
 use validator::{Types, Unchecked};
 use wasm_ast::{Body, Instr, Module, Place, Simple};
 
-// How many instructions may be counted for the types before one: more would take longer than the
-// refusal itself.
+// How many instructions may be counted for the types before one: more would take longer than the refusal
+// itself.
 const MOST_COUNTED: u64 = 1 << 19;
 
 /// An instruction of a body, and how many blocks are open around it.
@@ -72,8 +72,8 @@ fn text_of(alloc: Global, instr: &Instr) -> Told {
     }
 }
 
-// What is known before an instruction; nothing if that is not found in little time: the
-// instructions before it are counted again in each block that is open there.
+// What is known before an instruction; nothing if that is not found in little time: the instructions before
+// it are counted again in each block that is open there.
 fn types_there<'a>(of: Function<'a>, place: u32, depth: u32) -> Result<Types<'a>, AllocError> {
     if u64::from(place).saturating_mul(u64::from(depth)) > MOST_COUNTED {
         return Ok(Types::none(of.alloc));
@@ -82,7 +82,6 @@ fn types_there<'a>(of: Function<'a>, place: u32, depth: u32) -> Result<Types<'a>
     Ok(types.unwrap_or(Types::none(of.alloc)))
 }
 
-// What is said of an instruction at fault at this place.
 fn instr_reason(of: Function<'_>, place: u32, found: Found<'_>) -> Told {
     let mut types = types_there(of, place, found.1)?;
     match found.0 {
@@ -91,7 +90,6 @@ fn instr_reason(of: Function<'_>, place: u32, found: Found<'_>) -> Told {
     }
 }
 
-// What is said of a place of this function.
 fn body_text(of: Function<'_>, place: u32) -> Told {
     let (alloc, number) = (of.alloc, of.number);
     match instr_at(alloc, &of.func.body, place)? {
@@ -109,8 +107,9 @@ fn body_text(of: Function<'_>, place: u32) -> Told {
 
 // What is said of a place, whose function counts imports first.
 fn place_text(alloc: Global, of: &Unchecked, at: Place) -> Told {
-    let own = (at.func as usize).checked_sub(of.module().imports.len());
-    match own.and_then(|own| of.module().funcs.as_slice().get(own)) {
+    let module = of.module();
+    let own = (at.func as usize).checked_sub(module.imports.len());
+    match module.funcs.as_slice().get(own.unwrap_or(usize::MAX)) {
         Some(func) => body_text(
             Function {
                 alloc,
@@ -124,7 +123,6 @@ fn place_text(alloc: Global, of: &Unchecked, at: Place) -> Told {
     }
 }
 
-// What is said of a fault outside the bodies.
 fn outside_text(alloc: Global, of: &Module) -> Told {
     match find_field(alloc, of)? {
         Some((field, number, what)) => format!(in alloc; "{field} {number}: {what}"),

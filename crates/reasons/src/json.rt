@@ -38,8 +38,8 @@ pub fn parse(alloc: Global, text: &str) -> Result<Result<Value, String>, AllocEr
     }
 }
 
-// The path to the first number of a value that is no integer of 64 bits, from the value on, and
-// what is said of it; an empty text if it has none.
+// The path to the first number of a value that is no integer of 64 bits, from the value on, and what is said
+// of it; an empty text if it has none.
 #[cycle(floats)]
 fn in_value(alloc: Global, value: &Value) -> Told {
     match value {

@@ -1,5 +1,5 @@
-//! Why the file of a module, the words of a command line, a config, a line or a request is refused,
-//! as a line for a person.
+//! Why the file of a module, the words of a command line, a config, a line or a request is refused, as a line
+//! for a person.
 //!
 //! Nothing here decides what is refused. A reason is looked for after a refusal, in the bytes and with the
 //! readers that the refusal came from.
@@ -11,7 +11,6 @@ macro_rules! rows {
 }
 
 mod bad_text;
-mod command_line;
 mod config;
 mod ends;
 mod fields;
@@ -22,7 +21,6 @@ mod json;
 mod limits;
 mod line;
 mod located;
-mod module;
 mod operands;
 mod outside;
 mod process_texts;
@@ -33,12 +31,12 @@ mod task;
 mod texts;
 
 use bad_text::why_text;
-pub use command_line::TaskWords;
-use command_line::{pages_under, why_words};
 pub use config::why_config;
 use invalid::why_invalid;
 use limits::why_limit;
 pub use line::{Lines, why_line};
+pub use process_texts::TaskWords;
+use process_texts::{pages_under, why_words};
 pub use request::{Contents, id_in, why_request};
 use spelling::why_bytes;
 use std::alloc::Global;
@@ -61,9 +59,8 @@ pub fn why_file(alloc: Global, bytes: &[u8], refusal: Refusal) -> Told {
     }
 }
 
-/// Why no task can be made of a file with these bytes and what a command line gives it, in one line
-/// without its line feed; an empty text if there is nothing to add to the refusal. An error only if
-/// memory runs out.
+/// Why no task can be made of a file with these bytes and what a command line gives it, in one line without
+/// its line feed; an empty text if there is nothing to add to the refusal. An error only if memory runs out.
 pub fn why_run(alloc: Global, bytes: &[u8], words: &TaskWords<'_>, refusal: Refusal) -> Told {
     match refusal {
         Refusal::BadConfig => why_words(alloc, words),

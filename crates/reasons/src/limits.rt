@@ -1,6 +1,6 @@
 //! Which limit a file passes.
 
-use crate::module::module_of;
+use crate::first_bytes::module_of;
 use crate::operands::{count_functions, locals_of};
 use crate::spelling::why_bytes;
 use crate::texts::Told;
@@ -16,36 +16,43 @@ type Passed = (&'static str, Option<usize>, usize, usize);
 
 const FUNCTIONS: &str = "the functions of the module, imports counted";
 
-// That an item has more of something than it may have.
-fn over(what: &'static str, item: Option<usize>, found: usize, most: usize) -> Option<Passed> {
-    (found > most).then_some((what, item, found, most))
-}
+const LOCALS: &str = "the locals, parameters counted, of function";
 
 fn results(of: &Module) -> Option<Passed> {
-    let what = "the results of type";
-    let mut types = of.types.as_slice().iter().enumerate();
-    types.find_map(|(i, each)| over(what, Some(i), each.results.len(), MAX_RESULTS))
+    for (i, each) in of.types.as_slice().iter().enumerate() {
+        let found = each.results.len();
+        if found > MAX_RESULTS {
+            return Some(("the results of type", Some(i), found, MAX_RESULTS));
+        }
+    }
+    None
 }
 
 fn locals(of: &Module) -> Option<Passed> {
-    let what = "the locals, parameters counted, of function";
-    let first = of.imports.len();
-    let mut funcs = of.funcs.as_slice().iter().enumerate();
-    funcs.find_map(|(i, func)| {
-        let number = first.saturating_add(i);
-        over(what, Some(number), locals_of(of, func), MAX_LOCALS)
-    })
+    for (own, func) in of.funcs.as_slice().iter().enumerate() {
+        let (number, found) = (of.imports.len().saturating_add(own), locals_of(of, func));
+        if found > MAX_LOCALS {
+            return Some((LOCALS, Some(number), found, MAX_LOCALS));
+        }
+    }
+    None
 }
 
 fn least(what: &'static str, most: u32, limits: &[Limits]) -> Option<Passed> {
-    let mut limits = limits.iter().enumerate();
-    limits.find_map(|(i, each)| over(what, Some(i), each.min as usize, most as usize))
+    for (i, each) in limits.iter().enumerate() {
+        if each.min > most {
+            return Some((what, Some(i), each.min as usize, most as usize));
+        }
+    }
+    None
 }
 
 // The first limit, but that on blocks, which a module passes.
 fn find_passed(of: &Module) -> Option<Passed> {
     let (tables, memories) = (of.tables.as_slice(), of.memories.as_slice());
-    let functions = over(FUNCTIONS, None, count_functions(of), MAX_FUNCTIONS);
+    let count = count_functions(of);
+    let over = (FUNCTIONS, None, count, MAX_FUNCTIONS);
+    let functions = (count > MAX_FUNCTIONS).then_some(over);
     let entries = least("the first entries of table", MAX_TABLE_ENTRIES, tables);
     let pages = least("the first pages of memory", MAX_MEMORY_PAGES, memories);
     let found = results(of).or(functions).or(locals(of));
@@ -56,7 +63,6 @@ fn nesting_text(alloc: Global) -> Told {
     format!(in alloc; "more than {MAX_NESTING} blocks are open at once")
 }
 
-// Why a module that a text denotes passes a limit.
 fn why_module(alloc: Global, of: &Module) -> Told {
     match find_passed(of) {
         Some((what, Some(item), found, most)) => format!(in alloc;
@@ -72,7 +78,6 @@ fn why_module(alloc: Global, of: &Module) -> Told {
     }
 }
 
-// Why a text passes a limit.
 fn why_text(alloc: Global, bytes: &[u8]) -> Told {
     match read_text(alloc, bytes) {
         Ok(of) => why_module(alloc, &of),
@@ -82,8 +87,8 @@ fn why_text(alloc: Global, bytes: &[u8]) -> Told {
     }
 }
 
-// Why a module within the limits cannot be run by a task whose memory may have this many pages,
-// which this can raise.
+// Why a module within the limits cannot be run by a task whose memory may have this many pages, which this
+// can raise.
 fn why_task(alloc: Global, of: &Module, most: u64, raised_by: &str) -> Told {
     match of.memories.as_slice().first() {
         Some(memory) => format!(in alloc;

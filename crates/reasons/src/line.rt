@@ -17,10 +17,11 @@ pub enum Lines {
     Events,
 }
 
-// What is said of hexadecimal digits that are none.
 fn digits_text(alloc: Global, path: &str, digits: &str) -> Told {
-    if let Some(i) = digits.chars().position(|c| !c.is_ascii_hexdigit()) {
-        return format!(in alloc; "{path}: character {i}, from 0, is none of 0-9 a-f A-F");
+    for (i, c) in digits.chars().enumerate() {
+        if !c.is_ascii_hexdigit() {
+            return format!(in alloc; "{path}: character {i}, from 0, is none of 0-9 a-f A-F");
+        }
     }
     let count = digits.len();
     if count % 2 == 0 {
@@ -67,7 +68,6 @@ fn why_keys(alloc: Global, op: Op, members: &Map<String, Value>) -> Told {
     Ok(String::new(alloc))
 }
 
-// The keys of a line, `op` first.
 fn key_names(alloc: Global, op: Op) -> Told {
     let mut names = String::from_str(alloc, "op")?;
     for key in op.keys() {
@@ -76,9 +76,13 @@ fn key_names(alloc: Global, op: Op) -> Told {
     Ok(names)
 }
 
-// Whether a line has this key.
 fn has_key(op: Op, name: &str) -> bool {
-    name == "op" || op.keys().iter().any(|key| key.name() == name)
+    for key in op.keys() {
+        if key.name() == name {
+            return true;
+        }
+    }
+    name == "op"
 }
 
 // What is said of the first key that the line does not have.
@@ -93,7 +97,6 @@ fn why_further(alloc: Global, op: Op, members: &Map<String, Value>) -> Told {
     Ok(String::new(alloc))
 }
 
-// Why a line with this `op` is none.
 fn why_op(alloc: Global, word: &str, members: &Map<String, Value>, lines: Lines) -> Told {
     match Op::with_word(word) {
         None => format!(in alloc; "op: there is no request \"{}\"", Shown(word)),
@@ -107,7 +110,6 @@ fn why_op(alloc: Global, word: &str, members: &Map<String, Value>, lines: Lines)
     }
 }
 
-// Why a JSON value is none.
 fn why_value(alloc: Global, value: &Value, lines: Lines) -> Told {
     let Value::Object(members) = value else {
         return format!(in alloc; "{}; a request is a JSON object", kind_of_value(value));
@@ -118,7 +120,6 @@ fn why_value(alloc: Global, value: &Value, lines: Lines) -> Told {
     }
 }
 
-// Why a text is none.
 fn why_text(alloc: Global, text: &str, lines: Lines) -> Told {
     if text.trim().is_empty() {
         return String::from_str(alloc, "an empty line; a request is a JSON object");
@@ -129,9 +130,9 @@ fn why_text(alloc: Global, text: &str, lines: Lines) -> Told {
     }
 }
 
-/// Why a line, given without its line feed, is no request, or no event of a replay, in one line
-/// without its line feed: what is missing, what is there that cannot be, or where it is no JSON; an
-/// empty text if it is one. An error only if memory runs out.
+/// Why a line, given without its line feed, is no request, or no event of a replay, in one line without its
+/// line feed: what is missing, what is there that cannot be, or where it is no JSON; an empty text if it is
+/// one. An error only if memory runs out.
 pub fn why_line(alloc: Global, line: &[u8], lines: Lines) -> Told {
     let count = line.len();
     if count > MAX_LINE_BYTES {

@@ -30,9 +30,9 @@ fn is_in(left: usize, first: usize, last: usize, begins: bool) -> bool {
     left <= first && (left > last || (left == last && !begins))
 }
 
-// Which body of the code section with these contents a place is in, this many bytes from the end of
-// the section. What is wrong with the section as a whole is in none.
-fn body_at(contents: &[u8], left: usize, what: What) -> Option<u32> {
+// The function, after this many imports, in whose body in the code section with these contents a place is,
+// this many bytes from the end of the section. What is wrong with the section as a whole is in none.
+fn body_at(contents: &[u8], left: usize, imports: u32, what: What) -> Option<u64> {
     match what {
         What::Longer { whole, .. } | What::Cut { whole, .. } => match whole {
             Whole::Section => return None,
@@ -45,7 +45,7 @@ fn body_at(contents: &[u8], left: usize, what: What) -> Option<u32> {
     for own in 0..count {
         let after = sized(rest).1;
         if is_in(left, rest.len(), after.len(), begins) {
-            return Some(own);
+            return Some(u64::from(own).saturating_add(u64::from(imports)));
         }
         rest = after;
     }
@@ -67,8 +67,7 @@ pub fn locate(sections: &[u8], spot: Spot) -> Located {
             let left = spot.left.saturating_sub(after.len());
             found.section = Some(*id);
             if *id == CODE_SECTION {
-                let own = body_at(contents, left, spot.what);
-                found.func = own.map(|own| u64::from(own).saturating_add(u64::from(imports)));
+                found.func = body_at(contents, left, imports, spot.what);
             }
             return found;
         }
@@ -76,7 +75,7 @@ pub fn locate(sections: &[u8], spot: Spot) -> Located {
             return found;
         }
         if *id == IMPORT_SECTION {
-            imports = read_u32(contents).map_or(0, |(count, _)| count);
+            imports = read_u32(contents).unwrap_or((0, contents)).0;
         }
         if *id != CUSTOM_SECTION {
             found.last = *id;

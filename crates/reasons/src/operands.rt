@@ -49,8 +49,10 @@ pub fn results_of<'a>(of: &'a Module, func: &Func) -> &'a [ValType]
 
 /// How many locals a function has, its parameters counted.
 pub fn locals_of(of: &Module, func: &Func) -> usize {
-    let types = of.type_with(func.type_index);
-    let params = types.map_or(0, |found| found.params.len());
+    let params = match of.type_with(func.type_index) {
+        Some(found) => found.params.len(),
+        None => 0,
+    };
     params.saturating_add(func.locals.len())
 }
 
@@ -143,7 +145,6 @@ pub fn need_text(alloc: Global, types: &Types<'_>, need: &str) -> Told {
     format!(in alloc; "{need}, and {there}")
 }
 
-// What is said of an instruction that finds others than these operands.
 fn taken_text(alloc: Global, known: &Types<'_>, simple: &Simple, taken: Taken<'_>) -> Told {
     let list = match taken {
         Taken::Any => return need_text(alloc, known, "it takes one operand"),

@@ -10,106 +10,80 @@ const NO_INSTRUCTION: &str = "no instruction of the profile has this opcode";
 
 const EXCEPTIONS: &str = "exceptions are outside the profile";
 
-// What opcodes of one byte belong to of which the profile has none: the first, the last, and the name.
-const FEATURES: &[(u8, u8, &str)] = rows! {
-    0x06, 0x0A => EXCEPTIONS;
-    0x12, 0x15 => "tail calls and calls of references are outside the profile";
-    0x18, 0x19 => EXCEPTIONS;
-    0x1C, 0x1C => "reference types are outside the profile; select is 1b";
-    0x1F, 0x1F => EXCEPTIONS;
-    0x25, 0x26 => "reference types are outside the profile";
-    0x2A, 0x2B => FLOATS;
-    0x38, 0x39 => FLOATS;
-    0x43, 0x44 => FLOATS;
-    0x5B, 0x66 => FLOATS;
-    0x8B, 0xBF => FLOATS;
-    0xD0, 0xD6 => "references are outside the profile";
-    0xFB, 0xFB => "garbage collection is outside the profile";
-    0xFD, 0xFD => "vectors of 128 bits are outside the profile";
-    0xFE, 0xFE => "threads are outside the profile";
+// Opcodes of one byte of which the profile has none: the first, the last, their words in the text format
+// (none, if they are not known), and what they belong to.
+const OPCODES: &[(u8, u8, &str, &str)] = rows! {
+    0x06, 0x0A, "" => EXCEPTIONS;
+    0x12, 0x15, "" => "tail calls and calls of references are outside the profile";
+    0x18, 0x19, "" => EXCEPTIONS;
+    0x1C, 0x1C, "select with types" => "reference types are outside the profile; select is 1b";
+    0x1F, 0x1F, "" => EXCEPTIONS;
+    0x25, 0x26, "table.get, table.set" => "reference types are outside the profile";
+    0x2A, 0x2B, "f32.load, f64.load" => FLOATS;
+    0x38, 0x39, "f32.store, f64.store" => FLOATS;
+    0x43, 0x44, "f32.const, f64.const" => FLOATS;
+    0x5B, 0x66, COMPARISONS => FLOATS;
+    0x8B, 0xBF, OPERATORS => FLOATS;
+    0xD0, 0xD6, "ref.null, ref.is_null, ref.func" => "references are outside the profile";
+    0xFB, 0xFB, "" => "garbage collection is outside the profile";
+    0xFD, 0xFD, "" => "vectors of 128 bits are outside the profile";
+    0xFE, 0xFE, "" => "threads are outside the profile";
 };
 
-// Opcodes that stand alone, each with its word in the text format.
-const OPCODES: &[(u8, &str)] = &[
-    (0x1C, "select with types"),
-    (0x25, "table.get"),
-    (0x26, "table.set"),
-    (0x2A, "f32.load"),
-    (0x2B, "f64.load"),
-    (0x38, "f32.store"),
-    (0x39, "f64.store"),
-    (0x43, "f32.const"),
-    (0x44, "f64.const"),
-    (0xD0, "ref.null"),
-    (0xD1, "ref.is_null"),
-    (0xD2, "ref.func"),
-];
-
 // The words of f32.eq and the opcodes after it: six comparisons of each of two types.
-const COMPARISONS: &str = "f32.eq f32.ne f32.lt f32.gt f32.le f32.ge \
-f64.eq f64.ne f64.lt f64.gt f64.le f64.ge";
+const COMPARISONS: &str = "\
+f32.eq, f32.ne, f32.lt, f32.gt, f32.le, f32.ge, f64.eq, f64.ne, f64.lt, f64.gt, f64.le, f64.ge";
 
 // The words of f32.abs and the opcodes after it, those of the profile among them, up to f64.reinterpret_i64.
 const OPERATORS: &str = "\
-f32.abs f32.neg f32.ceil f32.floor f32.trunc f32.nearest f32.sqrt f32.add f32.sub f32.mul \
-f32.div f32.min f32.max f32.copysign f64.abs f64.neg f64.ceil f64.floor f64.trunc f64.nearest \
-f64.sqrt f64.add f64.sub f64.mul f64.div f64.min f64.max f64.copysign i32.wrap_i64 \
-i32.trunc_f32_s i32.trunc_f32_u i32.trunc_f64_s i32.trunc_f64_u i64.extend_i32_s \
-i64.extend_i32_u i64.trunc_f32_s i64.trunc_f32_u i64.trunc_f64_s i64.trunc_f64_u \
-f32.convert_i32_s f32.convert_i32_u f32.convert_i64_s f32.convert_i64_u f32.demote_f64 \
-f64.convert_i32_s f64.convert_i32_u f64.convert_i64_s f64.convert_i64_u f64.promote_f32 \
-i32.reinterpret_f32 i64.reinterpret_f64 f32.reinterpret_i32 f64.reinterpret_i64";
+f32.abs, f32.neg, f32.ceil, f32.floor, f32.trunc, f32.nearest, f32.sqrt, f32.add, f32.sub, \
+f32.mul, f32.div, f32.min, f32.max, f32.copysign, f64.abs, f64.neg, f64.ceil, f64.floor, \
+f64.trunc, f64.nearest, f64.sqrt, f64.add, f64.sub, f64.mul, f64.div, f64.min, f64.max, \
+f64.copysign, i32.wrap_i64, i32.trunc_f32_s, i32.trunc_f32_u, i32.trunc_f64_s, i32.trunc_f64_u, \
+i64.extend_i32_s, i64.extend_i32_u, i64.trunc_f32_s, i64.trunc_f32_u, i64.trunc_f64_s, \
+i64.trunc_f64_u, f32.convert_i32_s, f32.convert_i32_u, f32.convert_i64_s, f32.convert_i64_u, \
+f32.demote_f64, f64.convert_i32_s, f64.convert_i32_u, f64.convert_i64_s, f64.convert_i64_u, \
+f64.promote_f32, i32.reinterpret_f32, i64.reinterpret_f64, f32.reinterpret_i32, \
+f64.reinterpret_i64";
 
 // The words of the instructions whose opcode is FC and a number, from 0 on.
 const NUMBERED: &str = "\
-i32.trunc_sat_f32_s i32.trunc_sat_f32_u i32.trunc_sat_f64_s i32.trunc_sat_f64_u \
-i64.trunc_sat_f32_s i64.trunc_sat_f32_u i64.trunc_sat_f64_s i64.trunc_sat_f64_u memory.init \
-data.drop memory.copy memory.fill table.init elem.drop table.copy table.grow table.size \
+i32.trunc_sat_f32_s, i32.trunc_sat_f32_u, i32.trunc_sat_f64_s, i32.trunc_sat_f64_u, \
+i64.trunc_sat_f32_s, i64.trunc_sat_f32_u, i64.trunc_sat_f64_s, i64.trunc_sat_f64_u, memory.init, \
+data.drop, memory.copy, memory.fill, table.init, elem.drop, table.copy, table.grow, table.size, \
 table.fill";
 
 /// How many of NUMBERED are of floats.
 const NUMBERED_FLOATS: u32 = 8;
 
 /// The names of sections, by their ids.
-const SECTIONS: &str =
-    "custom type import function table memory global export start element code data";
+const SECTIONS: &str = "\
+custom, type, import, function, table, memory, global, export, start, element, code, data";
 
 // The word with this number, from 0 on.
 fn word_at(words: &'static str, number: usize) -> Option<&'static str> {
-    words.split(' ').nth(number)
-}
-
-// The word of this opcode among those whose first one has that opcode.
-fn word_in(words: &'static str, first: u8, opcode: u8) -> Option<&'static str> {
-    word_at(words, usize::from(opcode.checked_sub(first)?))
-}
-
-// The word of an opcode of one byte.
-fn word_of(opcode: u8) -> Option<&'static str> {
-    let alone = OPCODES.iter().find(|row| row.0 == opcode);
-    let alone = alone.map(|row| row.1);
-    alone
-        .or(word_in(COMPARISONS, 0x5B, opcode))
-        .or(word_in(OPERATORS, 0x8B, opcode))
-}
-
-// What an opcode of one byte belongs to.
-fn feature_of(opcode: u8) -> &'static str {
-    let mut rows = FEATURES.iter();
-    let row = rows.find(|row| row.0 <= opcode && opcode <= row.1);
-    row.map_or(NO_INSTRUCTION, |row| row.2)
+    match words.split(", ").nth(number) {
+        Some("") => None,
+        word => word,
+    }
 }
 
 /// The word in the text format, if it has one, of the instruction outside the profile of which this is the
 /// first byte of the opcode, and these bytes follow; and what it belongs to.
 pub fn find_outside(opcode: u8, bytes: &[u8]) -> (Option<&'static str>, &'static str) {
-    if opcode != 0xFC {
-        return (word_of(opcode), feature_of(opcode));
+    for (first, last, words, feature) in OPCODES {
+        if *first <= opcode && opcode <= *last {
+            let word = word_at(*words, usize::from(opcode.saturating_sub(*first)));
+            return (word, *feature);
+        }
     }
     match read_u32(bytes) {
-        Ok((number, _)) if number < NUMBERED_FLOATS => (word_at(NUMBERED, number as usize), FLOATS),
-        Ok((number, _)) => (word_at(NUMBERED, number as usize), BULK_MEMORY),
-        Err(_) => (None, NO_INSTRUCTION),
+        Ok((number, _)) if opcode == 0xFC => {
+            let is_float = number < NUMBERED_FLOATS;
+            let feature = if is_float { FLOATS } else { BULK_MEMORY };
+            (word_at(NUMBERED, number as usize), feature)
+        }
+        _ => (None, NO_INSTRUCTION),
     }
 }
 

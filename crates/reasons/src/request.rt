@@ -31,7 +31,6 @@ fn text_at<'a>(request: &'a Value, key: &str) -> Option<&'a str> {
     request.get(key)?.as_str()
 }
 
-// A key of a request, with its value.
 fn key_text(alloc: Global, request: &Value, key: &str) -> Told {
     match request.get(key) {
         Some(Value::String(text)) => format!(in alloc; "{key} \"{}\"", Shown(text.as_str())),
@@ -40,7 +39,6 @@ fn key_text(alloc: Global, request: &Value, key: &str) -> Told {
     }
 }
 
-// These keys of a request, with their values.
 fn keys_text(alloc: Global, request: &Value, keys: &[Key]) -> Told {
     let mut text = String::new(alloc);
     for key in keys {
@@ -62,7 +60,6 @@ fn why_known(alloc: Global, op: Op, request: &Value, refusal: Refusal) -> Told {
     }
 }
 
-// Which of a request's digest and id is malformed.
 fn why_names(alloc: Global, request: &Value) -> Told {
     match (text_at(request, "digest"), text_at(request, "id")) {
         (Some(digest), _) if !is_digest(digest) => format!(in alloc;
@@ -77,7 +74,6 @@ fn why_names(alloc: Global, request: &Value) -> Told {
     }
 }
 
-// Why the text of a put_text is refused.
 fn why_text(alloc: Global, request: &Value, refusal: Refusal) -> Told {
     let Some(text) = text_at(request, "text") else {
         return Ok(String::new(alloc));
@@ -140,7 +136,6 @@ fn why_value<C: Contents>(alloc: Global, request: &Value, refusal: Refusal, cont
     format!(in alloc; "{}: {why}", op.word())
 }
 
-// The JSON value of a line, if it is one.
 fn value_of(alloc: Global, line: &[u8]) -> Result<Option<Value>, AllocError> {
     match from_utf8(line) {
         Ok(text) => Ok(parse(alloc, text)?.ok()),
@@ -149,25 +144,20 @@ fn value_of(alloc: Global, line: &[u8]) -> Result<Option<Value>, AllocError> {
 }
 
 // Why a line is refused; an empty text if nothing is known.
-fn find_reason<C: Contents>(
-    alloc: Global,
-    line: Option<&[u8]>,
-    refusal: Refusal,
-    contents: &C,
-) -> Told {
+fn find_reason<C: Contents>(alloc: Global, line: Option<&[u8]>, refusal: Refusal, of: &C) -> Told {
     match (line, refusal) {
         (None, _) => format!(in alloc; "the line has more than {MAX_LINE_BYTES} bytes, the limit"),
         (Some(line), Refusal::BadRequest) => why_line(alloc, line, Lines::Requests),
         (Some(line), _) => match value_of(alloc, line)? {
-            Some(request) => why_value(alloc, &request, refusal, contents),
+            Some(request) => why_value(alloc, &request, refusal, of),
             None => Ok(String::new(alloc)),
         },
     }
 }
 
-/// Why the request of a line is refused so, in one line without its line feed, which is never
-/// empty: what has to be another, by its key, and why. Of the line nothing is there if it is too
-/// long. For a create the bytes of the content are looked up. An error only if memory runs out.
+/// Why the request of a line is refused so, in one line without its line feed, which is never empty: what has
+/// to be another, by its key, and why. Of the line nothing is there if it is too long. For a create the bytes
+/// of the content are looked up. An error only if memory runs out.
 pub fn why_request<C: Contents>(
     alloc: Global,
     line: Option<&[u8]>,
@@ -184,8 +174,8 @@ pub fn why_request<C: Contents>(
     }
 }
 
-/// The id that the request of a line names, if it names one that is well-formed. An error only if
-/// memory runs out.
+/// The id that the request of a line names, if it names one that is well-formed. An error only if memory runs
+/// out.
 pub fn id_in(alloc: Global, line: &[u8]) -> Result<Option<String>, AllocError>
     ensures { IfOk result (λ found. IfSome found (λ s. is_id (string_bytes s) ≡ true)) }
 {

@@ -17,9 +17,8 @@ const DIGEST: &[Key] = &[Key::Digest];
 
 const PLACE: &[Key] = &[Key::Func, Key::Place];
 
-// What is said of requests that are refused with one number: the number, the requests (none: all of
-// them), the keys that it is said of, and the text. The first row with the number and the request
-// counts.
+// What is said of requests that are refused with one number: the number, the requests (none: all of them),
+// the keys that it is said of, and the text. The first row with the number and the request counts.
 const FACTS: &[(u64, &[Op], &[Key], &str)] = rows! {
     3, PUTS, NO_KEYS => "the content is stored already";
     3, &[Op::LeaseCreate], ID => "a lease has that id";
@@ -58,15 +57,22 @@ const FACTS: &[(u64, &[Op], &[Key], &str)] = rows! {
     20, ALL, NO_KEYS => "the journal and its cells differ";
 };
 
-// Whether a row is one of requests with this `op`.
 fn is_of(ops: &[Op], op: Op) -> bool {
-    ops.is_empty() || ops.iter().any(|each| each.word() == op.word())
+    for each in ops {
+        if each.word() == op.word() {
+            return true;
+        }
+    }
+    ops.is_empty()
 }
 
 /// What is said of a request with this `op` that is refused with this number: of these keys, if there are
 /// any, and the text.
 pub fn said_of(op: Op, number: u64) -> Option<(&'static [Key], &'static str)> {
-    let mut rows = FACTS.iter();
-    let row = rows.find(|row| row.0 == number && is_of(row.1, op))?;
-    Some((row.2, row.3))
+    for row in FACTS {
+        if row.0 == number && is_of(row.1, op) {
+            return Some((row.2, row.3));
+        }
+    }
+    None
 }

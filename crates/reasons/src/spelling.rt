@@ -19,7 +19,6 @@ const LOCALS: &str = "the locals of a function, its parameters counted";
 
 const PAGES: &str = "the pages that a memory begins with";
 
-// A byte of the file.
 fn byte_place(alloc: Global, bytes: &[u8], offset: usize) -> Told {
     match bytes.get(offset) {
         Some(&byte) => format!(in alloc; "byte 0x{byte:02x} at offset {offset}"),
@@ -38,7 +37,6 @@ fn place(alloc: Global, bytes: &[u8], offset: usize, spot: Spot) -> Told {
     byte_place(alloc, bytes, offset)
 }
 
-// In which section and function a fault is.
 fn part(alloc: Global, located: Located) -> Told {
     match (located.section, located.func) {
         (_, Some(func)) => format!(in alloc; ", function {func}"),
@@ -47,7 +45,6 @@ fn part(alloc: Global, located: Located) -> Told {
     }
 }
 
-// What is said of the opcode here.
 fn opcode_text(alloc: Global, bytes: &[u8]) -> Told {
     let Some((opcode, rest)) = bytes.split_first() else {
         return Ok(String::new(alloc));
@@ -69,7 +66,6 @@ fn section_text(alloc: Global, last: u8, id: u8) -> Told {
     )
 }
 
-// What is limited, and by how many.
 fn limit_words(what: Limited) -> (&'static str, usize) {
     match what {
         Limited::Functions => ("the functions of a module, imports counted", MAX_FUNCTIONS),
@@ -80,7 +76,6 @@ fn limit_words(what: Limited) -> (&'static str, usize) {
     }
 }
 
-// What a number is.
 fn number_words(number: Number) -> &'static str {
     match number {
         Number::Limited(Limited::Functions) => "a count of functions",
@@ -105,7 +100,6 @@ fn number_words(number: Number) -> &'static str {
     }
 }
 
-// What is to be at a place.
 fn wanted_words(wanted: Wanted) -> &'static str {
     match wanted {
         Wanted::Byte => "a byte of a number",
@@ -125,7 +119,6 @@ fn wanted_words(wanted: Wanted) -> &'static str {
     }
 }
 
-// What has its size before it.
 fn whole_words(whole: Whole) -> &'static str {
     match whole {
         Whole::Section => "the section",
@@ -133,28 +126,22 @@ fn whole_words(whole: Whole) -> &'static str {
     }
 }
 
-// What is said of functions and bodies.
 fn bodies_text(alloc: Global, funcs: usize, bodies: u32) -> Told {
     format!(in alloc;
         "of functions, {funcs} have a type (section 3) and {bodies} a body (section 10)"
     )
 }
 
-// What is said of sizes, counts and limits.
 fn count_text(alloc: Global, what: What) -> Told {
     match what {
-        What::Longer { whole, by: 1 } => format!(in alloc;
-            "{} is 1 byte longer than what is in it",
-            whole_words(whole)
-        ),
-        What::Longer { whole, by } => format!(in alloc;
-            "{} is {by} bytes longer than what is in it",
-            whole_words(whole)
-        ),
-        What::Cut { whole, size, left } => format!(in alloc;
-            "{} is to have {size} bytes, and {left} are left",
-            whole_words(whole)
-        ),
+        What::Longer { whole, by } => {
+            let (whole, plural) = (whole_words(whole), if by == 1 { "" } else { "s" });
+            format!(in alloc; "{whole} is {by} byte{plural} longer than what is in it")
+        }
+        What::Cut { whole, size, left } => {
+            let whole = whole_words(whole);
+            format!(in alloc; "{whole} is to have {size} bytes, and {left} are left")
+        }
         What::NoCode { funcs } => bodies_text(alloc, funcs, 0),
         What::Bodies { funcs, bodies } => bodies_text(alloc, funcs, bodies),
         What::Indices { count, left } => format!(in alloc;
@@ -202,9 +189,13 @@ fn section_fault(alloc: Global, bytes: &[u8], spot: Spot) -> Told {
 
 // Where these bytes have another byte than the preamble.
 fn preamble_text(alloc: Global, bytes: &[u8]) -> Told {
-    let pairs = bytes.iter().zip(PREAMBLE.iter());
-    let same = pairs.take_while(|pair| pair.0 == pair.1).count();
-    let place = byte_place(alloc, bytes, same)?;
+    let mut first = bytes.len();
+    for i in (0..PREAMBLE.len()).rev() {
+        if bytes.get(i) != PREAMBLE.get(i) {
+            first = i;
+        }
+    }
+    let place = byte_place(alloc, bytes, first)?;
     format!(in alloc; "{place}: a module begins with 00 61 73 6d 01 00 00 00")
 }
 

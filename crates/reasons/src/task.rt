@@ -1,39 +1,40 @@
 //! Why no task can run a module.
 
-use crate::module::module_of;
+use crate::fields::constant_of;
+use crate::first_bytes::module_of;
 use crate::operands::{known, names};
 use crate::texts::{Shown, Told, or, push_item};
 use linear_memory::PAGE_BYTES;
 use std::alloc::Global;
 use wasi_calls::HostCall;
-use wasm_ast::{Body, ExportKind, Import, Instr, Module, Refusal, Simple, ValType, Value};
+use wasm_ast::{Body, ExportKind, Import, Limits, Module, Refusal, ValType, Value};
 
 /// What is said of the functions of WASI that are no system calls here.
 const OTHERS: &str = " (feulgama lower answers the others)";
 
-// ---- 21
+const NO_MEMORY: &str =
+    "system calls that use memory are imported, and no memory is exported as memory";
 
 // Whether a function takes and gives nothing.
 fn is_bare(of: &Module, func: u32) -> bool {
     let found = of.type_of(func);
-    found.is_some_and(|found| found.params.len() == 0 && found.results.len() == 0)
+    matches!(found, Some(found) if found.params.len() == 0 && found.results.len() == 0)
 }
 
 // Why no task runs a module without an entry or a memory for its system calls. Names of exports differ in a
 // valid module, so one of the two holds.
 fn no_entry(of: &Module) -> &'static str {
-    let mut exports = of.exports.as_slice().iter();
-    match exports.find(|export| export.name.as_str() == "_start") {
-        None => "no function is exported as _start",
-        Some(export) if export.kind != ExportKind::Func =>
-            "what is exported as _start is no function",
-        Some(export) if !is_bare(of, export.index) =>
-            "the function that is exported as _start takes or gives values",
-        Some(_) => "system calls that use memory are imported, and no memory is exported as memory",
+    for export in of.exports.as_slice() {
+        if export.name.as_str() == "_start" {
+            return match export.kind {
+                ExportKind::Func if is_bare(of, export.index) => NO_MEMORY,
+                ExportKind::Func => "the function that is exported as _start takes or gives values",
+                _ => "what is exported as _start is no function",
+            };
+        }
     }
+    "no function is exported as _start"
 }
-
-// ---- 22
 
 // A type as `(i32) to ()`.
 fn signature(alloc: Global, params: &[ValType], results: &[ValType]) -> Told {
@@ -42,7 +43,6 @@ fn signature(alloc: Global, params: &[ValType], results: &[ValType]) -> Told {
     format!(in alloc; "({params}) to ({results})")
 }
 
-// The names of all system calls.
 fn all_names(alloc: Global) -> Told {
     let mut names = String::new(alloc);
     for call in HostCall::all() {
@@ -51,18 +51,20 @@ fn all_names(alloc: Global) -> Told {
     Ok(names)
 }
 
-// Whether an import is of the module of system calls.
 fn is_of_calls(import: &Import) -> bool {
     import.module.as_str() == HostCall::module()
 }
 
 // The system call that an import names by module and name.
 fn named(import: &Import) -> Option<HostCall> {
-    let mut calls = HostCall::all().iter().copied();
-    calls.find(|call| is_of_calls(import) && call.name() == import.name.as_str())
+    for call in HostCall::all() {
+        if is_of_calls(import) && call.name() == import.name.as_str() {
+            return Some(*call);
+        }
+    }
+    None
 }
 
-// Whether an import is a system call of its type.
 fn is_known(of: &Module, import: &Import) -> bool {
     match (named(import), of.type_with(import.type_index)) {
         (Some(call), Some(found)) => {
@@ -72,7 +74,6 @@ fn is_known(of: &Module, import: &Import) -> bool {
     }
 }
 
-// What there is in place of an import.
 fn known_text(alloc: Global, import: &Import) -> Told {
     if let Some(call) = named(import) {
         let wanted = signature(alloc, call.params(), call.results())?;
@@ -83,7 +84,6 @@ fn known_text(alloc: Global, import: &Import) -> Told {
     format!(in alloc; "of {} there are {names}{others}", HostCall::module())
 }
 
-// What is said of an import that is no system call.
 fn import_text(alloc: Global, of: &Module, number: usize, import: &Import) -> Told {
     let module = Shown(import.module.as_str());
     let name = Shown(import.name.as_str());
@@ -95,7 +95,6 @@ fn import_text(alloc: Global, of: &Module, number: usize, import: &Import) -> To
     format!(in alloc; "import {number}, {module} {name}, {found}: {known}")
 }
 
-// Why an import is refused.
 fn why_import(alloc: Global, of: &Module) -> Told {
     for (i, import) in of.imports.as_slice().iter().enumerate() {
         if !is_known(of, import) {
@@ -105,25 +104,28 @@ fn why_import(alloc: Global, of: &Module) -> Told {
     Ok(String::new(alloc))
 }
 
-// ---- 23
-
 // Where a segment with this offset and this many items ends.
 fn end_of(offset: &Body, count: usize) -> u64 {
-    let begin = match offset.as_slice() {
-        [Instr::Simple(Simple::Const(constant))] => match constant.value() {
-            Value::I32(number) => u64::from(number),
-            Value::I64(_) => 0,
-        },
+    let begin = match constant_of(offset) {
+        Some(Value::I32(number)) => u64::from(number),
         _ => 0,
     };
     begin.saturating_add(count as u64)
 }
 
+// The least size of the first table or memory; 0 if there is none.
+fn least(limits: &[Limits]) -> u64 {
+    match limits.first() {
+        Some(limits) => u64::from(limits.min),
+        None => 0,
+    }
+}
+
 fn why_element(alloc: Global, of: &Module) -> Told {
-    let size = of.tables.as_slice().first().map_or(0, |table| table.min);
+    let size = least(of.tables.as_slice());
     for (i, each) in of.elements.as_slice().iter().enumerate() {
         let end = end_of(&each.offset, each.funcs.len());
-        if end > u64::from(size) {
+        if end > size {
             return format!(in alloc;
                 "element segment {i} ends at entry {end}, and the table begins with {size}"
             );
@@ -133,12 +135,7 @@ fn why_element(alloc: Global, of: &Module) -> Told {
 }
 
 fn why_data(alloc: Global, of: &Module) -> Told {
-    let pages = of
-        .memories
-        .as_slice()
-        .first()
-        .map_or(0, |memory| memory.min);
-    let size = u64::from(pages).saturating_mul(PAGE_BYTES as u64);
+    let size = least(of.memories.as_slice()).saturating_mul(PAGE_BYTES as u64);
     for (i, each) in of.segments.as_slice().iter().enumerate() {
         let end = end_of(&each.offset, each.bytes.len());
         if end > size {
