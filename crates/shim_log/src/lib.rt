@@ -9,8 +9,3 @@ mod outlet;
 pub use line::{By, Format, Line, Moment};
 pub use log::Log;
 pub use outlet::{Clocks, Outlet, Terminal};
-
-#[cfg(test)]
-mod log_tests;
-#[cfg(test)]
-mod tests;

@@ -35,15 +35,15 @@ fn arguments(alloc: Global) -> Result<Vec<Text>, AllocError> {
     Ok(args)
 }
 
-// The process of each machine.
-fn process(alloc: Global) -> Result<Process, Refusal>
+/// The process of each machine.
+pub fn process(alloc: Global) -> Result<Process, Refusal>
     ensures { IfOk result (λ p. (p.out ≡ []) × (p.err ≡ [])) }
 {
     process_under(alloc, arguments(alloc)?, Vec::new(alloc), None)
 }
 
-// How a machine has ended.
-fn end_text(alloc: Global, end: Option<End>) -> Result<String, AllocError> {
+/// How a machine has ended.
+pub fn end_text(alloc: Global, end: Option<End>) -> Result<String, AllocError> {
     match end {
         None => String::from_str(alloc, "none"),
         Some(End::Returned) => String::from_str(alloc, "return"),
@@ -60,8 +60,8 @@ fn frames_line<C: Control>(alloc: Global, control: &C) -> Result<String, Refusal
     line_of(alloc, &Ok(Reply::Inspect { frames, id, n }))
 }
 
-// What a machine shows.
-fn shown<C: Control>(alloc: Global, control: &C) -> Result<String, Refusal> {
+/// What a machine shows.
+pub fn shown<C: Control>(alloc: Global, control: &C) -> Result<String, Refusal> {
     let end = end_text(alloc, control.halted())?;
     let out = hex::encode(alloc, control.output(Stream::Out))?;
     let err = hex::encode(alloc, control.output(Stream::Err))?;
@@ -69,8 +69,8 @@ fn shown<C: Control>(alloc: Global, control: &C) -> Result<String, Refusal> {
     Ok(format!(in alloc; "{end}\t{out}\t{err}\t{frames}")?)
 }
 
-// A machine when it has made this many turns, or has ended before.
-fn turned<C: Control + Drop>(control: C, turns: u64) -> Result<C, Refusal> {
+/// A machine when it has made this many turns, or has ended before.
+pub fn turned<C: Control + Drop>(control: C, turns: u64) -> Result<C, Refusal> {
     let mut control = control;
     for _ in control.turns()..turns {
         if control.halted().is_some() {

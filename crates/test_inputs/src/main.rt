@@ -1,11 +1,12 @@
 //! Runs what the lines of standard input name.
 //!
-//! A line `[rows]`, `[reasons]` or `[machines]` is a head. It is printed, and the lines up to the next head
-//! are those of the module `rows`, `reason_rows` or `machines`, which says what they are and what is printed
-//! of them.
+//! A line `[rows]`, `[reasons]`, `[machines]` or `[programs]` is a head. It is printed, and the lines up to
+//! the next head are those of the module `rows`, `reason_rows`, `machines` or `programs`, which says what
+//! they are and what is printed of them.
 #![tactic(auto)]
 
 mod machines;
+mod programs;
 mod reason_rows;
 mod rows;
 
@@ -13,7 +14,7 @@ use crate::reason_rows::Count;
 use anyhow::{Context, Result};
 
 // What is said of a line of no part.
-const HEADS: &str = "the heads of parts are [rows], [reasons] and [machines]";
+const HEADS: &str = "the heads of parts are [rows], [reasons], [machines] and [programs]";
 
 /// What the lines of a part name.
 #[derive(Clone, Copy)]
@@ -21,6 +22,7 @@ enum Part {
     Rows,
     Reasons,
     Machines,
+    Programs,
 }
 
 // The part that a head begins.
@@ -29,6 +31,7 @@ fn part_of(head: &str) -> Option<Part> {
         "[rows]" => Some(Part::Rows),
         "[reasons]" => Some(Part::Reasons),
         "[machines]" => Some(Part::Machines),
+        "[programs]" => Some(Part::Programs),
         _ => None,
     }
 }
@@ -46,6 +49,7 @@ fn run(rt: &HostRuntime, part: Part, count: &mut Count, line: &str) -> Result<()
         Part::Rows => rows::line(rt, line),
         Part::Reasons => count.line(rt, line),
         Part::Machines => Ok(machines::line(rt, line)?),
+        Part::Programs => programs::line(rt, line),
     }
 }
 

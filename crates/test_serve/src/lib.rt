@@ -1,5 +1,5 @@
 //! Tests of one caller's lines and of `serve` over memory: streams that fail or are interrupted, long lines,
-//! what notes are told, and what is said on standard error.
+//! what notes are told, what is said on standard error, and the lines of the log.
 #![tactic(auto)]
 
 #[cfg(test)]
@@ -8,6 +8,10 @@ mod checks;
 mod driven;
 #[cfg(test)]
 mod driving;
+#[cfg(test)]
+mod log_events;
+#[cfg(test)]
+mod log_lines;
 #[cfg(test)]
 mod long_lines;
 #[cfg(test)]

@@ -1,7 +1,7 @@
-//! Lines that were written out by hand.
+//! Lines of the log that were written out by hand.
 
-use crate::{By, Format, Line, Moment};
 use jiff::Timestamp;
+use shim_log::{By, Format, Line, Moment};
 use std::alloc::{AllocError, Global};
 use std::process::Abort;
 use std::time::Duration;

@@ -1,6 +1,6 @@
 //! Which events are lines of a log, by lines that were written out by hand.
 
-use crate::{By, Clocks, Format, Log, Moment, Outlet};
+use shim_log::{By, Clocks, Format, Log, Moment, Outlet};
 use std::alloc::{AllocError, Global};
 use std::cell::RefCell;
 use std::io;
