@@ -7,3 +7,4 @@ pub mod SplitLemmas
 pub mod OneEvent
 pub mod FloatLemmas
 pub mod WriteLemmas
+pub mod ListLemmas
