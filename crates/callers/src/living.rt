@@ -93,8 +93,35 @@ fn answer_and_report<
     }
 }
 
-// Starts a thread for each caller.
+// Starts the thread of a caller.
 #[tactic(auto, using(call_journal::proofs::SentShim::shim_sync, call_journal::proofs::SentShim::shim_send))]
+fn start<
+    J: Row + Send + Sync + 'static,
+    H: Threads + Wait + Copy + Send + Sync + 'static,
+    R: Source + Send + Drop + 'static,
+    W: Sink + Send + Drop + 'static,
+    N: Notes + Report<R, W> + Send + Drop + 'static,
+>(
+    rt: H,
+    alloc: Global,
+    shim: &Arc<Shim<J>, Global>,
+    flight: &'static InFlight,
+    caller: LiveCaller<J, R, W, N>,
+) -> Result<Thread<J, R, W, N>, StartError>
+    ensures { IfOk result (λ t. t.promise.caller.value ≡ caller) }
+{
+    let asked = Answers {
+        caller: Snapshot::of(&caller),
+    };
+    let theirs = Arc::try_clone(shim)?;
+    let run = move || answer_and_report(&rt, alloc, &theirs, flight, caller);
+    match thread::spawn_with(&rt, asked, run) {
+        Ok(thread) => Ok(thread),
+        Err(_) => Err(StartError::NoThread),
+    }
+}
+
+// Starts a thread for each caller.
 fn start_all<
     J: Row + Send + Sync + 'static,
     H: Threads + Wait + Copy + Send + Sync + 'static,
@@ -113,14 +140,7 @@ fn start_all<
 {
     let mut threads = Vec::with_capacity(alloc, callers.len())?;
     for caller in callers {
-        let asked = Answers {
-            caller: Snapshot::of(&caller),
-        };
-        let theirs = Arc::try_clone(shim)?;
-        let run = move || answer_and_report(&rt, alloc, &theirs, flight, caller);
-        let Ok(thread) = thread::spawn_with(&rt, asked, run) else {
-            return Err(StartError::NoThread);
-        };
+        let thread = start(rt, alloc, shim, flight, caller)?;
         let Ok(()) = threads.push(thread) else {
             return Err(StartError::OutOfMemory);
         };

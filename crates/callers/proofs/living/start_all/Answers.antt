@@ -1,10 +1,3 @@
-use denote.Param.Send.{sendable}
-use Rattle.std.proofs.Crossing as std_sent
-use Rattle.call_journal.proofs.seat.Seat.TheSendSync as seat
-use Rattle.callers.proofs.caller.Driven.TheSendSync as driven
-use Rattle.call_journal.proofs.SentShim.{shim_send, shim_sync}
-use Rattle.callers.proofs.flight.InFlight.TheSendSync as flight
-use Rattle.callers.proofs.living.LiveCaller.TheSendSync as caller
 use Rattle.std.proofs.Common.{◌≡◌, refl, sym, subst, ap, ◌∙◌, ◌++◌, [], ◌∷◌, append_assoc}
 use Rattle.std.specs.List.{AllZip}
 use Rattle.callers.proofs.PairLemmas.{each-more, passed-all}
@@ -24,9 +17,8 @@ loop-caller-preserved g c =
       inv.0 ++ x ∷ [],
       append_assoc inv.0 (x ∷ []) c.next.new.self.rest.items
           ∙ ap (λ r. inv.0 ++ r) (sym c.in-Some.ensures.steps.0) ∙ inv.1,
-      each-more _ inv.0 c.loop-caller.threads.items c.push.new.self.items x c.in-Ok.thread
-          c.in-Ok-push.ensures.items inv.2
-          (ap (λ p. p.caller.value) c.in-Ok.ensures.ok ∙ c.of.ensures),
+      each-more _ inv.0 c.loop-caller.threads.items c.push.new.self.items x c.in_ok-thread.thread
+          c.in-Ok.ensures.items inv.2 c.in_ok-thread.ensures,
     )
 
 pub returns : goal.returns
@@ -36,35 +28,3 @@ returns g c =
     (passed-all outer.0 c.loop-caller.caller-iterator.rest.items c.args.callers.items
     (sym c.loop-caller.caller-iterator.rest.ok.0 ∙ c.in-None.ensures.steps.0)
     (outer.1 ∙ c.into_iter-caller-iterator.ensures.into_iter_gives.0)) outer.2
-
-pub spawn_with-requires-send-F : goal.spawn_with-requires-send-F
-spawn_with-requires-send-F g c κs within =
-    let b = c.type_bounds in
-    let j = b.send-J in
-    let h = b.send-H in
-    let r = b.send-R in
-    let w = b.send-W in
-    let n = b.send-N in
-    let js = b.sync-J in
-    let hs = b.sync-H in
-    search (
-      sendable,
-      std_sent.crosses,
-      std_sent.send,
-      shim_sync,
-      shim_send,
-      flight.the_sync,
-      caller.the_send,
-      seat.the_send,
-    )
-    depth 30 fits 100000
-
-pub spawn_with-requires-send-T : goal.spawn_with-requires-send-T
-spawn_with-requires-send-T g c κs within =
-    let b = c.type_bounds in
-    let j = b.send-J in
-    let r = b.send-R in
-    let w = b.send-W in
-    let n = b.send-N in
-    search (sendable, std_sent.crosses, std_sent.send, driven.the_send, caller.the_send, seat.the_send)
-    depth 30 fits 100000
