@@ -113,6 +113,29 @@ fn serve_stream<
     }
 }
 
+// The caller of the file of this name. None, and it is said, if no seat is left.
+fn script_caller<J: Row, H: Wait + Copy, E: Outlet + Eprint + Copy, R: Drop>(
+    service: Service<H, E>,
+    shim: &Shim<J>,
+    name: &'static str,
+    reader: R,
+) -> Option<Caller<J, Watched<R>, Watch<E>>> {
+    let wanted = service.wanted;
+    let Some(seat) = shim.seat(&service.rt) else {
+        failed(&wanted.outlet, NO_SEAT);
+        return None;
+    };
+    let streams = Streams {
+        lines: name,
+        replies: STANDARD_OUTPUT,
+    };
+    Some(Caller {
+        seat,
+        reader: Watched::new(reader),
+        notes: Watch::new(wanted, name, streams),
+    })
+}
+
 // A caller for each file. None, and it is said, if one cannot be had.
 fn scripted<J: Row, H: Wait + Copy, E: Outlet + Eprint + Copy, R: Drop>(
     service: Service<H, E>,
@@ -120,25 +143,11 @@ fn scripted<J: Row, H: Wait + Copy, E: Outlet + Eprint + Copy, R: Drop>(
     names: &'static [String],
     readers: Vec<R>,
 ) -> Option<Vec<Caller<J, Watched<R>, Watch<E>>>> {
-    let wanted = service.wanted;
-    let mut callers = Vec::new(wanted.alloc);
+    let mut callers = Vec::new(service.wanted.alloc);
     for (name, reader) in names.iter().zip(readers) {
-        let name = name.as_str();
-        let Some(seat) = shim.seat(&service.rt) else {
-            failed(&wanted.outlet, NO_SEAT);
-            return None;
-        };
-        let streams = Streams {
-            lines: name,
-            replies: STANDARD_OUTPUT,
-        };
-        let caller = Caller {
-            seat,
-            reader: Watched::new(reader),
-            notes: Watch::new(wanted, name, streams),
-        };
+        let caller = script_caller(service, shim, name.as_str(), reader)?;
         if callers.push(caller).is_err() {
-            failed(&wanted.outlet, OUT_OF_MEMORY);
+            failed(&service.wanted.outlet, OUT_OF_MEMORY);
             return None;
         }
     }
@@ -186,6 +195,28 @@ fn serve_scripts<
     }
 }
 
+// The caller of these streams. None, and it is said, if no seat is left.
+fn live_caller<J: Row, H: Wait + Copy, E: Outlet + Eprint + Copy, R: Drop, W: Drop>(
+    service: Service<H, E>,
+    shim: &Shim<J>,
+    flight: &'static InFlight,
+    streams: Streams,
+    reader: R,
+    writer: W,
+) -> Option<Live<J, H, E, R, W>> {
+    let Service { rt, wanted, .. } = service;
+    let Some(seat) = shim.seat(&rt) else {
+        failed(&wanted.outlet, NO_SEAT);
+        return None;
+    };
+    Some(LiveCaller {
+        seat,
+        reader: Attended::new(rt, flight, Watched::new(reader)),
+        writer: Watched::new(writer),
+        notes: Watch::new(wanted, streams.lines, streams),
+    })
+}
+
 // Callers of these streams, in order. None, and it is said, if one cannot be had.
 fn live_callers<J: Row, H: Wait + Copy, E: Outlet + Eprint + Copy, R: Drop, W: Drop>(
     service: Service<H, E>,
@@ -193,21 +224,12 @@ fn live_callers<J: Row, H: Wait + Copy, E: Outlet + Eprint + Copy, R: Drop, W: D
     flight: &'static InFlight,
     streams: Vec<((&'static str, &'static str), R, W)>,
 ) -> Option<Vec<Live<J, H, E, R, W>>> {
-    let Service { rt, wanted, .. } = service;
-    let mut callers = Vec::new(wanted.alloc);
+    let mut callers = Vec::new(service.wanted.alloc);
     for ((lines, replies), reader, writer) in streams {
-        let Some(seat) = shim.seat(&rt) else {
-            failed(&wanted.outlet, NO_SEAT);
-            return None;
-        };
-        let caller = LiveCaller {
-            seat,
-            reader: Attended::new(rt, flight, Watched::new(reader)),
-            writer: Watched::new(writer),
-            notes: Watch::new(wanted, lines, Streams { lines, replies }),
-        };
+        let names = Streams { lines, replies };
+        let caller = live_caller(service, shim, flight, names, reader, writer)?;
         if callers.push(caller).is_err() {
-            failed(&wanted.outlet, OUT_OF_MEMORY);
+            failed(&service.wanted.outlet, OUT_OF_MEMORY);
             return None;
         }
     }
@@ -253,6 +275,15 @@ fn serve_owner<
     }
 }
 
+// What counts the replies that are being written. It is there until the program ends, since callers are left
+// that use it. None if it cannot be allocated.
+fn leaked_flight(alloc: Global) -> Option<&'static InFlight> {
+    match Box::new(alloc, InFlight::new()) {
+        Ok(flight) => Some(Box::leak(flight)),
+        Err(_) => None,
+    }
+}
+
 // The same over a shim that is not shared yet.
 fn serve_live<
     J: Row + Send + Sync + 'static,
@@ -264,10 +295,12 @@ fn serve_live<
     ensures { result ≤ 1 }
 {
     let alloc = service.wanted.alloc;
-    let (Ok(shim), Ok(flight)) = (Arc::new(alloc, shim), Box::new(alloc, InFlight::new())) else {
+    let Ok(shim) = Arc::new(alloc, shim) else {
         return failed(&service.wanted.outlet, OUT_OF_MEMORY);
     };
-    let flight: &'static InFlight = Box::leak(flight);
+    let Some(flight) = leaked_flight(alloc) else {
+        return failed(&service.wanted.outlet, OUT_OF_MEMORY);
+    };
     match live_callers(service, &shim, flight, streams) {
         Some(callers) => serve_owner(service, &shim, flight, callers),
         None => 1,
