@@ -111,11 +111,3 @@ pub fn asm_file(alloc: Global, bytes: &[u8]) -> Result<Ran, Refusal>
 {
     assembled(alloc, bytes, false)
 }
-
-/// The same, and after a refusal that has a reason a line with it on standard error: `asm --explain`.
-pub fn explain_asm(alloc: Global, bytes: &[u8]) -> Result<Ran, Refusal>
-    ensures ran { IfOk result (IsExplained refused (IsAssembled bytes.now)) }
-    ensures errors { IfErr result (λ e. e ≡ refusal.NoMemory) }
-{
-    assembled(alloc, bytes, true)
-}

@@ -304,11 +304,3 @@ pub fn check_file(alloc: Global, bytes: &[u8], list: bool) -> Result<Ran, Refusa
 {
     file_checked(alloc, bytes, list, false)
 }
-
-/// The same, and after a refusal that has a reason a line with it on standard error: `check --explain`.
-pub fn explain_check(alloc: Global, bytes: &[u8], list: bool) -> Result<Ran, Refusal>
-    ensures ran { IfOk result (IsExplained refused (IsChecked bytes.now list)) }
-    ensures errors { IfErr result (λ e. e ≡ refusal.NoMemory) }
-{
-    file_checked(alloc, bytes, list, true)
-}

@@ -20,14 +20,13 @@ mod source;
 mod task_check;
 pub mod worked;
 
-pub use asm::{asm_file, explain_asm};
+pub use asm::asm_file;
 pub use caller_words::files_of;
-pub use check::{check_file, explain_check};
+pub use check::check_file;
 pub use command::{Command, CommandError, command_of};
 pub use dispatch::{file_of, perform};
 pub use ran::Ran;
 pub use replay::replay_lines;
-pub use run::{explain_run, run_file, run_streams};
+pub use run::run_file;
 pub use run_error::RunError;
 pub use settings::Settings;
-pub use task_check::{check_task, explain_check_task};

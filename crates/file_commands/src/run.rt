@@ -397,7 +397,13 @@ fn run_task<O: Write, E: Write>(
     Ok(status_of(end))
 }
 
-/// What `run` writes over two streams, with or without the reason of a refusal.
+/// The command `run` for a file of this name with these bytes, as `run_file` says, over two streams that are
+/// written to while the task runs, with or without the reason of a refusal. It makes slices of at most
+/// 1,000,000 turns; what a slice has written is written to `out` and then to `err`, and flushed, before the
+/// next one begins. The answer is the status.
+///
+/// `StandardOutput` or `StandardError` if that stream failed: the task goes no further. `OutOfMemory` if
+/// memory runs out for anything but what the task itself may be refused. What was written stays written.
 pub(crate) fn run<O: Write, E: Write>(
     alloc: Global,
     name: &str,
@@ -422,45 +428,6 @@ pub(crate) fn run<O: Write, E: Write>(
     }
 }
 
-/// The command `run` for a file of this name with these bytes, as `run_file` says, over two streams that are
-/// written to while the task runs. It makes slices of at most 1,000,000 turns; what a slice has written is
-/// written to `out` and then to `err`, and flushed, before the next one begins. The answer is the status.
-///
-/// `StandardOutput` or `StandardError` if that stream failed: the task goes no further. `OutOfMemory` if
-/// memory runs out for anything but what the task itself may be refused. What was written stays written.
-pub fn run_streams<O: Write, E: Write>(
-    alloc: Global,
-    name: &str,
-    bytes: &[u8],
-    args: &[String],
-    settings: &Settings,
-    out: &mut O,
-    err: &mut E,
-) -> Result<u8, RunError>
-    ensures { IfOk result (IsWritten
-        (IsRun bytes.now (given name.now (map string_bytes args.now) settings.now))
-        (O.contents out.old) (O.contents out.new) (E.contents err.old) (E.contents err.new)) }
-{
-    run(alloc, name, bytes, args, settings, false, out, err)
-}
-
-/// The same, and after a refusal that has a reason a line with it on standard error: `run --explain`.
-pub fn explain_run<O: Write, E: Write>(
-    alloc: Global,
-    name: &str,
-    bytes: &[u8],
-    args: &[String],
-    settings: &Settings,
-    out: &mut O,
-    err: &mut E,
-) -> Result<u8, RunError>
-    ensures { IfOk result (IsWritten (IsExplained refused_run
-        (IsRun bytes.now (given name.now (map string_bytes args.now) settings.now)))
-        (O.contents out.old) (O.contents out.new) (E.contents err.old) (E.contents err.new)) }
-{
-    run(alloc, name, bytes, args, settings, true, out, err)
-}
-
 /// What `run` writes for a file of this name with these bytes: one task whose arguments are the name and
 /// `args`, with the environment and the limit of the settings, is run to its end. A trap adds a line to
 /// standard error, and so does each of its two streams that has taken all the bytes that it takes.
@@ -480,7 +447,9 @@ pub fn run_file(
 {
     let mut out = Vec::new(alloc);
     let mut err = Vec::new(alloc);
-    match run_streams(alloc, name, bytes, args, settings, &mut out, &mut err) {
+    match run(
+        alloc, name, bytes, args, settings, false, &mut out, &mut err,
+    ) {
         Ok(status) => Ok(Ran {
             out: Sequence::new(out),
             err: Sequence::new(err),

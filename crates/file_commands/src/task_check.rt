@@ -56,37 +56,3 @@ pub(crate) fn task_checked(
         }
     }
 }
-
-/// What `check --task` writes for a file of this name with these bytes: what `check` writes, if `run` could
-/// make a task of it with these settings and no argument beside its name. If it could not, that is a line on
-/// standard error, with the refusal that `run` would have, and the status is 3. No function of the module
-/// runs. `NoMemory`, and no other refusal, if memory runs out for anything but what the task itself may be
-/// refused.
-pub fn check_task(
-    alloc: Global,
-    name: &str,
-    bytes: &[u8],
-    list: bool,
-    settings: &Settings,
-) -> Result<Ran, Refusal>
-    ensures ran { IfOk result (IsTaskChecked bytes.now (given name.now [] settings.now) list) }
-    ensures errors { IfErr result (λ e. e ≡ refusal.NoMemory) }
-{
-    task_checked(alloc, name, bytes, list, settings, false)
-}
-
-/// The same, and after a refusal that has a reason a line with it on standard error:
-/// `check --task --explain`.
-pub fn explain_check_task(
-    alloc: Global,
-    name: &str,
-    bytes: &[u8],
-    list: bool,
-    settings: &Settings,
-) -> Result<Ran, Refusal>
-    ensures ran { IfOk result (IsExplained refused
-        (IsTaskChecked bytes.now (given name.now [] settings.now) list)) }
-    ensures errors { IfErr result (λ e. e ≡ refusal.NoMemory) }
-{
-    task_checked(alloc, name, bytes, list, settings, true)
-}

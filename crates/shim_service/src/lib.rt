@@ -5,9 +5,8 @@
 
 pub use callers::{Driven, NoNotes, Notes, drive};
 pub use file_commands::{
-    Command, CommandError, Ran, RunError, Settings, asm_file, check_file, check_task, command_of,
-    explain_asm, explain_check, explain_check_task, explain_run, file_of, files_of, laws, perform,
-    replay_lines, run_file, run_streams,
+    Command, CommandError, Ran, RunError, Settings, asm_file, check_file, command_of, file_of,
+    files_of, laws, perform, replay_lines, run_file,
 };
 pub use request_lines::{
     bad_request_line, event_line_of, event_of, line_of, no_memory_line, request_of,

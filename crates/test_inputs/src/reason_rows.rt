@@ -5,17 +5,17 @@
 //! arguments after it) for a file; `config` for the text of one; `request` or `event` for a line of `serve`
 //! or `replay`; `refused NUMBER` for the line of a request that is refused so, with `at LINE COLUMN` after a
 //! number 18, `at FUNC PLACE` after an 8, and `content HEX` if the config of a create names that content.
-//! What it is given is in hexadecimal digits or, after `text `, as it is, with `\n` for a line feed. A line
-//! that is empty or begins with `#` says something of the others. `ok COUNT` is printed at the end: of how
-//! many lines the reason is the one that is wanted, and the command with `--explain` writes what it writes
-//! without, and then the line of that reason. Each other line is printed with what was found. Of a line
-//! without a reason the refusal and its reason are printed.
+//! What it is given is in hexadecimal digits or, after `text `, as it is, with `\n` for a line feed. `ok
+//! COUNT` is printed at the end: of how many lines the reason is the one that is wanted, and the command with
+//! `--explain` writes what it writes without, and then the line of that reason. Each other line is printed
+//! with what was found. Of a line without a reason the refusal and its reason are printed.
 
 mod files;
 mod requests;
 
 use crate::reason_rows::files::file_told;
 use crate::reason_rows::requests::refused_told;
+use crate::written::bytes_of;
 use anyhow::{Context, Result, bail};
 use oci_config::read_config;
 use reasons::{Lines, why_config, why_line};
@@ -23,27 +23,6 @@ use request_lines::{event_of, request_of};
 use std::alloc::Global;
 use std::str::from_utf8;
 use wasm_ast::Refusal;
-
-// The bytes of a text as a row writes it.
-fn text_of(alloc: Global, text: &str) -> Result<Vec<u8>> {
-    let mut bytes = Vec::new(alloc);
-    for (i, line) in text.split("\\n").enumerate() {
-        bytes.extend_from_slice(if i == 0 { b"" } else { b"\n" })?;
-        bytes.extend_from_slice(line.as_bytes())?;
-    }
-    Ok(bytes)
-}
-
-// What a row gives a command, as the row writes it.
-fn given_of(alloc: Global, written: &str) -> Result<Vec<u8>> {
-    if let Some(text) = written.strip_prefix("text ") {
-        return text_of(alloc, text);
-    }
-    match hex::decode(alloc, written) {
-        Ok(bytes) => Ok(bytes),
-        Err(_) => bail!("digits"),
-    }
-}
 
 // The refusal of a text or a line, if it is refused.
 fn refusal_text<T>(read: &Result<T, Refusal>) -> Result<&'static str> {
@@ -95,15 +74,15 @@ fn told_of(alloc: Global, command: &str, bytes: &[u8]) -> Result<(String, String
     }
 }
 
-// Whether the reason of a row is the one that is wanted; else it is printed.
-fn is_right(rt: &HostRuntime, row: &str) -> Result<bool> {
+/// Whether the reason of a row is the one that is wanted; else it is printed.
+pub fn is_right(rt: &HostRuntime, row: &str) -> Result<bool> {
     let alloc = rt.alloc();
     let (command, rest) = row.split_once(" => ").context("a row without a file")?;
     let (written, wanted) = match rest.split_once(" => ") {
         Some((written, wanted)) => (written, wanted),
         None => (rest, ""),
     };
-    let bytes = given_of(alloc, written)?;
+    let bytes = bytes_of(alloc, written)?;
     let (refusal, reason) = told_of(alloc, command, bytes.as_slice())?;
     if wanted == "" {
         println!(rt; "{refusal}\t{reason}")?;
@@ -114,34 +93,4 @@ fn is_right(rt: &HostRuntime, row: &str) -> Result<bool> {
     }
     println!(rt; "{row}\nin place of: {reason}")?;
     Ok(false)
-}
-
-/// Of how many lines the reason is the one that is wanted.
-#[derive(Drop)]
-pub struct Count {
-    right: u64,
-}
-
-impl Count {
-    /// Of none.
-    pub fn none() -> Count {
-        Count { right: 0 }
-    }
-
-    /// Compares the reason of a line.
-    pub fn line(&mut self, rt: &HostRuntime, row: &str) -> Result<()> {
-        if row.is_empty() || row.starts_with('#') {
-            return Ok(());
-        }
-        if is_right(rt, row)? {
-            self.right = self.right.saturating_add(1);
-        }
-        Ok(())
-    }
-
-    /// Prints the count.
-    pub fn end(&self, rt: &HostRuntime) -> Result<()> {
-        println!(rt; "ok {}", self.right)?;
-        Ok(())
-    }
 }

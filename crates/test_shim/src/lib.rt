@@ -10,11 +10,7 @@ mod bytes;
 #[cfg(test)]
 mod checks;
 #[cfg(test)]
-mod commands;
-#[cfg(test)]
 mod copies;
-#[cfg(test)]
-mod files;
 #[cfg(test)]
 mod runs;
 #[cfg(test)]

@@ -2,7 +2,7 @@
 
 use crate::checks::{check_bytes, check_text};
 use crate::writers::FailingWriter;
-use file_commands::{Command, Ran, RunError, Settings, perform, run_file, run_streams};
+use file_commands::{Command, CommandError, Ran, RunError, Settings, perform, run_file};
 use std::alloc::{AllocError, Global};
 use std::process::Abort;
 use std::test::Fail;
@@ -140,6 +140,16 @@ fn framed(alloc: Global, body: &str) -> Result<String, AllocError> {
     Ok(text)
 }
 
+// The command `run m`.
+fn run_command(alloc: Global) -> Result<Command, AllocError> {
+    Ok(Command::Run {
+        module: String::from_str(alloc, "m")?,
+        args: Vec::new(alloc),
+        settings: Settings::none(alloc),
+        explain: false,
+    })
+}
+
 // Why a run was given up.
 fn cause(ran: &Result<u8, RunError>) -> &'static str {
     match ran {
@@ -154,15 +164,8 @@ fn check_failure(rt: &impl Abort, alloc: Global, at: usize, row: &Failure) -> Re
     let file = framed(alloc, row.body)?;
     let mut out = FailingWriter::new(alloc, row.out_room);
     let mut err = FailingWriter::new(alloc, row.err_room);
-    let ran = run_streams(
-        alloc,
-        "m",
-        file.as_bytes(),
-        &[],
-        &Settings::none(alloc),
-        &mut out,
-        &mut err,
-    );
+    let command = run_command(alloc)?;
+    let ran = perform(alloc, &command, file.as_bytes(), &mut out, &mut err);
     check_text(rt, row.body, cause(&ran), row.cause);
     check_bytes(rt, at, out.as_slice(), row.out.as_bytes());
     assert!(rt; out.is_flushed(), "{at}");
@@ -182,15 +185,8 @@ fn a_stream_fails_while_its_task_runs(rt: HostRuntime) -> Result<(), Fail> {
 fn check_ran(rt: &impl Abort, alloc: Global, file: &str, wanted: &Ran) -> Result<(), Fail> {
     let mut out = FailingWriter::new(alloc, usize::MAX);
     let mut err = FailingWriter::new(alloc, usize::MAX);
-    let status = run_streams(
-        alloc,
-        "m",
-        file.as_bytes(),
-        &[],
-        &Settings::none(alloc),
-        &mut out,
-        &mut err,
-    )?;
+    let command = run_command(alloc)?;
+    let status = perform(alloc, &command, file.as_bytes(), &mut out, &mut err)?;
     assert_eq!(rt; status, wanted.status, "{file}");
     check_bytes(rt, 0, out.as_slice(), wanted.out.as_slice());
     check_bytes(rt, 0, err.as_slice(), wanted.err.as_slice());
@@ -205,15 +201,8 @@ fn a_slice_of_a_run_ends(rt: HostRuntime) -> Result<(), Fail> {
     let file = framed(alloc, TWO_SLICES)?;
     let mut out = FailingWriter::new(alloc, usize::MAX);
     let mut err = FailingWriter::new(alloc, usize::MAX);
-    let status = run_streams(
-        alloc,
-        "m",
-        file.as_bytes(),
-        &[],
-        &Settings::none(alloc),
-        &mut out,
-        &mut err,
-    )?;
+    let command = run_command(alloc)?;
+    let status = perform(alloc, &command, file.as_bytes(), &mut out, &mut err)?;
     assert_eq!(rt; status, 0);
     check_bytes(&rt, 0, out.as_slice(), b"xx");
     assert_eq!(rt; out.writes(), 2);
@@ -283,5 +272,12 @@ fn a_command_names_the_stream_that_failed(rt: HostRuntime) -> Result<(), Fail> {
     };
     let refused = perform(alloc, &asm, b"(module", &mut other, &mut full);
     check_text(&rt, "a refused file", cause(&refused), "standard error");
+    Ok(())
+}
+
+#[test]
+fn memory_that_ran_out_is_told(rt: HostRuntime) -> Result<(), Fail> {
+    let text = CommandError::OutOfMemory.to_string(rt.alloc())?;
+    check_text(&rt, "no memory", text.as_str(), "out of memory");
     Ok(())
 }
