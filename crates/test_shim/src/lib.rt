@@ -12,6 +12,8 @@ mod checks;
 #[cfg(test)]
 mod copies;
 #[cfg(test)]
+mod files;
+#[cfg(test)]
 mod runs;
 #[cfg(test)]
 mod stores;

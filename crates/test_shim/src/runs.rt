@@ -281,3 +281,26 @@ fn memory_that_ran_out_is_told(rt: HostRuntime) -> Result<(), Fail> {
     check_text(&rt, "no memory", text.as_str(), "out of memory");
     Ok(())
 }
+
+/// How many lines that are no requests a replay answers: some 350 KB.
+const MANY_LINES: usize = 8_000;
+
+#[test]
+fn a_replay_may_write_much(rt: HostRuntime) -> Result<(), Fail> {
+    let alloc = rt.alloc();
+    let mut lines = Vec::new(alloc);
+    for _ in 0..MANY_LINES {
+        lines.extend_from_slice(b"{}\n")?;
+    }
+    let mut out = FailingWriter::new(alloc, usize::MAX);
+    let mut err = FailingWriter::new(alloc, usize::MAX);
+    let replay = Command::Replay {
+        file: String::from_str(alloc, "m")?,
+    };
+    let status = perform(alloc, &replay, lines.as_slice(), &mut out, &mut err)?;
+    assert_eq!(rt; status, 0);
+    let reply = b"{\"error\":\"BadRequest\",\"number\":1,\"ok\":false}\n";
+    assert_eq!(rt; out.as_slice().len(), MANY_LINES * reply.len());
+    assert!(rt; out.as_slice().starts_with(reply));
+    Ok(())
+}
