@@ -9,6 +9,8 @@ mod driven;
 #[cfg(test)]
 mod driving;
 #[cfg(test)]
+mod living;
+#[cfg(test)]
 mod log_events;
 #[cfg(test)]
 mod log_lines;

@@ -5,33 +5,34 @@ use shim_log::{Format, Moment, Outlet};
 use std::alloc::{AllocError, Global};
 use std::fmt::Display;
 use std::io;
-use std::io::Write;
+use std::io::{Read, Write};
 use std::process::Abort;
+use std::str::from_utf8;
 use std::sync::{Mutex, Wait};
 use std::test::Fail;
 use std::thread::Threads;
 use std::time::Clock;
 use test_streams::{
-    BAD_REQUEST_LINE, ChunkedReader, FailingWriter, NOT_FOUND_LINE, STATE, repeated,
+    BAD_REQUEST_LINE, ChunkedReader, FailingWriter, LONG_LINES, NOT_FOUND_LINE, STATE, repeated,
 };
 
 /// A text that several threads write.
 #[derive(Clone, Copy)]
-struct Page<H> {
-    rt: H,
-    alloc: Global,
-    text: &'static Mutex<Vec<u8>>,
+pub struct Page<H> {
+    pub rt: H,
+    pub alloc: Global,
+    pub text: &'static Mutex<Vec<u8>>,
 }
 
-// An empty text, which stays to the end of the program.
-fn empty_text(alloc: Global) -> Result<&'static Mutex<Vec<u8>>, AllocError> {
+/// An empty text, which stays to the end of the program.
+pub fn empty_text(alloc: Global) -> Result<&'static Mutex<Vec<u8>>, AllocError> {
     let text = Box::new(alloc, Mutex::new(Vec::new(alloc)))?;
     Ok(Box::leak(text))
 }
 
 impl<H: Wait> Page<H> {
-    // Adds bytes.
-    fn add(&self, bytes: &[u8]) {
+    /// Adds bytes.
+    pub fn add(&self, bytes: &[u8]) {
         let _added = self.text.lock(&self.rt).extend_from_slice(bytes);
     }
 }
@@ -114,13 +115,18 @@ fn questions(
 
 type MemoryWork<O> = Work<ChunkedReader<'static>, FailingWriter, O>;
 
-// Serves with this text as standard error. The status.
-fn served<H: Threads + Wait + Clock + Copy + Send + Sync + 'static, O: Write + Drop>(
+/// Serves with this text as standard error. The status.
+pub fn served<
+    H: Threads + Wait + Clock + Copy + Send + Sync + 'static,
+    R: Read + Send + Drop + 'static,
+    W: Write + Send + Drop + 'static,
+    O: Write + Drop,
+>(
     rt: H,
     alloc: Global,
     text: &'static Mutex<Vec<u8>>,
     format: Option<Format>,
-    work: MemoryWork<O>,
+    work: Work<R, W, O>,
 ) -> u8 {
     let page = Page { rt, alloc, text };
     serve(
@@ -131,8 +137,8 @@ fn served<H: Threads + Wait + Clock + Copy + Send + Sync + 'static, O: Write + D
     )
 }
 
-// Asserts what a text is.
-fn check_text<H: Wait + Abort + Copy>(rt: H, text: &Mutex<Vec<u8>>, wanted: &str) {
+/// Asserts what a text is.
+pub fn check_text<H: Wait + Abort + Copy>(rt: H, text: &Mutex<Vec<u8>>, wanted: &str) {
     assert_eq!(rt; text.lock(&rt).as_slice(), wanted.as_bytes());
 }
 
@@ -214,4 +220,36 @@ fn the_log_of_one_caller(rt: HostRuntime) -> Result<(), Fail> {
     let output = FailingWriter::new(rt.alloc(), usize::MAX);
     let work = Work::Stream("x", questions(rt.alloc(), 1, true)?, output);
     check_served(rt, rt.alloc(), Some(Format::Text), work, said, 1)
+}
+
+/// The log of a task that ends in a slice of a worker, in any order.
+const ENDED: &[&str] = &[
+    "log: - - line 2 created id=a turns=0\n",
+    "log: - - line 3 started id=a status=running\n",
+    "log: - - worker ended id=a turns=2400002 cause=return exit=0\n",
+    "log: - - caller-ended lines=4\n",
+];
+
+// A reader of lines that start a long task and wait for it.
+fn long_task(alloc: Global) -> Result<ChunkedReader<'static>, AllocError> {
+    let mut lines = String::from_str(alloc, LONG_LINES)?;
+    lines.push_str("{\"op\":\"wait\",\"id\":\"a\"}\n")?;
+    Ok(ChunkedReader::new(lines.into_bytes().leak()))
+}
+
+// The caller makes one slice of some 240 at most before it sleeps.
+#[test]
+fn the_log_of_a_task_that_a_worker_ends(rt: HostRuntime) -> Result<(), Fail> {
+    let alloc = rt.alloc();
+    let text = empty_text(alloc)?;
+    let output = FailingWriter::new(alloc, usize::MAX);
+    let work: MemoryWork<FailingWriter> = Work::Stream("x", long_task(alloc)?, output);
+    assert_eq!(rt; served(rt, alloc, text, Some(Format::Text), work), 0);
+    let kept = text.lock(&rt);
+    let log = from_utf8(kept.as_slice())?;
+    for line in ENDED {
+        assert!(rt; log.contains(*line), "{line}");
+    }
+    assert_eq!(rt; log.lines().count(), ENDED.len());
+    Ok(())
 }

@@ -51,6 +51,13 @@ pub const RUN_ANSWERS: &str =
 {"cause":"exit","exit":7,"id":"a","n":24002,"ok":true,"status":"stopped"}
 "#;
 
+/// Stores a module whose entry returns after 2,400,002 turns, creates the task `a` of it and starts that.
+pub const LONG_LINES: &str =
+    r#"{"op":"put","hex":"0061736d0100000001040160000003020100070a01065f737461727400000a18011601017f4180b51821000340200041016b22000d000b0b"}
+{"op":"create","id":"a","config":"{\"ociVersion\":\"1.0.2\",\"process\":{\"args\":[\"a\"],\"cwd\":\"/\"},\"annotations\":{\"dev.shim.module\":\"sha256:25937b564006ad6cd5a7d340e6c73e757b514cb1f00fdfe18760ece186b85f95\"}}"}
+{"op":"start","id":"a"}
+"#;
+
 /// A request for a task that is not there.
 pub const STATE: &str = r#"{"op":"state","id":"zz"}"#;
 

@@ -6,8 +6,8 @@ mod readers;
 mod writers;
 
 pub use fixtures::{
-    BAD_ID_LINE, BAD_REQUEST_LINE, NOT_FOUND_LINE, RUN_ANSWERS, RUN_LINES, SIX_ANSWERS, SIX_LINES,
-    STATE, repeated,
+    BAD_ID_LINE, BAD_REQUEST_LINE, LONG_LINES, NOT_FOUND_LINE, RUN_ANSWERS, RUN_LINES, SIX_ANSWERS,
+    SIX_LINES, STATE, repeated,
 };
 pub use readers::{ChunkedReader, PoliteReader};
 pub use writers::{CountingWriter, FailingWriter};

@@ -1,0 +1,157 @@
+//! `serve` with live callers over memory: whose end is the end of all, and which replies are written by then.
+
+use crate::serving::{Page, check_text, empty_text, served};
+use serve_command::Work;
+use std::alloc::{AllocError, Global};
+use std::io::{Read, Write};
+use std::process::Abort;
+use std::sync::atomic::{AtomicU64, Ordering};
+use std::sync::{Mutex, Wait};
+use std::test::Fail;
+use std::thread::Threads;
+use std::time::Clock;
+use std::{io, thread};
+use test_streams::{ChunkedReader, NOT_FOUND_LINE, STATE, repeated};
+
+/// How often a write yields, if it is slow.
+const SLOW: u64 = 100_000;
+
+/// How many questions the owner asks, if it does not wait for another caller.
+const MANY: usize = 500;
+
+/// A reader over bytes. It is at its end once a write has begun, if it waits for one.
+#[derive(Drop)]
+struct LateReader {
+    lines: ChunkedReader<'static>,
+    begun: Option<&'static AtomicU64>,
+}
+
+impl Read for LateReader {
+    fn read(&mut self, buf: &mut [u8]) -> io::Result<usize> {
+        let n = self.lines.read(buf)?;
+        if n == 0 {
+            wait_for(self.begun);
+        }
+        Ok(n)
+    }
+}
+
+// Waits for a write to begin, for at most a million yields.
+fn wait_for(begun: Option<&'static AtomicU64>) {
+    let Some(begun) = begun else {
+        return;
+    };
+    for _ in 0..1_000_000 {
+        if begun.load(Ordering::SeqCst) > 0 {
+            return;
+        }
+        thread::yield_now();
+    }
+}
+
+/// A page as the replies of a caller. A write says that it has begun, and is slow, if it is waited for.
+#[derive(Drop)]
+struct SlowWriter<H> {
+    page: Page<H>,
+    begun: Option<&'static AtomicU64>,
+}
+
+impl<H: Wait + Copy> Write for SlowWriter<H> {
+    fn write(&mut self, buf: &[u8]) -> io::Result<usize> {
+        if let Some(begun) = self.begun {
+            begun.fetch_add(1, Ordering::SeqCst);
+            for _ in 0..SLOW {
+                thread::yield_now();
+            }
+        }
+        self.page.add(buf);
+        Ok(buf.len())
+    }
+
+    fn flush(&mut self) -> io::Result<()> {
+        Ok(())
+    }
+}
+
+/// A live caller over memory: the number of its questions for no task, and where its replies go.
+#[derive(Clone, Copy)]
+struct Asker {
+    questions: usize,
+    text: &'static Mutex<Vec<u8>>,
+}
+
+type Streams<H> = ((&'static str, &'static str), LateReader, SlowWriter<H>);
+
+// The streams of a caller, which is the owner or another.
+fn streams<H: Copy>(
+    rt: H,
+    alloc: Global,
+    asker: Asker,
+    reads: Option<&'static AtomicU64>,
+    writes: Option<&'static AtomicU64>,
+) -> Result<Streams<H>, AllocError> {
+    let Some(lines) = repeated(alloc, STATE, asker.questions) else {
+        return Err(AllocError);
+    };
+    let reader = LateReader {
+        lines: ChunkedReader::new(lines.leak()),
+        begun: reads,
+    };
+    let text = asker.text;
+    let page = Page { rt, alloc, text };
+    let writer = SlowWriter {
+        page,
+        begun: writes,
+    };
+    Ok((("in", "out"), reader, writer))
+}
+
+// Serves two live callers, of which the first is the owner, and asserts that both have their replies.
+fn check_live<H: Threads + Wait + Clock + Abort + Copy + Send + Sync + 'static>(
+    rt: H,
+    alloc: Global,
+    questions: (usize, usize),
+    begun: Option<&'static AtomicU64>,
+) -> Result<(), Fail> {
+    let owner = Asker {
+        questions: questions.0,
+        text: empty_text(alloc)?,
+    };
+    let other = Asker {
+        questions: questions.1,
+        text: empty_text(alloc)?,
+    };
+    let mut callers = Vec::new(alloc);
+    callers.push(streams(rt, alloc, owner, begun, None)?)?;
+    callers.push(streams(rt, alloc, other, None, begun)?)?;
+    let said = empty_text(alloc)?;
+    let work: Work<LateReader, SlowWriter<H>, Vec<u8>> = Work::Live(callers);
+    assert_eq!(rt; served(rt, alloc, said, None, work), 0);
+    check_text(rt, said, "");
+    for asker in [owner, other] {
+        check_replies(rt, alloc, asker)?;
+    }
+    Ok(())
+}
+
+// Asserts that each question has its reply.
+fn check_replies<H: Wait + Abort + Copy>(rt: H, alloc: Global, asker: Asker) -> Result<(), Fail> {
+    let mut replies = String::new(alloc);
+    for _ in 0..asker.questions {
+        replies.push_str(NOT_FOUND_LINE)?;
+    }
+    check_text(rt, asker.text, replies.as_str());
+    Ok(())
+}
+
+#[test]
+fn the_first_live_caller_is_the_owner(rt: HostRuntime) -> Result<(), Fail> {
+    check_live(rt, rt.alloc(), (MANY, 0), None)
+}
+
+// The owner ends while the reply of another caller is being written.
+#[test]
+fn a_reply_that_is_being_written_is_waited_for(rt: HostRuntime) -> Result<(), Fail> {
+    let begun: &'static AtomicU64 = Box::leak(Box::new(rt.alloc(), AtomicU64::new(0))?);
+    check_live(rt, rt.alloc(), (1, 1), Some(begun))
+}
