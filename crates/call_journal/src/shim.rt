@@ -35,7 +35,7 @@ use wasm_ast::{Refusal, Text};
 // |---|---|---|---|
 // | a caller, in `wait` | its task has settled | pause or kill of an idle task | `call_quietly` |
 // | | | the return of a slice, if the task stops or pauses | `give_back`, `receive` |
-// | | the journal is full | the call that fills it | `call_quietly` |
+// | | the journal is full | the call that fills it | `call_quietly`, `wait` |
 // | a worker, in `next` | a task waits for it | start, resume | `call`; next call, `wake`, `wait` |
 // | | | a ticket that is put back | `offer`, `wait_again` |
 // | both | the shim is closed | `close` | `close` |
@@ -128,10 +128,15 @@ impl<R: Row> Shim<R> {
         let mut shared = self.shared.lock(rt);
         self.tell_worker(&shared);
         let answer = shared.book.call(&self.cells, &mut seat, request);
-        if settles(&answer) || shared.book.is_full() {
-            self.tell_callers(&shared);
-        }
+        self.tell_settled(&shared, &answer);
         (seat, answer)
+    }
+
+    // Tells the callers that sleep, if a call that was answered so may have made a wait due.
+    fn tell_settled(&self, shared: &Shared<R>, answer: &Result<Reply, Refusal>) {
+        if settles(answer) || shared.book.is_full() {
+            self.tell_callers(shared);
+        }
     }
 
     // Tells the callers that sleep that a wait may be due.
@@ -174,6 +179,7 @@ impl<R: Row> Shim<R> {
         let mut shared = self.settled.wait_while(rt, shared, |s| !s.book.is_due(&id));
         shared.callers = shared.callers.wrapping_sub(1);
         let answer = shared.book.call_due(&self.cells, &mut seat, id);
+        self.tell_settled(&shared, &answer);
         (seat, answer)
     }
 

@@ -9,19 +9,24 @@ use std::process::Abort;
 use std::sync::Wait;
 use std::test::Fail;
 use std::thread::Threads;
-use test_streams::{STATE, repeated};
+use test_streams::{LONG_LINES, STATE, repeated};
 
-/// What another caller asks while two wait for a task that never ends, and how they are answered then.
+/// How many callers wait.
+const SLEEPERS: usize = 5;
+
+/// What another caller asks while five wait for a task, and how they are answered then.
 #[derive(Clone, Copy)]
 pub struct Sleepers<'a> {
-    /// How many workers there are. If there is none the task is idle while the two sleep: each runs one slice
+    /// How many workers there are. If there is none the task is idle while the five sleep: each runs one slice
     /// of it at most before it does.
     pub workers: u64,
-    /// How often the other caller asks for the state of no task first, so that the two sleep.
+    /// The lines that start the task.
+    pub begin: &'a str,
+    /// How often the other caller asks for the state of no task first, so that the five sleep.
     pub before: usize,
     /// The lines that it asks after that.
     pub asked: &'a str,
-    /// The end of the line that each of the two is answered.
+    /// The end of the line that each of the five is answered.
     pub answered: &'a str,
 }
 
@@ -35,10 +40,10 @@ pub const ENDLESS_LINES: &str =
 /// Waits for the task.
 pub const WAIT_LINE: &str = "{\"op\":\"wait\",\"id\":\"a\"}\n";
 
-// Asserts that the first two callers were answered by one line with this end.
+// Asserts that the callers that waited were answered by one line with this end.
 fn check_ends<R: Row, A: Abort>(rt: &A, told: &[Told<'_, R>], end: &str) {
     for (at, answered) in told.iter().enumerate() {
-        if at < 2 {
+        if at < SLEEPERS {
             assert!(rt;
                 answered.replies.as_slice().ends_with(end.as_bytes()),
                 "caller {at}"
@@ -47,43 +52,43 @@ fn check_ends<R: Row, A: Abort>(rt: &A, told: &[Told<'_, R>], end: &str) {
     }
 }
 
-// Starts a task that never ends.
-fn start_endless<R: Row + Send + Sync, W: Threads + Wait + Sync>(
+// Starts the task.
+fn start<R: Row + Send + Sync, W: Threads + Wait + Sync>(
     rt: &W,
     alloc: Global,
     shim: &Shim<R>,
+    begin: &str,
 ) -> Option<()> {
-    let scripts = [ENDLESS_LINES.as_bytes()];
+    let scripts = [begin.as_bytes()];
     side_by_side(rt, alloc, shim, scripts.as_slice())?;
     Some(())
 }
 
-// The lines of two callers that ask the same, and of a third one.
-fn two_and_one<'a>(same: &'a [u8], other: &'a [u8]) -> [&'a [u8]; 3] {
-    [same, same, other]
+// The lines of five callers that ask the same, and of one more.
+fn five_and_one<'a>(same: &'a [u8], other: &'a [u8]) -> [&'a [u8]; 6] {
+    [same, same, same, same, same, other]
 }
 
-// Lets callers ask these lines of an endless task, and looks at the end of what the first two are answered.
+// Lets callers ask these lines of the task, and looks at the end of what those that wait are answered.
 fn woken<'a, R: Row + Send + Sync, W: Threads + Wait + Abort + Sync>(
     rt: &W,
     alloc: Global,
     shim: &Shim<R>,
-    workers: u64,
-    scripts: [&'a [u8]; 3],
-    end: &str,
+    scripts: [&'a [u8]; 6],
+    story: Sleepers<'_>,
 ) -> Option<()> {
     let scripts = scripts.as_slice();
     let run = move || {
-        start_endless(rt, alloc, shim)?;
+        start(rt, alloc, shim, story.begin)?;
         side_by_side(rt, alloc, shim, scripts)
     };
-    let told = with_workers(rt, alloc, shim, workers, run).ok()??;
-    check_ends(rt, told.as_slice(), end);
+    let told = with_workers(rt, alloc, shim, story.workers, run).ok()??;
+    check_ends(rt, told.as_slice(), story.answered);
     Some(())
 }
 
-/// Starts an endless task, and then lets two callers wait for it while a third one asks. None if lines come
-/// to no end.
+/// Starts the task, and then lets five callers wait for it while another one asks. None if lines come to no
+/// end.
 pub fn waking<R: Row + Send + Sync, W: Threads + Wait + Abort + Sync>(
     rt: &W,
     alloc: Global,
@@ -96,14 +101,14 @@ pub fn waking<R: Row + Send + Sync, W: Threads + Wait + Abort + Sync>(
     lines.extend_from_slice(states.as_slice()).ok()?;
     lines.extend_from_slice(story.asked.as_bytes()).ok()?;
     let (wait, other) = lines.as_slice().split_at(WAIT_LINE.len());
-    let scripts = two_and_one(wait, other);
-    woken(rt, alloc, shim, story.workers, scripts, story.answered)
+    woken(rt, alloc, shim, five_and_one(wait, other), story)
 }
 
 #[test]
 fn a_kill_wakes_those_that_wait(rt: HostRuntime) -> Result<(), Fail> {
     let story = Sleepers {
         workers: 1,
+        begin: ENDLESS_LINES,
         before: 500,
         asked: "{\"op\":\"kill\",\"id\":\"a\",\"signal\":9}\n",
         answered: "\"ok\":true,\"signal\":9,\"status\":\"stopped\"}\n",
@@ -115,6 +120,7 @@ fn a_kill_wakes_those_that_wait(rt: HostRuntime) -> Result<(), Fail> {
 fn a_pause_wakes_those_that_wait(rt: HostRuntime) -> Result<(), Fail> {
     let story = Sleepers {
         workers: 1,
+        begin: ENDLESS_LINES,
         before: 500,
         asked: "{\"op\":\"pause\",\"id\":\"a\"}\n",
         answered: "\"ok\":true,\"status\":\"paused\"}\n",
@@ -126,6 +132,7 @@ fn a_pause_wakes_those_that_wait(rt: HostRuntime) -> Result<(), Fail> {
 fn a_kill_of_an_idle_task_wakes_those_that_wait(rt: HostRuntime) -> Result<(), Fail> {
     let story = Sleepers {
         workers: 0,
+        begin: ENDLESS_LINES,
         before: 500,
         asked: "{\"op\":\"kill\",\"id\":\"a\",\"signal\":9}\n",
         answered: "\"ok\":true,\"signal\":9,\"status\":\"stopped\"}\n",
@@ -137,6 +144,7 @@ fn a_kill_of_an_idle_task_wakes_those_that_wait(rt: HostRuntime) -> Result<(), F
 fn a_pause_of_an_idle_task_wakes_those_that_wait(rt: HostRuntime) -> Result<(), Fail> {
     let story = Sleepers {
         workers: 0,
+        begin: ENDLESS_LINES,
         before: 500,
         asked: "{\"op\":\"pause\",\"id\":\"a\"}\n",
         answered: "\"ok\":true,\"status\":\"paused\"}\n",
@@ -148,9 +156,36 @@ fn a_pause_of_an_idle_task_wakes_those_that_wait(rt: HostRuntime) -> Result<(), 
 fn a_full_journal_wakes_those_that_wait(rt: HostRuntime) -> Result<(), Fail> {
     let story = Sleepers {
         workers: 1,
+        begin: ENDLESS_LINES,
         before: 16_384,
         asked: "",
         answered: "{\"error\":\"JournalFull\",\"number\":15,\"ok\":false}\n",
+    };
+    tell(&rt, rt.alloc(), Story::Waking(story))
+}
+
+// The last entry is that of a wait for no task.
+#[test]
+fn a_wait_that_fills_the_journal_wakes_those_that_wait(rt: HostRuntime) -> Result<(), Fail> {
+    let story = Sleepers {
+        workers: 1,
+        begin: ENDLESS_LINES,
+        before: 16_380,
+        asked: "{\"op\":\"wait\",\"id\":\"zz\"}\n",
+        answered: "{\"error\":\"JournalFull\",\"number\":15,\"ok\":false}\n",
+    };
+    tell(&rt, rt.alloc(), Story::Waking(story))
+}
+
+// The worker runs slices while all callers sleep.
+#[test]
+fn an_end_wakes_those_that_wait(rt: HostRuntime) -> Result<(), Fail> {
+    let story = Sleepers {
+        workers: 1,
+        begin: LONG_LINES,
+        before: 0,
+        asked: WAIT_LINE,
+        answered: "\"ok\":true,\"status\":\"stopped\"}\n",
     };
     tell(&rt, rt.alloc(), Story::Waking(story))
 }
