@@ -3,8 +3,12 @@ use Rattle.std.proofs.Common.{◌≡◌, ℕ, zero, suc, ◌+◌, ◌≤◌, ◌
 use Rattle.std.specs.Prelude.{slice_get}
 use Rattle.std.proofs.lemmas.List.Sums.{sum_by-append, sum_by-cons}
 use Rattle.std.proofs.lemmas.Bool.Decides.{nat_tests}
+use Rattle.std.proofs.lemmas.List.{append_assoc}
+use Rattle.task_requests.specs.declared.request.Request.{Request}
+use Rattle.task_board.specs.Step.{Answer}
 use Rattle.call_journal.specs.declared.entry.Entry.{Entry}
-use Rattle.call_journal.specs.Seats.{own_calls}
+use Rattle.call_journal.specs.Fronts.{Begins}
+use Rattle.call_journal.specs.Seats.{Known, Extends, own_calls}
 use Rattle.call_journal.specs.Inside.Calls.{EndsWithCall}
 
 -- where no entry after a front is of the seat, none of the rest is
@@ -54,3 +58,18 @@ one_more n history journal h =
     let c = ap (own_calls n) on.joins in
     let d = ap (own_calls n) h.is in
     omega (arith, a, b, one, c, d, on.none)
+
+-- ---- a call that was journalled
+
+module _ (was now : Known) (r : Request) (a : Answer) (e : Extends was now r a) where
+  pub own_more : own_calls was.number now.history ≡ own_calls was.number was.history + 1
+  own_more =
+      one_more was.number was.history now.history
+      (record { before = e.before; entry = e.entry; is = e.ends; seat = e.seat; on = e.on })
+
+  pub begins_so : Begins was.history now.history
+  begins_so = (
+    e.on.rest ++ e.entry ∷ [],
+    sym (append_assoc was.history e.on.rest (e.entry ∷ []))
+        ∙ (ap (λ (h : List Entry). h ++ e.entry ∷ []) e.on.joins ∙ sym e.ends),
+  )

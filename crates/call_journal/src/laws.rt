@@ -1,6 +1,6 @@
 //! Laws of histories. Each function is nothing but its contract.
 
-ghost use Rattle.std.specs.Prelude.{◌≡◌, ◌<◌, ◌++◌, ℕ, List, [], ◌∷◌, Option, Some, option_map, true};
+ghost use Rattle.std.specs.Prelude.{◌≡◌, ◌<◌, ◌+◌, ◌++◌, ℕ, List, [], ◌∷◌, Option, Some, option_map, true};
 ghost use Rattle.task_requests.specs.declared.request.Request.{Request};
 ghost use Rattle.task_requests.specs.declared.event.Event.{Event};
 ghost use Rattle.task_requests.specs.declared.event.EventReply.{EventReply};
@@ -10,10 +10,13 @@ ghost use Rattle.task_board.specs.Step.{Answer, Answers, Step, is_budget};
 ghost use Rattle.task_board.specs.Tasks.{can_lend, lent, HasReturned};
 ghost use Rattle.call_journal.specs.declared.entry.Entry.{Entry as EntryValue};
 ghost use Rattle.call_journal.specs.declared.entry.Found.{Found as FoundValue};
-ghost use Rattle.call_journal.specs.Books.{is_journalled};
+ghost use Rattle.task_board.specs.Waiting.{waiting_after};
+ghost use Rattle.call_journal.specs.Books.{BookValue, HasCalled, is_journalled};
 ghost use Rattle.call_journal.specs.Finding.{named, found_in};
+ghost use Rattle.call_journal.specs.Fronts.{Begins};
 ghost use Rattle.call_journal.specs.Records.{entry_on, IsOfSlice, Records};
 ghost use Rattle.call_journal.specs.Replay.{ComesTo, Finds, Replays, IsLegal, MayAnswer, IsSince, IsReplay, IsAlike};
+ghost use Rattle.call_journal.specs.Seats.{Known, Extends, own_calls};
 
 use task_board::laws::{advances_are_slices, slices_advance_legally, texts_are_determined};
 use validator::laws::invalid_modules_are_not_valid;
@@ -54,6 +57,38 @@ pub fn entries_fix_the_count()
 pub fn answers_are_journalled()
     ensures { (s : BoardState) (r : Request) (a : Answer) (s' : BoardState) → Answers s r a s'
         → is_journalled a ≡ true }
+{}
+
+/// A seat whose call was journalled has seen all that it had seen, then calls of other seats, and last its own:
+/// it has one call of its own more, and that was answered as it may be after the entries before it.
+pub fn calls_extend_histories()
+    ensures front { (was now : Known) (r : Request) (a : Answer) → Extends was now r a
+        → Begins was.history now.history }
+    ensures own { (was now : Known) (r : Request) (a : Answer) → Extends was now r a
+        → own_calls was.number now.history ≡ own_calls was.number was.history + 1 }
+    ensures last { (was now : Known) (r : Request) (a : Answer) → Extends was now r a
+        → (before : List EntryValue) × (e : EntryValue) × (now.history ≡ before ++ e ∷ [])
+        × (e.seat ≡ was.number) × (e.request ≡ r) × MayAnswer before e a }
+    ensures seat { (was now : Known) (r : Request) (a : Answer) → Extends was now r a
+        → (now.number ≡ was.number) × (now.share ≡ was.share + 1) }
+{}
+
+/// A call of a book that was journalled is one call of its board, and one entry more. Nothing else of the book
+/// changes but the tasks that wait for a worker, and the seat has seen the whole journal.
+pub fn calls_are_the_boards()
+    ensures board { (old new : BookValue) (was now : Known) (r : Request) (a : Answer)
+        → HasCalled old new was now r a → Answers old.board r a new.board }
+    ensures journal { (old new : BookValue) (was now : Known) (r : Request) (a : Answer)
+        → HasCalled old new was now r a
+        → (new.journal ≡ old.journal ++ entry_on old.board was.number r ∷ [])
+        × (now.history ≡ new.journal) × (new.total ≡ old.total + 1) }
+    ensures waiting { (old new : BookValue) (was now : Known) (r : Request) (a : Answer)
+        → HasCalled old new was now r a
+        → new.waiting ≡ waiting_after r a new.board.tasks old.waiting }
+    ensures same { (old new : BookValue) (was now : Known) (r : Request) (a : Answer)
+        → HasCalled old new was now r a → (new.closed ≡ old.closed) × (new.seats ≡ old.seats) }
+    ensures seat { (old new : BookValue) (was now : Known) (r : Request) (a : Answer)
+        → HasCalled old new was now r a → Extends was now r a }
 {}
 
 /// A call changes no task but the one that it names.
