@@ -32,7 +32,7 @@ gate: ## what a change has to pass: check-ci, and then all proofs (rt ci), one t
 check: ## quick tests of the built program: examples, rows, clients; under ten minutes
 	tests/run all --quick
 
-check-all: ## every test outside the gate, one after another, with one summary; an hour
+check-all: ## every test outside the gate but check-containers and check-deb, with one summary; an hour
 	tests/run all
 
 check-ci: ## what needs no built program: edits, lists, links, versions, layout, types, unit tests; two to five minutes
