@@ -194,13 +194,15 @@ fn tell_killed<J: Row, H: Wait, N: Notes>(
     }
 }
 
-// Answers a line, tells the notes of both, and writes the line of the answer.
+// Answers a line, tells the notes of both, and writes the line of the answer. If no other line is at hand, a
+// worker is told first of the tasks that were started: the writer may block until somebody reads.
 fn serve_line<J: Row, W: Sink, H: Wait, N: Notes>(
     rt: &H,
     alloc: Global,
     shim: &Shim<J>,
     seat: Seat<J>,
     line: Option<&[u8]>,
+    is_last: bool,
     spare: &mut Option<Vec<u8>>,
     writer: &mut W,
     notes: &mut N,
@@ -213,6 +215,9 @@ fn serve_line<J: Row, W: Sink, H: Wait, N: Notes>(
     let (seat, answer) = answer(rt, alloc, shim, seat, line, notes);
     tell_killed(rt, shim, &answer, notes);
     notes.note(shim, &seat, line, &answer);
+    if is_last {
+        shim.wake(rt);
+    }
     let written = write_answer(alloc, &answer, spare, writer);
     (seat, written)
 }
@@ -221,9 +226,10 @@ fn serve_line<J: Row, W: Sink, H: Wait, N: Notes>(
 /// waited for, until the reader is at its end. A line that is no request is answered `BadRequest`.
 /// If the reader fails, each line that it has given with its line feed is answered, and no other.
 /// A fault of a stream is told only if that stream has failed. A worker is woken for a task that was
-/// started at the latest when the line after the start was read and is no wait for that task. The
-/// seat is that of the caller, and is given back. The notes are told each line and its answer,
-/// before its reply is written; what is answered and written is the same, whatever they do.
+/// started before the reply is written, or, if another line is at hand, at the latest when that was
+/// read and is no wait for that task. The seat is that of the caller, and is given back. The notes
+/// are told each line and its answer, before its reply is written; what is answered and written is
+/// the same, whatever they do.
 pub fn drive<J: Row, R: Source, W: Sink, H: Wait, N: Notes>(
     rt: &H,
     alloc: Global,
@@ -257,15 +263,14 @@ pub fn drive<J: Row, R: Source, W: Sink, H: Wait, N: Notes>(
             shim,
             seat,
             lines.bytes(),
+            !lines.has_line(),
             &mut spare,
             writer,
             notes,
         );
         seat = next;
-        if written.is_err() || !lines.has_line() {
-            shim.wake(rt);
-        }
         if let Err(error) = written {
+            shim.wake(rt);
             return (seat, Driven::from(error));
         }
     }

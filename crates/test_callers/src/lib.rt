@@ -23,6 +23,8 @@ mod stories;
 #[cfg(test)]
 mod storm;
 #[cfg(test)]
+mod unread;
+#[cfg(test)]
 mod waking;
 #[cfg(test)]
 mod workers;

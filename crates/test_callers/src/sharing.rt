@@ -51,14 +51,14 @@ const END_LINES: &str = r#"{"op":"kill","id":"a","signal":9}
 "#;
 
 /// Stores that module, creates one task of it and starts it. No line follows.
-const BEGIN_ONE: &str =
+pub const BEGIN_ONE: &str =
     r#"{"op":"put","hex":"0061736d0100000001040160000003020100070a01065f737461727400000a0901070003400c000b0b"}
 {"op":"create","id":"a","config":"{\"ociVersion\":\"1.0.2\",\"process\":{\"args\":[\"a\"],\"cwd\":\"/\"},\"annotations\":{\"dev.shim.module\":\"sha256:4ed2cef087a79f7abf368e3903d56c80dd716912cb78b7c9df8a9a8046c5f3a9\"}}"}
 {"op":"start","id":"a"}
 "#;
 
 /// Kills the task, and waits for it.
-const END_ONE: &str = r#"{"op":"kill","id":"a","signal":9}
+pub const END_ONE: &str = r#"{"op":"kill","id":"a","signal":9}
 {"op":"wait","id":"a"}
 "#;
 

@@ -10,6 +10,7 @@ use crate::living::live;
 use crate::offering::{Offered, offering};
 use crate::sharing::{Endless, Holding, asking, sharing};
 use crate::storm::storm;
+use crate::unread::{Unread, unread};
 use crate::waking::{Sleepers, waking};
 use crate::workers::{Ends, Meeting, ends_by_workers, large_output, run_by_two};
 use call_journal::{Cells, Desk, MOST_SEATS, Row, Shim};
@@ -55,6 +56,8 @@ pub enum Story<'a> {
     Closing,
     /// `live` of `living`.
     Live(&'a [Driven]),
+    /// `unread`.
+    Unread(&'a Unread),
 }
 
 fn cells(alloc: Global) -> Result<Cells, Refusal> {
@@ -94,6 +97,7 @@ fn told<
         Story::Ends(gate) => ends_by_workers(rt, alloc, shim, gate),
         Story::Closing => close_beside_two(rt, alloc, shim),
         Story::Live(ends) => live(*rt, alloc, shim, ends),
+        Story::Unread(gate) => unread(rt, alloc, shim, gate),
     }
 }
 
