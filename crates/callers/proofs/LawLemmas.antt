@@ -1,5 +1,6 @@
 -- What the definitions of a caller's lines say, case by case.
-use Rattle.std.proofs.Common.{◌≡◌, ◌≢◌, ◌↔◌, ◌<◌, ◌≤◌, ◌⊎◌, ◌++◌, ℕ, List, [], ◌∷◌, length, Err, inl, inr, refl, sym, ap, ◌∙◌, subst, arith}
+use Rattle.std.proofs.Common.{◌≡◌, ◌≢◌, ◌↔◌, ◌<◌, ◌≤◌, ◌⊎◌, ◌++◌, ℕ, List, [], ◌∷◌, length, Bool, true, false, true≢false, Err, inl, inr, refl, sym, ap, ◌∙◌, subst, arith}
+use Rattle.std.specs.Prelude.{MatchBool}
 use Rattle.std.specs.List.{concat}
 use Rattle.std.proofs.lemmas.List.{append-nil}
 use Rattle.wasm_ast.specs.declared.refusal.Refusal.TheVariants as refusal
@@ -12,8 +13,9 @@ use Rattle.task_board.specs.Step.{Answer}
 use Rattle.request_lines.specs.Request.{IsRequest, IsEvent}
 use Rattle.request_lines.specs.Session.{Session}
 use Rattle.request_lines.specs.Shape.{max_line_bytes}
-use Rattle.call_journal.specs.Seats.{Known}
-use Rattle.callers.specs.Answered.{IsAnswered, IsDue, IsServed}
+use Rattle.call_journal.specs.Books.{is_journalled}
+use Rattle.call_journal.specs.Seats.{Known, Extends}
+use Rattle.callers.specs.Answered.{IsAnswered, IsCall, IsDue, IsServed}
 use Rattle.callers.specs.Driving.{AllButLast}
 
 pub long_refused : (was : Known) (line : List ℕ) (a : Answer) (now : Known) → max_line_bytes < length line
@@ -37,6 +39,24 @@ never_busy one same was line a now id (inl p) waits busy =
     subst (λ r. IsDue r a) is p.due busy
 never_busy one same was line a now id (inr (inl p)) waits busy = absurd (p.none (Task id Wait) waits)
 never_busy one same was line a now id (inr (inr p)) waits busy = let refused = p.refused in cc
+
+pub is_call : ((line : List ℕ) (x y : Event) → IsEvent line x → IsEvent line y → x ≡ y)
+    → ((line : List ℕ) (r : Request) → IsRequest line r ↔ IsEvent line (Call r))
+    → (was : Known) (line : List ℕ) (a : Answer) (now : Known) (r : Request)
+    → IsAnswered was line a now → IsRequest line r
+    → (is_journalled a ≡ true → Extends was now r a) × (is_journalled a ≡ false → now ≡ was)
+is_call one same was line a now r (inl p) is =
+    let events = one line (Call p.request) (Call r) ((same line p.request).0 p.is) ((same line r).0 is) in
+    by_answer (is_journalled a) (subst (λ q. IsCall was now q a) (ap (request_of r) events) p.call)
+  where
+    by_answer : (b : Bool) → MatchBool b (Extends was now r a) (now ≡ was)
+        → (b ≡ true → Extends was now r a) × (b ≡ false → now ≡ was)
+    by_answer true h = (λ e. h, λ e. absurd (true≢false e))
+    by_answer false h = (λ e. absurd (true≢false (sym e)), λ e. h)
+is_call one same was line a now r (inr (inl p)) is = absurd (p.none r is)
+is_call one same was line a now r (inr (inr p)) is =
+    let no : is_journalled a ≡ false = ap is_journalled p.refused in
+    (λ e. absurd (true≢false (sym e ∙ no)), λ e. p.same)
 
 pub no_lines : (was : Known) (texts : List (List ℕ)) (now : Known)
     → Session IsServed was [] texts now → (texts ≡ []) × (now ≡ was)

@@ -1,8 +1,9 @@
 //! What is proved of the answers to lines. Each function does nothing, and its contract is the law.
 
-ghost use Rattle.std.specs.Prelude.{◌≡◌, ◌≢◌, ◌<◌, ◌⊎◌, ◌++◌, [], ◌∷◌, ⊤, List, ℕ, length, Option, Some, Err};
+ghost use Rattle.std.specs.Prelude.{◌≡◌, ◌≢◌, ◌<◌, ◌⊎◌, ◌++◌, [], ◌∷◌, ⊤, List, ℕ, length, Option, Some, Err, true, false};
 ghost use Rattle.std.specs.List.{concat};
 ghost use Rattle.wasm_ast.specs.declared.refusal.Refusal.TheVariants as refusal;
+ghost use Rattle.task_requests.specs.declared.request.Request.{Request};
 ghost use Rattle.task_requests.specs.declared.request.Request.TheVariants as request;
 ghost use Rattle.task_requests.specs.declared.request.Ask.TheVariants as ask;
 ghost use Rattle.task_board.specs.Step.{Answer};
@@ -11,8 +12,9 @@ ghost use Rattle.request_lines.specs.Input.{HasNoFeed};
 ghost use Rattle.request_lines.specs.Lines.{lines_of};
 ghost use Rattle.request_lines.specs.Session.{Session};
 ghost use Rattle.request_lines.specs.Shape.{max_line_bytes};
+ghost use Rattle.call_journal.specs.Books.{is_journalled};
 ghost use Rattle.call_journal.specs.Fronts.{Begins};
-ghost use Rattle.call_journal.specs.Seats.{Known};
+ghost use Rattle.call_journal.specs.Seats.{Known, Extends};
 ghost use Rattle.callers.specs.Answered.{IsAnswered, IsServed};
 ghost use Rattle.callers.specs.Driving.{Drives, IsTold, fed};
 ghost use Rattle.callers.specs.declared.caller.Driven.TheVariants as driven;
@@ -25,6 +27,19 @@ pub fn long_lines_are_no_requests()
         → max_line_bytes < length line → IsAnswered was line a now
         → (a ≡ Err refusal.BadRequest) × (now ≡ was) }
 {}
+
+/// A line that is a request is one call of the seat: its history goes on by that, if the answer is journalled,
+/// and else is what it was.
+pub fn lines_are_calls()
+    ensures journalled { (was : Known) (line : List ℕ) (a : Answer) (now : Known) (r : Request)
+        → IsAnswered was line a now → IsRequest line r → is_journalled a ≡ true
+        → Extends was now r a }
+    ensures same { (was : Known) (line : List ℕ) (a : Answer) (now : Known) (r : Request)
+        → IsAnswered was line a now → IsRequest line r → is_journalled a ≡ false → now ≡ was }
+{
+    one_event_to_a_line();
+    requests_are_events();
+}
 
 /// A line that is a wait is answered once its task is created, paused or stopped, or for another reason: it
 /// is never answered that its task is busy.
