@@ -10,7 +10,7 @@ use crate::living::live;
 use crate::offering::{Offered, offering};
 use crate::sharing::{Endless, Holding, asking, sharing};
 use crate::storm::storm;
-use crate::unread::{Unread, unread};
+use crate::unread::{StartGate, unread};
 use crate::waking::{Sleepers, waking};
 use crate::workers::{Ends, Meeting, ends_by_workers, large_output, run_by_two};
 use call_journal::{Cells, Desk, MOST_SEATS, Row, Shim};
@@ -57,7 +57,7 @@ pub enum Story<'a> {
     /// `live` of `living`.
     Live(&'a [Driven]),
     /// `unread`.
-    Unread(&'a Unread),
+    Unread(&'a StartGate),
 }
 
 fn cells(alloc: Global) -> Result<Cells, Refusal> {

@@ -20,12 +20,12 @@ use test_streams::ChunkedReader;
 
 /// A gate that counts slices, and how often a reply was held for one that did not come.
 #[derive(Drop)]
-pub struct Unread {
+pub struct StartGate {
     begun: AtomicU64,
     missed: AtomicU64,
 }
 
-impl Gate for Unread {
+impl Gate for StartGate {
     fn slice(&self, _id: &str, loan: &mut Loan) {
         self.begun.fetch_add(1, Ordering::SeqCst);
         loan.run();
@@ -38,7 +38,7 @@ impl Gate for Unread {
 #[derive(Drop)]
 struct HeldWriter<'a> {
     replies: u64,
-    gate: &'a Unread,
+    gate: &'a StartGate,
 }
 
 impl Write for HeldWriter<'_> {
@@ -60,7 +60,7 @@ fn start_unread<R: Row, W: Wait>(
     rt: &W,
     alloc: Global,
     shim: &Shim<R>,
-    gate: &Unread,
+    gate: &StartGate,
 ) -> Option<Driven> {
     let mut reader = Watched::new(ChunkedReader::new(BEGIN_ONE.as_bytes()));
     let mut writer = Watched::new(HeldWriter { replies: 0, gate });
@@ -83,7 +83,7 @@ pub fn unread<R: Row + Send + Sync, W: Threads + Wait + Sync>(
     rt: &W,
     alloc: Global,
     shim: &Shim<R>,
-    gate: &Unread,
+    gate: &StartGate,
 ) -> Option<()> {
     let end = [END_ONE.as_bytes()];
     let end = end.as_slice();
@@ -102,7 +102,7 @@ pub fn unread<R: Row + Send + Sync, W: Threads + Wait + Sync>(
 
 #[test]
 fn a_task_begins_before_the_reply_to_its_start_is_read(rt: HostRuntime) -> Result<(), Fail> {
-    let gate = Unread {
+    let gate = StartGate {
         begun: AtomicU64::new(0),
         missed: AtomicU64::new(0),
     };
