@@ -2,14 +2,18 @@
 from __future__ import annotations
 
 import contextlib
+import importlib.util
 import io
+import os
+import subprocess
+import sys
 import tempfile
 import unittest
 from pathlib import Path
 from unittest import mock
 
 import feulgama
-from feulgama.debug import dwarf
+from feulgama.debug import dwarf, terminal
 from feulgama.debug.commands import COMMANDS, Commands, Quit
 from feulgama.debug.memory import BadFormatError, Format, format_of
 from feulgama.debug.terminal import answer, plain, words_for
@@ -197,6 +201,26 @@ class Terminal(unittest.TestCase):
         self.answer("break start:0")
         self.assertIn("turn 0", self.answer("run")[1])
         self.assertIn("ended", self.answer("continue")[-1])
+
+    @unittest.skipUnless(importlib.util.find_spec("prompt_toolkit"), "needs python3-prompt-toolkit")
+    def test_a_history_that_cannot_be_kept(self) -> None:
+        """As on a full disk, or without a folder of the user's own."""
+        folder = self.enterContext(tempfile.TemporaryDirectory())
+        for place in (folder, f"{folder}/none/history"):
+            with mock.patch.object(terminal, "HISTORY", place), mock.patch("prompt_toolkit.PromptSession") as made:
+                terminal.reader(self.commands)
+            history = made.call_args.kwargs["history"]
+            self.assertEqual(list(history.load_history_strings()), [])
+            history.append_string("info memory")
+            self.assertEqual(history.get_strings(), ["info memory"])
+
+    def test_a_user_without_a_folder(self) -> None:
+        """`feulgama lower` of a container may be run by one, without the variable HOME."""
+        nobody = "import pwd\ndef nobody(_user): raise KeyError\npwd.getpwuid = nobody\nimport feulgama.cli\n"
+        variables = {name: value for name, value in os.environ.items() if name != "HOME"}
+        run = subprocess.run([sys.executable, "-c", nobody], cwd=CLIENT, env=variables, capture_output=True, text=True,
+                             stdin=subprocess.DEVNULL, check=False)
+        self.assertEqual((run.returncode, run.stderr), (0, ""))
 
     def test_completion(self) -> None:
         self.assertIn("reverse-step", words_for(self.commands, "rev"))

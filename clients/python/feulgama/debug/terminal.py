@@ -1,12 +1,13 @@
 """The terminal of the debugger: reads lines, from a user or from a script, and shows what they are answered."""
 from __future__ import annotations
 
+import contextlib
 import itertools
+import os
 import signal
 import sys
 import time
 from collections.abc import Callable, Iterable, Iterator
-from pathlib import Path
 from types import FrameType
 from typing import TextIO
 
@@ -15,7 +16,7 @@ from feulgama.debug.timeline import Timeline
 from feulgama.errors import FeulgamaError, NoShimError, ShimEndedError
 
 PROMPT = "(feulgama) "
-HISTORY = Path("~/.feulgama_history").expanduser()
+HISTORY = os.path.expanduser("~/.feulgama_history")
 # What a module writes, and its names, may have characters that a terminal takes for commands. They are shown by number.
 CONTROLS = {number: f"\\x{number:02x}" for number in (*range(32), *range(127, 160)) if chr(number) not in "\t\n"}
 TAKES_PLACE = {"break", "b", "until", "u", "list", "l", "disassemble", "dis"}
@@ -67,7 +68,20 @@ def reader(commands: Commands) -> Callable[[], str]:
                 if found.startswith(word):
                     yield Completion(found, start_position=-len(word))
 
-    session: PromptSession[str] = PromptSession(history=FileHistory(str(HISTORY)), completer=Words(),
+    class Kept(FileHistory):
+        """The lines of earlier sessions, as far as their file can be read and written."""
+
+        def load_history_strings(self) -> Iterable[str]:
+            try:
+                return list(super().load_history_strings())
+            except OSError:
+                return []
+
+        def store_string(self, string: str) -> None:
+            with contextlib.suppress(OSError):
+                super().store_string(string)
+
+    session: PromptSession[str] = PromptSession(history=Kept(HISTORY), completer=Words(),
                                                 complete_while_typing=False)
     return lambda: session.prompt(PROMPT)
 
