@@ -277,6 +277,17 @@ class Instructions(WithEditor):
         self.editor.ask("continue", threadId=1)
         self.assertEqual(self.editor.event("exited", "stopped")["body"], {"exitCode": 134})
 
+    def test_arguments_of_another_type(self) -> None:
+        """They are refused, and the session goes on."""
+        for name, value in (("args", "one two"), ("args", 5), ("args", [5]), ("env", ["A=b"])):
+            answer = self.editor.ask("launch", **{"program": str(FOLDER / "words.wasm"), name: value})
+            self.assertFalse(answer["success"], value)
+            self.assertIn(f"`{name}` is ", answer["message"])
+        self.launch(env={"A": 1})
+        self.assertFalse(self.editor.ask("stackTrace", threadId=1, startFrame="first")["success"])
+        self.assertFalse(self.editor.ask("setBreakpoints", source=SOURCE, breakpoints=[49])["success"])
+        self.assertTrue(self.editor.ask("threads")["success"])
+
     def test_faults(self) -> None:
         self.assertFalse(self.editor.ask("stackTrace", threadId=1)["success"])
         self.assertFalse(self.editor.ask("launch", program="/nowhere")["success"])

@@ -88,10 +88,12 @@ class Session:
         except ShimEndedError as error:
             self._failed(request, str(error))
             self._writer.event("terminated")
-        except (FeulgamaError, OSError, ValueError) as error:
-            self._failed(request, str(error))
         except KeyError as error:
             self._failed(request, f"the argument {error} is missing")
+        except (TypeError, AttributeError) as error:
+            self._failed(request, f"an argument has another type: {error}")
+        except (FeulgamaError, OSError, ValueError) as error:
+            self._failed(request, str(error))
 
     def _failed(self, request: Message, why: str) -> None:
         """Refuses a request; if it is answered already, what went wrong after that is told as output."""
@@ -371,8 +373,12 @@ def opener_of(open_file: Callable[[Path, list[str], dict[str, str], int | None],
     def opened(given: Body) -> Debugger:
         if not isinstance(given.get("program"), str):
             raise NoSessionError("launch needs `program`, the file of a module")
-        return open_file(Path(given["program"]), list(given.get("args") or []), dict(given.get("env") or {}),
-                         given.get("memory"))
+        args, env = given.get("args") or [], given.get("env") or {}
+        if not isinstance(args, list) or not all(isinstance(word, str) for word in args):
+            raise NoSessionError("`args` is a list of texts, one for each argument")
+        if not isinstance(env, dict):
+            raise NoSessionError("`env` is an object, with the value of each variable under its name")
+        return open_file(Path(given["program"]), args, env, given.get("memory"))
     return opened
 
 
