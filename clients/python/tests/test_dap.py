@@ -10,11 +10,16 @@ import threading
 import time
 import unittest
 from typing import Any
+from unittest import mock
 
 import pytest
 
-from feulgama.dap.wire import BadMessageError, read_message
+import feulgama
+from feulgama.dap.session import Session
+from feulgama.dap.wire import BadMessageError, Writer, read_message
 from feulgama.debug import dwarf
+from feulgama.debug.track import TooFarError
+from feulgama.opening import open_debugger
 from tests.support import CLIENT, EXIT_7, FOREVER, SHIM, TRAPPING_BYTES
 
 Body = dict[str, Any]
@@ -296,6 +301,25 @@ class Instructions(WithEditor):
         self.assertFalse(self.editor.ask("scopes")["success"])
         self.assertFalse(self.editor.ask("dance")["success"])
         self.assertTrue(self.editor.ask("disconnect")["success"])
+
+
+class Moves(unittest.TestCase):
+    """A session without a process of its own."""
+
+    def test_a_move_that_fails(self) -> None:
+        """It was answered already, so the editor is told that the run stands still again."""
+        shim = self.enterContext(feulgama.Shim(SHIM))
+        file = FOLDER / "words.wasm"
+        debugger = open_debugger(shim, file, file.read_bytes(), [], {}, None)
+        written = io.BytesIO()
+        session = Session(Writer(written), lambda _given: debugger)
+        session.answer({"command": "launch", "arguments": {}})
+        with mock.patch.object(debugger, "go_back", side_effect=TooFarError("it is too far")):
+            session.answer({"command": "reverseContinue"})
+        written.seek(0)
+        told = list(iter(lambda: read_message(written), None))
+        self.assertEqual([found.get("event", "") for found in told], ["", "initialized", "", "output", "stopped"])
+        self.assertEqual([told[3]["body"]["output"], told[4]["body"]["description"]], ["it is too far\n", "it is too far"])
 
 
 @pytest.mark.program

@@ -93,7 +93,10 @@ class Session:
         except (TypeError, AttributeError) as error:
             self._failed(request, f"an argument has another type: {error}")
         except (FeulgamaError, OSError, ValueError) as error:
+            is_move = self._writer.has_answered(request) and self._debugger is not None
             self._failed(request, str(error))
+            if is_move:  # after which the run stands still
+                self._tell_stop({"reason": "pause", "description": str(error), "text": str(error)})
 
     def _failed(self, request: Message, why: str) -> None:
         """Refuses a request; if it is answered already, what went wrong after that is told as output."""
@@ -296,12 +299,14 @@ class Session:
                                               "output": self._decoders[stream].decode(new)})
 
     def _stopped(self, reason: str, description: str | None) -> None:
-        body: Body = {"reason": reason, "threadId": THREAD, "allThreadsStopped": True,
-                      "hitBreakpointIds": [*(found.number for found in self.debugger.hit()),
-                                           *(found.watchpoint.number for found in self.debugger.changes())]}
+        body: Body = {"reason": reason, "hitBreakpointIds": [*(found.number for found in self.debugger.hit()),
+                                                             *(found.watchpoint.number for found in self.debugger.changes())]}
         if description is not None:
             body["description"] = body["text"] = description
-        self._writer.event("stopped", body)
+        self._tell_stop(body)
+
+    def _tell_stop(self, body: Body) -> None:
+        self._writer.event("stopped", {**body, "threadId": THREAD, "allThreadsStopped": True})
 
     def _ended(self) -> None:
         self._console(self._end_line())
