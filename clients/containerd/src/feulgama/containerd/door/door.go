@@ -2,10 +2,12 @@
 package door
 
 import (
+	"errors"
 	"fmt"
 	"net"
 	"os"
 	"path/filepath"
+	"time"
 
 	"golang.org/x/sys/unix"
 )
@@ -13,8 +15,12 @@ import (
 // Name is the name of the socket in the folder.
 const Name = "attach.sock"
 
-// waiting is how many debuggers may wait until they are let in.
-const waiting = 4
+const (
+	// waiting is how many debuggers may wait until they are let in.
+	waiting = 4
+	// restTime is the time until one is let in again that could not be.
+	restTime = 100 * time.Millisecond
+)
 
 // Door is an open door.
 type Door struct {
@@ -58,8 +64,12 @@ func Open(folder string) (*Door, error) {
 func (d *Door) Let() (net.Conn, error) {
 	for {
 		guest, err := d.listener.Accept()
-		if err != nil {
+		if errors.Is(err, net.ErrClosed) {
 			return nil, err
+		}
+		if err != nil {
+			time.Sleep(restTime) // as without a free descriptor; who waits is let in later
+			continue
 		}
 		if isOurs(guest) {
 			return guest, nil

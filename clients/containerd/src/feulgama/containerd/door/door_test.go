@@ -8,6 +8,7 @@ import (
 	"path/filepath"
 	"strings"
 	"testing"
+	"time"
 
 	"golang.org/x/sys/unix"
 )
@@ -54,6 +55,70 @@ func TestADoorInAFolderWithALongPath(t *testing.T) {
 	}
 	if _, err := let.Write([]byte("x")); err != nil {
 		t.Errorf("who is inside is thrown out: %v", err)
+	}
+}
+
+// byTheClock passes over a test that a busy machine may fail, if the tests are to be short.
+func byTheClock(t *testing.T) {
+	t.Helper()
+	if testing.Short() {
+		t.Skip("goes by the clock")
+	}
+}
+
+// A door without a descriptor for a guest lets them in later.
+func TestADoorWithoutADescriptor(t *testing.T) {
+	byTheClock(t)
+	folder := t.TempDir()
+	d, err := Open(folder)
+	if err != nil {
+		t.Fatal(err)
+	}
+	guest, err := knock(folder)
+	if err != nil {
+		t.Fatal(err)
+	}
+	defer guest.Close()
+	var before unix.Rlimit
+	if err := unix.Getrlimit(unix.RLIMIT_NOFILE, &before); err != nil {
+		t.Fatal(err)
+	}
+	next, err := unix.Dup(0)
+	if err != nil {
+		t.Fatal(err)
+	}
+	unix.Close(next)
+	if err := unix.Setrlimit(unix.RLIMIT_NOFILE, &unix.Rlimit{Cur: uint64(next), Max: before.Max}); err != nil {
+		t.Fatal(err)
+	}
+	let := make(chan error, 2)
+	go func() {
+		for {
+			guest, err := d.Let()
+			let <- err
+			if err != nil {
+				return
+			}
+			guest.Close()
+		}
+	}()
+	var early error
+	select {
+	case early = <-let:
+	case <-time.After(50 * time.Millisecond):
+	}
+	if err := unix.Setrlimit(unix.RLIMIT_NOFILE, &before); err != nil {
+		t.Fatal(err)
+	}
+	if early != nil {
+		t.Fatalf("nobody is let in any more: %v", early)
+	}
+	if err := <-let; err != nil {
+		t.Errorf("%v", err)
+	}
+	d.Close()
+	if err := <-let; !errors.Is(err, net.ErrClosed) {
+		t.Errorf("a closed door lets somebody in: %v", err)
 	}
 }
 
