@@ -213,6 +213,9 @@ func (c *container) letGo() {
 	if c.streams != nil {
 		c.streams.Close()
 	}
+	for _, look := range c.looks {
+		look.streams.Close()
+	}
 	if c.group != nil {
 		if err := c.group.Delete(); err != nil {
 			logrus.WithError(err).Warn("remove the cgroup of a container")

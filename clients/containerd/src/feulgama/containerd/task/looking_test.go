@@ -3,6 +3,7 @@ package task
 import (
 	"context"
 	"encoding/json"
+	"os"
 	"path/filepath"
 	"strings"
 	"testing"
@@ -72,6 +73,42 @@ func TestALookIntoARunningContainer(t *testing.T) {
 	if exits[0].ID != "x" || exits[0].ContainerID != "one" {
 		t.Errorf("%+v", exits[0])
 	}
+}
+
+// A container that is removed closes what a look holds that was never started.
+func TestALookThatIsNeverStarted(t *testing.T) {
+	s := newShim(t)
+	s.run("one", fakeshim.Loop)
+	request := lookAt("one", "x", "state")
+	request.Stdout = "file://" + s.log("look")
+	if _, err := s.Exec(background, request); err != nil {
+		t.Fatal(err)
+	}
+	if held(s.log("look")) != 1 {
+		t.Fatal("the look has no file")
+	}
+	if err := s.signal("one", 9); err != nil {
+		t.Fatal(err)
+	}
+	s.wait("one")
+	if _, err := s.delete("one"); err != nil {
+		t.Fatal(err)
+	}
+	if count := held(s.log("look")); count != 0 {
+		t.Errorf("%d descriptors of its file are left", count)
+	}
+}
+
+// held is how many descriptors of this process are of a file.
+func held(path string) int {
+	count := 0
+	descriptors, _ := filepath.Glob("/proc/self/fd/*")
+	for _, one := range descriptors {
+		if to, err := os.Readlink(one); err == nil && to == path {
+			count++
+		}
+	}
+	return count
 }
 
 func TestALookThatFails(t *testing.T) {
