@@ -92,6 +92,10 @@ class Terminal(unittest.TestCase):
                      "", "1 +", "(1", "1 2", "local", "local x", "local 99", "operand 99", "nothing", "?", "*70000"):
             self.assertTrue(self.fault(f"print {text}"), text)
 
+    def test_expressions_that_are_too_large(self) -> None:
+        for text in ("1.5 + " + 400 * "9", 5000 * "9", 500 * "(" + "1" + 500 * ")"):
+            self.assertEqual(self.fault(f"print {text}"), f"{text[:40]}.. is too large to be computed")
+
     @unittest.skipUnless(dwarf.IS_THERE, "needs python3-pyelftools")
     def test_conditions(self) -> None:
         """The text's words have 3 5 5 3 5 4 3 4 3 letters: `end_word` is called with these, in this order."""

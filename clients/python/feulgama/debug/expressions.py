@@ -92,7 +92,10 @@ def evaluate(text: str, scope: Scope) -> Operand:
         tokens.append(match[1])
         at = match.end()
     reader = Expression(tokens, scope)
-    found = reader.level(0)
+    try:
+        found = reader.level(0)
+    except (OverflowError, RecursionError, ValueError) as error:  # numbers of very many digits, very many parentheses
+        raise NoValueError(f"{text[:40]}.. is too large to be computed") from error
     if reader.left():
         raise NoValueError(f"{' '.join(reader.left())} is one word too many")
     return found
