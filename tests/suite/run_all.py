@@ -51,7 +51,7 @@ SUITES = [
     of_tests("examples", "tests/test_examples.py"),
     of_tests("pages", "tests/test_pages.py", "tests/test_kubernetes.py"),
     of_tests("rows", "tests/test_rows.py", "tests/test_machine_code.py"),
-    of_tests("live-callers", "tests/test_live_callers.py", "tests/test_log.py", "tests/test_units.py",
+    of_tests("live-callers", "tests/test_live_callers.py", "tests/test_log.py", "tests/test_memory.py", "tests/test_units.py",
              "tests/test_workers.py"),
     Suite("clients/python", (*PYTEST, "tests"), True, CLIENT, {"SUITE": "clients/python"}, needs_program=True),
     Suite("floats", (*PYTEST, "--slow", "tests"), False, CLIENT, {"SUITE": "floats"}),
