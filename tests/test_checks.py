@@ -150,6 +150,15 @@ WRONG: dict[str, tuple[Check, dict[str, str | None], str]] = {
     "a word of memory without a reason": (
         memory_words.check, {"crates/file_commands/src/command.rt": CODE + "fn b() -> Refusal {\n    Refusal::NoMemory\n}\n"},
         "crates/file_commands/src/command.rt b: Refusal::NoMemory"),
+    "an error of memory that is made before it is answered": (
+        memory_words.check, {"crates/file_commands/src/command.rt": CODE + "fn b() {\n    let refused = AllocError;\n}\n"},
+        "crates/file_commands/src/command.rt b: let refused = AllocError;"),
+    "a refusal as of a shim that is closed": (
+        memory_words.check, {"crates/callers/src/hands.rt": HANDS + "fn b() -> Answer {\n    Err(Refusal::Closed)\n}\n"},
+        "crates/callers/src/hands.rt b: Err(Refusal::Closed)"),
+    "an end of the program without a cause": (
+        memory_words.check, {"crates/callers/src/hands.rt": HANDS + "fn b() {\n    failed(to, OUT_OF_MEMORY);\n}\n"},
+        "crates/callers/src/hands.rt b: failed(to, OUT_OF_MEMORY);"),
     "a reason for a word that is gone": (
         memory_words.check, {"crates/file_commands/src/command.rt": 'const VERSION: &str = "0.2.0";\n'}, "remove it"),
     "a list without the reason": (
@@ -168,6 +177,12 @@ WRONG: dict[str, tuple[Check, dict[str, str | None], str]] = {
         listed_calls.check, {
             "crates/file_commands/src/command.rt": CODE + "fn b() {\n    let more = vec![in alloc; 0; 9]?;\n}\n"},
         "b: let more = vec![in alloc; 0; 9]?;"),
+    "memory that a list grows by": (
+        listed_calls.check, {"crates/file_commands/src/command.rt": CODE + "fn b() {\n    spare.resize(1 << 30, 0)?;\n}\n"},
+        "b: spare.resize(1 << 30, 0)?;"),
+    "memory that is never freed": (
+        listed_calls.check, {"crates/file_commands/src/command.rt": CODE + "fn b() {\n    std::mem::forget(line);\n}\n"},
+        "b: std::mem::forget(line);"),
     "more memory than was asked for": (
         listed_calls.check, {"crates/callers/src/hands.rt": HANDS.replace("= 2", "= 3")}, "ROOM: const ROOM: usize = 3;"),
     "a reason for a call that is gone": (
@@ -200,7 +215,11 @@ def made_in(code: str) -> list[str]:
 @pytest.mark.parametrize("code", [
     "Err(AllocError)", "a.ok_or(AllocError)?;", "a.map_err(|_| AllocError)", "return Err(Refusal::NoMemory);",
     "Err(_) => Err(RunError::OutOfMemory),", "Stop::OutOfMemory => Driven::NoMemory,", "ReadError::Memory", "AllocError",
-    'let text = r#"a " b"#; Err(AllocError)', "if let Err(e) = f() { return Err(AllocError); }"])
+    'let text = r#"a " b"#; Err(AllocError)', "if let Err(e) = f() { return Err(AllocError); }",
+    "let refused = AllocError;", "refused = AllocError;", "return AllocError;", "Told { error: AllocError, place }",
+    "if x { return Err(Refusal::NoMemory); } match y { A => b }", "match y { A => Err(AllocError), B => c }",
+    "match y { A => { Err(AllocError) } B => c }", "match y { A if f(Refusal::NoMemory) => b, B => c }",
+    "match f(Refusal::NoMemory) { A => b }", "rows!(Refusal::NoMemory => f(x))", "use std::alloc::AllocError as Gone;"])
 def test_word_of_memory_is_made(code: str) -> None:
     assert made_in(code) == [code]
 
@@ -210,15 +229,39 @@ def test_word_of_memory_is_made(code: str) -> None:
     "impl From<AllocError> for E {",
     "if let Err(Refusal::NoMemory) = answer {", "Err(Refusal::NoMemory) if some => None,", "refusal == Refusal::NoMemory",
     "matches!(error, Refusal::NoMemory)", "ensures { e ≡ Refusal.NoMemory }", '"Err(AllocError)"', "ExportKind::Memory",
-    "fn from(_e: AllocError) -> E {", ") -> Result<(), AllocError>"])
+    "fn from(_e: AllocError) -> E {", ") -> Result<(), AllocError>",
+    "match y { Err(\n    Refusal::NoMemory,\n) => b, C => d }", "match y { A => { b } Err(Refusal::NoMemory) if x => c }",
+    "match y { Told { error: Refusal::NoMemory } | Gone => b, C => d }", "let refused: AllocError = error;", "return None;",
+    "let Told { error: Refusal::NoMemory } = y else { b };", "struct Told { error: AllocError }", "enum E { NoMemory, Other }",
+    "fn g(\n    error: AllocError,\n) {}"])
 def test_word_of_memory_is_not_made(code: str) -> None:
+    assert made_in(code) == []
+
+
+@pytest.mark.parametrize("code", [
+    "A => (seat, Err(Refusal::Closed)), other => f(seat, other),", "return Err(Refusal::JournalFull);",
+    "seen.ok_or(Refusal::JournalFault)", "if x { return Err(StartError::NoThread); }",
+    "if x { return failed(to, OUT_OF_MEMORY); }", "Ok(Err(_)) => failed(to, NO_SEAT),", "let cause = OUT_OF_MEMORY;"])
+def test_answer_that_needs_a_cause_is_made(code: str) -> None:
+    assert made_in(code) == [code]
+
+
+@pytest.mark.parametrize("code", [
+    "Refusal::Closed => 19,", "Err(Refusal::JournalFull | Refusal::JournalFault) => b,", "if answer != Refusal::Closed {",
+    "StartError::NoThread => failed(to, cause),", "pub const OUT_OF_MEMORY: &str = text;",
+    "use crate::said::{OUT_OF_MEMORY, failed};", "enum StartError { NoThread }", "ensures { result ≡ Err Refusal.Closed }",
+    "book.is_closed()"])
+def test_answer_that_needs_a_cause_is_not_made(code: str) -> None:
     assert made_in(code) == []
 
 
 @pytest.mark.parametrize("code", [
     "queue.try_push(task.into_ticket());", "Runnable::of(ticket)", "self.book.close();", "shim.seat(&threads)",
     "worker(rt, self, 1);", "with_workers(rt, 1, run)",
-    "IndexSet::with_capacity(alloc, 9)", "list.reserve(1)?;", "vec![in alloc; 0u8; 9]?;", "allocate(&alloc, 9, &0u8)"])
+    "IndexSet::with_capacity(alloc, 9)", "list.reserve(1)?;", "vec![in alloc; 0u8; 9]?;", "allocate(&alloc, 9, &0u8)",
+    "entries.resize(size, None)?;", "text.repeat(alloc, 9)?", "list.try_reserve_exact(9)?;", "std::mem::forget(line);",
+    "None => forget(words),", "open(lines.leak())", "Ok(flight) => Some(Box::leak(flight)),", "flight.map(Box::leak)",
+    "let kept = ManuallyDrop::new(line);", "let at = Box::into_raw(flight);", "use std::mem::forget as end;"])
 def test_call_is_listed(code: str) -> None:
     found = listed_calls.places_in("crates/callers/src/a.rt", f"fn f() {{\n    {code}\n}}\n")
     assert [place.text for place in found] == [code]
@@ -227,13 +270,19 @@ def test_call_is_listed(code: str) -> None:
 @pytest.mark.parametrize("code", [
     "// task.into_ticket()", "fn with_capacity(room: usize) {}", "pub fn worker(rt: &W) {}", "use std::vec::with_capacity;",
     "blocks.is_closed()",
-    "let seat = seat(shim);", '"vec![in alloc; 9]"'])
+    "let seat = seat(shim);", '"vec![in alloc; 9]"', "fn resize(size: usize) {}", "repeated(alloc, line, 2)",
+    "pub fn forget<T>(row: Slots<T>) {}", "use raw_block::{forget, no_places};", "let flight = leaked_flight(alloc);"])
 def test_call_is_not_listed(code: str) -> None:
     assert not list(listed_calls.places_in("crates/callers/src/a.rt", f"fn f() {{\n    {code}\n}}\n"))
 
 
 def test_hands_are_those_of_threads() -> None:
     assert not list(listed_calls.places_in("crates/flat_code/src/a.rt", "fn f() {\n    blocks.close();\n}\n"))
+
+
+def test_tests_may_keep_memory(tmp_path: Path) -> None:
+    tree = tree_of(tmp_path, {"crates/test_serve/src/a.rt": "fn f() {\n    lines.leak();\n}\n"})
+    assert listed_calls.check(tree)[1] == []
 
 
 def test_packages_that_are_missing_are_named(tmp_path: Path) -> None:

@@ -1,8 +1,10 @@
-"""Places where an answer "out of memory" is written by hand, each with its reason.
+"""Places where an answer that may come without a cause is written by hand, each with its reason.
 
-An allocation that is refused gives this answer by itself, through `?` and `From`. Wherever code makes it by hand it says so
-of something else, or hides what it was. So each such place is in a list, tests/memory_words.txt, with the reason for it, and
-the check fails where the sources and the list differ.
+An allocation that is refused answers "out of memory" by itself, through `?` and `From`. Wherever code makes this answer by
+hand, it says so of something else, or hides what it was. Others can be made without a cause too, and the code is proved as
+before: the answers `Closed`, `JournalFull` and `JournalFault`, the error `NoThread`, and the texts that say why `serve` ended.
+So each place that makes one of all these is in a list, tests/memory_words.txt, with the reason for it, and the check fails
+where the sources and the list differ.
 """
 from __future__ import annotations
 
@@ -12,16 +14,19 @@ from collections.abc import Iterator
 from dataclasses import dataclass
 
 from suite.checks.tree import Tree
+from suite.checks.values import Source, renamed
 
 LIST = "tests/memory_words.txt"
 SOURCES = "crates/*/src/*.rt"
-# Comments, strings and characters, and imports, which may have several lines.
-BLANK = re.compile(r"//[^\n]*|\br(?P<raw>#+)\".*?\"(?P=raw)|\"(?:\\.|[^\"\\])*\"|'(?:\\.|[^'\\])'|\buse\s[^;]*;", re.DOTALL)
-WORD = re.compile(r"(?:\b(?P<of>[A-Z]\w*)::)?(?<![\w.])(?P<word>AllocError|NoMemory|OutOfMemory|Memory)\b")
+# Errors of memory, and after them refusals, the error of threads, and texts of `serve`.
+WORD = re.compile(r"(?:\b(?P<of>[A-Z]\w*)::)?(?<![\w.])(?P<word>AllocError|NoMemory|OutOfMemory|Memory"
+                  r"|Closed|JournalFull|JournalFault|NoThread|OUT_OF_MEMORY|NO_SEAT)\b")
 # What a place is named by: a function, or a constant at the margin.
 NAMED = re.compile(r"\bfn (\w+)|^(?:pub(?:\(\w+\))? )?(?:const|static) (\w+)")
 # Kinds of things that are a memory, and no error.
 THINGS = {"ExportKind", "Item", "Field"}
+# What stands before a word that is compared, and after the last type of a list of types.
+COMPARED, LAST_TYPE = re.compile(r"[!=]=\s*\Z"), re.compile(r"\s*,?\s*>")
 
 
 @dataclass(frozen=True, order=True)
@@ -35,39 +40,30 @@ class Place:
         return f"{self.path} {self.function}: {self.text}"
 
 
-def blanked(text: str) -> str:
-    """The code of a file, column by column: what is no code is blank."""
-    return BLANK.sub(lambda match: re.sub(r"[^\n]", " ", match.group()), text)
-
-
-def is_pattern(before: str, after: str) -> bool:
-    """Whether what is between two parts of a line is matched on, and not made."""
-    if re.search(r"=>", after) or re.search(r"\bmatches!\([^;]*$", before) or re.search(r"[!=]=\s*$", before):
-        return True
-    return re.search(r"\blet\b[^=]*$", before) is not None
-
-
-def is_made(line: str, match: re.Match[str]) -> bool:
-    """Whether a word of a line of code is a value that is made there."""
-    before, after = line[:match.start()], line[match.end():]
-    if is_pattern(before, after):
+def is_made(code: str, match: re.Match[str]) -> bool:
+    """Whether a word, where code makes values, is one: not one that is compared, a type, or a thing."""
+    if match["of"] in THINGS or COMPARED.search(code, max(0, match.start() - 80), match.start()):
         return False
-    if match["of"]:
-        return match["of"] not in THINGS
-    if match["word"] != "AllocError" or after.lstrip().startswith((">", "::")):
-        return False
-    return before.rstrip().endswith(("(", "|", "=>", "{", ",")) or not before.strip()
+    return match["word"] != "AllocError" or not LAST_TYPE.match(code, match.end())
+
+
+def made_in(source: Source) -> list[int]:
+    """Where code makes the answer, as often as it does."""
+    words = [match.start() for match in WORD.finditer(source.code) if is_made(source.code, match)]
+    unmade = list(source.stretches()) if words else []
+    return [at for at in words if not any(begin <= at < end for begin, end in unmade)]
 
 
 def places_in(path: str, text: str) -> Iterator[Place]:
-    """Each place of a file where the answer is made, as often as it is."""
+    """Each place of a file where the answer is made, as often as it is, or is given another name."""
+    source = Source(text)
+    names = [at for at, name in renamed(text) if WORD.fullmatch(name)]
+    made = Counter(text.count("\n", 0, at) for at in [*made_in(source), *names])
     function = "none"
-    for line, code in zip(text.split("\n"), blanked(text).split("\n")):
+    for number, (line, code) in enumerate(zip(text.split("\n"), source.code.split("\n"))):
         found = NAMED.search(code)
         function = found[1] or found[2] if found else function
-        for match in WORD.finditer(code):
-            if is_made(code, match):
-                yield Place(path, function, line.strip())
+        yield from [Place(path, function, line.strip())] * made[number]
 
 
 def found_in(tree: Tree) -> Counter[Place]:
@@ -112,5 +108,5 @@ def check(tree: Tree) -> tuple[int, list[str]]:
     """How many places there are, and where the list and the sources differ."""
     found = found_in(tree)
     given, faults = listed(tree.text(LIST) if tree.has(LIST) else "", LIST)
-    return found.total(), faults + differences(found, given, LIST, "out of memory is answered by hand here",
+    return found.total(), faults + differences(found, given, LIST, "this is answered by hand here",
                                                "use `?`, or add a line with the reason")

@@ -1,0 +1,127 @@
+"""Which code of a source makes no value: clauses, declarations, signatures, and what is matched on.
+
+It is told by keywords and brackets. What is not found to be one of these counts as a value.
+"""
+from __future__ import annotations
+
+import re
+from collections.abc import Iterator
+from dataclasses import dataclass
+
+# Comments, strings and characters, and imports, which may have several lines.
+BLANK = re.compile(r"//[^\n]*|\br(?P<raw>#+)\".*?\"(?P=raw)|\"(?:\\.|[^\"\\])*\"|'(?:\\.|[^'\\])'|\buse\s[^;]*;", re.DOTALL)
+RENAMED = re.compile(r"(\w+)\s+as\s+\w")
+CLAUSE = re.compile(r"\b(?:requires|ensures)\b\*?\s*\w*\s*\{|\bghost\s+\w+\s*[:=]\s*\{")
+OPENS, CLOSES = "([{", ")]}"
+BRACKET, SIGN = re.compile(r"[][(){}]"), re.compile(r"[][(){},;]|=>")
+
+
+def or_bracket(end: str) -> re.Pattern[str]:
+    return re.compile(rf"(?P<end>{end})|[][(){{}}]")
+
+
+# What begins code without a value, and what ends it. A signature has no brace before its body, since clauses are blank.
+KINDS = [(re.compile(r"\blet\b"), or_bracket(r"(?<![=!<>])=(?![=>])|;")),
+         (re.compile(r"\b(?:const|static)\s+\w+\s*(?=:)"), or_bracket(":")),
+         (re.compile(r"\bfn\s+\w|\bimpl\b"), or_bracket(r"[{;]")),
+         (re.compile(r"\b(?:enum|struct)\s+\w"), or_bracket(r"(?<=\})|;"))]
+MATCHES, COMMA = re.compile(r"\bmatches!\("), or_bracket(",")
+GUARD, PATTERN_END = or_bracket(r"\bif\b"), or_bracket(r"=>|\bif\b")
+# What stands before the bracket of a macro, where an arrow may mean anything.
+MACRO = re.compile(r"\w!\s*\w*\s*\Z")
+
+
+def blank(text: str) -> str:
+    """As many blanks, in as many lines."""
+    return re.sub(r"[^\n]", " ", text)
+
+
+def blanked(text: str) -> str:
+    """The code of a file, column by column: what is no code is blank."""
+    return BLANK.sub(lambda match: blank(match.group()), text)
+
+
+def renamed(text: str) -> Iterator[tuple[int, str]]:
+    """Where an import of a file gives a thing another name, and the name that the thing has."""
+    for match in BLANK.finditer(text):
+        if match.group().startswith("use"):
+            for name in RENAMED.finditer(match.group()):
+                yield match.start() + name.start(), name[1]
+
+
+def partners(code: str) -> dict[int, int]:
+    """The place of the other bracket, for each bracket that has one."""
+    found: dict[int, int] = {}
+    opened: list[int] = []
+    for match in BRACKET.finditer(code):
+        at, sign = match.start(), match.group()
+        if sign in OPENS:
+            opened.append(at)
+        elif opened and OPENS.index(code[opened[-1]]) == CLOSES.index(sign):
+            begin = opened.pop()
+            found[begin], found[at] = at, begin
+    return found
+
+
+@dataclass
+class Level:
+    """What is in brackets: the place of the first bracket, where a pattern may begin, and whether a block may end an arm."""
+    bracket: int
+    begin: int
+    in_arm: bool = False
+
+
+class Source:
+    """The code of a file. Its clauses are blank too."""
+
+    def __init__(self, text: str) -> None:
+        code = blanked(text)
+        self.partner = partners(code)
+        parts, at = [], 0
+        for match in CLAUSE.finditer(code):
+            end = self.partner.get(match.end() - 1, match.start()) + 1
+            parts += [code[at:match.start()], blank(code[match.start():end])]
+            at = end
+        self.code = "".join([*parts, code[at:]])
+
+    def end(self, at: int, ends: re.Pattern[str]) -> int:
+        """The first place from here on where one of these ends is, or the bracket that closes what is around. What is between
+        brackets after here is passed over."""
+        while match := ends.search(self.code, at):
+            if match["end"] is not None or match.group() in CLOSES:
+                return match.start()
+            at = self.partner.get(match.start(), match.start()) + 1
+        return len(self.code)
+
+    def has_arms(self, bracket: int) -> bool:
+        """Whether arrows after this bracket are those of arms: it is a brace, and that of no macro."""
+        return self.code[bracket] == "{" and not MACRO.search(self.code, max(0, bracket - 80), bracket)
+
+    def patterns(self) -> Iterator[int]:
+        """Where the pattern of each arm begins: after the comma, or the block, that ends the arm before it."""
+        levels = [Level(0, 0)]
+        for match in SIGN.finditer(self.code):
+            at, sign, level = match.start(), match.group(), levels[-1]
+            if sign == "=>":
+                if self.has_arms(level.bracket):
+                    yield level.begin
+                level.begin, level.in_arm = at + 2, True
+            elif sign in ",;":
+                level.begin, level.in_arm = at + 1, False
+            elif at in self.partner and sign in OPENS:
+                levels.append(Level(at, at + 1))
+            elif at in self.partner:
+                levels.pop()
+                if sign == "}" and levels[-1].in_arm:
+                    levels[-1].begin = at + 1
+
+    def stretches(self) -> Iterator[tuple[int, int]]:
+        """Where code that makes no value begins, and where it ends."""
+        for kind, ends in KINDS:
+            for match in kind.finditer(self.code):
+                yield match.start(), self.end(match.end(), ends)
+        for match in MATCHES.finditer(self.code):
+            comma = self.end(match.end(), COMMA)
+            yield comma, self.end(comma, GUARD)
+        for begin in self.patterns():
+            yield begin, self.end(begin, PATTERN_END)
