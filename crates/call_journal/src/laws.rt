@@ -59,8 +59,9 @@ pub fn answers_are_journalled()
         → is_journalled a ≡ true }
 {}
 
-/// A seat whose call was journalled has seen all that it had seen, then calls of other seats, and last its own:
-/// it has one call of its own more, and that was answered as it may be after the entries before it.
+/// A seat whose call was journalled has seen all that it had seen, then calls of other seats, and
+/// last its own: it has one call of its own more, and that was answered as it may be after the
+/// entries before it.
 pub fn calls_extend_histories()
     ensures front { (was now : Known) (r : Request) (a : Answer) → Extends was now r a
         → Begins was.history now.history }
@@ -73,8 +74,9 @@ pub fn calls_extend_histories()
         → (now.number ≡ was.number) × (now.share ≡ was.share + 1) }
 {}
 
-/// A call of a book that was journalled is one call of its board, and one entry more. Nothing else of the book
-/// changes but the tasks that wait for a worker, and the seat has seen the whole journal.
+/// A call of a book that was journalled is one call of its board, and one entry more. Nothing else
+/// of the book changes but the tasks that wait for a worker, and the seat has seen the whole
+/// journal.
 pub fn calls_are_the_boards()
     ensures board { (old new : BookValue) (was now : Known) (r : Request) (a : Answer)
         → HasCalled old new was now r a → Answers old.board r a new.board }

@@ -28,8 +28,8 @@ pub fn long_lines_are_no_requests()
         → (a ≡ Err refusal.BadRequest) × (now ≡ was) }
 {}
 
-/// A line that is a request is one call of the seat: its history goes on by that, if the answer is journalled,
-/// and else is what it was.
+/// A line that is a request is one call of the seat: its history goes on by that, if the answer is
+/// journalled, and else is what it was.
 pub fn lines_are_calls()
     ensures journalled { (was : Known) (line : List ℕ) (a : Answer) (now : Known) (r : Request)
         → IsAnswered was line a now → IsRequest line r → is_journalled a ≡ true

@@ -17,8 +17,8 @@ const SLEEPERS: usize = 5;
 /// What another caller asks while five wait for a task, and how they are answered then.
 #[derive(Clone, Copy)]
 pub struct Sleepers<'a> {
-    /// How many workers there are. If there is none the task is idle while the five sleep: each runs one slice
-    /// of it at most before it does.
+    /// How many workers there are. If there is none the task is idle while the five sleep: each
+    /// runs one slice of it at most before it does.
     pub workers: u64,
     /// The lines that start the task.
     pub begin: &'a str,
