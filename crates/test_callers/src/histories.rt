@@ -150,6 +150,16 @@ fn seat_of<R: Row>(told: Told<'_, R>) -> Seat<R> {
     seat
 }
 
+// Asserts that the second of two seats has seen all 2,002 calls, half of them of each, and the
+// first all but one.
+fn check_two<R: Row, A: Abort>(rt: &A, shim: &Shim<R>, one: &Seat<R>, other: &Seat<R>) {
+    check_count(rt, "entries", other.len(), 2_002);
+    check_seen(rt, shim, other, one.number(), 1_001);
+    check_seen(rt, shim, other, other.number(), 1_001);
+    check_order(rt, shim, one, other);
+    check_begins(rt, shim, one, other);
+}
+
 /// Two callers with 1,000 calls each, side by side; then each makes one more. The one that is ahead
 /// has seen all, each caller's calls once. None if a call is answered otherwise.
 pub fn two_callers<R: Row + Send + Sync, W: Threads + Wait + Abort + Sync>(
@@ -162,11 +172,7 @@ pub fn two_callers<R: Row + Send + Sync, W: Threads + Wait + Abort + Sync>(
     let mut all = side_by_side(rt, alloc, shim, scripts.as_slice())?;
     let one = find_nothing(rt, alloc, shim, seat_of(all.pop()?), 1)?;
     let other = find_nothing(rt, alloc, shim, seat_of(all.pop()?), 1)?;
-    check_count(rt, "entries", other.len(), 2_002);
-    check_seen(rt, shim, &other, one.number(), 1_001);
-    check_seen(rt, shim, &other, other.number(), 1_001);
-    check_order(rt, shim, &one, &other);
-    check_begins(rt, shim, &one, &other);
+    check_two(rt, shim, &one, &other);
     Some(())
 }
 

@@ -2,7 +2,7 @@
 
 use crate::stories::{Story, tell};
 use call_journal::{Row, Seat, Shim};
-use callers::{Attended, Driven, InFlight, LiveCaller, Notes, Report, answer_live};
+use callers::{Attended, Driven, InFlight, LiveCaller, Notes, Report, Thread, answer_live};
 use request_lines::Watched;
 use std::alloc::Global;
 use std::process::Abort;
@@ -125,6 +125,41 @@ fn check_told(rt: &impl Abort, all: &[&'static Told], ends: &[Driven]) {
     }
 }
 
+// Asserts that the lines of callers in threads end so.
+fn check_threads<J: Row, H: Threads + Wait + Abort + Copy>(
+    rt: H,
+    threads: Vec<Thread<J, Reader<H>, Watched<FailingWriter>, Counting>>,
+    ends: &[Driven],
+) {
+    for (thread, end) in threads.into_iter().zip(ends) {
+        assert!(rt; thread.join(&rt).driven == *end);
+    }
+}
+
+// Answers the lines of callers, of which the first is the owner, and asserts that they end so.
+fn check_answered<
+    J: Row + Send + Sync + 'static,
+    H: Threads + Wait + Abort + Copy + Send + Sync + 'static,
+>(
+    rt: H,
+    alloc: Global,
+    shim: &Arc<Shim<J>, Global>,
+    flight: &'static InFlight,
+    callers: Vec<Planned<J, H>>,
+    ends: &[Driven],
+) -> Option<()> {
+    let mut others = callers;
+    let (end, later) = ends.split_first()?;
+    if others.is_empty() {
+        return None;
+    }
+    let owner = others.remove(0);
+    let (ended, threads) = answer_live(rt, alloc, shim, flight, owner, others).ok()?;
+    assert!(rt; ended.driven == *end);
+    check_threads(rt, threads, later);
+    Some(())
+}
+
 /// The first of these is the end of the owner's lines, and the others are those of other live
 /// callers. None if memory runs out or a thread cannot be started.
 pub fn live<
@@ -132,16 +167,8 @@ pub fn live<
     H: Threads + Wait + Clock + Abort + Copy + Send + Sync + 'static,
 >(rt: H, alloc: Global, shim: &Arc<Shim<J>, Global>, ends: &[Driven]) -> Option<()> {
     let flight: &'static InFlight = Box::leak(Box::new(alloc, InFlight::new()).ok()?);
-    let (mut callers, told) = callers_of(rt, alloc, shim, flight, ends)?;
-    if callers.is_empty() {
-        return None;
-    }
-    let owner = callers.remove(0);
-    let (ended, threads) = answer_live(rt, alloc, shim, flight, owner, callers).ok()?;
-    assert!(rt; Some(&ended.driven) == ends.first());
-    for (thread, end) in threads.into_iter().zip(ends.iter().skip(1)) {
-        assert!(rt; thread.join(&rt).driven == *end);
-    }
+    let (callers, told) = callers_of(rt, alloc, shim, flight, ends)?;
+    check_answered(rt, alloc, shim, flight, callers, ends)?;
     let is_well = ends.iter().all(|end| *end == Driven::End);
     let how = flight.close(&rt, Duration::from_secs(5));
     assert_eq!(rt; how == Driven::End, is_well);

@@ -148,6 +148,41 @@ fn check_caller<R: Row, A: Abort>(
     Some(())
 }
 
+// Lets four callers answer these scripts while four workers run their tasks, and a fifth makes a
+// call. What the four were answered, and the fifth's seat.
+fn stormed<'a, R: Row + Send + Sync, W: Threads + Wait + Sync>(
+    rt: &W,
+    alloc: Global,
+    shim: &Shim<R>,
+    last: Seat<R>,
+    scripts: [&'a [u8]; 4],
+) -> Option<(Vec<Told<'a, R>>, Seat<R>)> {
+    let run = || {
+        let all = side_by_side(rt, alloc, shim, scripts.as_slice());
+        (
+            all,
+            refused(rt, alloc, shim, last, STATE, Refusal::NotFound),
+        )
+    };
+    let (all, last) = with_workers(rt, alloc, shim, 4, run).ok()?;
+    Some((all?, last?))
+}
+
+// Asserts that all calls are seen by the last seat, and those of each caller once and in order.
+fn check_storm<R: Row, A: Abort>(
+    rt: &A,
+    shim: &Shim<R>,
+    all: &[Told<'_, R>],
+    last: &Seat<R>,
+) -> Option<()> {
+    check_count(rt, "entries", last.len(), 4 * CALLS + 2);
+    check_count(rt, "its own calls", seen_of(shim, last, last.number()), 2);
+    for (told, begins_with) in all.iter().zip(["a", "b", "a", "b"]) {
+        check_caller(rt, shim, told, last, begins_with)?;
+    }
+    Some(())
+}
+
 /// The storm: a fifth caller stores the module, and makes one call after it. None if a call is
 /// answered as it never should be.
 pub fn storm<R: Row + Send + Sync, W: Threads + Wait + Abort + Sync>(
@@ -159,22 +194,8 @@ pub fn storm<R: Row + Send + Sync, W: Threads + Wait + Abort + Sync>(
     let first_a = lines_of(alloc, ROUND_OF_A, ROUND_OF_B)?;
     let first_b = lines_of(alloc, ROUND_OF_B, ROUND_OF_A)?;
     let (a, b) = (first_a.as_slice(), first_b.as_slice());
-    let scripts = [a, b, a, b];
-    let run = || {
-        let all = side_by_side(rt, alloc, shim, scripts.as_slice());
-        (
-            all,
-            refused(rt, alloc, shim, last, STATE, Refusal::NotFound),
-        )
-    };
-    let (all, last) = with_workers(rt, alloc, shim, 4, run).ok()?;
-    let (all, last) = (all?, last?);
-    check_count(rt, "entries", last.len(), 4 * CALLS + 2);
-    check_count(rt, "its own calls", seen_of(shim, &last, last.number()), 2);
-    for (told, begins_with) in all.iter().zip(["a", "b", "a", "b"]) {
-        check_caller(rt, shim, told, &last, begins_with)?;
-    }
-    Some(())
+    let (all, last) = stormed(rt, alloc, shim, last, [a, b, a, b])?;
+    check_storm(rt, shim, all.as_slice(), &last)
 }
 
 #[test]
