@@ -31,7 +31,7 @@ fn is_in(left: usize, first: usize, last: usize, begins: bool) -> bool {
 }
 
 // The function, after this many imports, in whose body in the code section with these contents a place is,
-// this many bytes from the end of the section. What is wrong with the section as a whole is in none.
+// this many bytes from its end; None for a fault of the whole section. A body has a byte at least.
 fn body_at(contents: &[u8], left: usize, imports: u32, what: What) -> Option<u64> {
     match what {
         What::Longer { whole, .. } | What::Cut { whole, .. } => match whole {
@@ -42,10 +42,10 @@ fn body_at(contents: &[u8], left: usize, imports: u32, what: What) -> Option<u64
     }
     let begins = matches!(what, What::Number(Number::BodySize));
     let (count, mut rest) = read_u32(contents).ok()?;
-    for own in 0..count {
+    for own in 0..rest.len().min(count as usize) {
         let after = sized(rest).1;
         if is_in(left, rest.len(), after.len(), begins) {
-            return Some(u64::from(own).saturating_add(u64::from(imports)));
+            return Some((own as u64).saturating_add(u64::from(imports)));
         }
         rest = after;
     }
