@@ -285,7 +285,7 @@ pub struct LineReader {
 }
 
 impl LineReader {
-    /// It has read nothing. All memory that lines need is taken here.
+    /// It has read nothing. All memory that lines need is taken here: an error only if there is not enough.
     pub fn new(alloc: Global) -> Result<LineReader, AllocError>
         ensures { IfOk result (λ r. (r.chunk ≡ []) × (r.at_end ≡ false)) }
     {

@@ -98,7 +98,7 @@ fn make_event(alloc: Global, op: Op, values: Values) -> Result<Event, LineError>
     }
 }
 
-/// Reads a line as an event.
+/// Reads a line as an event. `NoRequest` if it is none, `OutOfMemory` if memory runs out.
 pub fn read_event_line(alloc: Global, line: &[u8]) -> Result<Event, LineError>
     ensures ok { IfOk result (λ e. IsEvent line.now e) }
     ensures none { result ≡ Err LineError.NoRequest → (e : Event) → IsEvent line.now e → ⊥ }

@@ -11,7 +11,7 @@ use std::alloc::Global;
 use task_requests::{Event, Request};
 use wasm_ast::Refusal;
 
-/// Reads a line as a request.
+/// Reads a line as a request. `NoRequest` if it is none, `OutOfMemory` if memory runs out.
 pub fn read_request_line(alloc: Global, line: &[u8]) -> Result<Request, LineError>
     ensures ok { IfOk result (λ r. IsRequest line.now r) }
     ensures none { result ≡ Err LineError.NoRequest → (r : Request) → IsRequest line.now r → ⊥ }

@@ -21,7 +21,7 @@ fn line_of_value(alloc: Global, value: &Value) -> Result<String, AllocError>
     Ok(line)
 }
 
-/// The line of what a request is answered.
+/// The line of what a request is answered, with its line feed. An error only if memory runs out.
 #[tactic(auto, using(crate::proofs::FloatLemmas::texts_have_none, crate::proofs::FloatLemmas::frames_have_none))]
 pub fn answer_line(alloc: Global, answer: &Result<Reply, Refusal>) -> Result<String, AllocError>
     ensures { IfOk result (λ s. string_bytes s ≡ line_text (json_of answer.now)) }
@@ -30,7 +30,7 @@ pub fn answer_line(alloc: Global, answer: &Result<Reply, Refusal>) -> Result<Str
     line_of_value(alloc, &value)
 }
 
-/// The line of what an event is answered.
+/// The line of what an event is answered, with its line feed. An error only if memory runs out.
 #[tactic(auto, using(crate::proofs::FloatLemmas::texts_have_none, crate::proofs::FloatLemmas::frames_have_none))]
 pub fn event_line(alloc: Global, reply: &EventReply) -> Result<String, AllocError>
     ensures { IfOk result (λ s. string_bytes s ≡ line_text (event_data reply.now)) }

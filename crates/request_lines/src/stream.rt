@@ -62,10 +62,11 @@ pub struct Watched<S> {
 }
 
 impl<S> Watched<S> {
-    /// A stream that has not failed.
+    /// A stream that has not failed, and may be read 2^64 - 1 times.
     pub fn new(stream: S) -> Watched<S>
         ensures stream { result.stream ≡ stream }
         ensures whole { result.error ≡ None }
+        ensures reads { result.reads_left ≡ 18446744073709551615 }
     {
         Watched {
             stream,
