@@ -1,6 +1,6 @@
 //! `serve` with live callers over memory: whose end is the end of all, and which replies are written by then.
 
-use crate::serving::{Page, check_text, empty_text, served};
+use crate::serving::{Page, Told, check_text, empty_text, served};
 use serve_command::Work;
 use std::alloc::{AllocError, Global};
 use std::io::{Read, Write};
@@ -9,44 +9,51 @@ use std::sync::atomic::{AtomicU64, Ordering};
 use std::sync::{Mutex, Wait};
 use std::test::Fail;
 use std::thread::Threads;
-use std::time::Clock;
+use std::time::{Clock, Duration};
 use std::{io, thread};
 use test_streams::{ChunkedReader, NOT_FOUND_LINE, STATE, repeated};
 
-/// How often a write yields, if it is slow.
-const SLOW: u64 = 100_000;
+/// How long a slow write takes, in milliseconds: less than `serve` waits for it, on a busy machine too.
+const SLOW: u64 = 100;
 
 /// How many questions the owner asks, if it does not wait for another caller.
 const MANY: usize = 500;
 
-/// A reader over bytes. It is at its end once a write has begun, if it waits for one.
+/// A reader over bytes.
 #[derive(Drop)]
 struct LateReader {
     lines: ChunkedReader<'static>,
+    /// It gives nothing before this, and is at its end if that does not come.
+    after: Option<&'static AtomicU64>,
+    /// It is at its end once a write has begun.
     begun: Option<&'static AtomicU64>,
 }
 
 impl Read for LateReader {
     fn read(&mut self, buf: &mut [u8]) -> io::Result<usize> {
+        if !comes(self.after) {
+            return Ok(0);
+        }
         let n = self.lines.read(buf)?;
         if n == 0 {
-            wait_for(self.begun);
+            let _come = comes(self.begun);
         }
         Ok(n)
     }
 }
 
-// Waits for a write to begin, for at most a million yields.
-fn wait_for(begun: Option<&'static AtomicU64>) {
-    let Some(begun) = begun else {
-        return;
+// Waits for what is counted, if anything is, for at most a million yields. Whether it has come.
+fn comes(counted: Option<&'static AtomicU64>) -> bool {
+    let Some(counted) = counted else {
+        return true;
     };
     for _ in 0..1_000_000 {
-        if begun.load(Ordering::SeqCst) > 0 {
-            return;
+        if counted.load(Ordering::SeqCst) > 0 {
+            return true;
         }
         thread::yield_now();
     }
+    false
 }
 
 /// A page as the replies of a caller. A write says that it has begun, and is slow, if it is waited for.
@@ -56,13 +63,11 @@ struct SlowWriter<H> {
     begun: Option<&'static AtomicU64>,
 }
 
-impl<H: Wait + Copy> Write for SlowWriter<H> {
+impl<H: Wait + Clock + Copy> Write for SlowWriter<H> {
     fn write(&mut self, buf: &[u8]) -> io::Result<usize> {
         if let Some(begun) = self.begun {
             begun.fetch_add(1, Ordering::SeqCst);
-            for _ in 0..SLOW {
-                thread::yield_now();
-            }
+            thread::sleep(&self.page.rt, Duration::from_millis(SLOW));
         }
         self.page.add(buf);
         Ok(buf.len())
@@ -95,15 +100,22 @@ fn streams<H: Copy>(
     };
     let reader = LateReader {
         lines: ChunkedReader::new(lines.leak()),
+        after: None,
         begun: reads,
     };
+    Ok((("in", "out"), reader, writer_of(rt, alloc, asker, writes)))
+}
+
+// The writer of a caller's replies.
+fn writer_of<H>(
+    rt: H,
+    alloc: Global,
+    asker: Asker,
+    begun: Option<&'static AtomicU64>,
+) -> SlowWriter<H> {
     let text = asker.text;
     let page = Page { rt, alloc, text };
-    let writer = SlowWriter {
-        page,
-        begun: writes,
-    };
-    Ok((("in", "out"), reader, writer))
+    SlowWriter { page, begun }
 }
 
 // Serves two live callers, of which the first is the owner, and asserts that both have their replies.
@@ -126,7 +138,7 @@ fn check_live<H: Threads + Wait + Clock + Abort + Copy + Send + Sync + 'static>(
     callers.push(streams(rt, alloc, other, None, begun)?)?;
     let said = empty_text(alloc)?;
     let work: Work<LateReader, SlowWriter<H>, Vec<u8>> = Work::Live(callers);
-    assert_eq!(rt; served(rt, alloc, said, None, work), 0);
+    assert_eq!(rt; served(rt, alloc, said, Told::Nothing, work), 0);
     check_text(rt, said, "");
     for asker in [owner, other] {
         check_replies(rt, alloc, asker)?;
@@ -154,4 +166,51 @@ fn the_first_live_caller_is_the_owner(rt: HostRuntime) -> Result<(), Fail> {
 fn a_reply_that_is_being_written_is_waited_for(rt: HostRuntime) -> Result<(), Fail> {
     let begun: &'static AtomicU64 = Box::leak(Box::new(rt.alloc(), AtomicU64::new(0))?);
     check_live(rt, rt.alloc(), (1, 1), Some(begun))
+}
+
+// The owner's reader fails: the status says so.
+#[test]
+fn the_end_of_an_owner_that_fails(rt: HostRuntime) -> Result<(), Fail> {
+    let alloc = rt.alloc();
+    let owner = Asker {
+        questions: 0,
+        text: empty_text(alloc)?,
+    };
+    let reader = ChunkedReader::failing(STATE.as_bytes());
+    let mut callers = Vec::new(alloc);
+    callers.push((("in", "out"), reader, writer_of(rt, alloc, owner, None)))?;
+    let said = empty_text(alloc)?;
+    let work: Work<ChunkedReader<'static>, SlowWriter<HostRuntime>, Vec<u8>> = Work::Live(callers);
+    assert_eq!(rt; served(rt, alloc, said, Told::Nothing, work), 1);
+    check_text(rt, said, "wasm-shim: in: connection reset\n");
+    check_text(rt, owner.text, "");
+    Ok(())
+}
+
+// Another caller gets its line when all has ended. It answers nothing any more: the program may exit at any
+// moment, also in the middle of a reply.
+#[test]
+fn no_line_is_answered_after_the_end(rt: HostRuntime) -> Result<(), Fail> {
+    let alloc = rt.alloc();
+    let ended: &'static AtomicU64 = Box::leak(Box::new(alloc, AtomicU64::new(0))?);
+    let late = Asker {
+        questions: 1,
+        text: empty_text(alloc)?,
+    };
+    let owner = Asker {
+        questions: 1,
+        text: empty_text(alloc)?,
+    };
+    let mut callers = Vec::new(alloc);
+    callers.push(streams(rt, alloc, owner, None, None)?)?;
+    let (names, mut reader, writer) = streams(rt, alloc, late, None, None)?;
+    reader.after = Some(ended);
+    callers.push((names, reader, writer))?;
+    let said = empty_text(alloc)?;
+    let work: Work<LateReader, SlowWriter<HostRuntime>, Vec<u8>> = Work::Live(callers);
+    assert_eq!(rt; served(rt, alloc, said, Told::Nothing, work), 0);
+    ended.fetch_add(1, Ordering::SeqCst);
+    thread::sleep(&rt, Duration::from_millis(SLOW));
+    check_text(rt, late.text, "");
+    check_replies(rt, alloc, owner)
 }

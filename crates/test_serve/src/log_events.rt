@@ -1,11 +1,13 @@
 //! Which events are lines of a log, by lines that were written out by hand.
 
-use shim_log::{By, Clocks, Format, Log, Moment, Outlet};
+use shim_log::{By, Clocks, Format, Log, Moment, Outlet, Terminal};
 use std::alloc::{AllocError, Global};
 use std::cell::RefCell;
+use std::fmt::Display;
 use std::io;
-use std::io::ErrorKind;
+use std::io::{ErrorKind, Write};
 use std::process::Abort;
+use std::test::Fail;
 use std::time::{Clock, Duration};
 use task_requests::{ExitRecord, Reply, Status, TaskState};
 use wasm_ast::{Refusal, Text, Trap};
@@ -296,5 +298,61 @@ fn clocks_are_read(rt: HostRuntime) -> Result<(), AllocError> {
     assert!(rt; known.wall.is_some());
     let unknown = Clocks::new(Standing { fails: true }).now();
     assert!(rt; unknown.since.is_none() && unknown.wall.is_none());
+    Ok(())
+}
+
+// Standard error over memory, of which a write takes a byte.
+#[derive(Clone, Copy)]
+struct Narrow<'a> {
+    alloc: Global,
+    text: &'a RefCell<String>,
+}
+
+impl Narrow<'_> {
+    fn add(&self, text: &str) -> io::Result<()> {
+        match self.text.try_borrow_mut() {
+            Ok(mut kept) => Ok(kept.push_str(text)?),
+            Err(_) => Err(io::Error::from(ErrorKind::Other)),
+        }
+    }
+}
+
+impl Write for Narrow<'_> {
+    fn write(&mut self, buf: &[u8]) -> io::Result<usize> {
+        let n = buf.len().min(1);
+        let (now, _) = buf.split_at(n);
+        let text = String::from_utf8_lossy(self.alloc, now)?;
+        self.add(text.as_str())?;
+        Ok(n)
+    }
+
+    fn flush(&mut self) -> io::Result<()> {
+        Ok(())
+    }
+}
+
+impl Eprint for Narrow<'_> {
+    fn eprint<D: Display + Drop>(&self, value: D) -> io::Result<()> {
+        let text = format!(in self.alloc; "{value}")?;
+        self.add(text.as_str())
+    }
+
+    fn eprintln<D: Display + Drop>(&self, value: D) -> io::Result<()> {
+        let text = format!(in self.alloc; "{value}\n")?;
+        self.add(text.as_str())
+    }
+}
+
+#[test]
+fn standard_error_takes_whole_lines(rt: HostRuntime) -> Result<(), Fail> {
+    let alloc = rt.alloc();
+    let text = RefCell::new(String::new(alloc));
+    let stream = Narrow { alloc, text: &text };
+    let terminal = Terminal::new(stream, Standing { fails: false });
+    terminal.write("a line\n");
+    terminal.eprint("a ")?;
+    terminal.eprintln("message")?;
+    check(&rt, &text, "a line\na message\n");
+    assert!(rt; terminal.now().since == Some(Duration::ZERO));
     Ok(())
 }

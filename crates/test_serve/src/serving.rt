@@ -13,8 +13,32 @@ use std::test::Fail;
 use std::thread::Threads;
 use std::time::Clock;
 use test_streams::{
-    BAD_REQUEST_LINE, ChunkedReader, FailingWriter, LONG_LINES, NOT_FOUND_LINE, STATE, repeated,
+    BAD_REQUEST_LINE, ChunkedReader, FailingWriter, LONG_LINES, NOT_FOUND_LINE, SIX_LINES, STATE,
+    repeated,
 };
+
+/// What is said on standard error beside why the program failed.
+#[derive(Clone, Copy)]
+pub enum Told {
+    Nothing,
+    /// Why each refused request is refused.
+    Reasons,
+    /// The log as text.
+    Log,
+}
+
+impl Told {
+    fn explains(self) -> bool {
+        matches!(self, Told::Reasons)
+    }
+
+    fn format(self) -> Option<Format> {
+        match self {
+            Told::Log => Some(Format::Text),
+            Told::Nothing | Told::Reasons => None,
+        }
+    }
+}
 
 /// A text that several threads write.
 #[derive(Clone, Copy)]
@@ -121,20 +145,10 @@ pub fn served<
     R: Read + Send + Drop + 'static,
     W: Write + Send + Drop + 'static,
     O: Write + Drop,
->(
-    rt: H,
-    alloc: Global,
-    text: &'static Mutex<Vec<u8>>,
-    format: Option<Format>,
-    work: Work<R, W, O>,
-) -> u8 {
+>(rt: H, alloc: Global, text: &'static Mutex<Vec<u8>>, told: Told, work: Work<R, W, O>) -> u8 {
     let page = Page { rt, alloc, text };
-    serve(
-        rt,
-        2,
-        Wanted::new(alloc, ErrorPage { page }, false, format),
-        work,
-    )
+    let wanted = Wanted::new(alloc, ErrorPage { page }, told.explains(), told.format());
+    serve(rt, 2, wanted, work)
 }
 
 /// Asserts what a text is.
@@ -146,13 +160,13 @@ pub fn check_text<H: Wait + Abort + Copy>(rt: H, text: &Mutex<Vec<u8>>, wanted: 
 fn check_served<H: Threads + Wait + Clock + Abort + Copy + Send + Sync + 'static, O: Write + Drop>(
     rt: H,
     alloc: Global,
-    format: Option<Format>,
+    told: Told,
     work: MemoryWork<O>,
     said: &str,
     status: u8,
 ) -> Result<(), Fail> {
     let text = empty_text(alloc)?;
-    let found = served(rt, alloc, text, format, work);
+    let found = served(rt, alloc, text, told, work);
     assert_eq!(rt; found, status);
     check_text(rt, text, said);
     Ok(())
@@ -174,12 +188,12 @@ fn replies_come_in_the_order_of_scripts(rt: HostRuntime) -> Result<(), Fail> {
     let text = empty_text(alloc)?;
     let page = Page { rt, alloc, text };
     let work = scripts(alloc, false, OutputPage { page })?;
-    check_served(rt, rt.alloc(), None, work, "", 0)?;
+    check_served(rt, rt.alloc(), Told::Nothing, work, "", 0)?;
     let work = scripts(alloc, true, OutputPage { page })?;
     check_served(
         rt,
         rt.alloc(),
-        None,
+        Told::Nothing,
         work,
         "wasm-shim: z: connection reset\n",
         1,
@@ -205,11 +219,11 @@ fn an_output_that_fails_is_said(rt: HostRuntime) -> Result<(), Fail> {
     let said = "wasm-shim: standard output: broken pipe\n";
     let output = FailingWriter::new(rt.alloc(), 0);
     let work = Work::Stream("standard input", questions(rt.alloc(), 2, false)?, output);
-    check_served(rt, rt.alloc(), None, work, said, 1)?;
+    check_served(rt, rt.alloc(), Told::Nothing, work, said, 1)?;
     let three =
         "wasm-shim: standard output: broken pipe\nwasm-shim: standard output: broken pipe\nwasm-shim: standard output: broken pipe\n";
     let work = scripts(rt.alloc(), true, FailingWriter::new(rt.alloc(), 0))?;
-    check_served(rt, rt.alloc(), None, work, three, 1)
+    check_served(rt, rt.alloc(), Told::Nothing, work, three, 1)
 }
 
 // The log of one caller, whose reader fails: its end is told before why.
@@ -219,7 +233,26 @@ fn the_log_of_one_caller(rt: HostRuntime) -> Result<(), Fail> {
         "log: - - line 1 refused id=zz number=4 cause=NotFound\nlog: - - caller-ended lines=1\nwasm-shim: x: connection reset\n";
     let output = FailingWriter::new(rt.alloc(), usize::MAX);
     let work = Work::Stream("x", questions(rt.alloc(), 1, true)?, output);
-    check_served(rt, rt.alloc(), Some(Format::Text), work, said, 1)
+    check_served(rt, rt.alloc(), Told::Log, work, said, 1)
+}
+
+// Serves with a log, and asserts that these lines are in it, and how many lines there are.
+fn check_log<H: Threads + Wait + Clock + Abort + Copy + Send + Sync + 'static>(
+    rt: H,
+    alloc: Global,
+    work: MemoryWork<FailingWriter>,
+    lines: &[&str],
+    count: usize,
+) -> Result<(), Fail> {
+    let text = empty_text(alloc)?;
+    assert_eq!(rt; served(rt, alloc, text, Told::Log, work), 0);
+    let kept = text.lock(&rt);
+    let log = from_utf8(kept.as_slice())?;
+    for line in lines {
+        assert!(rt; log.contains(*line), "{line}");
+    }
+    assert_eq!(rt; log.lines().count(), count);
+    Ok(())
 }
 
 /// The log of a task that ends in a slice of a worker, in any order.
@@ -241,15 +274,63 @@ fn long_task(alloc: Global) -> Result<ChunkedReader<'static>, AllocError> {
 #[test]
 fn the_log_of_a_task_that_a_worker_ends(rt: HostRuntime) -> Result<(), Fail> {
     let alloc = rt.alloc();
-    let text = empty_text(alloc)?;
     let output = FailingWriter::new(alloc, usize::MAX);
-    let work: MemoryWork<FailingWriter> = Work::Stream("x", long_task(alloc)?, output);
-    assert_eq!(rt; served(rt, alloc, text, Some(Format::Text), work), 0);
-    let kept = text.lock(&rt);
-    let log = from_utf8(kept.as_slice())?;
-    for line in ENDED {
-        assert!(rt; log.contains(*line), "{line}");
-    }
-    assert_eq!(rt; log.lines().count(), ENDED.len());
-    Ok(())
+    let work = Work::Stream("x", long_task(alloc)?, output);
+    check_log(rt, alloc, work, ENDED, ENDED.len())
+}
+
+/// What three scripts add to the log, among other lines.
+const OF_SCRIPTS: &[&str] = &[
+    "log: - - x line 1 refused id=zz number=4 cause=NotFound\n",
+    "log: - - x line 2 refused id=zz number=4 cause=NotFound\n",
+    "log: - - x caller-ended lines=2\n",
+    "log: - - y line 1 refused number=1 cause=BadRequest\n",
+    "log: - - y caller-ended lines=1\n",
+    "log: - - z line 1 refused id=zz number=4 cause=NotFound\n",
+    "log: - - z caller-ended lines=1\n",
+];
+
+#[test]
+fn the_log_of_scripts(rt: HostRuntime) -> Result<(), Fail> {
+    let alloc = rt.alloc();
+    let work = scripts(alloc, false, FailingWriter::new(alloc, usize::MAX))?;
+    check_log(rt, alloc, work, OF_SCRIPTS, OF_SCRIPTS.len())
+}
+
+// The journal's mark of 8,192 entries is one line of the log, at the call that makes it.
+#[test]
+fn the_log_of_a_journal_that_is_half_full(rt: HostRuntime) -> Result<(), Fail> {
+    let alloc = rt.alloc();
+    let output = FailingWriter::new(alloc, usize::MAX);
+    let work = Work::Stream("x", questions(alloc, 8_193, false)?, output);
+    let mark = ["log: - - line 8192 journal entries=8192\n"];
+    check_log(rt, alloc, work, mark.as_slice(), 8_195)
+}
+
+// A task that its caller kills before it has run.
+#[test]
+fn the_log_of_a_kill(rt: HostRuntime) -> Result<(), Fail> {
+    let said =
+        "log: - - line 2 created id=a turns=0\nlog: - - line 4 refused number=1 cause=BadRequest\nlog: - - line 5 ended id=a turns=0 cause=kill exit=137\nlog: - - line 5 killed id=a status=stopped\nlog: - - line 6 deleted id=a\nlog: - - caller-ended lines=6\n";
+    let reader = ChunkedReader::new(SIX_LINES.as_bytes());
+    let output = FailingWriter::new(rt.alloc(), usize::MAX);
+    let work = Work::Stream("x", reader, output);
+    check_served(rt, rt.alloc(), Told::Log, work, said, 0)
+}
+
+/// A question for a task that is not there, a content from a text without an entry, and a create of it.
+const REFUSED_LINES: &str = r#"{"op":"state","id":"zz"}
+{"op":"put_text","text":"(module)"}
+{"op":"create","id":"a","config":"{\"ociVersion\":\"1.0.2\",\"process\":{\"args\":[\"a\"],\"cwd\":\"/\"},\"annotations\":{\"dev.shim.module\":\"sha256:93a44bbb96c751218e4c00d479e4c14358122a389acca16205b1e4d0dc5f9476\"}}"}
+"#;
+
+// The reason of a create is found in the content, which the caller has put.
+#[test]
+fn reasons_are_said(rt: HostRuntime) -> Result<(), Fail> {
+    let said =
+        "why: line 1, 4 NotFound: state: id \"zz\": no task has that id\nwhy: line 3, 21 NoEntry: create: no function is exported as _start\n";
+    let reader = ChunkedReader::new(REFUSED_LINES.as_bytes());
+    let output = FailingWriter::new(rt.alloc(), usize::MAX);
+    let work = Work::Stream("x", reader, output);
+    check_served(rt, rt.alloc(), Told::Reasons, work, said, 0)
 }
