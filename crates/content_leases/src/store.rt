@@ -256,7 +256,9 @@ impl Store {
         Ok(())
     }
 
-    /// Stores bytes under their digest, which is answered.
+    /// Stores bytes under their digest, which is answered. Refused, in this order: `Limit` if they are more
+    /// than a module may have, `Exists` if they are stored, `DigestConflict` if others are stored under their
+    /// digest, `TooMany` if no more contents can be stored, `NoMemory`.
     pub fn put(&mut self, bytes: Bytes) -> Result<Text, Refusal>
         ensures { IsAnswered (put_refusals self.old.state bytes)
             (λ d. (d ≡ digest_of bytes) × (self.new.state ≡ with_content self.old.state bytes))
@@ -270,8 +272,9 @@ impl Store {
         Ok(digest)
     }
 
-    /// Removes the content under a digest, unless a lease or one of the digests that are used names it. No
-    /// memory is taken.
+    /// Removes the content under a digest. No memory is taken. Refused, in this order: `BadId` if the digest
+    /// is malformed, `NoContent` if nothing is stored under it, `InUse` if a lease or one of the digests that
+    /// are used names it.
     pub fn remove(&mut self, digest: &str, used: &[Text]) -> Result<(), Refusal>
         ensures answered { IsAnswered (remove_refusals used.now self.old.state digest.now)
             (λ done. self.new.state ≡ without_content self.old.state digest.now)
@@ -300,7 +303,8 @@ impl Store {
         Ok(())
     }
 
-    /// Creates a lease that names no digest.
+    /// Creates a lease that names no digest. Refused, in this order: `BadId` if the name is malformed,
+    /// `Exists` if a lease has it, `TooMany` if there can be no more leases, `NoMemory`.
     pub fn lease_create(&mut self, name: &str) -> Result<(), Refusal>
         ensures { IsAnswered (lease_create_refusals self.old.state name.now)
             (λ done. self.new.state ≡ with_lease self.old.state name.now)
@@ -324,7 +328,9 @@ impl Store {
         Ok(())
     }
 
-    /// Adds the digest of a content to a lease.
+    /// Adds the digest of a content to a lease. Refused, in this order: `BadId` if the digest or the name is
+    /// malformed, `NotFound` if no lease has the name, `NoContent` if nothing is stored under the digest,
+    /// `Exists` if the lease has it, `TooMany` if the lease is full, `NoMemory`.
     pub fn lease_add(&mut self, digest: &str, name: &str) -> Result<(), Refusal>
         ensures { IsAnswered (lease_add_refusals self.old.state digest.now name.now)
             (λ done. self.new.state ≡ with_member self.old.state digest.now name.now)
@@ -337,7 +343,8 @@ impl Store {
         Ok(())
     }
 
-    /// Deletes a lease. No memory is taken.
+    /// Deletes a lease. No memory is taken. Refused, in this order: `BadId` if the name is malformed,
+    /// `NotFound` if no lease has it.
     pub fn lease_delete(&mut self, name: &str) -> Result<(), Refusal>
         ensures answered { IsAnswered (lease_delete_refusals self.old.state name.now)
             (λ done. self.new.state ≡ without_lease self.old.state name.now)
@@ -354,7 +361,7 @@ impl Store {
     }
 
     /// Removes the contents that no lease and none of the digests that are used names, and answers their
-    /// digests in order of arrival.
+    /// digests in order of arrival. The only refusal is `NoMemory`, and nothing has changed then.
     pub fn gc(&mut self, used: &[Text]) -> Result<Vec<Text>, Refusal>
         ensures { IsAnswered []
             (λ v. (v.items ≡ unheld used.now self.old.state)

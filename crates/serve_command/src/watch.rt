@@ -54,7 +54,7 @@ impl<J: Row> Contents for Seen<'_, J> {
 #[derive(Drop)]
 pub struct Watch<E> {
     wanted: Wanted<E>,
-    /// What the caller is called; empty if it is the only one.
+    /// What the caller is called; empty for standard input and for one script.
     name: &'static str,
     streams: Streams,
     /// How many lines of the caller have been answered.

@@ -38,7 +38,8 @@ pub struct Moment {
 pub enum By<'a> {
     /// A worker.
     Worker,
-    /// The line with this number of the caller of this name, which is empty if there is only one caller.
+    /// The line with this number of the caller of this name, which is empty for standard input and for one
+    /// script.
     Line(&'a str, u64),
     /// The caller of this name itself.
     Caller(&'a str),

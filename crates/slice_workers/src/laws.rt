@@ -6,7 +6,7 @@ ghost use Rattle.slice_workers.specs.declared.tickets.Hand.{Hand};
 ghost use Rattle.slice_workers.specs.Tickets.{Merged, hand, weigh, weigh_all};
 
 /// However tickets are weighed, those that were taken and those that the queue holds weigh what those that
-/// were put weigh. So each comes out as often as it was put.
+/// were put weigh. So each that was put has come out once, or is still in the queue.
 pub fn tickets_are_neither_lost_nor_made()
     ensures { (items : List Ticket) → (passes : List Hand) → Merged items passes
         → (weight : Ticket → ℕ) → weigh_all weight (map (λ v. v.taken) passes) + weigh weight items

@@ -74,7 +74,9 @@ fn with_workers_of<
 }
 
 /// Calls `run` while this many workers, each in a thread of its own, run the tasks of the shim by a
-/// gate; then closes the shim and waits until each worker has given back the slice that it holds.
+/// gate; then closes the shim and waits until each worker has given back the slice that it holds. An
+/// error, and `run` was not called, if memory runs out for the queue or a thread cannot be started; in the
+/// second case the shim is closed.
 pub fn with_gated_workers<
     J: Row + Send + Sync,
     H: Threads + Wait + Sync,

@@ -62,7 +62,8 @@ pub enum Ask {
 }
 
 impl Request {
-    /// Whether a board takes memory for it. One for which none is taken is never answered `NoMemory`.
+    /// Whether a board takes memory for it. A board answers `NoMemory` to no other. A shim may, as it takes
+    /// memory for the entry in its journal.
     pub fn takes_memory(&self) -> bool
         ensures { result ≡ takes_memory self.now }
     {
