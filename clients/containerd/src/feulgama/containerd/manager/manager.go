@@ -183,15 +183,16 @@ func startShim(ctx context.Context, id string, opts shim.StartOpts, socket *os.F
 func (m Manager) Stop(_ context.Context, id string) (shim.StopStatus, error) {
 	current, err := os.Getwd()
 	if err != nil {
-		return shim.StopStatus{}, err
+		return shim.StopStatus{}, fmt.Errorf("find the folder of %s: %w", id, err)
 	}
 	folder := filepath.Join(filepath.Dir(current), id)
-	record, err := remains.Clean(folder)
-	if err != nil {
-		return shim.StopStatus{}, err
-	}
+	// First the socket, so that it is gone even if something else stays.
 	if address, err := shim.ReadAddress(filepath.Join(folder, "address")); err == nil && !shim.CanConnect(address) {
 		_ = shim.RemoveSocket(address) // it may be gone
+	}
+	record, err := remains.Clean(folder)
+	if err != nil {
+		return shim.StopStatus{}, fmt.Errorf("clean up after %s: %w", id, err)
 	}
 	status := shim.StopStatus{Pid: record.PID, ExitStatus: 128 + int(unix.SIGKILL), ExitedAt: time.Now()}
 	if record.Exit != nil {

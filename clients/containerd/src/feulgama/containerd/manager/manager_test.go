@@ -105,6 +105,34 @@ func in(t *testing.T, config string) {
 	}
 }
 
+// Also if something else of the container cannot be cleaned up.
+func TestStopLeavesNoSocket(t *testing.T) {
+	in(t, `{}`)
+	current, err := os.Getwd()
+	if err != nil {
+		t.Fatal(err)
+	}
+	folder := filepath.Join(filepath.Dir(current), "one")
+	if err := os.Mkdir(folder, 0o700); err != nil {
+		t.Fatal(err)
+	}
+	for record, good := range map[string]bool{`{"pid":0}`: true, "{": false} {
+		path := filepath.Join(folder, "s")
+		socket(t, path, 0, false)
+		for name, text := range map[string]string{"address": scheme + path, "feulgama.json": record} {
+			if err := os.WriteFile(filepath.Join(folder, name), []byte(text), 0o600); err != nil {
+				t.Fatal(err)
+			}
+		}
+		if _, err := Manager("").Stop(context.Background(), "one"); (err == nil) != good {
+			t.Errorf("%s: %v", record, err)
+		}
+		if _, err := os.Lstat(path); !errors.Is(err, os.ErrNotExist) {
+			t.Errorf("%s: the socket is left: %v", record, err)
+		}
+	}
+}
+
 func TestGroups(t *testing.T) {
 	for config, want := range map[string]string{
 		`{}`: "one", `{"annotations":{"other":"x"}}`: "one", `{"annotations":{"io.kubernetes.cri.sandbox-id":"pod"}}`: "pod",

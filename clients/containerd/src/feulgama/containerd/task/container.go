@@ -214,6 +214,7 @@ func (c *container) letGo() {
 		c.streams.Close()
 	}
 	for _, look := range c.looks {
+		look.cancel()
 		look.streams.Close()
 	}
 	if c.group != nil {

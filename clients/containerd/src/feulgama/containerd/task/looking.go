@@ -75,6 +75,7 @@ func (c *container) removeLook(id string) error {
 	if err != nil {
 		return err
 	}
+	found.cancel()
 	if found.state().Status == task.StatusRunning {
 		return fmt.Errorf("exec %s has not ended: %w", id, errdefs.ErrFailedPrecondition)
 	}
@@ -89,7 +90,7 @@ func (l *looking) start() error {
 	l.mu.Lock()
 	defer l.mu.Unlock()
 	if l.status != task.StatusCreated {
-		return fmt.Errorf("exec %s was started before: %w", l.request.ExecID, errdefs.ErrFailedPrecondition)
+		return fmt.Errorf("exec %s was started or removed before: %w", l.request.ExecID, errdefs.ErrFailedPrecondition)
 	}
 	l.status = task.StatusRunning
 	l.of.events.Tell(runtime.TaskExecStartedEventTopic, &events.TaskExecStarted{
@@ -97,6 +98,17 @@ func (l *looking) start() error {
 	})
 	go l.run()
 	return nil
+}
+
+// cancel ends a look that was never started, since somebody may wait for it. Its status is that of a container that was never
+// started. Any other look ends by itself.
+func (l *looking) cancel() {
+	l.mu.Lock()
+	defer l.mu.Unlock()
+	if l.status == task.StatusCreated {
+		l.status = task.StatusStopped
+		l.end.set(128+lines.SIGKILL, time.Now())
+	}
 }
 
 func (l *looking) state() *api.StateResponse {

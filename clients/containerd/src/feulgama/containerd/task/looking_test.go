@@ -99,6 +99,65 @@ func TestALookThatIsNeverStarted(t *testing.T) {
 	}
 }
 
+// waiting is a context that tells when somebody waits for its end too.
+type waiting struct {
+	context.Context
+	begun chan struct{}
+}
+
+func (w waiting) Done() <-chan struct{} {
+	close(w.begun)
+	return w.Context.Done()
+}
+
+// waited waits for a look beside the test, and returns once it does. The channel gets the status.
+func (s *tested) waited(id, exec string) <-chan uint32 {
+	s.t.Helper()
+	limited, cancel := context.WithTimeout(background, time.Minute)
+	begun, status := make(chan struct{}), make(chan uint32, 1)
+	go func() {
+		defer cancel()
+		defer close(status)
+		answer, err := s.Wait(waiting{limited, begun}, &api.WaitRequest{ID: id, ExecID: exec})
+		if err != nil {
+			s.t.Errorf("wait for %s: %v", exec, err)
+			return
+		}
+		status <- answer.ExitStatus
+	}()
+	select {
+	case <-begun:
+	case <-status:
+	}
+	return status
+}
+
+// Whoever waits for a look that is never started is answered when it is removed, and when its container is.
+func TestAWaitForALookThatIsNeverStarted(t *testing.T) {
+	s := newShim(t)
+	s.run("one", fakeshim.Loop)
+	for _, exec := range []string{"x", "y"} {
+		if _, err := s.Exec(background, lookAt("one", exec, "state")); err != nil {
+			t.Fatal(err)
+		}
+	}
+	first, second := s.waited("one", "x"), s.waited("one", "y")
+	deleted, err := s.Delete(background, &api.DeleteRequest{ID: "one", ExecID: "x"})
+	if status := <-first; err != nil || status != 137 || deleted.ExitStatus != status {
+		t.Errorf("%v, %v, status %d", deleted, err, status)
+	}
+	if err := s.signal("one", 9); err != nil {
+		t.Fatal(err)
+	}
+	s.wait("one")
+	if _, err := s.delete("one"); err != nil {
+		t.Fatal(err)
+	}
+	if status := <-second; status != 137 {
+		t.Errorf("status %d", status)
+	}
+}
+
 // held is how many descriptors of this process are of a file.
 func held(path string) int {
 	count := 0

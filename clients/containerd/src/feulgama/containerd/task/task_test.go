@@ -245,6 +245,17 @@ func TestAShimThatHasAnsweredNearlyAll(t *testing.T) {
 	}
 }
 
+func TestFullStreamsAreToldInTheirOrder(t *testing.T) {
+	full := make([]byte, lines.MostOutput)
+	want := "trap: unreachable\nstandard output is full: 65536 bytes\nstandard error is full: 65536 bytes\n"
+	for tries := 0; tries < 64; tries++ {
+		all := map[int][]byte{lines.Stderr: full, lines.Stdout: full}
+		if got := remarks(all, lines.Reply{Cause: "trap", Trap: "unreachable"}); got != want {
+			t.Fatalf("%q", got)
+		}
+	}
+}
+
 // Should a journal be full all the same, the end of the task cannot be seen, and so it is ended. It is told once.
 func TestAShimThatAnswersNoMore(t *testing.T) {
 	s := newShim(t)

@@ -68,9 +68,12 @@ func remarks(all map[int][]byte, reply lines.Reply) string {
 	if reply.Cause == "trap" {
 		text = "trap: " + reply.Trap + "\n"
 	}
-	for stream, name := range map[int]string{lines.Stdout: "standard output", lines.Stderr: "standard error"} {
-		if len(all[stream]) >= lines.MostOutput {
-			text += fmt.Sprintf("%s is full: %d bytes\n", name, lines.MostOutput)
+	for _, one := range []struct {
+		stream int
+		name   string
+	}{{lines.Stdout, "standard output"}, {lines.Stderr, "standard error"}} {
+		if len(all[one.stream]) >= lines.MostOutput {
+			text += fmt.Sprintf("%s is full: %d bytes\n", one.name, lines.MostOutput)
 		}
 	}
 	return text

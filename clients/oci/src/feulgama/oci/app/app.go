@@ -3,7 +3,6 @@
 package app
 
 import (
-	"errors"
 	"fmt"
 	"os"
 	"os/exec"
@@ -128,11 +127,7 @@ func showVersion() error {
 	command := exec.Command(runc, "--version")
 	command.Stdout, command.Stderr = os.Stdout, os.Stderr
 	if err := command.Run(); err != nil {
-		var ended *exec.ExitError
-		if errors.As(err, &ended) {
-			return fmt.Errorf("%s --version ended with status %d", runc, ended.ExitCode())
-		}
-		return fmt.Errorf("ask %s for its version: %w", runc, err)
+		return fmt.Errorf("run %s --version: %w", runc, err)
 	}
 	return nil
 }

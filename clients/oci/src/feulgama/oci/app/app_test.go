@@ -216,6 +216,24 @@ func TestStart(t *testing.T) {
 	}
 }
 
+// A runc that is killed says nothing itself.
+func TestAStartWhoseRuncIsKilled(t *testing.T) {
+	s := newSetup(t, "")
+	runc := "#!/bin/sh\ncase \"$*\" in *' state id') exit 1 ;; esac\nkill -9 $$\n"
+	if err := os.WriteFile(filepath.Join(s.folder, "runc"), []byte(runc), 0o755); err != nil {
+		t.Fatal(err)
+	}
+	log := filepath.Join(s.folder, "log.json")
+	got := s.run(t, "--log", log, "--log-format", "json", "start", "id")
+	want := "feulgama-oci: run " + s.folder + "/runc: signal 9 ended it (killed)"
+	if got != (result{137, "", want + "\n"}) {
+		t.Errorf("%+v", got)
+	}
+	if text, err := os.ReadFile(log); err != nil || !strings.Contains(string(text), want) {
+		t.Errorf("the log: %s, %v", text, err)
+	}
+}
+
 func TestOnlyAModulesContainerIsWaitedFor(t *testing.T) {
 	bundle := t.TempDir()
 	if isModules(bundle) {

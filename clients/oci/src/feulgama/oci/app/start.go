@@ -7,6 +7,7 @@ import (
 	"os"
 	"os/exec"
 	"path/filepath"
+	"syscall"
 	"time"
 
 	"feulgama/oci/cmdline"
@@ -36,16 +37,24 @@ func start(line cmdline.Line, words []string) (int, error) {
 	command := exec.Command(runc, words...)
 	command.Stdin, command.Stdout, command.Stderr = os.Stdin, os.Stdout, os.Stderr
 	if err := command.Run(); err != nil {
-		var ended *exec.ExitError
-		if errors.As(err, &ended) {
-			return ended.ExitCode(), nil
-		}
-		return 1, fmt.Errorf("run %s: %w", runc, err)
+		return ending(runc, err)
 	}
 	if known && isModules(found.Bundle) {
 		firstprocess.Await(found.Pid, readyAfter)
 	}
 	return 0, nil
+}
+
+// ending answers the status of a runc that has failed, as a shell has it, and an error where runc itself could not say why.
+func ending(runc string, err error) (int, error) {
+	var ended *exec.ExitError
+	if !errors.As(err, &ended) {
+		return 1, fmt.Errorf("run %s: %w", runc, err)
+	}
+	if status, ok := ended.Sys().(syscall.WaitStatus); ok && status.Signaled() {
+		return 128 + int(status.Signal()), fmt.Errorf("run %s: signal %d ended it (%v)", runc, status.Signal(), status.Signal())
+	}
+	return ended.ExitCode(), nil
 }
 
 // ask asks runc for the state of a container. What is wrong with the container is told by the start itself.
