@@ -255,14 +255,22 @@ class AsyncShim(Calls, Awaits):
         task = self.new_id()
         try:
             await self.create(config, task)
-            await self.start(task)
-            state, late = await self._waited(task, timeout)
-            out, err = await asyncio.gather(self.output(task, Stream.STDOUT), self.output(task, Stream.STDERR))
+            return await self._run(task, timeout)
         except asyncio.CancelledError:
             self._in_background(self._discard(task))
             raise
-        if state.exit is not None:
-            await self.delete(task)
+
+    async def _run(self, task: str, timeout: float | None) -> Ran:
+        """Runs a task to its end, and deletes it, also if a request is refused."""
+        try:
+            await self.start(task)
+            state, late = await self._waited(task, timeout)
+            out, err = await asyncio.gather(self.output(task, Stream.STDOUT), self.output(task, Stream.STDERR))
+            if state.exit is not None:
+                await self.delete(task)
+        except FeulgamaError:
+            await self._discard(task)
+            raise
         if late is not None:
             raise TimedOutError(str(late), ran_of(state, out, err)) from late
         return ran_of(state, out, err)

@@ -3,6 +3,7 @@ from __future__ import annotations
 
 import argparse
 import contextlib
+import os
 import signal
 import sys
 import time
@@ -15,7 +16,7 @@ from feulgama.debug.calls_over_time import told
 from feulgama.debug.commands import Commands
 from feulgama.debug.debugger import Debugger
 from feulgama.debug.page import page
-from feulgama.debug.terminal import debug
+from feulgama.debug.terminal import debug, lines_of
 from feulgama.errors import FeulgamaError
 from feulgama.lowering import command as lowering
 from feulgama.opening import module_bytes, open_debugger
@@ -68,11 +69,6 @@ def show_versions(shim_file: str | None) -> int:
     return 0
 
 
-def first_lines(file: Path | None) -> list[str]:
-    """The lines of a file of commands."""
-    return [] if file is None else file.read_text().splitlines()
-
-
 class Progress:
     """Says on standard error how far a run is, every two seconds."""
 
@@ -97,33 +93,52 @@ def write_timeline(debugger: Debugger, file: Path, turns: int, title: str) -> in
     return 0
 
 
-def main(words: Sequence[str] | None = None) -> int:
-    """Does what the command line asks for; its status."""
-    top = parser()
-    found = top.parse_args(words)
+def perform(found: argparse.Namespace) -> int:
+    """Does what a command asks for; its status. Raises FeulgamaError and OSError."""
     if found.version:
         return show_versions(found.shim)
-    if found.command is None:
+    if found.command == "dap":
+        return serve(found.shim)
+    if found.command == "attach":
+        return attaching.run(found)
+    if found.command == "lower" and found.module == lowering.STREAM:
+        return lowering.run(found, sys.stdin.buffer.read())
+    data = module_bytes(found.module, found.shim)
+    if found.command == "lower":
+        return lowering.run(found, data)
+    with Shim(found.shim, workers=1) as shim:
+        opened = open_debugger(shim, found.module, data, found.args, dict(found.env), found.memory)
+        with contextlib.closing(opened.timeline):
+            if found.command == "timeline":
+                return write_timeline(opened, found.output, found.turns, found.module.name)
+            return debug(Commands(opened), sys.stdin, lines_of(found.commands))
+
+
+def give_up_output() -> None:
+    """Lets what standard output does not take go nowhere. Python would try once more at the end, and say that it fails."""
+    try:
+        sys.stdout.flush()
+    except OSError:
+        with open(os.devnull, "wb") as nowhere:
+            os.dup2(nowhere.fileno(), sys.stdout.fileno())
+
+
+def main(words: Sequence[str] | None = None) -> int:
+    """Does what the command line asks for; its status. What goes wrong is a line on standard error."""
+    top = parser()
+    found = top.parse_args(words)
+    if found.command is None and not found.version:
         top.error("a command is needed: debug, attach, timeline, dap or lower")
     try:
-        if found.command == "dap":
-            return serve(found.shim)
-        if found.command == "attach":
-            return attaching.run(found)
-        if found.command == "lower" and found.module == lowering.STREAM:
-            return lowering.run(found, sys.stdin.buffer.read())
-        data = module_bytes(found.module, found.shim)
-        if found.command == "lower":
-            return lowering.run(found, data)
-        with Shim(found.shim, workers=1) as shim:
-            opened = open_debugger(shim, found.module, data, found.args, dict(found.env), found.memory)
-            with contextlib.closing(opened.timeline):
-                if found.command == "timeline":
-                    return write_timeline(opened, found.output, found.turns, found.module.name)
-                return debug(Commands(opened), sys.stdin, first_lines(found.commands))
+        status = perform(found)
+        sys.stdout.flush()
+        return status
     except (FeulgamaError, OSError) as error:
+        give_up_output()
         print(f"feulgama: {error}", file=sys.stderr)
         return 1
     except MemoryError:
         print("feulgama: out of memory", file=sys.stderr)
         return 1
+    except KeyboardInterrupt:
+        return 130

@@ -32,6 +32,9 @@ class Pipe:
         except OSError as error:
             made.close()
             raise NoShimError(f"{words[0]}: {error.strerror}") from error
+        except BaseException:
+            made.close()
+            raise
         made.close_given()
         self._control = made.ends[0]
         self._in, self._out = self._control.lines, self._control.replies

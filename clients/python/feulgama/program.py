@@ -69,11 +69,15 @@ def ran(words: list[str], data: bytes = b"", timeout: float | None = None) -> su
 
 
 def assemble(text: bytes, words: list[str]) -> bytes:
-    """The bytes of the module that a text denotes, by the program's command `asm`."""
+    """The bytes of the module that a text denotes, by the program's command `asm`. Raises NoAssemblyError if it denotes
+    none, and NoShimError if the program cannot be run."""
     run = ran([*words, "asm", "--explain", "/dev/stdin"], text)
     if run.returncode != 0:
         raise NoAssemblyError(said_by(run) or f"asm ended with status {run.returncode}")
-    return bytes.fromhex(run.stdout.decode("ascii").strip())
+    try:
+        return bytes.fromhex(run.stdout.decode("ascii").strip())
+    except ValueError as error:
+        raise NoAssemblyError(f"{words[-1]} asm wrote what is no module in hexadecimal: is it wasm-shim?") from error
 
 
 def refusal_by_check(data: bytes, memory_limit: int | None, words: list[str]) -> str | None:

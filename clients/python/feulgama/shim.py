@@ -142,34 +142,51 @@ class Shim(Answering):
             memory_limit: int | None = None, lower: bool = False, timeout: float | None = None) -> Ran:
         """Runs a module to its end as one task, which is deleted then. A module that was not stored before is
         removed again. With `lower` it is lowered first, which raises LoweringError if that cannot be done. After
-        `timeout` seconds it is killed, and TimedOutError raised."""
+        `timeout` seconds it is killed, and TimedOutError raised. If it is broken off while it waits, as by Ctrl-C, the
+        task is killed too."""
         module = lowered(module).data if lower else module
         config = Config(digest_of(module), args, env or {}, memory_limit)
         is_new = self._put_new(module)
         try:
-            task = self.create(config).id
-            self.start(task)
-            late = None
-            try:
-                state = self.wait(task, timeout)
-            except TimedOutError as error:
-                late, state = error, self._killed(task)
-            outputs = self.output(task, Stream.STDOUT), self.output(task, Stream.STDERR)
-            if state.exit is not None:
-                self.delete(task)
+            return self._run(self.create(config).id, timeout)
         finally:
             if is_new:
                 with contextlib.suppress(FeulgamaError):
                     self.remove(config.module)
+
+    def _run(self, task: str, timeout: float | None) -> Ran:
+        """Runs a task to its end, and deletes it, also if this is broken off."""
+        try:
+            self.start(task)
+            state, late = self._waited(task, timeout)
+            outputs = self.output(task, Stream.STDOUT), self.output(task, Stream.STDERR)
+            if state.exit is not None:
+                self.delete(task)
+        except BaseException:
+            self._discard(task)
+            raise
         if late is not None:
             raise TimedOutError(str(late), ran_of(state, *outputs)) from late
         return ran_of(state, *outputs)
+
+    def _waited(self, task: str, timeout: float | None) -> tuple[State, TimedOutError | None]:
+        """The state of a task that has ended by itself, or was killed because it has not in time."""
+        try:
+            return self.wait(task, timeout), None
+        except TimedOutError as error:
+            return self._killed(task), error
 
     def _killed(self, task: str) -> State:
         """Ends a task that may have ended by itself; its state then."""
         with contextlib.suppress(WrongStatusError):
             self.kill(task)
         return self.wait(task)
+
+    def _discard(self, task: str) -> None:
+        """Ends a task of which nobody wants to know, and deletes it."""
+        with contextlib.suppress(FeulgamaError):
+            self._killed(task)
+            self.delete(task)
 
     def _put_new(self, data: bytes) -> bool:
         """Stores bytes; whether they were not there before."""

@@ -6,6 +6,7 @@ import contextlib
 import io
 import json
 import os
+import socket
 import tempfile
 import time
 import unittest
@@ -295,6 +296,15 @@ class Containers(Attached):
             self.assertRegex(self.fault(self.link), "version 2|does not understand")
             self.until(lambda: container.guest is None)
 
+    def test_a_shim_that_says_nothing(self) -> None:
+        """The connection is closed, so that the container goes on."""
+        mine, other = socket.socketpair()
+        self.addCleanup(other.close)
+        mine.settimeout(0.01)
+        door = mock.Mock(container="one", knock=lambda _seconds: mine)
+        self.assertEqual(self.fault(lambda: Link(door)), "one: its shim does not answer: timed out")
+        self.assertEqual(mine.fileno(), -1)
+
     def test_what_may_not_be_asked(self) -> None:
         container = self.container()
         link = self.link()
@@ -364,6 +374,13 @@ class Command(Attached):
         status, out, err = self.attach("", "none")
         self.assertEqual((status, out), (1, ""))
         self.assertEqual(err, f"feulgama: no container none is in {self.state / TASKS}\n")
+
+    def test_commands_that_are_not_text(self) -> None:
+        file = self.state / "commands"
+        file.write_bytes(b"\xff")
+        status, out, err = self.attach("", "--commands", str(file), "one")
+        self.assertEqual((status, out), (1, ""))
+        self.assertEqual(err, f"feulgama: {file}: commands are text in UTF-8, and byte 0 is not\n")
 
     def test_a_program_that_is_not_there_leaves_the_container_alone(self) -> None:
         container = self.container()

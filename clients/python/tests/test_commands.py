@@ -15,7 +15,7 @@ from unittest import mock
 import feulgama
 from feulgama.debug import dwarf, terminal
 from feulgama.debug.commands import COMMANDS, Commands, Quit
-from feulgama.debug.memory import BadFormatError, Format, format_of
+from feulgama.debug.memory import BadFormatError, Format, dump, format_of
 from feulgama.debug.terminal import answer, plain, words_for
 from feulgama.errors import FeulgamaError
 from feulgama.opening import open_debugger
@@ -93,7 +93,7 @@ class Terminal(unittest.TestCase):
             self.assertTrue(self.fault(f"print {text}"), text)
 
     def test_expressions_that_are_too_large(self) -> None:
-        for text in ("1.5 + " + 400 * "9", 5000 * "9", 500 * "(" + "1" + 500 * ")"):
+        for text in ("1.5 + " + 400 * "9", 5000 * "9", 4000 * "9" + " * " + 4000 * "9", 500 * "(" + "1" + 500 * ")"):
             self.assertEqual(self.fault(f"print {text}"), f"{text[:40]}.. is too large to be computed")
 
     @unittest.skipUnless(dwarf.IS_THERE, "needs python3-pyelftools")
@@ -163,6 +163,23 @@ class Terminal(unittest.TestCase):
         self.answer("continue")
         self.assertEqual(self.answer("info variables")[0],
                          "unsigned int length = (its function has not set up its frame yet)")
+
+    def test_words_that_are_no_numbers(self) -> None:
+        """Digits that no number has, and more of them than Python reads."""
+        for word in ("²", 5000 * "9"):
+            for line in (f"step {word}", f"goto {word}", f"delete {word}", f"condition {word} 1", f"break {word}",
+                         f"break 3:{word}", f"watch 1024 {word}", f"x/{word}xw 1024"):
+                self.assertTrue(self.fault(line), line)
+
+    def test_a_file_that_cannot_be_written(self) -> None:
+        for name in ("/none/saved", "a\0b"):
+            self.assertTrue(self.fault(f"save breakpoints {name}").startswith(f"{name}: "), name)
+
+    def test_texts_up_to_the_end_of_memory(self) -> None:
+        data = 250 * b"a" + b"\0b\0"
+        shown = dump(Format(10**18, "s", 1), 0, lambda address, size: data[address:address + size])
+        self.assertEqual(shown, [f"0x00000000: '{200 * 'a'}'...", f"0x000000c8: '{50 * 'a'}'", "0x000000fb: 'b'",
+                                 "0x000000fd: no memory"])
 
     def test_memory(self) -> None:
         self.assertEqual(self.answer("x/4xw 1024"), ["0x00000400: 0x20656874 0x63697571 0x7262206b 0x206e776f"])

@@ -4,6 +4,7 @@ from __future__ import annotations
 import base64
 import io
 import json
+import queue
 import subprocess
 import tempfile
 import threading
@@ -15,6 +16,8 @@ from unittest import mock
 import pytest
 
 import feulgama
+from feulgama.dap.adapter import Messages as Queue
+from feulgama.dap.adapter import read_all
 from feulgama.dap.session import Session
 from feulgama.dap.wire import BadMessageError, Writer, read_message
 from feulgama.debug import dwarf
@@ -361,9 +364,19 @@ class Messages(unittest.TestCase):
         self.assertEqual((run.returncode, run.stdout), (1, b""))
         self.assertIn(b"feulgama: no head of a message: b'hello\\n'; this command speaks", run.stderr)
 
+    def test_whatever_ends_the_reading_is_told(self) -> None:
+        """Or the adapter would wait for ever."""
+        messages: Queue = queue.SimpleQueue()
+        session = Session(Writer(io.BytesIO()), lambda _given: self.fail("nothing is launched"))
+        with mock.patch("feulgama.dap.adapter.read_message", side_effect=MemoryError), self.assertRaises(MemoryError):
+            read_all(io.BytesIO(), session, messages)
+        self.assertIsNone(messages.get(block=False))
+
     def test_faults(self) -> None:
         self.assertIsNone(read_message(io.BytesIO(b"")))
         self.assertIsNone(read_message(io.BytesIO(b"Content-Length: 9\r\n\r\n{}")))
-        for data in (b"\r\n", b"Content-Length: 2\r\n\r\n[]", b"Content-Length: 1\r\n\r\n{"):
+        for data in (b"\r\n", b"Content-Length: 2\r\n\r\n[]", b"Content-Length: 1\r\n\r\n{",
+                     b"Content-Length: " + 20 * b"9" + b"\r\n\r\n",
+                     b"Content-Length: 100000\r\n\r\n" + 100_000 * b"["):
             with self.assertRaises(BadMessageError):
                 read_message(io.BytesIO(data))

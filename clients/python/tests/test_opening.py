@@ -3,7 +3,9 @@ from __future__ import annotations
 
 import contextlib
 import io
+import os
 import subprocess
+import sys
 import tempfile
 import unittest
 from pathlib import Path
@@ -17,6 +19,7 @@ from feulgama.cli import main
 from feulgama.opening import NeedsMemoryError, RefusedError, open_debugger
 from tests.support import CLIENT, IS_REFERENCE, SHIM
 
+WORDS = CLIENT / "examples/words.wasm"
 HEAD, TYPE, FUNC, BODY = "0061736d01000000", "010401600000", "03020100", "0a040102000b"
 VECTORS = bytes.fromhex(HEAD + "0105016001" + "7b00")
 IMPORTS = bytes.fromhex(HEAD + TYPE + "020b0103656e7603666f6f0000" + FUNC + "070a01065f73746172740001" + BODY)
@@ -75,6 +78,37 @@ class Refused(unittest.TestCase):
         lines = told.getvalue().splitlines()
         self.assertEqual(len(lines), 2)
         self.assertTrue(all(line.startswith("feulgama: ") for line in lines), lines)
+
+    def test_commands_that_are_not_text(self) -> None:
+        """In a file, and on standard input."""
+        file = Path(self.enterContext(tempfile.TemporaryDirectory())) / "commands"
+        file.write_bytes(b"info memory\n\xff\n")
+        debug = ["--shim", SHIM, "debug"]
+        with contextlib.redirect_stderr(io.StringIO()) as told:
+            self.assertEqual(main([*debug, "--commands", str(file), str(WORDS)]), 1)
+        self.assertEqual(told.getvalue(), f"feulgama: {file}: commands are text in UTF-8, and byte 12 is not\n")
+        with file.open(encoding="utf-8") as source, mock.patch("sys.stdin", source), \
+                contextlib.redirect_stdout(io.StringIO()), contextlib.redirect_stderr(io.StringIO()) as told:
+            self.assertEqual(main([*debug, str(WORDS)]), 1)
+        self.assertEqual(told.getvalue(), "feulgama: standard input: commands are text in UTF-8, and this is not\n")
+
+    def test_output_that_cannot_be_written(self) -> None:
+        """One line on standard error, and nothing that Python says by itself."""
+        read, write = os.pipe()
+        os.close(read)
+        full = os.open("/dev/full", os.O_WRONLY)
+        for output, why in ((write, "[Errno 32] Broken pipe"), (full, "[Errno 28] No space left on device")):
+            with open(output, "wb") as stream:
+                run = subprocess.run([sys.executable, "-m", "feulgama", "--shim", SHIM, "--version"], cwd=CLIENT, check=False,
+                                     stdin=subprocess.DEVNULL, stdout=stream, stderr=subprocess.PIPE, text=True)
+            self.assertEqual((run.returncode, run.stderr), (1, f"feulgama: {why}\n"))
+
+    def test_a_command_that_is_broken_off(self) -> None:
+        """By Ctrl-C, before there is a debugger that takes it."""
+        with mock.patch("feulgama.cli.open_debugger", side_effect=KeyboardInterrupt), \
+                contextlib.redirect_stderr(io.StringIO()) as told:
+            self.assertEqual(main(["--shim", SHIM, "debug", str(WORDS)]), 130)
+        self.assertEqual(told.getvalue(), "")
 
     def test_a_command_without_a_module(self) -> None:
         with contextlib.redirect_stderr(io.StringIO()) as told, self.assertRaises(SystemExit) as end:

@@ -111,6 +111,13 @@ class Program(unittest.TestCase):
         self.assertEqual(programs.program(), [str(other)])
         self.assertEqual(programs.program(self.made("third.py")), [sys.executable, str(self.folder / "third.py")])
 
+    def test_a_program_that_is_another(self) -> None:
+        """What it writes is no module."""
+        other = self.made("bin/other")
+        other.write_text("#!/bin/sh\necho hello\n")
+        self.assertRaisesRegex(programs.NoAssemblyError, "bin/other asm wrote what is no module", programs.assemble,
+                               b"(module)", programs.program(other))
+
     def test_nowhere(self) -> None:
         """The error says where it was looked for."""
         self.built.unlink()

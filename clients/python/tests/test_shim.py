@@ -199,6 +199,13 @@ class Broken(unittest.TestCase):
 class Absent(unittest.TestCase):
     """A shim that is not there, or no more."""
 
+    def test_a_start_that_is_broken_off(self) -> None:
+        """By Ctrl-C: no pipe is left."""
+        before = os.listdir("/proc/self/fd")
+        with mock.patch("subprocess.Popen", side_effect=KeyboardInterrupt), self.assertRaises(KeyboardInterrupt):
+            feulgama.Shim(SHIM)
+        self.assertEqual(os.listdir("/proc/self/fd"), before)
+
     def test_not_there(self) -> None:
         with self.assertRaises(feulgama.NoShimError):
             feulgama.Shim("/nowhere")

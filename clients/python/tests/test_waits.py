@@ -10,6 +10,7 @@ import threading
 import time
 import unittest
 from pathlib import Path
+from unittest import mock
 
 import pytest
 
@@ -19,6 +20,7 @@ from feulgama.model import Cause, Status
 from tests.support import CLIENT, EXIT_7, FOREVER_BYTES, SHIM, module_of
 
 OLD, CLIENT_TO_KILL = (Path(__file__).with_name(name) for name in ("old_shim.py", "killed_client.py"))
+NO_MEMORY = feulgama.NoMemoryError("output", {"error": "NoMemory", "number": 17})
 SOON = 0.3
 KILLS = 50
 MARK = "FEULGAMA_TEST_OF_A_KILLED_CLIENT"
@@ -111,6 +113,27 @@ class Threads(unittest.TestCase):
         self.assertEqual(self.shim.gc(), ())
         self.assertEqual(self.shim.run(EXIT_7, timeout=10).exit.code, 7)
 
+    def test_a_run_that_is_broken_off(self) -> None:
+        """By Ctrl-C while it waits: neither its task nor its module is left."""
+        tasks, wait = list[str](), self.shim.wait
+
+        def interrupted(task: str, timeout: float | None = None) -> feulgama.State:
+            tasks.append(task)
+            if len(tasks) == 1:
+                raise KeyboardInterrupt
+            return wait(task, timeout)
+
+        with mock.patch.object(self.shim, "wait", interrupted), self.assertRaises(KeyboardInterrupt):
+            self.shim.run(FOREVER_BYTES)
+        with self.assertRaises(feulgama.NotFoundError):
+            self.shim.state(tasks[0])
+        self.shim.put(FOREVER_BYTES)
+
+    def test_a_run_whose_output_is_refused(self) -> None:
+        with mock.patch.object(self.shim, "output", side_effect=NO_MEMORY), self.assertRaises(feulgama.NoMemoryError):
+            self.shim.run(EXIT_7)
+        self.shim.put(EXIT_7)
+
     @pytest.mark.program
     def test_reasons(self) -> None:
         """Of each caller's own lines."""
@@ -175,6 +198,12 @@ class Asyncio(unittest.IsolatedAsyncioTestCase):
                 await asyncio.sleep(0.05)
             arguments = await self.shim.run(module_of("arguments"), ["x"])
         self.assertIn(b"x", arguments.stdout)
+
+    async def test_a_run_whose_output_is_refused(self) -> None:
+        """Its task is gone, so that nothing holds its module."""
+        with mock.patch.object(self.shim, "output", side_effect=NO_MEMORY), self.assertRaises(feulgama.NoMemoryError):
+            await self.shim.run(EXIT_7)
+        self.assertEqual(await self.shim.gc(), (feulgama.digest_of(EXIT_7),))
 
     async def test_a_wait_that_is_cancelled(self) -> None:
         task = await self.endless()

@@ -14,7 +14,7 @@ from feulgama.confinement import MEMORY, confinement
 from feulgama.debug.commands import Commands
 from feulgama.debug.debugger import Debugger
 from feulgama.debug.symbols import Symbols
-from feulgama.debug.terminal import debug
+from feulgama.debug.terminal import debug, lines_of
 from feulgama.lowering import LoweringError, lower
 from feulgama.lowering.described import described
 from feulgama.shim import Shim
@@ -62,7 +62,7 @@ def goodbye(link: Link, timeline: LiveTimeline) -> str:
 
 def run(found: argparse.Namespace) -> int:
     """Debugs a container until its user leaves. Raises FeulgamaError and OSError."""
-    first = [] if found.commands is None else found.commands.read_text().splitlines()
+    first = lines_of(found.commands)
     door = find(found.container, found.namespace, found.state)
     with contextlib.closing(Link(door)) as link, Shim(found.shim, workers=1, confined=confinement(found.memory)) as shim:
         debugger, timeline = open_container(shim, link)

@@ -46,6 +46,9 @@ class Link(Answering):
         except (KeyError, TypeError, ValueError) as error:
             self.close()
             raise NoContainerError(f"{door.container}: the shim answers what this version does not understand") from error
+        except OSError as error:
+            self.close()
+            raise NoContainerError(f"{door.container}: its shim does not answer: {error}") from error
         except FeulgamaError:
             self.close()
             raise

@@ -20,7 +20,7 @@ Messages = queue.SimpleQueue[Message | BadMessageError | None]
 
 def read_all(stream: BinaryIO, session: Session, found: Messages) -> None:
     """Hands each message on, up to a `disconnect`; one that has to break off what is running does so at once. The last is
-    None at the end of the stream, or what is wrong with it."""
+    None, or what is wrong with the stream, whatever ends this: the adapter waits for it."""
     last: BadMessageError | None = None
     try:
         while (message := read_message(stream)) is not None:
@@ -31,8 +31,9 @@ def read_all(stream: BinaryIO, session: Session, found: Messages) -> None:
                 return
     except BadMessageError as error:
         last = error
-    session.interrupt()
-    found.put(last)
+    finally:
+        session.interrupt()
+        found.put(last)
 
 
 def serve(shim_file: str | None) -> int:

@@ -9,6 +9,7 @@ from typing import IO, Any
 from feulgama.errors import FeulgamaError
 
 Message = dict[str, Any]
+MOST_DIGITS = 8  # of the length of a message
 
 
 class BadMessageError(FeulgamaError):
@@ -29,6 +30,8 @@ def read_message(stream: IO[bytes]) -> Message | None:
             raise BadMessageError(f"no head of a message: {line[:60]!r}")
         is_begun = True
         if name.strip().lower() == b"content-length" and value.strip().isdigit():
+            if len(value.strip()) > MOST_DIGITS:
+                raise BadMessageError(f"a message is too long: {line[:60]!r}")
             length = int(value)
     if length is None:
         raise BadMessageError("a message has no length")
@@ -37,8 +40,8 @@ def read_message(stream: IO[bytes]) -> Message | None:
         return None
     try:
         found = json.loads(data)
-    except ValueError as error:
-        raise BadMessageError("a message is no JSON") from error
+    except (ValueError, RecursionError) as error:
+        raise BadMessageError(f"a message is no JSON: {error}") from error
     if not isinstance(found, dict):
         raise BadMessageError("a message is no object")
     return found

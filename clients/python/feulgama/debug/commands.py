@@ -11,6 +11,7 @@ from feulgama.debug.debugger import Breakpoint, Debugger, Watchpoint
 from feulgama.debug.expressions import NoValueError, Operand, Scope, address, evaluate
 from feulgama.debug.look import Place
 from feulgama.debug.memory import dump, format_of
+from feulgama.debug.numbers import number_of
 from feulgama.debug.timeline import Why
 from feulgama.errors import FeulgamaError
 from feulgama.model import Frame, Stream
@@ -212,7 +213,8 @@ class Commands:
         return [self._breakpoint_line(found)]
 
     def _breakpoint(self, word: str) -> Breakpoint:
-        found = self.debugger.breakpoints.get(int(word)) if word.isdigit() else None
+        number = number_of(word)
+        found = None if number is None else self.debugger.breakpoints.get(number)
         if found is None:
             raise BadCommandError(f"there is no breakpoint {word}".rstrip())
         return found
@@ -224,9 +226,11 @@ class Commands:
         lines = [saved(found) for found in self.debugger.breakpoints.values()]
         lines += [f"watch {found.words}" for found in self.debugger.watchpoints.values()]
         try:
-            Path(file.strip()).write_text("".join(f"{line}\n" for line in lines))
+            Path(file.strip()).write_text("".join(f"{line}\n" for line in lines), encoding="utf-8")
         except OSError as error:
             raise BadCommandError(f"{file.strip()}: {error.strerror}") from error
+        except ValueError as error:  # a NUL in the name, or half a character in a line
+            raise BadCommandError(f"{file.strip()}: {error}") from error
         return [f"{len(lines)} breakpoints are in {file.strip()}; feulgama debug --commands {file.strip()} sets them"]
 
     def display(self, rest: str) -> Lines:
@@ -273,10 +277,11 @@ class Commands:
         try:
             found = evaluate(rest, self._scope())
         except NoValueError:
-            words, _, size = rest.rpartition(" ")
-            if not words or not size.isdigit():
+            words, _, last = rest.rpartition(" ")
+            size = number_of(last)
+            if not words or size is None:
                 raise
-            return rest, address(words, self._scope()), int(size), raw_type(int(size))
+            return rest, address(words, self._scope()), size, raw_type(size)
         if found.address is not None and found.kind is not None:
             return rest, found.address, found.kind.size, found.kind
         if found.kind is not None and not isinstance(found.kind, c_types.Pointer):
@@ -439,9 +444,10 @@ def count_of(rest: str, least: int = 1) -> int:
     """A number of at least that; 1 if there are no words."""
     if not rest:
         return 1
-    if not rest.isdigit() or int(rest) < least:
+    number = number_of(rest)
+    if number is None or number < least:
         raise BadCommandError(f"{rest} is no number from {least} on")
-    return int(rest)
+    return number
 
 
 def taking_nothing(rest: str) -> None:

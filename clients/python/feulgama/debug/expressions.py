@@ -94,6 +94,7 @@ def evaluate(text: str, scope: Scope) -> Operand:
     reader = Expression(tokens, scope)
     try:
         found = reader.level(0)
+        str(found.number)  # Python writes no number of more digits than it reads
     except (OverflowError, RecursionError, ValueError) as error:  # numbers of very many digits, very many parentheses
         raise NoValueError(f"{text[:40]}.. is too large to be computed") from error
     if reader.left():

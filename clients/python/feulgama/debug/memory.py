@@ -5,6 +5,7 @@ import re
 from collections.abc import Callable
 from dataclasses import dataclass
 
+from feulgama.debug.numbers import number_of
 from feulgama.errors import FeulgamaError
 
 SIZES = {"b": 1, "h": 2, "w": 4, "g": 8}
@@ -31,8 +32,11 @@ def format_of(text: str) -> Format:
     if match is None:
         raise BadFormatError(f"{text} is no format: a count, one of x d u c s, and one of b h w g")
     count, letter, size = match.group(1, 2, 3) if match[5] is None else match.group(4, 6, 5)
+    number = number_of(count or "1")
+    if number is None:
+        raise BadFormatError(f"{count} is too large a count")
     letter = letter or "x"
-    return Format(int(count or 1), letter, SIZES[size] if size else 1 if letter in "cs" else 4)
+    return Format(number, letter, SIZES[size] if size else 1 if letter in "cs" else 4)
 
 
 def dump(form: Format, address: int, memory: Callable[[int, int], bytes]) -> list[str]:
@@ -61,12 +65,16 @@ def shown(form: Format, item: bytes) -> str:
 
 
 def strings(count: int, address: int, memory: Callable[[int, int], bytes]) -> list[str]:
-    """Texts that end with a NUL, one after the other, each shown up to 200 bytes."""
+    """Texts that end with a NUL, one after the other, in parts of up to 200 bytes. Where memory ends, the last line says
+    so."""
     lines = []
     for _ in range(count):
         data = memory(address, 200)
+        if not data:
+            lines.append(f"{address:#010x}: no memory")
+            break
         text, end, _ = data.partition(b"\0")
         rest = "" if end else "..."
         lines.append(f"{address:#010x}: {ascii(text.decode('latin-1'))}{rest}")
-        address += len(text) + 1
+        address += len(text) + len(end)
     return lines

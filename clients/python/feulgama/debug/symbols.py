@@ -1,7 +1,6 @@
 """What places of a module are called, and which places a user's words name."""
 from __future__ import annotations
 
-import re
 from collections.abc import Callable
 from pathlib import Path
 
@@ -12,6 +11,7 @@ from feulgama.debug.demangle import demangled
 from feulgama.debug.dwarf import FAULTS, lines_of, variables_of, why_no_lines
 from feulgama.debug.lines import Lines, Sources, SourceLine
 from feulgama.debug.look import Place
+from feulgama.debug.numbers import number_of
 from feulgama.errors import FeulgamaError
 from feulgama.model import Frame, Value
 from feulgama.wasm.body import Instruction
@@ -137,11 +137,12 @@ class Symbols:
         line is another than the one asked for. FUNC is its first instruction, or if a run is to stop there the one after
         its prologue, where the parameters have their values. Raises NoPlaceError if there are none."""
         head, colon, tail = words.rpartition(":")
-        if colon and tail.isdigit():
+        number = number_of(tail)
+        if colon and number is not None:
             files = self.lines.files_named(head) if self.lines is not None else []
             if self.lines is not None and files:
-                return at_line(self.lines, files, int(tail))
-            return [self._checked(Place(func, int(tail))) for func in self.functions(head)], ""
+                return at_line(self.lines, files, number)
+            return [self._checked(Place(func, number)) for func in self.functions(head)], ""
         places = [self._checked(Place(func, 0)) for func in self.functions(words)]
         return [self.after_prologue(place) if is_stop else place for place in places], ""
 
@@ -152,8 +153,9 @@ class Symbols:
 
     def functions(self, word: str) -> list[int]:
         """The functions of a name or an index. Raises NoPlaceError if there are none."""
-        if re.fullmatch(r"\d+", word):
-            return [int(word)]
+        number = number_of(word)
+        if number is not None:
+            return [number]
         found = self.names.named(word.removeprefix("$"))
         if not found:
             told = f"there is no function and no source file named {word}"

@@ -8,6 +8,7 @@ import signal
 import sys
 import time
 from collections.abc import Callable, Iterable, Iterator
+from pathlib import Path
 from types import FrameType
 from typing import TextIO
 
@@ -20,6 +21,10 @@ HISTORY = os.path.expanduser("~/.feulgama_history")
 # What a module writes, and its names, may have characters that a terminal takes for commands. They are shown by number.
 CONTROLS = {number: f"\\x{number:02x}" for number in (*range(32), *range(127, 160)) if chr(number) not in "\t\n"}
 TAKES_PLACE = {"break", "b", "until", "u", "list", "l", "disassemble", "dis"}
+
+
+class NotTextError(FeulgamaError):
+    """Commands that are not text in UTF-8."""
 
 
 def words_for(commands: Commands, before: str) -> list[str]:
@@ -86,11 +91,23 @@ def reader(commands: Commands) -> Callable[[], str]:
     return lambda: session.prompt(PROMPT)
 
 
+def lines_of(file: Path | None) -> list[str]:
+    """The lines of a file of commands; none without a file. Raises OSError if it cannot be read, and NotTextError if it is
+    not UTF-8."""
+    try:
+        return [] if file is None else file.read_text(encoding="utf-8").splitlines()
+    except UnicodeDecodeError as error:
+        raise NotTextError(f"{file}: commands are text in UTF-8, and byte {error.start} is not") from error
+
+
 def scripted(source: Iterable[str]) -> Iterator[str]:
-    """The lines of a script, each shown as if a user had written it."""
-    for line in source:
-        print(PROMPT + line.rstrip("\n"))
-        yield line.rstrip("\n")
+    """The lines of a script, each shown as if a user had written it. Raises NotTextError if standard input is not text."""
+    try:
+        for line in source:
+            print(PROMPT + line.rstrip("\n"))
+            yield line.rstrip("\n")
+    except UnicodeDecodeError as error:
+        raise NotTextError("standard input: commands are text in UTF-8, and this is not") from error
 
 
 class Progress:
