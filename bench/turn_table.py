@@ -13,10 +13,11 @@ the loop lies in one line of 64 bytes.
 No program is run, so what the processor makes of the code does not show.
 """
 import heapq
+import os
 import re
+import signal
 import struct
 import subprocess
-import os
 
 from shared import TOP, arguments
 
@@ -162,6 +163,7 @@ def head_of(code, table):
 
 
 def main():
+    signal.signal(signal.SIGPIPE, signal.SIG_DFL)  # as of any filter, whose reader may leave early
     program, _ = arguments(0)
     names, data = variants(), read_only(program)
     for name, code in functions(program):

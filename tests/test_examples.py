@@ -77,6 +77,14 @@ def test_command(number: int) -> None:
     assert told(line.split()) == stored
 
 
+def test_a_file_may_have_as_many_bytes_as_a_module(tmp_path: Path) -> None:
+    """One byte more is refused, whatever the others are. Here they are a custom section after the preamble."""
+    file, module = tmp_path / "largest.wasm", b"\0asm\1\0\0\0\0\xf4\xff\x0f" + bytes(262_132)
+    for more, wanted in ((b"", b"out: ok\nstatus: 0\n"), (b"\0", b"err: refused 9 Limit\nstatus: 3\n")):
+        file.write_bytes(module + more)
+        assert told(["check", str(file)]) == wanted
+
+
 def test_asm_writes_a_file(tmp_path: Path) -> None:
     """The bytes of `asm -o` are those whose digits `asm` writes; a refused module leaves the file as it is."""
     file = tmp_path / "sum.wasm"

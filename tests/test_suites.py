@@ -119,6 +119,8 @@ def suite_of(name: str, code: str, folder: Path) -> run_all.Suite:
     ("print('x: 0 passed, 0 failed, 1 not run'); exit(2)", Summary("s", 0, 0, 1)),
     ("print('no summary')", Summary("s", 0, 1)),
     ("print('x: 4 passed, 0 failed'); exit(1)", Summary("s", 0, 1)),
+    ("print('x: 0 passed, 1 failed'); exit(2)", Summary("s", 0, 1)),
+    ("print('x: 4 passed, 0 failed, 1 not run'); exit(2)", Summary("s", 0, 1)),
     ("raise SystemExit(3)", Summary("s", 0, 1))])
 def test_what_a_suite_prints_is_counted(code: str, wanted: Summary, tmp_path: Path) -> None:
     assert run_all.run(suite_of("s", code, tmp_path)) == wanted

@@ -22,9 +22,11 @@ def line_of(request: dict[str, Any]) -> bytes:
     return json.dumps(request).encode() + b"\n"
 
 
-def config(digest: str) -> str:
-    process = {"args": ["a"], "cwd": "/"}
-    return json.dumps({"ociVersion": "1.0.2", "process": process, "annotations": {"dev.shim.module": digest}})
+def config(digest: str, memory: int | None = None) -> str:
+    """The config of a task, which may have so many bytes of memory, or without this as many as by default."""
+    process, limit = {"args": ["a"], "cwd": "/"}, {"linux": {"resources": {"memory": {"limit": memory}}}}
+    return json.dumps({"ociVersion": "1.0.2", "process": process, "annotations": {"dev.shim.module": digest},
+                       **(limit if memory is not None else {})})
 
 
 class Caller:

@@ -78,6 +78,12 @@ def environment(suite: Suite) -> dict[str, str]:
     return {**os.environ, "PYTHONPATH": str(TOP / "tests"), **shim, **suite.more}
 
 
+def is_told_by(status: int, found: Summary) -> bool:
+    """Whether a suite may end with this status after such a summary. One that could not be run has passed nothing; pytest also
+    has that status if it is broken off, and then tests are missing."""
+    return status == found.status or status == COULD_NOT and not found.passed and found.not_run > 0
+
+
 def run(suite: Suite) -> Summary:
     """Runs a suite, and shows what it prints. A suite that ends without a summary has failed."""
     print(f"== {suite.name}", flush=True)
@@ -93,7 +99,7 @@ def run(suite: Suite) -> Summary:
         for line in process.stdout:
             print(line, end="", flush=True)
             found = read(line) or found
-    if found is None or process.returncode not in (found.status, COULD_NOT):
+    if found is None or not is_told_by(process.returncode, found):
         print(f"{suite.name}: ended with status {process.returncode}", flush=True)
         return Summary(suite.name, 0, 1)
     return Summary(suite.name, found.passed, found.failed, found.not_run)
