@@ -61,17 +61,6 @@ impl<R: Row> Drop for Shim<R> {
     }
 }
 
-// Whether a call that was answered so may have made a wait due: by the lifecycle only a pause or a kill
-// of an idle task does.
-fn settles(answer: &Result<Reply, Refusal>) -> bool {
-    match answer {
-        Ok(Reply::Pause { status, .. }) | Ok(Reply::Kill { status, .. }) => {
-            matches!(status, Status::Paused | Status::Stopped)
-        }
-        _ => false,
-    }
-}
-
 impl<R: Row> Shim<R> {
     /// A shim over these cells and this desk, with an empty board. `NoMemory` if that cannot be allocated.
     pub fn new(alloc: Global, cells: Cells, desk: Desk, blank: Blank) -> Result<Shim<R>, Refusal>
@@ -132,9 +121,16 @@ impl<R: Row> Shim<R> {
         (seat, answer)
     }
 
-    // Tells the callers that sleep, if a call that was answered so may have made a wait due.
+    // Tells the callers that sleep, if a call that was answered so may have made a wait due: by the lifecycle
+    // only a pause or a kill of an idle task does, and any call that fills the journal.
     fn tell_settled(&self, shared: &Shared<R>, answer: &Result<Reply, Refusal>) {
-        if settles(answer) || shared.book.is_full() {
+        let settles = match answer {
+            Ok(Reply::Pause { status, .. }) | Ok(Reply::Kill { status, .. }) => {
+                matches!(status, Status::Paused | Status::Stopped)
+            }
+            _ => false,
+        };
+        if settles || shared.book.is_full() {
             self.tell_callers(shared);
         }
     }

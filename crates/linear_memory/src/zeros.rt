@@ -1,6 +1,6 @@
 //! Zeros that are written late.
 
-ghost use Rattle.std.specs.Prelude.{◌≡◌, ◌≤◌, ◌-◌, ◌++◌, replicate, take};
+ghost use Rattle.std.specs.Prelude.{◌≡◌, ◌≤◌, ◌<◌, ◌+◌, ◌-◌, ◌⊎◌, ◌++◌, replicate, take};
 ghost use Rattle.std.specs.Mem.Slots.{slots_items, slots_len, SamePlaces};
 ghost use Rattle.linear_memory.specs.Inside.Fronts.{HasFront};
 
@@ -21,6 +21,7 @@ pub(crate) fn extend(row: &mut Slots<u8>, front: usize, end: usize, size: usize)
     ensures zeros { take result (slots_items row.new)
         ≡ take front (slots_items row.old) ++ replicate (result - front) 0 }
     ensures more { (end ≤ result) × (front ≤ result) × (result ≤ size) }
+    ensures few { (result ≡ front) ⊎ (result < end + 4_096) }
     ensures written { HasFront row.new result }
     ensures places { SamePlaces row.old row.new }
 {

@@ -49,6 +49,7 @@ impl<T, A: Allocator> Model for Deed<T, A> {
 unsafe impl<T, A: Allocator + Send> Send for Deed<T, A> {}
 
 /// A block of `len` empty places, and where it begins. `_like` only shows that the type has a value.
+/// An error if the allocator refuses it.
 pub fn allocate<T, A: Allocator>(
     alloc: &A,
     len: usize,

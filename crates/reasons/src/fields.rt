@@ -16,9 +16,6 @@ const NO_CONSTANT: &str = "its first value is not one constant of its type";
 
 const NO_OFFSET: &str = "its offset is not one i32 constant";
 
-/// Pages that a memory may have.
-const PAGE_RANGE: u32 = 65_536;
-
 fn has_type(of: &Module, index: u32) -> bool {
     (index as usize) < of.types.len()
 }
@@ -160,7 +157,7 @@ fn same_name(alloc: Global, exports: &[Export]) -> Result<Option<Field>, AllocEr
 pub fn find_field(alloc: Global, of: &Module) -> Result<Option<Field>, AllocError> {
     let same = same_name(alloc, of.exports.as_slice())?;
     let table = size("table", u32::MAX, of.tables.as_slice());
-    let memory = size("memory", PAGE_RANGE, of.memories.as_slice());
+    let memory = size("memory", 65_536, of.memories.as_slice());
     let found = types(of).or(table).or(memory);
     let found = found.or(globals(of)).or(exports(of)).or(start(of));
     Ok(found.or(segments(of)).or(same))

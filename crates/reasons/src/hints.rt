@@ -17,7 +17,7 @@ const GROUPS: &[(&str, &str)] = rows! {
     "ref.func" => "an element is the index of a function: (elem (offset i32.const 0) $f)";
 };
 
-// Words that are written otherwise.
+// Words that are written otherwise, or elsewhere.
 const OLD_WORDS: &[(&str, &str)] = rows! {
     "get_local" => "it is written local.get";
     "set_local" => "it is written local.set";
@@ -27,6 +27,7 @@ const OLD_WORDS: &[(&str, &str)] = rows! {
     "current_memory" => "it is written memory.size";
     "grow_memory" => "it is written memory.grow";
     "anyfunc" => "it is written funcref";
+    "funcref" => "only a table has it, after its size: (table 1 funcref)";
 };
 
 // How words begin that are outside the profile.

@@ -6,9 +6,11 @@ const FLOATS: &str = "floats are outside the profile (feulgama lower translates 
 
 const BULK_MEMORY: &str = "bulk memory is outside the profile (feulgama lower translates it)";
 
-const NO_INSTRUCTION: &str = "no instruction of the profile has this opcode";
+const TABLES: &str = "instructions on tables are outside the profile";
 
 const EXCEPTIONS: &str = "exceptions are outside the profile";
+
+const NO_INSTRUCTION: &str = "no instruction of the profile has this opcode";
 
 // Opcodes of one byte of which the profile has none: the first, the last, their words in the text format
 // (none, if they are not known), and what they belong to.
@@ -53,9 +55,6 @@ i64.trunc_sat_f32_s, i64.trunc_sat_f32_u, i64.trunc_sat_f64_s, i64.trunc_sat_f64
 data.drop, memory.copy, memory.fill, table.init, elem.drop, table.copy, table.grow, table.size, \
 table.fill";
 
-/// How many of NUMBERED are of floats.
-const NUMBERED_FLOATS: u32 = 8;
-
 /// The names of sections, by their ids.
 const SECTIONS: &str = "\
 custom, type, import, function, table, memory, global, export, start, element, code, data";
@@ -77,14 +76,17 @@ pub fn find_outside(opcode: u8, bytes: &[u8]) -> (Option<&'static str>, &'static
             return (word, *feature);
         }
     }
-    match read_u32(bytes) {
-        Ok((number, _)) if opcode == 0xFC => {
-            let is_float = number < NUMBERED_FLOATS;
-            let feature = if is_float { FLOATS } else { BULK_MEMORY };
-            (word_at(NUMBERED, number as usize), feature)
-        }
-        _ => (None, NO_INSTRUCTION),
-    }
+    let number = match read_u32(bytes) {
+        Ok((number, _)) if opcode == 0xFC => number,
+        _ => u32::MAX,
+    };
+    let feature = match number {
+        0..=7 => FLOATS,
+        8..=11 => BULK_MEMORY,
+        12..=17 => TABLES,
+        _ => NO_INSTRUCTION,
+    };
+    (word_at(NUMBERED, number as usize), feature)
 }
 
 /// What a byte means that is none of a value type of the profile.

@@ -28,13 +28,13 @@ pub enum Refusal {
     /// at fault; the block of a fault at its `else` or `end`; at the body's end the number of its
     /// instructions. A fault outside bodies has no place.
     Invalid(Option<Place>),
-    /// A limit of the profile is passed.
+    /// A limit of the profile is passed, or the memory begins with more pages than the task may have.
     Limit,
     /// The config is malformed, or asks for what this shim does not have.
     BadConfig,
     /// The task's status does not allow the call.
     WrongStatus,
-    /// The task's machine is checked out.
+    /// The task's machine is checked out; of a wait, the task is running or pausing.
     Busy,
     /// A place, stream, signal, count or range does not exist.
     OutOfRange,
@@ -56,7 +56,7 @@ pub enum Refusal {
     NoEntry,
     /// An import is no system call, or has another type.
     BadImport,
-    /// A segment passes its table's or memory's opening size.
+    /// A segment is not inside its table or memory, as that is when the task begins.
     SegmentOutOfBounds,
 }
 

@@ -20,7 +20,7 @@ pub enum Value {
 }
 
 impl Value {
-    /// That the number is in the range of its type.
+    /// Shows that the number is in the range of its type.
     pub fn ranged(&self)
         ensures { RangedValue self.now }
     {
