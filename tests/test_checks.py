@@ -173,6 +173,22 @@ WRONG: dict[str, tuple[Check, dict[str, str | None], str]] = {
     "a shim that is closed early": (
         listed_calls.check, {"crates/callers/src/hands.rt": HANDS + "fn b() {\n    shim.close(rt);\n}\n"},
         "b: shim.close(rt);"),
+    "a task that is let go of by the function of its type": (
+        listed_calls.check, {"crates/callers/src/hands.rt": HANDS + "fn b(t: Runnable) {\n    Runnable::into_ticket(t);\n}\n"},
+        "b: Runnable::into_ticket(t);"),
+    "a seat by the function of its type": (
+        listed_calls.check, {"crates/callers/src/hands.rt": HANDS + "fn b() {\n    let s = Shim::<J>::seat(shim, rt);\n}\n"},
+        "b: let s = Shim::<J>::seat(shim, rt);"),
+    "a slice under the lock": (
+        listed_calls.check, {"crates/call_journal/src/a.rt": "fn b() {\n    let _held = self.shared.lock(rt);\n}\n"},
+        "b: let _held = self.shared.lock(rt);"),
+    "a slice of other turns": (
+        listed_calls.check, {"crates/call_journal/src/a.rt": "fn b() {\n    shared.book.take(task, 2)\n}\n"},
+        "b: shared.book.take(task, 2)"),
+    "workers of another number": (
+        listed_calls.check, {"crates/serve_command/src/a.rt": "fn b() {\n    let workers = 1;\n}\n"}, "b: let workers = 1;"),
+    "more turns by the constant of another crate": (
+        listed_calls.check, {"crates/file_commands/src/a.rt": "pub const ROOM: u64 = 9;\n"}, "ROOM: pub const ROOM: u64 = 9;"),
     "memory that nobody asked for": (
         listed_calls.check, {
             "crates/file_commands/src/command.rt": CODE + "fn b() {\n    let more = vec![in alloc; 0; 9]?;\n}\n"},
@@ -257,7 +273,11 @@ def test_answer_that_needs_a_cause_is_not_made(code: str) -> None:
 
 @pytest.mark.parametrize("code", [
     "queue.try_push(task.into_ticket());", "Runnable::of(ticket)", "self.book.close();", "shim.seat(&threads)",
-    "worker(rt, self, 1);", "with_workers(rt, 1, run)",
+    "worker(rt, self, 1);", "with_workers(rt, 1, run)", "Runnable::into_ticket(task);", "tickets.map(Runnable::of)",
+    "Shim::close(self, rt);", "let close = Shim::<J>::close;", "seats.push(Book::seat(&mut shared.book));",
+    "<J as Shim>::seat(rt)",
+    "let held = self.shared.lock(rt);", "let held = Mutex::lock(&shared, rt);", "loan.run();", "self.take_waiting(rt, id, 2)?",
+    "names.iter().take(16)", "run_slice(rt, task, 2)", "serve(rt, 1, work)", "use call_journal::Runnable as Task;",
     "IndexSet::with_capacity(alloc, 9)", "list.reserve(1)?;", "vec![in alloc; 0u8; 9]?;", "allocate(&alloc, 9, &0u8)",
     "entries.resize(size, None)?;", "text.repeat(alloc, 9)?", "list.try_reserve_exact(9)?;", "std::mem::forget(line);",
     "None => forget(words),", "open(lines.leak())", "Ok(flight) => Some(Box::leak(flight)),", "flight.map(Box::leak)",
@@ -269,11 +289,21 @@ def test_call_is_listed(code: str) -> None:
 
 @pytest.mark.parametrize("code", [
     "// task.into_ticket()", "fn with_capacity(room: usize) {}", "pub fn worker(rt: &W) {}", "use std::vec::with_capacity;",
-    "blocks.is_closed()",
-    "let seat = seat(shim);", '"vec![in alloc; 9]"', "fn resize(size: usize) {}", "repeated(alloc, line, 2)",
+    "blocks.is_closed()", "let at: crate::seat::Seat = seat;", "use crate::seat::Seat;", "Snapshot::of(loan)", "run()",
+    "self.block(x)", "let seat = seat(shim);", '"vec![in alloc; 9]"', "fn resize(size: usize) {}", "repeated(alloc, line, 2)",
     "pub fn forget<T>(row: Slots<T>) {}", "use raw_block::{forget, no_places};", "let flight = leaked_flight(alloc);"])
 def test_call_is_not_listed(code: str) -> None:
     assert not list(listed_calls.places_in("crates/callers/src/a.rt", f"fn f() {{\n    {code}\n}}\n"))
+
+
+@pytest.mark.parametrize("code, times", [
+    ("let few = if workers > 4 { 4 } else { workers };", 2), ("let workers = 1;", 1), ("let mut workers = 1;", 1),
+    ("Service { rt, workers: 1, wanted }", 1), ("Service { rt, workers, wanted }", 1), ("f(service.workers)", 1),
+    ("let Service { rt, workers, wanted } = service;", 0), ("Command::Serve { workers, scripts } => f(scripts),", 0),
+    ("fn g(workers: u64) {}", 0), ("ensures { result ≤ workers }", 0), ("// workers", 0), ("with_no_workers()", 0)])
+def test_number_of_workers_is_listed_where_it_is_handed_on(code: str, times: int) -> None:
+    found = listed_calls.places_in("crates/serve_command/src/a.rt", f"fn f() {{ match y {{\n    {code}\n}} }}\n")
+    assert [place.text for place in found] == [code] * times
 
 
 def test_hands_are_those_of_threads() -> None:

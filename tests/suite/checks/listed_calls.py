@@ -1,20 +1,21 @@
 """Calls that no clause keeps where they belong, each with its reason.
 
 A task that is turned into a plain ticket can be forgotten, a seat more makes calls that nobody asked for, a shim that is
-closed refuses all that follows, workers may be fewer than were asked for, room that is asked for is memory, and memory that
-is let go of and not freed is lost. No contract says where these calls may be made, and with what, and code that makes another
-one is proved as before. So each place that makes one is in a list, tests/listed_calls.txt, with the reason for it, and the
-check fails where the sources and the list differ.
+closed refuses all that follows, a slice that runs under a lock holds up all others, workers may be fewer than were asked for,
+and the turns of a slice more, room that is asked for is memory, and memory that is let go of and not freed is lost. No
+contract says where these calls may be made, and with what, and code that makes another one is proved as before. So each place
+that makes one is in a list, tests/listed_calls.txt, with the reason for it, and the check fails where the sources and the list
+differ.
 """
 from __future__ import annotations
 
 import re
-from collections import Counter, defaultdict
+from collections import Counter
 from collections.abc import Collection, Iterator
 
 from suite.checks.memory_words import NAMED, Place, differences, listed
 from suite.checks.tree import Tree
-from suite.checks.values import blanked, renamed
+from suite.checks.values import Source, blanked, renamed
 
 LIST = "tests/listed_calls.txt"
 SOURCES = "crates/*/src/*.rt"
@@ -22,10 +23,18 @@ SOURCES = "crates/*/src/*.rt"
 ROOM = re.compile(r"(?<!fn )\b(?:with_capacity(?:_and_hasher)?|allocate|from_elem|(?:try_)?reserve(?:_exact)?"
                   r"|resize(?:_with)?|repeat)\(|\bvec!\[in\b")
 LEFT = re.compile(r"(?<!fn )\b(?:forget|leak|into_raw(?:_parts|_with_allocator)?|ManuallyDrop)\b")
-# Calls of the crates of threads: what lets go of a task, closes a shim, hands out a seat, or sets workers to work.
-HANDS = re.compile(r"\.into_ticket\(|\bRunnable::of\(|\.close\(|\.seat\("
-                   r"|(?<!fn )\b(?:worker|with_workers|with_gated_workers|with_workers_of|run_waiting)\(")
+# Calls of the crates of threads: what lets go of a task, closes a shim, hands out a seat, sets workers to work, takes a lock,
+# lends a machine, or runs it. After the name of a type it is a call too, or a function that is handed on.
+OF_VALUES = r"(?:into_ticket|close|seat|lock|take|run|slice)\b"
+HANDS = re.compile(rf"\.{OF_VALUES}\(|::{OF_VALUES}(?!::\w)|\bRunnable\b[^\s(,;]*::of\b"
+                   r"|(?<!fn )\b(?:worker|with_workers|with_gated_workers|with_workers_of|serve|run_waiting|take_waiting"
+                   r"|run_slice)\(")
 WITH_HANDS = re.compile(r"crates/(?:call_journal|callers|slice_workers|serve_command|wasm_shim)/")
+# The type whose function makes a task of a ticket: under another name it is not seen.
+HANDED = {"Runnable"}
+# What numbers are called that are handed on from the command line to the threads: of workers, and of the turns of a slice.
+NUMBERS = {"wasm_shim": "workers", "serve_command": "workers", "slice_workers": "count|budget", "call_journal": "budget"}
+BOUND = re.compile(r"\blet\s+(?:mut\s+)?\Z")
 OF_TESTS = re.compile(r"crates/test_")
 CONSTANT = re.compile(r"\b[A-Z][A-Z_]+\b")
 
@@ -35,15 +44,34 @@ def calls_in(path: str, code: str) -> list[str]:
     return ROOM.findall(code) + LEFT.findall(code) + (HANDS.findall(code) if WITH_HANDS.match(path) else [])
 
 
+def is_listed(path: str, name: str) -> bool:
+    """Whether what has this name is listed where it is called."""
+    return bool(calls_in(path, f"{name}(") or calls_in(path, f".{name}(")) or (name in HANDED and bool(WITH_HANDS.match(path)))
+
+
+def numbers_in(path: str, text: str) -> Iterator[int]:
+    """The line of each use of a number that is handed on, and of each new one of its name."""
+    name = NUMBERS.get(path.split("/")[1])
+    if name is None:
+        return
+    source = Source(text)
+    unmade = list(source.stretches())
+    for match in re.finditer(rf"\b(?:{name})\b", source.code):
+        at = match.start()
+        if BOUND.search(source.code, max(0, at - 20), at) or not any(begin <= at < end for begin, end in unmade):
+            yield text.count("\n", 0, at)
+
+
 def constants_in(path: str, text: str) -> set[str]:
     """The constants that the calls of a file are made with."""
     return {name for code in blanked(text).split("\n") if calls_in(path, code) for name in CONSTANT.findall(code)}
 
 
 def places_in(path: str, text: str, constants: Collection[str] = ()) -> Iterator[Place]:
-    """Each place of a file where such a call is made, as often as it is, or is given another name, and each of these constants
-    that it has."""
-    names = Counter(text.count("\n", 0, at) for at, name in renamed(text) if calls_in(path, f"{name}("))
+    """Each place of a file where such a call is made, as often as it is, or is given another name, each where such a number is
+    handed on, and each of these constants that it has."""
+    names = Counter(text.count("\n", 0, at) for at, name in renamed(text) if is_listed(path, name))
+    names.update(numbers_in(path, text))
     function = "none"
     for number, (line, code) in enumerate(zip(text.split("\n"), blanked(text).split("\n"))):
         found = NAMED.search(code)
@@ -54,12 +82,10 @@ def places_in(path: str, text: str, constants: Collection[str] = ()) -> Iterator
 
 
 def found_in(tree: Tree) -> Counter[Place]:
-    """All places. A constant counts where a call of its crate is made with it."""
+    """All places. A constant counts where a call of any crate is made with one of its name."""
     texts = {path: tree.text(path) for path in tree.matching(SOURCES) if not OF_TESTS.match(path)}
-    constants: defaultdict[str, set[str]] = defaultdict(set)
-    for path, text in texts.items():
-        constants[path.split("/")[1]] |= constants_in(path, text)
-    return Counter(place for path, text in texts.items() for place in places_in(path, text, constants[path.split("/")[1]]))
+    constants = {name for path, text in texts.items() for name in constants_in(path, text)}
+    return Counter(place for path, text in texts.items() for place in places_in(path, text, constants))
 
 
 def check(tree: Tree) -> tuple[int, list[str]]:
