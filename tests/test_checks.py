@@ -159,6 +159,19 @@ WRONG: dict[str, tuple[Check, dict[str, str | None], str]] = {
     "an end of the program without a cause": (
         memory_words.check, {"crates/callers/src/hands.rt": HANDS + "fn b() {\n    failed(to, OUT_OF_MEMORY);\n}\n"},
         "crates/callers/src/hands.rt b: failed(to, OUT_OF_MEMORY);"),
+    "an answer under a wider condition": (
+        memory_words.check, {
+            "crates/file_commands/src/a.rt": "fn b() -> Answer {\n    let Ok(a) = f(1) else {\n        return Err(AllocError);\n"
+                                             "    };\n    a\n}\n",
+            "tests/memory_words.txt": "# Memory ran out for it.\ncrates/file_commands/src/a.rt b 1 return Err(AllocError);"
+                                      " under let (Ok(a), true) = (f(1), size < 9) else {\n"},
+        "a.rt b: return Err(AllocError); under let Ok(a) = f(1) else {"),
+    "an end of the program in words of its own": (
+        memory_words.check, {"crates/wasm_shim/src/a.rt": 'fn b() {\n    failed(to, "out of memory");\n}\n'},
+        'crates/wasm_shim/src/a.rt b: failed(to, "out of memory");'),
+    "a task that is not found": (
+        memory_words.check, {"crates/callers/src/hands.rt": HANDS + "fn b() -> Option<Runnable> {\n    None\n}\n"},
+        "crates/callers/src/hands.rt b: None"),
     "a reason for a word that is gone": (
         memory_words.check, {"crates/file_commands/src/command.rt": 'const VERSION: &str = "0.2.0";\n'}, "remove it"),
     "a list without the reason": (
@@ -269,6 +282,42 @@ def test_answer_that_needs_a_cause_is_made(code: str) -> None:
     "book.is_closed()"])
 def test_answer_that_needs_a_cause_is_not_made(code: str) -> None:
     assert made_in(code) == []
+
+
+@pytest.mark.parametrize("code, condition", [
+    ("if a\n    || b\n{\n    return Err(AllocError);\n}", "if a || b {"),
+    ("let (Ok(a), true) = (f(b), c) else {\n    return Err(AllocError);\n};", "let (Ok(a), true) = (f(b), c) else {"),
+    ("let Told { a, .. } = f(b) else {\n    return Err(AllocError);\n};", "let Told { a, .. } = f(b) else {"),
+    ("f();\nif a {\n    b\n} else {\n    Err(AllocError)\n}", "if a { b } else {"),
+    ("if a {\n    b();\n}\nif c {\n    return Err(AllocError);\n}", "if c {"),
+    ("match a {\n    B => c,\n    D | E if f => {\n        g();\n        Err(AllocError)\n    }\n}", "D | E if f => {"),
+    ("match a {\n    B { c }\n    | D { .. } => f(\n        g, AllocError,\n    ),\n}", "B { c } | D { .. } =>"),
+    ("if a {\n    f(move || {\n        Err(AllocError)\n    })\n}", "if a {"),
+    ("if a {\n    return Err(Told {\n        error: AllocError,\n    });\n}", "if a {"),
+    ("if a { return Err(AllocError); }", None), ("f();\nErr(AllocError)", None),
+    ("match a {\n    B => Err(AllocError),\n}", None)])
+def test_condition_of_an_answer_is_listed(code: str, condition: str | None) -> None:
+    found = [text.partition(" under ")[2] for text in made_in(code)]
+    assert found == [condition or ""]
+
+
+@pytest.mark.parametrize("code", [
+    'failed(rt, "out of memory");', 'stream_failed(rt, "standard output", &error);', 'let status = failed(rt, r#"none"#);',
+    "return None;", "Some(f(None))", "let mut known = None;", "A => (seat, None),", "Option::None", "None::<Seat>"])
+def test_end_and_nothing_are_made(code: str) -> None:
+    found = memory_words.places_in("crates/wasm_shim/src/a.rt", f"fn f() {{\n{code}\n}}\n")
+    assert [place.text for place in found] == [code]
+
+
+@pytest.mark.parametrize("code", [
+    "failed(rt, cause);", "stream_failed(rt, name, &error);", 'fn failed(rt: &H, cause: &str) { f("a") }',
+    'not_failed(rt, "a");', '// failed(rt, "a");', "if let None = a {", "None => f(),", "if a == None {", "Kind::None"])
+def test_end_and_nothing_are_not_made(code: str) -> None:
+    assert not list(memory_words.places_in("crates/wasm_shim/src/a.rt", f"fn f() {{\n{code}\n}}\n"))
+
+
+def test_nothing_is_listed_in_the_crates_of_threads() -> None:
+    assert not list(memory_words.places_in("crates/flat_code/src/a.rt", 'fn f() {\nfailed(rt, "a");\nNone\n}\n'))
 
 
 @pytest.mark.parametrize("code", [

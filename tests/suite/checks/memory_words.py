@@ -2,9 +2,10 @@
 
 An allocation that is refused answers "out of memory" by itself, through `?` and `From`. Wherever code makes this answer by
 hand, it says so of something else, or hides what it was. Others can be made without a cause too, and the code is proved as
-before: the answers `Closed`, `JournalFull` and `JournalFault`, the error `NoThread`, and the texts that say why `serve` ended.
+before: the answers `Closed`, `JournalFull` and `JournalFault`, the error `NoThread`, the texts that say why the program ended,
+and in the crates of threads `None`: no task, no seat, no caller.
 So each place that makes one of all these is in a list, tests/memory_words.txt, with the reason for it, and the check fails
-where the sources and the list differ.
+where the sources and the list differ. Where a place's own line has no condition, the list also has the one that it is under.
 """
 from __future__ import annotations
 
@@ -21,6 +22,11 @@ SOURCES = "crates/*/src/*.rt"
 # Errors of memory, and after them refusals, the error of threads, and texts of `serve`.
 WORD = re.compile(r"(?:\b(?P<of>[A-Z]\w*)::)?(?<![\w.])(?P<word>AllocError|NoMemory|OutOfMemory|Memory"
                   r"|Closed|JournalFull|JournalFault|NoThread|OUT_OF_MEMORY|NO_SEAT)\b")
+# Nothing, in the crates of threads.
+NOTHING = re.compile(r"(?:(?<![\w.:])|\bOption(?:::<[^()]*>)?::)None\b")
+OF_THREADS = re.compile(r"crates/(?:call_journal|callers|slice_workers|serve_command|wasm_shim)/")
+# What says why the program ended, and the crates that do.
+SAYS, SAYING = re.compile(r"\b(?:stream_)?failed\("), re.compile(r"crates/(?:serve_command|wasm_shim)/")
 # What a place is named by: a function, or a constant at the margin.
 NAMED = re.compile(r"\bfn (\w+)|^(?:pub(?:\(\w+\))? )?(?:const|static) (\w+)")
 # Kinds of things that are a memory, and no error.
@@ -31,7 +37,7 @@ COMPARED, LAST_TYPE = re.compile(r"[!=]=\s*\Z"), re.compile(r"\s*,?\s*>")
 
 @dataclass(frozen=True, order=True)
 class Place:
-    """Where the answer is written: the file, the function, and the text of the line."""
+    """Where the answer is written: the file, the function, and the text of the line, with the condition that it is under."""
     path: str
     function: str
     text: str
@@ -42,28 +48,52 @@ class Place:
 
 def is_made(code: str, match: re.Match[str]) -> bool:
     """Whether a word, where code makes values, is one: not one that is compared, a type, or a thing."""
-    if match["of"] in THINGS or COMPARED.search(code, max(0, match.start() - 80), match.start()):
+    if COMPARED.search(code, max(0, match.start() - 80), match.start()):
         return False
-    return match["word"] != "AllocError" or not LAST_TYPE.match(code, match.end())
+    if match.re is NOTHING:
+        return True
+    return match["of"] not in THINGS and (match["word"] != "AllocError" or not LAST_TYPE.match(code, match.end()))
 
 
-def made_in(source: Source) -> list[int]:
+def said_in(source: Source, text: str) -> Iterator[int]:
+    """Where the program is said to end for a reason that is written there as a text."""
+    for match in SAYS.finditer(source.code):
+        if '"' in text[match.end():source.partner.get(match.end() - 1, match.end())]:
+            yield match.start()
+
+
+def made_in(path: str, source: Source, text: str) -> list[int]:
     """Where code makes the answer, as often as it does."""
-    words = [match.start() for match in WORD.finditer(source.code) if is_made(source.code, match)]
-    unmade = list(source.stretches()) if words else []
-    return [at for at in words if not any(begin <= at < end for begin, end in unmade)]
+    words = [WORD, NOTHING] if OF_THREADS.match(path) else [WORD]
+    found = [match.start() for word in words for match in word.finditer(source.code) if is_made(source.code, match)]
+    unmade = list(source.stretches()) if found else []
+    made = [at for at in found if not any(begin <= at < end for begin, end in unmade)]
+    return made + (list(said_in(source, text)) if SAYING.match(path) else [])
+
+
+def functions_of(code: str) -> Iterator[str]:
+    """The function of each line."""
+    function = "none"
+    for line in code.split("\n"):
+        found = NAMED.search(line)
+        function = found[1] or found[2] if found else function
+        yield function
+
+
+def condition_of(source: Source, text: str, at: int) -> str:
+    """The condition that a place is under, if it begins on a line before."""
+    begin, end = source.condition(at) or (at, at)
+    return f" under {' '.join(text[begin:end].split())}" if "\n" in text[begin:at] else ""
 
 
 def places_in(path: str, text: str) -> Iterator[Place]:
     """Each place of a file where the answer is made, as often as it is, or is given another name."""
     source = Source(text)
     names = [at for at, name in renamed(text) if WORD.fullmatch(name)]
-    made = Counter(text.count("\n", 0, at) for at in [*made_in(source), *names])
-    function = "none"
-    for number, (line, code) in enumerate(zip(text.split("\n"), source.code.split("\n"))):
-        found = NAMED.search(code)
-        function = found[1] or found[2] if found else function
-        yield from [Place(path, function, line.strip())] * made[number]
+    functions, lines = list(functions_of(source.code)), text.split("\n")
+    for at in [*made_in(path, source, text), *names]:
+        number = text.count("\n", 0, at)
+        yield Place(path, functions[number], lines[number].strip() + condition_of(source, text, at))
 
 
 def found_in(tree: Tree) -> Counter[Place]:
@@ -74,7 +104,7 @@ def listed(text: str, name: str) -> tuple[Counter[Place], list[str]]:
     """The places of a list, and what is wrong with the list itself, which has this name.
 
     The list is blocks with an empty line between two: lines that begin with `#`, of the reason, and after them a line for each
-    place: the path, the function, how often, and the text."""
+    place: the path, the function, how often, and the text, with the condition."""
     places: Counter[Place] = Counter()
     faults = []
     for block in re.split(r"\n\s*\n", text):

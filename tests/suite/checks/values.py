@@ -1,4 +1,5 @@
-"""Which code of a source makes no value: clauses, declarations, signatures, and what is matched on.
+"""Which code of a source makes no value: clauses, declarations, signatures, and what is matched on; and under which condition
+a value is made.
 
 It is told by keywords and brackets. What is not found to be one of these counts as a value.
 """
@@ -27,6 +28,11 @@ KINDS = [(re.compile(r"\blet\b"), or_bracket(r"(?<![=!<>])=(?![=>])|;")),
          (re.compile(r"\b(?:enum|struct)\s+\w"), or_bracket(r"(?<=\})|;"))]
 MATCHES, COMMA = re.compile(r"\bmatches!\("), or_bracket(",")
 GUARD, PATTERN_END = or_bracket(r"\bif\b"), or_bracket(r"=>|\bif\b")
+# What follows a block, or the braces of a pattern, that the same statement or arm goes on after.
+GOES_ON = re.compile(r"\s*(?:else\b|[=.?)&|])|[ ]*if\b")
+ARROW, ARM_ENDS = or_bracket("=>"), ",;"
+# What a block begins with that is under a condition, and what the block of a function does.
+CONDITION, FUNCTION = re.compile(r"\b(?:if|else|match|while|for)\b|=>"), re.compile(r"\bfn\s+\w")
 # What stands before the bracket of a macro, where an arrow may mean anything.
 MACRO = re.compile(r"\w!\s*\w*\s*\Z")
 
@@ -125,3 +131,41 @@ class Source:
             yield comma, self.end(comma, GUARD)
         for begin in self.patterns():
             yield begin, self.end(begin, PATTERN_END)
+
+    def bracket(self, at: int) -> int | None:
+        """The bracket around a place, the one that opens."""
+        while at > 0:
+            at -= 1
+            if self.code[at] in CLOSES:
+                at = self.partner.get(at, at)
+            elif self.code[at] in OPENS and at in self.partner:
+                return at
+        return None
+
+    def begin(self, at: int) -> int:
+        """Where the statement or the arm that a place is in begins. Braces are all around it, and no other brackets."""
+        while at > 0:
+            sign = self.code[at - 1]
+            if sign in ARM_ENDS or sign == "{" or (sign == "}" and not GOES_ON.match(self.code, at)):
+                break
+            at = self.partner.get(at - 1, at - 1) if sign in CLOSES else at - 1
+        return at + len(self.code[at:]) - len(self.code[at:].lstrip())
+
+    def condition(self, at: int) -> tuple[int, int] | None:
+        """Where the condition begins and ends under which a value is made at a place: the pattern of its arm, or what the
+        block around it begins with. None if that is a function's."""
+        bracket = self.bracket(at)
+        while bracket is not None:
+            if self.code[bracket] == "{":
+                begin = self.begin(at)
+                arrow = self.end(begin, ARROW)
+                if arrow < at:
+                    return begin, arrow + 2
+                begin = self.begin(bracket)
+                opening = self.code[begin:bracket]
+                if FUNCTION.search(opening):
+                    return None
+                if CONDITION.search(opening):
+                    return begin, bracket + 1
+            at, bracket = bracket, self.bracket(bracket)
+        return None
