@@ -161,8 +161,8 @@ WRONG: dict[str, tuple[Check, dict[str, str | None], str]] = {
         "crates/callers/src/hands.rt b: failed(to, OUT_OF_MEMORY);"),
     "an answer under a wider condition": (
         memory_words.check, {
-            "crates/file_commands/src/a.rt": "fn b() -> Answer {\n    let Ok(a) = f(1) else {\n        return Err(AllocError);\n"
-                                             "    };\n    a\n}\n",
+            "crates/file_commands/src/a.rt": "fn b() -> Answer {\n    let Ok(a) = f(1) else {\n"
+                                             "        return Err(AllocError);\n    };\n    a\n}\n",
             "tests/memory_words.txt": "# Memory ran out for it.\ncrates/file_commands/src/a.rt b 1 return Err(AllocError);"
                                       " under let (Ok(a), true) = (f(1), size < 9) else {\n"},
         "a.rt b: return Err(AllocError); under let Ok(a) = f(1) else {"),

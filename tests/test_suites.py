@@ -16,7 +16,7 @@ from suite.checks.tree import TOP, Tree
 from suite.reference import superinstructions, wasm
 from suite.reference.execute import Machine
 from suite.summary import NotRun, Summary, read
-from suite.trials import growth, program
+from suite.trials import growth, memory, program, scripts
 
 
 def run(*words: str, **more: str) -> subprocess.CompletedProcess[str]:
@@ -229,3 +229,20 @@ def test_programs_of_superinstructions_end_in_each_way() -> None:
         machine.run(2000)
         ends |= {machine.end.get("trap", machine.end["cause"])} if machine.end else {"none"}
     assert ends >= {"exit", "out of bounds memory access", "none"}
+
+
+@pytest.mark.parametrize("told", [program.OUT_OF_MEMORY, memory.NO_THREAD])
+def test_words_of_an_end_are_those_of_the_program(told: bytes) -> None:
+    """docs/COMMANDS.md says that the program then ends with status 1, and a line says why."""
+    cause = re.fullmatch(r"wasm-shim: (.+)\n", told.decode())
+    assert cause and f'"{cause[1]}"' in (TOP / "crates/serve_command/src/said.rt").read_text()
+
+
+def test_another_end_is_a_fault() -> None:
+    talk = scripts.Talk(place=0, asked=1)
+    for told, status, is_right in ((program.OUT_OF_MEMORY, 1, True), (memory.NO_THREAD, 1, True), (memory.NO_THREAD, 0, False),
+                                   (b"wasm-shim: no seat is left\n", 1, False), (b"", 1, False)):
+        report = program.Report("limits")
+        memory.end_of(report, "serve", [b"{}"], talk, status, told)
+        assert (not report.faults) == is_right
+        assert report.counts["scripts for which no worker could be started"] == (told == memory.NO_THREAD)

@@ -18,7 +18,7 @@ LIMITS_KIB = range(16 * 1024, 64 * 1024 + 1, 4 * 1024)
 MIB = 1024
 # The entries of the journal of up to two requests, beside the bytes that these hold, are smaller than this.
 MOST_KEPT_KIB = 8
-NO_THREAD = b"wasm-shim: the thread of a worker cannot be started\n"
+NO_THREAD = b"wasm-shim: a thread cannot be started\n"
 
 
 def try_least(program: Path, report: Report) -> None:
@@ -68,7 +68,7 @@ def end_of(report: Report, what: str, lines: list[bytes], talk: scripts.Talk, st
         if status or told:
             report.fault(f"{what}: status {status}, {told!r} after all lines")
         return "all lines were answered"
-    if status != 1 or not told_once(told):
+    if status != 1 or told not in (OUT_OF_MEMORY, NO_THREAD):
         report.fault(f"{what}: status {status}, and {told[:200]!r} on standard error")
     if told == NO_THREAD:
         report.add("scripts for which no worker could be started")
