@@ -1,11 +1,12 @@
 """Calls that no clause keeps where they belong, each with its reason.
 
 A task that is turned into a plain ticket can be forgotten, a seat more makes calls that nobody asked for, a shim that is
-closed refuses all that follows, a slice that runs under a lock holds up all others, workers may be fewer than were asked for,
-and the turns of a slice more, room that is asked for is memory, and memory that is let go of and not freed is lost. No
-contract says where these calls may be made, and with what, and code that makes another one is proved as before. So each place
-that makes one is in a list, tests/listed_calls.txt, with the reason for it, and the check fails where the sources and the list
-differ.
+closed refuses all that follows, a slice that runs under a lock holds up all others, who sleeps and is not woken waits for
+ever, workers may be fewer than were asked for, and the turns of a slice more, room that is asked for is memory, and memory
+that is let go of and not freed is lost. No contract says where these calls may be made, and with what, and code that makes
+another one is proved as before. So each place that makes one is in a list, tests/listed_calls.txt, with the reason for it, and
+the check fails where the sources and the list differ. In the crates of threads the list also has the condition that a place is
+under, if it begins on a line before.
 """
 from __future__ import annotations
 
@@ -13,7 +14,7 @@ import re
 from collections import Counter
 from collections.abc import Collection, Iterator
 
-from suite.checks.memory_words import NAMED, Place, differences, listed
+from suite.checks.memory_words import NAMED, Place, condition_of, differences, functions_of, listed
 from suite.checks.tree import Tree
 from suite.checks.values import Source, blanked, renamed
 
@@ -24,24 +25,30 @@ ROOM = re.compile(r"(?<!fn )\b(?:with_capacity(?:_and_hasher)?|allocate|from_ele
                   r"|resize(?:_with)?|repeat)\(|\bvec!\[in\b")
 LEFT = re.compile(r"(?<!fn )\b(?:forget|leak|into_raw(?:_parts|_with_allocator)?|ManuallyDrop)\b")
 # Calls of the crates of threads: what lets go of a task, closes a shim, hands out a seat, sets workers to work, takes a lock,
-# lends a machine, or runs it. After the name of a type it is a call too, or a function that is handed on.
-OF_VALUES = r"(?:into_ticket|close|seat|lock|take|run|slice)\b"
+# makes a call under it, sleeps, wakes, lends a machine, or runs it. After the name of a type it is a call too, or a function
+# that is handed on.
+OF_VALUES = (r"(?:into_ticket|close|seat|lock|take|run|slice|wait_while|wait_timeout_while|notify_one|notify_all|tell_worker"
+             r"|tell_callers|tell_settled|wake|call_due)\b")
 HANDS = re.compile(rf"\.{OF_VALUES}\(|::{OF_VALUES}(?!::\w)|\bRunnable\b[^\s(,;]*::of\b"
+                   r"|\bbook\.call\(|\bBook\b[^\s(,;]*::call\b|\bflight\.(?:enter|leave|end)\("
                    r"|(?<!fn )\b(?:worker|with_workers|with_gated_workers|with_workers_of|serve|run_waiting|take_waiting"
                    r"|run_slice)\(")
 WITH_HANDS = re.compile(r"crates/(?:call_journal|callers|slice_workers|serve_command|wasm_shim)/")
 # The type whose function makes a task of a ticket: under another name it is not seen.
 HANDED = {"Runnable"}
-# What numbers are called that are handed on from the command line to the threads: of workers, and of the turns of a slice.
-NUMBERS = {"wasm_shim": "workers", "serve_command": "workers", "slice_workers": "count|budget", "call_journal": "budget"}
+# What numbers are called that are handed on from the command line to the threads: of workers, and of the turns of a slice; and
+# those of who sleeps, and of replies that are being written.
+NUMBERS = {"wasm_shim": "workers", "serve_command": "workers", "slice_workers": "count|budget",
+           "call_journal": "budget|workers|callers", "callers": "answering"}
 BOUND = re.compile(r"\blet\s+(?:mut\s+)?\Z")
 OF_TESTS = re.compile(r"crates/test_")
 CONSTANT = re.compile(r"\b[A-Z][A-Z_]+\b")
 
 
-def calls_in(path: str, code: str) -> list[str]:
-    """The calls of a line of code."""
-    return ROOM.findall(code) + LEFT.findall(code) + (HANDS.findall(code) if WITH_HANDS.match(path) else [])
+def calls_in(path: str, code: str) -> list[int]:
+    """Where code makes such calls, as often as it does."""
+    calls = [ROOM, LEFT, HANDS] if WITH_HANDS.match(path) else [ROOM, LEFT]
+    return [match.start() for call in calls for match in call.finditer(code)]
 
 
 def is_listed(path: str, name: str) -> bool:
@@ -49,17 +56,16 @@ def is_listed(path: str, name: str) -> bool:
     return bool(calls_in(path, f"{name}(") or calls_in(path, f".{name}(")) or (name in HANDED and bool(WITH_HANDS.match(path)))
 
 
-def numbers_in(path: str, text: str) -> Iterator[int]:
-    """The line of each use of a number that is handed on, and of each new one of its name."""
+def numbers_in(path: str, source: Source) -> Iterator[int]:
+    """Where a number is used that is handed on, and where there is a new one of its name."""
     name = NUMBERS.get(path.split("/")[1])
     if name is None:
         return
-    source = Source(text)
     unmade = list(source.stretches())
-    for match in re.finditer(rf"\b(?:{name})\b", source.code):
+    for match in re.finditer(rf"(?<!mod )\b(?:{name})\b", source.code):
         at = match.start()
         if BOUND.search(source.code, max(0, at - 20), at) or not any(begin <= at < end for begin, end in unmade):
-            yield text.count("\n", 0, at)
+            yield at
 
 
 def constants_in(path: str, text: str) -> set[str]:
@@ -70,13 +76,15 @@ def constants_in(path: str, text: str) -> set[str]:
 def places_in(path: str, text: str, constants: Collection[str] = ()) -> Iterator[Place]:
     """Each place of a file where such a call is made, as often as it is, or is given another name, each where such a number is
     handed on, and each of these constants that it has."""
-    names = Counter(text.count("\n", 0, at) for at, name in renamed(text) if is_listed(path, name))
-    names.update(numbers_in(path, text))
-    function = "none"
-    for number, (line, code) in enumerate(zip(text.split("\n"), blanked(text).split("\n"))):
-        found = NAMED.search(code)
-        function = found[1] or found[2] if found else function
-        yield from [Place(path, function, line.strip())] * (len(calls_in(path, code)) + names[number])
+    source, code = Source(text), blanked(text)
+    names = [at for at, name in renamed(text) if is_listed(path, name)]
+    functions, lines = list(functions_of(code)), text.split("\n")
+    for at in [*calls_in(path, code), *names, *numbers_in(path, source)]:
+        number = text.count("\n", 0, at)
+        under = condition_of(source, text, at) if WITH_HANDS.match(path) else ""
+        yield Place(path, functions[number], lines[number].strip() + under)
+    for line, blank in zip(lines, code.split("\n")):
+        found = NAMED.search(blank)
         if found and found[2] in constants:
             yield Place(path, found[2], line.strip())
 

@@ -22,17 +22,18 @@ def or_bracket(end: str) -> re.Pattern[str]:
 
 
 # What begins code without a value, and what ends it. A signature has no brace before its body, since clauses are blank.
+SIGNATURE = (re.compile(r"\bfn\s+\w|\bimpl\b"), or_bracket(r"[{;]"))
 KINDS = [(re.compile(r"\blet\b"), or_bracket(r"(?<![=!<>])=(?![=>])|;")),
          (re.compile(r"\b(?:const|static)\s+\w+\s*(?=:)"), or_bracket(":")),
-         (re.compile(r"\bfn\s+\w|\bimpl\b"), or_bracket(r"[{;]")),
+         SIGNATURE,
          (re.compile(r"\b(?:enum|struct)\s+\w"), or_bracket(r"(?<=\})|;"))]
 MATCHES, COMMA = re.compile(r"\bmatches!\("), or_bracket(",")
 GUARD, PATTERN_END = or_bracket(r"\bif\b"), or_bracket(r"=>|\bif\b")
 # What follows a block, or the braces of a pattern, that the same statement or arm goes on after.
 GOES_ON = re.compile(r"\s*(?:else\b|[=.?)&|])|[ ]*if\b")
 ARROW, ARM_ENDS = or_bracket("=>"), ",;"
-# What a block begins with that is under a condition, and what the block of a function does.
-CONDITION, FUNCTION = re.compile(r"\b(?:if|else|match|while|for)\b|=>"), re.compile(r"\bfn\s+\w")
+# What a block begins with that is under a condition.
+CONDITION = re.compile(r"\b(?:if|else|match|while|for)\b|=>")
 # What stands before the bracket of a macro, where an arrow may mean anything.
 MACRO = re.compile(r"\w!\s*\w*\s*\Z")
 
@@ -89,6 +90,8 @@ class Source:
             parts += [code[at:match.start()], blank(code[match.start():end])]
             at = end
         self.code = "".join([*parts, code[at:]])
+        kind, ends = SIGNATURE
+        self.bodies = {self.end(match.end(), ends) for match in kind.finditer(self.code)}
 
     def end(self, at: int, ends: re.Pattern[str]) -> int:
         """The first place from here on where one of these ends is, or the bracket that closes what is around. What is between
@@ -162,10 +165,9 @@ class Source:
                 if arrow < at:
                     return begin, arrow + 2
                 begin = self.begin(bracket)
-                opening = self.code[begin:bracket]
-                if FUNCTION.search(opening):
+                if bracket in self.bodies:
                     return None
-                if CONDITION.search(opening):
+                if CONDITION.search(self.code, begin, bracket):
                     return begin, bracket + 1
             at, bracket = bracket, self.bracket(bracket)
         return None
