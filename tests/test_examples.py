@@ -97,3 +97,21 @@ def test_asm_writes_a_file(tmp_path: Path) -> None:
     assert file.read_bytes() == bytes.fromhex(digits.stdout.decode())
     nowhere = run(["asm", "-o", str(tmp_path / "nowhere/sum.wasm"), "sum.wat"])
     assert (nowhere.returncode, nowhere.stdout) == (1, b"") and b"nowhere/sum.wasm: " in nowhere.stderr
+
+
+@pytest.mark.parametrize("words", [
+    ["asm", "sum.wat"], ["check", "sum.wat"], ["check", "--list", "sum.wat"], ["check", "--task", "sum.wat"],
+    ["run", "hello.wat"], ["--version"]])
+def test_a_full_output_is_a_stream_that_fails(words: list[str]) -> None:
+    """docs/COMMANDS.md: the status is 1, and a line on standard error says why."""
+    with open("/dev/full", "wb") as full:
+        done = subprocess.run(["wasm-shim", *words], executable=built(), cwd=EXAMPLES, stdin=subprocess.DEVNULL, stdout=full,
+                              stderr=subprocess.PIPE, timeout=300, check=False)
+    assert done.returncode == 1
+    assert done.stderr.startswith(b"wasm-shim: standard output: ") and done.stderr.count(b"\n") == 1
+
+
+@pytest.mark.parametrize("words, status", [(["asm"], 3), (["check"], 3), (["run"], 125)])
+def test_a_binary_file_without_end_is_refused(words: list[str], status: int) -> None:
+    """docs/COMMANDS.md: of a binary no more than 262,145 bytes are read."""
+    assert told([*words, "/dev/zero"]) == f"err: refused 9 Limit\nstatus: {status}\n".encode()

@@ -11,13 +11,14 @@ import os
 import signal
 import subprocess
 import sys
+import termios
 import threading
 import time
 from pathlib import Path
 
 import pytest
 
-from suite.live import END_SECONDS, SHORT, Live
+from suite.live import END_SECONDS, SHORT, Caller, Live
 from suite.places import TOP, built
 
 pytestmark = pytest.mark.program
@@ -292,3 +293,24 @@ def test_files_are_callers_too(tmp_path: Path) -> None:
     out.write_bytes(b"of before")
     assert run(*callers(f"{lines}:{out}")) == (0, b"", b"")
     assert out.read_bytes() == (TOP / "examples/first_run.expected").read_bytes()
+
+
+def test_both_files_of_a_caller_may_be_one(tmp_path: Path) -> None:
+    """A terminal, from which lines are read and to which replies are written."""
+    host, theirs = os.openpty()
+    modes = termios.tcgetattr(theirs)
+    modes[1] &= ~termios.OPOST
+    modes[3] &= ~termios.ECHO
+    termios.tcsetattr(theirs, termios.TCSANOW, modes)
+    name = os.ttyname(theirs)
+    with subprocess.Popen([built(), "serve", *callers(f"{name}:{name}")], stdin=subprocess.DEVNULL, stdout=subprocess.PIPE,
+                          stderr=subprocess.PIPE) as program:
+        caller = Caller(host, host)
+        assert caller.ask("state", id="a")["number"] == 4
+        assert caller.ask("gc")["ok"]
+        os.write(host, b"\4")
+        assert program.wait(timeout=END_SECONDS) == 0
+        assert program.stdout is not None and program.stderr is not None
+        assert (program.stdout.read(), program.stderr.read()) == (b"", b"")
+    os.close(host)
+    os.close(theirs)

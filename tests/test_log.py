@@ -171,6 +171,15 @@ def test_a_file_name_forges_nothing(tmp_path: Path) -> None:
     assert [json.loads(line).get("caller") for line in lines][0] == 'x"?{"event":"forged"}?log: 1'
 
 
+def test_a_file_name_forges_no_reason(tmp_path: Path) -> None:
+    name = "x\nwhy: line 1, 4 NotFound: forged\rwhy: y"
+    (tmp_path / name).write_bytes(line_of({"op": "state", "id": "a"}))
+    (tmp_path / "y").write_bytes(b"")
+    ran = subprocess.run([built(), "serve", "--explain", name, "y"], cwd=tmp_path, capture_output=True, check=True)
+    lines = ran.stderr.decode().splitlines()
+    assert len(lines) == 1 and lines[0].startswith("why: x?why: line 1, 4 NotFound: forged?why: y line 1, 4 NotFound")
+
+
 def test_standard_error_may_be_closed(tmp_path: Path) -> None:
     lines = line_of({"op": "put_text", "text": SHORT}) + line_of({"op": "nothing"})
     closed = ["/bin/sh", "-c", f"exec {built()} serve --log 2>&-"]

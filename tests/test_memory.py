@@ -1,7 +1,9 @@
-"""What `serve` keeps in memory, from outside: contents that no task uses, one that many tasks use, and memories of tasks."""
+"""What `serve` keeps in memory, from outside: contents that no task uses, one that many tasks use, those whose tasks are
+refused or deleted, and memories of tasks."""
 from __future__ import annotations
 
 import hashlib
+import json
 import re
 import subprocess
 import sys
@@ -39,16 +41,16 @@ def section(number_of: int, content: bytes) -> bytes:
     return bytes([number_of]) + number(len(content)) + content
 
 
-def module_of(bodies: list[bytes], memory: bytes = b"", data: bytes = b"") -> bytes:
-    """A module of functions that take and return nothing, the first of which is its entry."""
+def module_of(bodies: list[bytes], memory: bytes = b"", data: bytes = b"", entry: bytes = b"_start") -> bytes:
+    """A module of functions that take and return nothing, the first of which is exported under this name, that of an entry."""
     code = number(len(bodies)) + b"".join(number(len(body)) + body for body in bodies)
     return (b"\0asm\1\0\0\0" + section(1, b"\1\x60\0\0") + section(3, number(len(bodies)) + bytes(len(bodies))) + memory
-            + section(7, b"\1\6_start\0\0") + section(10, code) + data)
+            + section(7, b"\1" + number(len(entry)) + entry + b"\0\0") + section(10, code) + data)
 
 
-def module(which: int) -> bytes:
+def module(which: int, entry: bytes = b"_start") -> bytes:
     """A module whose entry returns at once, with a function of very many `nop` that nothing calls."""
-    return module_of([b"\0\x0b", b"\0\x41" + bytes([which]) + b"\x1a" + b"\x01" * SIZE + b"\x0b"])
+    return module_of([b"\0\x0b", b"\0\x41" + bytes([which]) + b"\x1a" + b"\x01" * SIZE + b"\x0b"], entry=entry)
 
 
 def touching() -> bytes:
@@ -65,23 +67,55 @@ def create(id: str, content: bytes, memory: int | None = None) -> dict[str, Any]
     return {"op": "create", "id": id, "config": config(f"sha256:{hashlib.sha256(content).hexdigest()}", memory)}
 
 
-def most_resident(requests: Iterable[dict[str, Any]]) -> float:
-    """The most memory that `serve` has while it does what is asked, one after the other, in MB."""
+def resident(requests: Iterable[dict[str, Any]], refused: int | None = None) -> tuple[float, float]:
+    """The most memory that `serve` has while it does what is asked, one after the other, and what it has then, in MB. Each
+    create is refused with this number, if there is one, and nothing else is."""
     with subprocess.Popen([built(), "serve"], stdin=subprocess.PIPE, stdout=subprocess.PIPE) as program:
         assert program.stdin is not None and program.stdout is not None
         for request in requests:
             program.stdin.write(line_of(request))
             program.stdin.flush()
-            assert b'"ok":true' in program.stdout.readline()
+            reply = json.loads(program.stdout.readline())
+            assert reply.get("number") == (refused if request["op"] == "create" else None), reply
         status = Path(f"/proc/{program.pid}/status").read_text()
-    most = re.search(r"^VmHWM:\s*(\d+) kB$", status, re.MULTILINE)
-    assert most is not None
-    return int(most[1]) / 1000
+    found = [re.search(rf"^{name}:\s*(\d+) kB$", status, re.MULTILINE) for name in ("VmHWM", "VmRSS")]
+    most, now = (int(match[1]) / 1000 for match in found if match is not None)
+    return most, now
+
+
+def most_resident(requests: Iterable[dict[str, Any]], refused: int | None = None) -> float:
+    return resident(requests, refused)[0]
+
+
+def used(content: bytes) -> list[dict[str, Any]]:
+    """Requests that put a content and run a task of it, which is deleted then."""
+    return [put(content), create("a", content), *({"op": op, "id": "a"} for op in ("start", "wait", "delete"))]
 
 
 def test_idle_modules_are_dropped() -> None:
-    assert most_resident(request for content in map(module, range(COUNT)) for request in (
-        put(content), create("a", content), *({"op": op, "id": "a"} for op in ("start", "wait", "delete")))) < MOST
+    assert most_resident(request for content in map(module, range(COUNT)) for request in used(content)) < MOST
+
+
+def test_idle_modules_are_dropped_beside_one_in_use() -> None:
+    """The first that was opened has a task to the end."""
+    first = module(COUNT)
+    begin = [put(first), create("b", first), {"op": "start", "id": "b"}]
+    assert most_resident([*begin, *(request for content in map(module, range(COUNT)) for request in used(content))]) < MOST
+
+
+def test_modules_of_refused_creates_are_dropped() -> None:
+    """They have no entry. docs/PROTOCOL.md says that a create is refused 21 then."""
+    contents = (module(which, b"other") for which in range(COUNT))
+    assert most_resident((request for content in contents for request in (put(content), create("a", content))), 21) < MOST
+
+
+def test_modules_of_deleted_tasks_are_dropped() -> None:
+    """All are in use at a time first."""
+    contents = [module(which) for which in range(COUNT)]
+    made = [request for at, content in enumerate(contents) for request in (put(content), create(f"t{at}", content))]
+    most, now = resident([*made, *({"op": "kill", "id": f"t{at}", "signal": 9} for at in range(COUNT)),
+                          *({"op": "delete", "id": f"t{at}"} for at in range(COUNT))])
+    assert now < MOST < most
 
 
 def test_tasks_share_a_module() -> None:
