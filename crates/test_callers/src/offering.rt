@@ -16,7 +16,7 @@ use std::thread::Threads;
 use task_board::{ExitRecord, Loan};
 
 /// Stores a module whose entry is an endless loop, creates the tasks `a` and `b` of it and starts `a`.
-const BEGIN_LINES: &str =
+pub const BEGIN_LINES: &str =
     r#"{"op":"put","hex":"0061736d0100000001040160000003020100070a01065f737461727400000a0901070003400c000b0b"}
 {"op":"create","id":"a","config":"{\"ociVersion\":\"1.0.2\",\"process\":{\"args\":[\"a\"],\"cwd\":\"/\"},\"annotations\":{\"dev.shim.module\":\"sha256:4ed2cef087a79f7abf368e3903d56c80dd716912cb78b7c9df8a9a8046c5f3a9\"}}"}
 {"op":"create","id":"b","config":"{\"ociVersion\":\"1.0.2\",\"process\":{\"args\":[\"a\"],\"cwd\":\"/\"},\"annotations\":{\"dev.shim.module\":\"sha256:4ed2cef087a79f7abf368e3903d56c80dd716912cb78b7c9df8a9a8046c5f3a9\"}}"}

@@ -15,6 +15,7 @@ use std::test::Fail;
 use std::thread;
 use std::thread::Threads;
 use task_board::{ExitRecord, Loan};
+use test_streams::{STATE, repeated};
 
 /// How many slices each task has to get.
 const FEW_SLICES: u64 = 3;
@@ -56,6 +57,9 @@ pub const BEGIN_ONE: &str =
 {"op":"create","id":"a","config":"{\"ociVersion\":\"1.0.2\",\"process\":{\"args\":[\"a\"],\"cwd\":\"/\"},\"annotations\":{\"dev.shim.module\":\"sha256:4ed2cef087a79f7abf368e3903d56c80dd716912cb78b7c9df8a9a8046c5f3a9\"}}"}
 {"op":"start","id":"a"}
 "#;
+
+/// The last of these lines.
+const START_ONE: &str = "{\"op\":\"start\",\"id\":\"a\"}\n";
 
 /// Kills the task, and waits for it.
 pub const END_ONE: &str = r#"{"op":"kill","id":"a","signal":9}
@@ -245,6 +249,39 @@ fn a_started_task_begins(rt: HostRuntime) -> Result<(), Fail> {
         early: false,
     };
     tell(&rt, rt.alloc(), Story::Sharing(story))
+}
+
+/// Creates a task, asks for the state of no task until the journal has room for one entry more, and starts the
+/// task by that one. None if it does not get on then, or lines come to no end.
+pub fn last_start<R: Row + Send + Sync, W: Threads + Wait + Sync>(
+    rt: &W,
+    alloc: Global,
+    shim: &Shim<R>,
+    gate: &Counted,
+) -> Option<()> {
+    let create = BEGIN_ONE.strip_suffix(START_ONE)?;
+    let mut lines = Vec::new(alloc);
+    lines.extend_from_slice(create.as_bytes()).ok()?;
+    let states = repeated(alloc, STATE, 16_381)?;
+    lines.extend_from_slice(states.as_slice()).ok()?;
+    lines.extend_from_slice(START_ONE.as_bytes()).ok()?;
+    let scripts = [lines.as_slice()];
+    let scripts = scripts.as_slice();
+    let run = move || {
+        side_by_side(rt, alloc, shim, scripts)?;
+        if gate.is_shared(&["a"]) {
+            Some(())
+        } else {
+            None
+        }
+    };
+    with_gated_workers(rt, alloc, shim, 2, gate, run).ok()?
+}
+
+#[test]
+fn the_task_of_the_last_entry_gets_on(rt: HostRuntime) -> Result<(), Fail> {
+    let gate = Counted::new();
+    tell(&rt, rt.alloc(), Story::LastStart(&gate))
 }
 
 /// A gate that holds each slice until a call was answered.

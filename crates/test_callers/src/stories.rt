@@ -8,11 +8,13 @@ use crate::closing::close_beside_two;
 use crate::histories::{four_callers, full_journal, two_callers, two_seats};
 use crate::living::live;
 use crate::offering::{Offered, offering};
-use crate::sharing::{Endless, Holding, asking, sharing};
+use crate::sharing::{Counted, Endless, Holding, asking, last_start, sharing};
 use crate::storm::storm;
 use crate::unread::{StartGate, unread};
 use crate::waking::{Sleepers, waking};
-use crate::workers::{Ends, Meeting, ends_by_workers, large_output, run_by_two};
+use crate::workers::{
+    Ends, Meeting, ends_by_workers, large_output, run_by_two, start_beside_a_sleeper,
+};
 use call_journal::{Cells, Desk, MOST_SEATS, Row, Shim};
 use callers::Driven;
 use slice_workers::OpenGate;
@@ -40,12 +42,16 @@ pub enum Story<'a> {
     TwoWorkers,
     /// The same, with slices that meet at a gate.
     Meeting(&'a Meeting),
+    /// `start_beside_a_sleeper` of `workers`.
+    Beside(&'a Meeting),
     /// `large_output` of `workers`.
     LargeOutput,
     /// `waking`.
     Waking(Sleepers<'a>),
     /// `sharing`.
     Sharing(Endless<'a>),
+    /// `last_start` of `sharing`.
+    LastStart(&'a Counted),
     /// `asking` of `sharing`.
     Holding(&'a Holding),
     /// `offering`.
@@ -89,9 +95,11 @@ fn told<
         Story::Storm => storm(rt, alloc, shim),
         Story::TwoWorkers => run_by_two(rt, alloc, shim, &OpenGate),
         Story::Meeting(gate) => run_by_two(rt, alloc, shim, gate),
+        Story::Beside(gate) => start_beside_a_sleeper(rt, alloc, shim, gate),
         Story::LargeOutput => large_output(rt, alloc, shim),
         Story::Waking(story) => waking(rt, alloc, shim, story),
         Story::Sharing(story) => sharing(rt, alloc, shim, story),
+        Story::LastStart(gate) => last_start(rt, alloc, shim, gate),
         Story::Holding(gate) => asking(rt, alloc, shim, gate),
         Story::Offering(gate) => offering(rt, alloc, shim, gate),
         Story::Ends(gate) => ends_by_workers(rt, alloc, shim, gate),

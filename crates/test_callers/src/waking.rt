@@ -1,5 +1,6 @@
 //! Callers that sleep in a wait, and what wakes them.
 
+use crate::offering::BEGIN_LINES;
 use crate::scripts::{Told, side_by_side};
 use crate::stories::{Story, tell};
 use call_journal::{Row, Shim};
@@ -159,6 +160,34 @@ fn a_full_journal_wakes_those_that_wait(rt: HostRuntime) -> Result<(), Fail> {
         begin: ENDLESS_LINES,
         before: 16_384,
         asked: "",
+        answered: "{\"error\":\"JournalFull\",\"number\":15,\"ok\":false}\n",
+    };
+    tell(&rt, rt.alloc(), Story::Waking(story))
+}
+
+// The last entry is that of a call that is accepted.
+#[test]
+fn a_call_that_fills_the_journal_wakes_those_that_wait(rt: HostRuntime) -> Result<(), Fail> {
+    let story = Sleepers {
+        workers: 1,
+        begin: ENDLESS_LINES,
+        before: 16_380,
+        asked: "{\"op\":\"state\",\"id\":\"a\"}\n",
+        answered: "{\"error\":\"JournalFull\",\"number\":15,\"ok\":false}\n",
+    };
+    tell(&rt, rt.alloc(), Story::Waking(story))
+}
+
+// The last entry is that of a wait for a created task.
+#[test]
+fn a_wait_that_is_due_and_fills_the_journal_wakes_those_that_wait(
+    rt: HostRuntime,
+) -> Result<(), Fail> {
+    let story = Sleepers {
+        workers: 1,
+        begin: BEGIN_LINES,
+        before: 16_379,
+        asked: "{\"op\":\"wait\",\"id\":\"b\"}\n",
         answered: "{\"error\":\"JournalFull\",\"number\":15,\"ok\":false}\n",
     };
     tell(&rt, rt.alloc(), Story::Waking(story))

@@ -3,6 +3,7 @@
 use crate::checks::check_bytes;
 use crate::scripts::side_by_side;
 use crate::stories::{Story, tell};
+use crate::waking::WAIT_LINE;
 use call_journal::{Row, Shim};
 use slice_workers::{Gate, with_gated_workers, with_workers};
 use std::alloc::Global;
@@ -14,7 +15,7 @@ use std::thread;
 use std::thread::Threads;
 use std::time::Clock;
 use task_board::{ExitRecord, Loan};
-use test_streams::{RUN_ANSWERS, RUN_LINES};
+use test_streams::{RUN_ANSWERS, RUN_LINES, STATE, repeated};
 
 /// A caller starts two tasks and waits for both, while two workers run them by a gate. None if its
 /// lines come to no end.
@@ -93,12 +94,25 @@ fn two_workers_run_two_tasks(rt: HostRuntime) -> Result<(), Fail> {
     tell(&rt, rt.alloc(), Story::TwoWorkers)
 }
 
+/// Starts the second task of RUN_LINES.
+const START_B: &str = "{\"op\":\"start\",\"id\":\"b\"}\n";
+
 /// A gate that holds each slice until a slice of the other of two tasks has begun.
 #[derive(Drop)]
 pub struct Meeting {
     of_a: AtomicU64,
     of_others: AtomicU64,
     missed: AtomicU64,
+}
+
+impl Meeting {
+    fn new() -> Meeting {
+        Meeting {
+            of_a: AtomicU64::new(0),
+            of_others: AtomicU64::new(0),
+            missed: AtomicU64::new(0),
+        }
+    }
 }
 
 /// Waits until a count has come to a number, for at most a million yields. Whether it has.
@@ -131,14 +145,44 @@ impl Gate for Meeting {
 
 #[test]
 fn slices_of_two_tasks_run_at_the_same_time(rt: HostRuntime) -> Result<(), Fail> {
-    let gate = Meeting {
-        of_a: AtomicU64::new(0),
-        of_others: AtomicU64::new(0),
-        missed: AtomicU64::new(0),
-    };
+    let gate = Meeting::new();
     tell(&rt, rt.alloc(), Story::Meeting(&gate))?;
     assert_eq!(rt; gate.missed.load(Ordering::SeqCst), 0);
     assert!(rt; gate.of_a.load(Ordering::SeqCst) > 0);
+    Ok(())
+}
+
+/// A task is started while a caller sleeps in a wait for another one, whose slice a worker holds at the gate
+/// until a second worker has begun a slice of it. None if lines come to no end.
+pub fn start_beside_a_sleeper<R: Row + Send + Sync, W: Threads + Wait + Sync>(
+    rt: &W,
+    alloc: Global,
+    shim: &Shim<R>,
+    gate: &Meeting,
+) -> Option<()> {
+    let (begin, _) = RUN_LINES.split_once(START_B)?;
+    let mut later = repeated(alloc, STATE, 500)?;
+    later.extend_from_slice(START_B.as_bytes()).ok()?;
+    let begin = [begin.as_bytes()];
+    let begin = begin.as_slice();
+    let both = [WAIT_LINE.as_bytes(), later.as_slice()];
+    let both = both.as_slice();
+    let run = move || {
+        side_by_side(rt, alloc, shim, begin)?;
+        if !comes_to(&gate.of_a, 1) {
+            return None;
+        }
+        side_by_side(rt, alloc, shim, both)?;
+        Some(())
+    };
+    with_gated_workers(rt, alloc, shim, 2, gate, run).ok()?
+}
+
+#[test]
+fn a_task_begins_while_a_caller_sleeps(rt: HostRuntime) -> Result<(), Fail> {
+    let gate = Meeting::new();
+    tell(&rt, rt.alloc(), Story::Beside(&gate))?;
+    assert_eq!(rt; gate.missed.load(Ordering::SeqCst), 0);
     Ok(())
 }
 
@@ -159,8 +203,8 @@ impl Gate for Ends {
     }
 }
 
-/// A caller starts two tasks and waits for none, so that workers run them to their ends. None if not both
-/// come to it.
+/// A caller starts two tasks and waits for none, so that workers run them to their ends. It asks for the
+/// state of no task first, so that they sleep by then. None if not both come to their ends.
 pub fn ends_by_workers<R: Row + Send + Sync, W: Threads + Wait + Sync>(
     rt: &W,
     alloc: Global,
@@ -168,7 +212,9 @@ pub fn ends_by_workers<R: Row + Send + Sync, W: Threads + Wait + Sync>(
     gate: &Ends,
 ) -> Option<()> {
     let (begin, _) = RUN_LINES.split_once("{}\n")?;
-    let scripts = [begin.as_bytes()];
+    let mut lines = repeated(alloc, STATE, 500)?;
+    lines.extend_from_slice(begin.as_bytes()).ok()?;
+    let scripts = [lines.as_slice()];
     let scripts = scripts.as_slice();
     let run = move || {
         side_by_side(rt, alloc, shim, scripts)?;
@@ -198,6 +244,11 @@ fn check_ends<W: Threads + Wait + Clock + Abort + Copy + Send + Sync + 'static>(
 #[test]
 fn each_end_is_told_once(rt: HostRuntime) -> Result<(), Fail> {
     check_ends(&rt, rt.alloc(), 2)
+}
+
+#[test]
+fn one_of_four_workers_that_sleep_begins(rt: HostRuntime) -> Result<(), Fail> {
+    check_ends(&rt, rt.alloc(), 4)
 }
 
 // When the first task has ended, the other one is in the queue.
