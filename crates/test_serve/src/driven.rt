@@ -14,17 +14,20 @@ use std::sync::Wait;
 use std::sync::ledger::Blank;
 use wasm_ast::Refusal;
 
-fn cells(alloc: Global) -> Result<Cells, Refusal> {
+/// Cells for a shim.
+pub fn cells(alloc: Global) -> Result<Cells, Refusal> {
     Cells::new(alloc).ok_or(Refusal::NoMemory)
 }
 
-fn desk(alloc: Global) -> Result<Desk, Refusal>
+/// An idle desk for a shim.
+pub fn desk(alloc: Global) -> Result<Desk, Refusal>
     ensures { IfOk result (λ d. AreIdle d) }
 {
     Desk::new(alloc).ok_or(Refusal::NoMemory)
 }
 
-fn blank() -> Blank
+/// A blank for a shim.
+pub fn blank() -> Blank
     ensures { result.parts ≡ most_seats + 1 }
 {
     Blank::new(MOST_SEATS + 1)

@@ -17,6 +17,8 @@ mod log_lines;
 #[cfg(test)]
 mod long_lines;
 #[cfg(test)]
+mod missing;
+#[cfg(test)]
 mod noting;
 #[cfg(test)]
 mod serving;
