@@ -9,6 +9,8 @@ mod driven;
 #[cfg(test)]
 mod driving;
 #[cfg(test)]
+mod leaving;
+#[cfg(test)]
 mod living;
 #[cfg(test)]
 mod log_events;
@@ -22,3 +24,5 @@ mod missing;
 mod noting;
 #[cfg(test)]
 mod serving;
+#[cfg(test)]
+mod waiting;
