@@ -9,7 +9,7 @@ use std::sync::atomic::{AtomicU64, Ordering};
 use std::sync::{Mutex, Wait};
 use std::test::Fail;
 use std::thread::Threads;
-use std::time::{Clock, Duration};
+use std::time::{Clock, Duration, Instant};
 use std::{io, thread};
 use test_streams::{ChunkedReader, NOT_FOUND_LINE, STATE, repeated};
 
@@ -213,4 +213,61 @@ fn no_line_is_answered_after_the_end(rt: HostRuntime) -> Result<(), Fail> {
     thread::sleep(&rt, Duration::from_millis(SLOW));
     check_text(rt, late.text, "");
     check_replies(rt, alloc, owner)
+}
+
+/// How often an end is timed: a busy machine may be slow once.
+const TIMES: usize = 3;
+
+/// How many seconds an end takes if a reply cannot be written, and no other.
+const LAST_SECONDS: u64 = 5;
+
+// How long it takes to serve an owner whose lines end so.
+fn time_of_end<H: Threads + Wait + Clock + Abort + Copy + Send + Sync + 'static>(
+    rt: H,
+    alloc: Global,
+    reader: ChunkedReader<'static>,
+) -> Result<Duration, Fail> {
+    let (text, said) = (empty_text(alloc)?, empty_text(alloc)?);
+    let owner = Asker { questions: 0, text };
+    let mut callers = Vec::new(alloc);
+    callers.push((("in", "out"), reader, writer_of(rt, alloc, owner, None)))?;
+    let work: Work<ChunkedReader<'static>, SlowWriter<H>, Vec<u8>> = Work::Live(callers);
+    let began = Instant::now(&rt)?;
+    let _status = served(rt, alloc, said, Told::Nothing, work);
+    Ok(began.elapsed(&rt)?)
+}
+
+// A reader that is at its end after a question, or fails there.
+fn one_question(fails: bool) -> ChunkedReader<'static> {
+    let line = b"{\"op\":\"state\",\"id\":\"zz\"}\n".as_slice();
+    if fails {
+        ChunkedReader::failing(line)
+    } else {
+        ChunkedReader::new(line)
+    }
+}
+
+// Asserts that an end takes less than that, if no reply is being written.
+fn check_soon<H: Threads + Wait + Clock + Abort + Copy + Send + Sync + 'static>(
+    rt: H,
+    alloc: Global,
+    fails: bool,
+) -> Result<(), Fail> {
+    let last = Duration::from_secs(LAST_SECONDS);
+    let mut least = last;
+    for _ in 0..TIMES {
+        least = least.min(time_of_end(rt, alloc, one_question(fails))?);
+    }
+    assert!(rt; least < last);
+    Ok(())
+}
+
+#[test]
+fn a_good_end_waits_for_nobody(rt: HostRuntime) -> Result<(), Fail> {
+    check_soon(rt, rt.alloc(), false)
+}
+
+#[test]
+fn the_end_of_a_reader_that_fails_waits_for_nobody(rt: HostRuntime) -> Result<(), Fail> {
+    check_soon(rt, rt.alloc(), true)
 }
