@@ -96,8 +96,8 @@ impl<H: Wait + Copy> Eprint for ErrorPage<H> {
 
 /// A page as standard output.
 #[derive(Clone, Copy)]
-struct OutputPage<H> {
-    page: Page<H>,
+pub struct OutputPage<H> {
+    pub page: Page<H>,
 }
 
 impl<H: Wait + Copy> Write for OutputPage<H> {
@@ -111,8 +111,8 @@ impl<H: Wait + Copy> Write for OutputPage<H> {
     }
 }
 
-// The names of scripts.
-fn names(alloc: Global, words: &[&str]) -> Result<&'static [String], AllocError> {
+/// The names of scripts.
+pub fn names(alloc: Global, words: &[&str]) -> Result<&'static [String], AllocError> {
     let mut names = Vec::new(alloc);
     for word in words {
         names.push(String::from_str(alloc, *word)?)?;
@@ -332,5 +332,20 @@ fn reasons_are_said(rt: HostRuntime) -> Result<(), Fail> {
     let reader = ChunkedReader::new(REFUSED_LINES.as_bytes());
     let output = FailingWriter::new(rt.alloc(), usize::MAX);
     let work = Work::Stream("x", reader, output);
+    check_served(rt, rt.alloc(), Told::Reasons, work, said, 0)
+}
+
+/// A name that would begin another line, with other control characters.
+const FORGED_NAME: &str = "x\nwhy: y\r\u{7f}\u{85}";
+
+// A control character in the name of a script is `?`.
+#[test]
+fn a_name_cannot_forge_a_reason(rt: HostRuntime) -> Result<(), Fail> {
+    let said = "why: x?why: y??? line 1, 4 NotFound: state: id \"zz\": no task has that id\n";
+    let mut readers = Vec::new(rt.alloc());
+    readers.push(questions(rt.alloc(), 1, false)?)?;
+    let output = FailingWriter::new(rt.alloc(), usize::MAX);
+    let names = names(rt.alloc(), [FORGED_NAME].as_slice())?;
+    let work = Work::Scripts(names, readers, output);
     check_served(rt, rt.alloc(), Told::Reasons, work, said, 0)
 }
