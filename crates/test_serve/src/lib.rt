@@ -19,6 +19,8 @@ mod log_lines;
 #[cfg(test)]
 mod long_lines;
 #[cfg(test)]
+mod long_replies;
+#[cfg(test)]
 mod many_scripts;
 #[cfg(test)]
 mod missing;
