@@ -30,3 +30,5 @@ mod noting;
 mod serving;
 #[cfg(test)]
 mod waiting;
+#[cfg(test)]
+mod working;
