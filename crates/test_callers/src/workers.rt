@@ -152,6 +152,11 @@ fn slices_of_two_tasks_run_at_the_same_time(rt: HostRuntime) -> Result<(), Fail>
     Ok(())
 }
 
+// The lines of two callers.
+fn two<'a>(one: &'a [u8], other: &'a [u8]) -> [&'a [u8]; 2] {
+    [one, other]
+}
+
 /// A task is started while a caller sleeps in a wait for another one, whose slice a worker holds at the gate
 /// until a second worker has begun a slice of it. None if lines come to no end.
 pub fn start_beside_a_sleeper<R: Row + Send + Sync, W: Threads + Wait + Sync>(
@@ -161,11 +166,15 @@ pub fn start_beside_a_sleeper<R: Row + Send + Sync, W: Threads + Wait + Sync>(
     gate: &Meeting,
 ) -> Option<()> {
     let (begin, _) = RUN_LINES.split_once(START_B)?;
-    let mut later = repeated(alloc, STATE, 500)?;
-    later.extend_from_slice(START_B.as_bytes()).ok()?;
+    let mut lines = Vec::new(alloc);
+    lines.extend_from_slice(WAIT_LINE.as_bytes()).ok()?;
+    let states = repeated(alloc, STATE, 500)?;
+    lines.extend_from_slice(states.as_slice()).ok()?;
+    lines.extend_from_slice(START_B.as_bytes()).ok()?;
+    let (wait, other) = lines.as_slice().split_at(WAIT_LINE.len());
     let begin = [begin.as_bytes()];
     let begin = begin.as_slice();
-    let both = [WAIT_LINE.as_bytes(), later.as_slice()];
+    let both = two(wait, other);
     let both = both.as_slice();
     let run = move || {
         side_by_side(rt, alloc, shim, begin)?;
