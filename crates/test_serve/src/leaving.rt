@@ -136,15 +136,18 @@ struct Leaving {
     status: u8,
 }
 
-// The reader of the other caller.
-fn other_lines(leaving: &Leaving) -> ChunkedReader<'static> {
-    let lines = leaving.lines.as_bytes();
-    if leaving.fails {
+// A reader of these lines, which fails after them or is at its end.
+fn reader_of(text: &'static str, fails: bool) -> ChunkedReader<'static> {
+    let lines = text.as_bytes();
+    if fails {
         ChunkedReader::failing(lines)
     } else {
         ChunkedReader::new(lines)
     }
 }
+
+/// What the streams of the owner are called.
+const OWN_NAMES: (&str, &str) = ("own.in", "own.out");
 
 // The owner and the other caller, with the texts of their replies.
 fn two_callers<H: Copy>(
@@ -153,10 +156,18 @@ fn two_callers<H: Copy>(
     answers: &'static Mutex<Vec<u8>>,
     replies: &'static Mutex<Vec<u8>>,
 ) -> Result<LeavingWork<H>, AllocError> {
-    let owner = ChunkedReader::new(leaving.owner.as_bytes());
-    let mut callers = Vec::new(room.alloc);
-    callers.push(room.caller(("own.in", "own.out"), owner, 1, answers))?;
-    callers.push(room.caller(leaving.names, other_lines(leaving), 0, replies))?;
+    let Leaving {
+        names,
+        lines,
+        fails,
+        owner,
+        ..
+    } = *leaving;
+    let own = room.caller(OWN_NAMES, reader_of(owner, false), 1, answers);
+    let other = room.caller(names, reader_of(lines, fails), 0, replies);
+    let mut callers: Vec<Streams<H>> = Vec::new(room.alloc);
+    callers.push(own)?;
+    callers.push(other)?;
     Ok(Work::Live(callers))
 }
 
