@@ -251,8 +251,8 @@ fn a_started_task_begins(rt: HostRuntime) -> Result<(), Fail> {
     tell(&rt, rt.alloc(), Story::Sharing(story))
 }
 
-/// Creates a task, asks for the state of no task until the journal has room for one entry more, and starts the
-/// task by that one. None if it does not get on then, or lines come to no end.
+/// Creates a task, asks for the state of no task until the journal has room for one entry more, and
+/// starts the task by that one. None if it does not get on then, or lines come to no end.
 pub fn last_start<R: Row + Send + Sync, W: Threads + Wait + Sync>(
     rt: &W,
     alloc: Global,

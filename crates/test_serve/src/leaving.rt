@@ -1,5 +1,5 @@
-//! `serve` with live callers that end before the owner: what they were answered, and what the owner is answered
-//! once their OUTs are closed.
+//! `serve` with live callers that end before the owner: what they were answered, and what the owner
+//! is answered once their OUTs are closed.
 
 use crate::serving::{Page, Told, check_text, empty_text, served};
 use crate::waiting::comes_to;
