@@ -114,19 +114,7 @@ distinct_after (mark.Remove p) t d h = some_distinct (is_other p) t.breaks d
 pub marked_sound :
     (creates : ℕ) (m : Mark) (t : Task) → IsSound creates t → first_refusal (own_refusals (mark_ask m) t) ≡ None
     → IsSound creates (marked m t)
-marked_sound creates m t h none = record {
-  named = h.named;
-  earlier = h.earlier;
-  opens = h.opens;
-  digest = h.digest;
-  fresh = h.fresh;
-  out = h.out;
-  budget = h.budget;
-  pausing = h.pausing;
-  signal = h.signal;
-  stopped = h.stopped;
-  goes = h.goes;
-  end = h.end;
-  few_breaks = few_after m t h.few_breaks none;
-  breaks = distinct_after m t h.breaks none;
-}
+marked_sound creates m t h none =
+    let few : length (marked m t).breaks ≤ max_breakpoints = few_after m t h.few_breaks none in
+    let distinct : AreDistinct (marked m t).breaks = distinct_after m t h.breaks none in
+    assumption

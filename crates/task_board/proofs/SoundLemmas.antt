@@ -185,22 +185,10 @@ earlier_all creates (e ∷ es) each =
     (let below = each.0.earlier in (λ is. omega (arith, below, is)), earlier_all creates es each.1)
 
 later_sound : (creates : ℕ) (t : Task) → IsSound creates t → IsSound (creates + 1) t
-later_sound creates t h = record {
-  named = h.named;
-  earlier = let below = h.earlier in omega (arith, below);
-  opens = h.opens;
-  digest = h.digest;
-  fresh = h.fresh;
-  out = h.out;
-  budget = h.budget;
-  pausing = h.pausing;
-  signal = h.signal;
-  stopped = h.stopped;
-  goes = h.goes;
-  end = h.end;
-  few_breaks = h.few_breaks;
-  breaks = h.breaks;
-}
+later_sound creates t h =
+    let below = h.earlier in
+    let earlier : t.incarnation < creates + 1 = omega (arith, below) in
+    assumption
 
 -- a sound task that is the newest enters a free slot of a board that takes it
 pub put_sound : (s : BoardState) (k : ℕ) (t : Task) → IsBoard s → task_in k s.tasks ≡ None → task_of t.id s.tasks ≡ None
@@ -408,22 +396,9 @@ killed_sound_by creates signal t None is h can =
     idle_sound creates t (Stopped, Some (exit.Kill signal)) h.named h.earlier h.opens h.digest
     h.few_breaks h.breaks (stopped_standing (exit.Kill signal) t.turns (execution_at t t.turns)
     (not_ended t.status t.turns (ended (execution_at t t.turns)) can h.fresh h.goes))
-killed_sound_by creates signal t (Some n) is h can = record {
-  named = h.named;
-  earlier = h.earlier;
-  opens = h.opens;
-  digest = h.digest;
-  fresh = h.fresh;
-  out = h.out;
-  budget = h.budget;
-  pausing = h.pausing;
-  signal = λ x. ap (is_some {T = ℕ}) is;
-  stopped = h.stopped;
-  goes = h.goes;
-  end = h.end;
-  few_breaks = h.few_breaks;
-  breaks = h.breaks;
-}
+killed_sound_by creates signal t (Some n) is h can =
+    let out : is_some (Some signal) ≡ true → is_some t.out ≡ true = λ x. ap (is_some {T = ℕ}) is in
+    assumption
 
 pub killed_sound : (creates : ℕ) (signal : Signal) (t : Task) → IsSound creates t → allowed call.Kill t.status ≡ true
     → IsSound creates (killed signal t)

@@ -139,22 +139,13 @@ budget_of n budget h is = subst (λ (x : ℕ). (1 ≤ x) × (x ≤ max_budget)) 
 
 lent_sound_by : (creates : ℕ) (t : Task) (budget : ℕ) → IsSound creates t → t.status ≡ Running
     → (1 ≤ budget) × (budget ≤ max_budget) → IsSound creates (lent t budget)
-lent_sound_by creates t budget h is low = record {
-  named = h.named;
-  earlier = h.earlier;
-  opens = h.opens;
-  digest = h.digest;
-  fresh = h.fresh;
-  out = λ out. ap takes_turns is;
-  budget = λ n out. budget_of n budget low out;
-  pausing = λ p. refl;
-  signal = λ x. refl;
-  stopped = h.stopped;
-  goes = h.goes;
-  end = h.end;
-  few_breaks = h.few_breaks;
-  breaks = h.breaks;
-}
+lent_sound_by creates t budget h is low =
+    let new = lent t budget in
+    let out : is_some new.out ≡ true → takes_turns new.status ≡ true = λ o. ap takes_turns is in
+    let within : (n : ℕ) → new.out ≡ Some n → (1 ≤ n) × (n ≤ max_budget) = λ n o. budget_of n budget low o in
+    let pausing : new.status ≡ Pausing → is_some new.out ≡ true = λ p. refl in
+    let signal : is_some new.signal ≡ true → is_some new.out ≡ true = λ x. refl in
+    assumption
 
 pub lent_sound :
     (creates : ℕ) (t : Task) (budget : ℕ) → IsSound creates t → can_lend t ≡ true → (1 ≤ budget) × (budget ≤ max_budget)

@@ -1,6 +1,6 @@
 //! Lines and their answers, which many tests share.
 
-use std::alloc::Global;
+use std::alloc::{AllocError, Global};
 
 /// Stores a module whose entry calls `proc_exit` with 7; creates a task, waits for it, ends and deletes it
 /// before it has run; and a line that is no request.
@@ -58,6 +58,17 @@ pub const LONG_LINES: &str =
 {"op":"start","id":"a"}
 "#;
 
+/// Stores a module whose entry writes the first 65,536 bytes of its memory, and runs a task of it.
+const OUTPUT_RUN_LINES: &str =
+    r#"{"op":"put","hex":"0061736d01000000010c0260047f7f7f7f017f60000002230116776173695f736e617073686f745f70726576696577310866645f77726974650000030201010503010002071302065f73746172740001066d656d6f727902000a0f010d00410141004101410810001a0b0b0e010041000b080000000000000100"}
+{"op":"create","id":"a","config":"{\"ociVersion\":\"1.0.2\",\"process\":{\"args\":[\"a\"],\"cwd\":\"/\"},\"annotations\":{\"dev.shim.module\":\"sha256:f3fa7b3ab518be327da65a6f635503d4f6753eff1463df7ce2fe3f3b3b03695a\"}}"}
+{"op":"start","id":"a"}
+{"op":"wait","id":"a"}
+"#;
+
+/// Asks for what it has written. The reply has two digits for each byte.
+const OUTPUT_LINE: &str = "{\"op\":\"output\",\"id\":\"a\",\"stream\":1}\n";
+
 /// A request for a task that is not there.
 pub const STATE: &str = r#"{"op":"state","id":"zz"}"#;
 
@@ -75,4 +86,13 @@ pub fn repeated(alloc: Global, line: &str, count: usize) -> Option<Vec<u8>> {
         lines.push(b'\n').ok()?;
     }
     Some(lines)
+}
+
+/// Lines that run that task, and ask for its output `outputs` times.
+pub fn output_lines(alloc: Global, outputs: usize) -> Result<Vec<u8>, AllocError> {
+    let mut lines = String::from_str(alloc, OUTPUT_RUN_LINES)?;
+    for _ in 0..outputs {
+        lines.push_str(OUTPUT_LINE)?;
+    }
+    Ok(lines.into_bytes())
 }

@@ -1,5 +1,5 @@
 use Rattle.call_journal.specs.Desks.{spot_names}
-use Rattle.test_serve.proofs.driven.drives_noted.Given as goal
+use Rattle.test_lines.proofs.driven.drives_noted.Given as goal
 
 abbrev pub ghosts-driven-J-Row : goal.ghosts-driven-J-Row
 ghosts-driven-J-Row g a = record { cells = a.cells; slots = spot_names a.desk }

@@ -1,5 +1,5 @@
 use Rattle.call_journal.specs.Desks.{spot_names}
-use Rattle.test_serve.proofs.missing.check_missing.Given as goal
+use Rattle.test_lines.proofs.missing.check_missing.Given as goal
 
 abbrev pub ghosts-written_of-J-Row : goal.ghosts-written_of-J-Row
 ghosts-written_of-J-Row g a = record { cells = a.cells; slots = spot_names a.desk }
