@@ -17,7 +17,7 @@ help: ## what each target does
 try: ## serve the first run of examples/ by the program before any proof; two minutes, and then at once
 	tools/try
 
-build: ## prove the program's crates and build it, an hour from nothing
+build: ## prove the program's crates and build it, 35 to 50 minutes from nothing
 	tools/build
 
 build-tests: ## prove and build the programs that only check-all runs
@@ -26,7 +26,7 @@ build-tests: ## prove and build the programs that only check-all runs
 deb: ## the Debian package out/feulgama_VERSION_amd64.deb of the built program, a minute; names packages that are missing
 	PROGRAM=$(PROGRAM) packaging/build-deb
 
-gate: ## what a change has to pass: check-ci, and then all proofs (rt ci), one to one and a half hours
+gate: ## what a change has to pass: check-ci, and then all proofs (rt ci), 55 to 85 minutes
 	.ci/run
 
 check: ## quick tests of the built program: examples, rows, clients; under ten minutes
