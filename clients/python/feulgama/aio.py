@@ -7,6 +7,7 @@ import contextlib
 import json
 import os
 import signal as signals
+import time
 from collections.abc import Coroutine, Mapping, Sequence
 from dataclasses import dataclass
 from types import TracebackType
@@ -14,7 +15,7 @@ from typing import Any, Self, TypeVar
 
 from feulgama import requests
 from feulgama.aio_caller import Asked, Caller
-from feulgama.callers import pipes
+from feulgama.callers import pause, pipes
 from feulgama.calls import Calls
 from feulgama.config import Config, digest_of
 from feulgama.errors import (BadReplyError, ExistsError, FeulgamaError, NoShimError, RefusalError, ShimEndedError,
@@ -121,8 +122,6 @@ class AsyncShim(Calls, Awaits):
         """The result of a request."""
         if request.op == "wait":
             return await self._wait(request)
-        if request.op in CHANGES and self._open:
-            self._open.pop(json.loads(request.line)["id"], None)
         result: T = await self._send(self._running.control, request)
         return result
 
@@ -149,14 +148,33 @@ class AsyncShim(Calls, Awaits):
         task, before = json.loads(request.line)["id"], [asked.future for asked in self._running.control.pending]
         if before:
             await asyncio.wait(before[-1:])
+        begin = time.monotonic()
         while task not in self._open and not self._free and self._ended is None:
-            self._held.append(asyncio.get_running_loop().create_future())
-            await self._held[-1]
+            found = await self._hold(request, task, begin)
+            if found is not None:
+                return found
         if task not in self._open:
             self._open[task] = self._send(self._free.popleft() if self._free else self._running.control, request)
             self._open[task].add_done_callback(retrieved)
         result: T = await asyncio.shield(self._open[task])
         return result
+
+    async def _hold(self, request: Request[T], task: str, begin: float) -> T | None:
+        """Holds a wait for which no caller is free, until one may be; or what it is answered, if that is known before. It
+        asks for the state now and then."""
+        held: Future = asyncio.get_running_loop().create_future()
+        self._held.append(held)
+        while not (await asyncio.wait({held}, timeout=pause(begin)))[0]:
+            found: T | None = await self._send(self._running.control, requests.glance(request, task))
+            if found is not None:
+                return found
+        return None
+
+    def _forget(self, request: Request[Any]) -> None:
+        """Lets the next wait for a task that a request has changed be a new one, since those that were sent before it was
+        answered may tell what was true before it."""
+        if request.op in CHANGES and self._open:
+            self._open.pop(json.loads(request.line).get("id"), None)
 
     def _let_others_wait(self) -> None:
         """Tells those for whom no caller was free that one may be."""
@@ -174,6 +192,7 @@ class AsyncShim(Calls, Awaits):
                 self._bad += [BadReplyError(line)] if line else []
                 self._is_over.set()
             return
+        self._forget(asked.request)
         try:
             result = asked.request.result(line)
         except RefusalError as refused:
@@ -283,10 +302,12 @@ class AsyncShim(Calls, Awaits):
             return await self._killed(task), error
 
     async def _killed(self, task: str) -> State:
-        """Ends a task that may have ended by itself; its state then."""
+        """Ends a task that may have ended by itself; its state then. It ends with its slice, so the wait holds up the caller
+        that controls for a moment only, and all others may be taken."""
         with contextlib.suppress(WrongStatusError):
             await self.kill(task)
-        return await self.wait(task)
+        state: State = await self._send(self._running.control, requests.wait(task))
+        return state
 
     async def _discard(self, task: str) -> None:
         """Ends a task of which nobody wants to know, and deletes it."""

@@ -2,12 +2,14 @@
 from __future__ import annotations
 
 import os
+import time
 from collections.abc import Sequence
 from dataclasses import dataclass
 
 from feulgama.errors import NoShimError
 
 MOST_WAITERS = 129  # a shim has at most 130 callers
+FIRST_PAUSE, SHARE = 1.0, 8
 
 
 @dataclass(frozen=True, slots=True)
@@ -65,3 +67,11 @@ def close(descriptors: Sequence[int]) -> None:
     """Closes some descriptors."""
     for descriptor in descriptors:
         os.close(descriptor)
+
+
+def pause(begin: float, until: float = float("inf")) -> float:
+    """How many seconds a wait for which no caller is free sleeps before it asks for the state: the longer it has waited, the
+    more, since the requests of a shim are counted. `begin` and `until` are moments of the monotonic clock, and it does not
+    sleep beyond `until`."""
+    now = time.monotonic()
+    return max(0.0, min(max(FIRST_PAUSE, (now - begin) / SHARE), until - now))

@@ -18,6 +18,7 @@ from feulgama.debug.debugger import Debugger
 from feulgama.debug.page import page
 from feulgama.debug.terminal import debug, lines_of
 from feulgama.errors import FeulgamaError
+from feulgama.files import write_whole
 from feulgama.lowering import command as lowering
 from feulgama.opening import module_bytes, open_debugger
 from feulgama.program import program, version_of
@@ -89,7 +90,7 @@ def write_timeline(debugger: Debugger, file: Path, turns: int, title: str) -> in
         story = told(debugger, turns, interrupted, Progress())
     finally:
         signal.signal(signal.SIGINT, before)
-    file.write_text(page(story, debugger.symbols, title))
+    write_whole(file, page(story, debugger.symbols, title).encode(errors="backslashreplace"))
     return 0
 
 
@@ -106,6 +107,8 @@ def perform(found: argparse.Namespace) -> int:
     data = module_bytes(found.module, found.shim)
     if found.command == "lower":
         return lowering.run(found, data)
+    if found.command == "timeline" and not found.output.parent.is_dir():
+        raise FeulgamaError(f"there is no folder {found.output.parent} for the page")
     with Shim(found.shim, workers=1) as shim:
         opened = open_debugger(shim, found.module, data, found.args, dict(found.env), found.memory)
         with contextlib.closing(opened.timeline):
@@ -123,8 +126,17 @@ def give_up_output() -> None:
             os.dup2(nowhere.fileno(), sys.stdout.fileno())
 
 
+def complete_streams() -> None:
+    """Puts a file that has nothing and keeps nothing in the place of each standard stream that is closed. It is opened under
+    the number of that stream, which a pipe would take otherwise."""
+    for name, mode in (("stdin", "r"), ("stdout", "w"), ("stderr", "w")):
+        if getattr(sys, name) is None:
+            setattr(sys, name, open(os.devnull, mode))
+
+
 def main(words: Sequence[str] | None = None) -> int:
     """Does what the command line asks for; its status. What goes wrong is a line on standard error."""
+    complete_streams()
     top = parser()
     found = top.parse_args(words)
     if found.command is None and not found.version:

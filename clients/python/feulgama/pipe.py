@@ -8,6 +8,9 @@ import signal
 import subprocess
 import threading
 import time
+import weakref
+from collections.abc import Sequence
+from typing import IO
 
 from feulgama.callers import pipes
 from feulgama.errors import BadReplyError, NoShimError, ShimEndedError, TimedOutError, ended
@@ -38,19 +41,17 @@ class Pipe:
         made.close_given()
         self._control = made.ends[0]
         self._in, self._out = self._control.lines, self._control.replies
-        # Closed too if this object is given up, which ends the shim.
         self._streams = os.fdopen(self._in, "wb", 0), os.fdopen(self._out, "rb", 0)
-        self.said = Said()
-        self._listener = threading.Thread(target=self._listen, daemon=True)
-        self._listener.start()
         self._waits = Waits(made.ends[1:])
+        # No thread holds this object, so that it can be given up without a `close`.
+        self._given_up = weakref.finalize(self, give_up, self._streams, self._waits)
+        self._given_up.atexit = False
+        self.said = Said()
+        self._listener = threading.Thread(target=self.said.listen, args=(self._process.stderr,), daemon=True)
+        self._listener.start()
         self._ending = threading.Lock()
         self._ended: ShimEndedError | None = None
         self._unanswered = self._controlled = 0
-
-    def _listen(self) -> None:
-        if self._process.stderr is not None:
-            self.said.listen(self._process.stderr)
 
     @property
     def asked(self) -> int:
@@ -150,12 +151,12 @@ class Pipe:
 
     # Waits.
 
-    def ask_wait(self, task: str, line: bytes, timeout: float | None) -> Wait:
-        """The wait for a task, by a caller of its own. Raises TimedOutError if none is free in time."""
-        found = self._waits.ask(task, line, timeout) if self._ended is None else None
-        if found is None:
-            raise self.end("the shim has ended")
-        return found
+    def ask_wait(self, task: str, line: bytes, seconds: float) -> Wait | None:
+        """The wait for a task, by a caller of its own; None if none is free within so many seconds."""
+        if self._ended is None:
+            with contextlib.suppress(EOFError):
+                return self._waits.ask(task, line, seconds)
+        raise self.end("the shim has ended")
 
     def answer_to(self, wait: Wait, timeout: float | None) -> bytes:
         """The line that answers a wait. Raises TimedOutError if it does not come in time."""
@@ -166,8 +167,9 @@ class Pipe:
         except EOFError as error:
             raise self.end("the shim has ended") from error
 
-    def changes(self, line: bytes) -> None:
-        """Takes note of a line that changes a task, before it is sent: the next wait for that task is a new one."""
+    def changed(self, line: bytes) -> None:
+        """Takes note of a line that has changed a task: the next wait for that task is a new one, since those that were sent
+        before this line was answered may tell what was true before it."""
         self._waits.forget(line)
 
     def _stop(self) -> int | None:
@@ -201,3 +203,12 @@ class Pipe:
         self.end("the shim was closed")
         self._waits.close(LAST_WORDS)
         self._streams[1].close()
+        self._given_up.detach()
+
+
+def give_up(streams: Sequence[IO[bytes]], waits: Waits) -> None:
+    """Closes the pipes of a shim that nobody can close any more, which ends it."""
+    for stream in streams:
+        with contextlib.suppress(OSError):
+            stream.close()
+    waits.give_up()

@@ -3,6 +3,7 @@ from __future__ import annotations
 
 import itertools
 import json
+from typing import TypeVar
 
 from feulgama.config import Config
 from feulgama.errors import InterferenceError
@@ -14,6 +15,7 @@ from feulgama.operation import Request as Request
 JOURNAL = 16_384  # how many requests a shim answers
 CHANGES = frozenset({"create", "start", "pause", "resume", "kill", "delete", "step"})  # what changes a task
 IDS = itertools.count()
+T = TypeVar("T")
 
 
 def line_of(op: str, **keys: object) -> bytes:
@@ -80,6 +82,13 @@ def ran_of(state: State, stdout: bytes, stderr: bytes) -> Ran:
 
 def inspection(reply: Reply) -> Inspection:
     return Inspection(reply["id"], reply["n"], tuple(map(frame, reply["frames"])))
+
+
+def glance(wait: Request[T], task: str) -> Request[T | None]:
+    """What a `wait` for a task would be answered now, asked by a `state`; None if it would sleep."""
+    def read(reply: Reply) -> T | None:
+        return None if reply["status"] in (Status.RUNNING, Status.PAUSING) else wait.read(reply)
+    return Request(wait.op, line_of("state", id=task), read)
 
 
 # The table of requests, in the order of the page. Each is also a method of Shim and of AsyncShim (feulgama/calls.py).

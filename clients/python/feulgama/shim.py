@@ -12,6 +12,7 @@ from typing import Self, TypeVar
 
 from feulgama import requests
 from feulgama.answering import Answering
+from feulgama.callers import pause
 from feulgama.config import Config, digest_of
 from feulgama.confinement import Confinement
 from feulgama.errors import BadReplyError, ExistsError, FeulgamaError, TimedOutError, WrongStatusError
@@ -81,9 +82,9 @@ class Shim(Answering):
     def call(self, request: Request[T]) -> T:
         """The result of a request."""
         with self._lock:
-            if request.op in CHANGES:
-                self._pipe.changes(request.line)
             line = self._pipe.exchange(request.line)
+            if request.op in CHANGES:
+                self._pipe.changed(request.line)
             return self._result(request, line, self._pipe.line())
 
     def _result(self, request: Request[T], line: bytes, asked: Line) -> T:
@@ -95,12 +96,17 @@ class Shim(Answering):
             raise bad
 
     def wait(self, task: str, timeout: float | None = None) -> State:
-        """Waits until a task is not running; its state. Other threads may ask meanwhile. Raises TimedOutError after so
-        many seconds."""
-        request, until = requests.wait(task), None if timeout is None else time.monotonic() + timeout
+        """Waits until a task is not running; its state. Other threads may ask meanwhile. While no caller is free for it, it
+        asks for the state now and then. Raises TimedOutError after so many seconds."""
+        request, begin = requests.wait(task), time.monotonic()
+        until = begin + (float("inf") if timeout is None else timeout)
         try:
-            found = self._pipe.ask_wait(task, request.line, timeout)
-            line = self._pipe.answer_to(found, None if until is None else max(0.0, until - time.monotonic()))
+            while (found := self._pipe.ask_wait(task, request.line, pause(begin, until))) is None:
+                if time.monotonic() >= until:
+                    raise TimedOutError("no caller was free for the wait")
+                if (state := self.call(requests.glance(request, task))) is not None:
+                    return state
+            line = self._pipe.answer_to(found, None if timeout is None else max(0.0, until - time.monotonic()))
         except TimedOutError as error:
             raise TimedOutError(f"task {task} still runs after {timeout} seconds") from error
         return self._result(request, line, Line(found.name, found.number))
@@ -109,10 +115,10 @@ class Shim(Answering):
         """The results of several requests, sent without waiting for the replies between them. A request that is
         refused has its RefusalError as result, and does not stop the others."""
         with self._lock:
+            lines = self._pipe.exchange_many(b"".join(request.line for request in asked), len(asked)).split(b"\n")
             for request in asked:
                 if request.op in CHANGES:
-                    self._pipe.changes(request.line)
-            lines = self._pipe.exchange_many(b"".join(request.line for request in asked), len(asked)).split(b"\n")
+                    self._pipe.changed(request.line)
             last = self._pipe.line()
         results: list[T | FeulgamaError] = []
         for back, (request, line) in zip(range(len(asked) - 1, -1, -1), zip(asked, lines)):
@@ -177,10 +183,11 @@ class Shim(Answering):
             return self._killed(task), error
 
     def _killed(self, task: str) -> State:
-        """Ends a task that may have ended by itself; its state then."""
+        """Ends a task that may have ended by itself; its state then. It ends with its slice, so the wait holds up the caller
+        that controls for a moment only, and all others may be taken."""
         with contextlib.suppress(WrongStatusError):
             self.kill(task)
-        return self.wait(task)
+        return self.call(requests.wait(task))
 
     def _discard(self, task: str) -> None:
         """Ends a task of which nobody wants to know, and deletes it."""

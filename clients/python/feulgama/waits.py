@@ -11,7 +11,6 @@ from collections.abc import Sequence
 from dataclasses import dataclass, field
 
 from feulgama.callers import Ends, close
-from feulgama.errors import TimedOutError
 
 CHUNK = 1 << 16
 
@@ -44,19 +43,20 @@ class Waits:
         self._is_over, self.asked = False, 0
         self._waiters = list(self._free)
         self._reader: threading.Thread | None = None
+        self._is_read = self._is_given_up = False
 
-    def ask(self, task: str, line: bytes, timeout: float | None) -> Wait | None:
-        """The wait for a task, which is sent once a caller is free for it; None if the shim has ended."""
+    def ask(self, task: str, line: bytes, seconds: float) -> Wait | None:
+        """The wait for a task, which is sent once a caller is free for it; None if none is within so many seconds. Raises
+        EOFError if the shim has ended, and RuntimeError if no thread can be started that reads the replies."""
         with self._changed:
             if self._reader is None:
-                self._reader = threading.Thread(target=self._read, daemon=True)
-                self._reader.start()
+                self._start_reader()
             if task in self._open:
                 return self._open[task]
-            if not self._changed.wait_for(lambda: self._free or self._is_over, timeout):
-                raise TimedOutError(f"no caller was free to wait for {task} within {timeout} seconds")
-            if self._is_over:
+            if not self._changed.wait_for(lambda: self._free or self._is_over, seconds):
                 return None
+            if self._is_over:
+                raise EOFError
             waiter = self._free.pop()
             waiter.asked, self.asked = waiter.asked + 1, self.asked + 1
             waiter.wait = self._open[task] = wait = Wait(waiter.ends.name, waiter.asked)
@@ -64,21 +64,31 @@ class Waits:
             os.write(waiter.ends.lines, line)
         return wait
 
+    def _start_reader(self) -> None:
+        reader = threading.Thread(target=self._read, daemon=True)
+        reader.start()
+        self._reader, self._is_read = reader, True
+
     def forget(self, line: bytes) -> None:
-        """Lets the next wait for a task be a new one: this line changes it."""
+        """Lets the next wait for a task be a new one: this line has changed it."""
         with self._changed:
             if self._open:
                 self._open.pop(json.loads(line).get("id"), None)
 
     def _read(self) -> None:
         """Reads the replies of all callers until the shim ends."""
-        with selectors.DefaultSelector() as selector:
-            for waiter in self._waiters:
-                selector.register(waiter.ends.replies, selectors.EVENT_READ, waiter)
-            while selector.get_map():
-                for key, _ in selector.select():
-                    if not self._take(key.data, os.read(key.fd, CHUNK)):
-                        selector.unregister(key.fd)
+        try:
+            with selectors.DefaultSelector() as selector:
+                for waiter in self._waiters:
+                    selector.register(waiter.ends.replies, selectors.EVENT_READ, waiter)
+                while selector.get_map():
+                    for key, _ in selector.select():
+                        if not self._take(key.data, os.read(key.fd, CHUNK)):
+                            selector.unregister(key.fd)
+        finally:
+            with self._changed:
+                self._is_read = False
+                self._close_pipes()
 
     def _take(self, waiter: Waiter, data: bytes) -> bool:
         """Takes what a caller was sent; whether there may be more."""
@@ -102,5 +112,16 @@ class Waits:
             self._is_over = True
         if self._reader is not None:
             self._reader.join(seconds)
-        if self._reader is None or not self._reader.is_alive():
-            close([end for waiter in self._waiters for end in (waiter.ends.lines, waiter.ends.replies)])
+        self.give_up()
+
+    def give_up(self) -> None:
+        """Closes the pipes, or lets their reader do it once it has read their ends: those of a shim that is ended."""
+        with self._changed:
+            self._is_given_up = True
+            self._close_pipes()
+
+    def _close_pipes(self) -> None:
+        """Closes the pipes once, if nobody reads them and nobody asks for more."""
+        if self._is_given_up and not self._is_read:
+            waiters, self._waiters = self._waiters, []
+            close([end for waiter in waiters for end in (waiter.ends.lines, waiter.ends.replies)])

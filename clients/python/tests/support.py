@@ -1,11 +1,16 @@
 """What the tests share: which shim they run, modules, and the second reading of the standards."""
 from __future__ import annotations
 
+import contextlib
 import json
 import os
 import random
+import resource
+import sys
+from collections.abc import Iterator
 from pathlib import Path
 from typing import Any
+from unittest import mock
 
 from tests.reference_shim import Machine, callers, frames, programs, wasm
 
@@ -56,6 +61,18 @@ OFTEN = b"""(module (type $v (func))
 # It drops a number, and then executes `unreachable`: its third turn is a trap.
 TRAPPING_BYTES = bytes.fromhex("0061736d01000000" "010401600000" "03020100" "070a01065f73746172740000"
                                "0a0801060041011a000b")
+
+
+@contextlib.contextmanager
+def full_disk(most: int) -> Iterator[None]:
+    """Lets no file get more than so many bytes. Python keeps no half of what it compiles then."""
+    limits = resource.getrlimit(resource.RLIMIT_FSIZE)
+    with mock.patch.object(sys, "dont_write_bytecode", True), mock.patch.dict(os.environ, PYTHONDONTWRITEBYTECODE="1"):
+        resource.setrlimit(resource.RLIMIT_FSIZE, (most, limits[1]))
+        try:
+            yield
+        finally:
+            resource.setrlimit(resource.RLIMIT_FSIZE, limits)
 
 
 def machine_of(data: bytes) -> Any:

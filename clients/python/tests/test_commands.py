@@ -8,8 +8,11 @@ import os
 import subprocess
 import sys
 import tempfile
+import threading
 import unittest
 from pathlib import Path
+from types import FrameType
+from typing import Any
 from unittest import mock
 
 import feulgama
@@ -19,7 +22,7 @@ from feulgama.debug.memory import BadFormatError, Format, dump, format_of
 from feulgama.debug.terminal import answer, plain, words_for
 from feulgama.errors import FeulgamaError
 from feulgama.opening import open_debugger
-from tests.support import CLIENT, SHIM, TRAPPING_BYTES
+from tests.support import CLIENT, SHIM, TRAPPING_BYTES, full_disk
 
 MODULE = CLIENT / "examples/words.wasm"
 
@@ -54,6 +57,39 @@ class Terminal(unittest.TestCase):
         with contextlib.redirect_stdout(shown), mock.patch.object(self.commands, "answer", lambda _line: ["\x1b]0;title\x07"]):
             answer(self.commands, "info output")
         self.assertEqual(shown.getvalue(), "\\x1b]0;title\\x07\n")
+
+    def test_bytes_that_are_not_text(self) -> None:
+        """A user is told, and goes on."""
+        fault = UnicodeDecodeError("utf-8", b"\xff", 0, 1, "invalid start byte")
+        with contextlib.redirect_stdout(io.StringIO()) as shown, mock.patch.dict(sys.modules, prompt_toolkit=None), \
+                mock.patch("builtins.input", side_effect=[fault, "info memory", EOFError]):
+            self.assertEqual(list(terminal.asked(self.commands)), ["info memory"])
+        self.assertEqual(shown.getvalue(), "a command is text in UTF-8, and this line is not\n")
+
+    def test_surrogates_are_shown(self) -> None:
+        """By prompt_toolkit they come in the place of bytes that are not text."""
+        with contextlib.redirect_stdout(io.TextIOWrapper(io.BytesIO(), "utf-8")) as written:
+            answer(self.commands, "\udcff")
+        written.seek(0)
+        self.assertEqual(written.read(), "\\udcff is no command; see help\n")
+
+    def test_signals_that_come_while_one_is_taken(self) -> None:
+        """The handler may run between any two lines of itself, and of what takes the interrupt back."""
+        interrupted = self.commands.timeline.interrupted
+
+        def again(_frame: FrameType, _event: str, _of: Any) -> Any:
+            interrupted.set()
+            return again
+
+        def take() -> None:
+            sys.settrace(again)
+            interrupted.set()
+            interrupted.clear()
+            sys.settrace(None)
+        thread = threading.Thread(target=take, daemon=True)
+        thread.start()
+        thread.join(10)
+        self.assertFalse(thread.is_alive())
 
     def test_places(self) -> None:
         self.assertEqual(self.answer("break count:3")[0].split(" <")[0], "breakpoint 1 at 3:3")
@@ -174,6 +210,12 @@ class Terminal(unittest.TestCase):
     def test_a_file_that_cannot_be_written(self) -> None:
         for name in ("/none/saved", "a\0b"):
             self.assertTrue(self.fault(f"save breakpoints {name}").startswith(f"{name}: "), name)
+        file = Path(self.enterContext(tempfile.TemporaryDirectory())) / "saved"
+        file.write_text("break count\n")
+        self.answer("break decimal")
+        with full_disk(10):
+            self.assertEqual(self.fault(f"save breakpoints {file}"), f"{file}: File too large")
+        self.assertEqual(file.read_text(), "break count\n")
 
     def test_texts_up_to_the_end_of_memory(self) -> None:
         data = 250 * b"a" + b"\0b\0"
@@ -234,6 +276,9 @@ class Terminal(unittest.TestCase):
             self.assertEqual(list(history.load_history_strings()), [])
             history.append_string("info memory")
             self.assertEqual(history.get_strings(), ["info memory"])
+        with mock.patch.object(terminal, "HISTORY", f"{folder}/history"), mock.patch("prompt_toolkit.PromptSession") as made:
+            terminal.reader(self.commands)
+        made.call_args.kwargs["history"].append_string("break \udcff")
 
     def test_a_user_without_a_folder(self) -> None:
         """`feulgama lower` of a container may be run by one, without the variable HOME."""

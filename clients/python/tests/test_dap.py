@@ -10,6 +10,7 @@ import tempfile
 import threading
 import time
 import unittest
+from collections.abc import Iterator
 from typing import Any
 from unittest import mock
 
@@ -309,20 +310,47 @@ class Instructions(WithEditor):
 class Moves(unittest.TestCase):
     """A session without a process of its own."""
 
-    def test_a_move_that_fails(self) -> None:
-        """It was answered already, so the editor is told that the run stands still again."""
+    def setUp(self) -> None:
         shim = self.enterContext(feulgama.Shim(SHIM))
         file = FOLDER / "words.wasm"
-        debugger = open_debugger(shim, file, file.read_bytes(), [], {}, None)
-        written = io.BytesIO()
-        session = Session(Writer(written), lambda _given: debugger)
-        session.answer({"command": "launch", "arguments": {}})
-        with mock.patch.object(debugger, "go_back", side_effect=TooFarError("it is too far")):
-            session.answer({"command": "reverseContinue"})
-        written.seek(0)
-        told = list(iter(lambda: read_message(written), None))
-        self.assertEqual([found.get("event", "") for found in told], ["", "initialized", "", "output", "stopped"])
-        self.assertEqual([told[3]["body"]["output"], told[4]["body"]["description"]], ["it is too far\n", "it is too far"])
+        self.debugger = open_debugger(shim, file, file.read_bytes(), [], {}, None)
+        self.written = io.BytesIO()
+        self.session = Session(Writer(self.written), lambda _given: self.debugger)
+        self.session.answer({"command": "launch", "arguments": {}})
+
+    def told(self) -> list[Body]:
+        """What was written after the launch."""
+        self.written.seek(0)
+        return list(iter(lambda: read_message(self.written), None))[2:]
+
+    def test_a_move_that_fails(self) -> None:
+        """It was answered already, so the editor is told that the run stands still again."""
+        with mock.patch.object(self.debugger, "go_back", side_effect=TooFarError("it is too far")):
+            self.session.answer({"command": "reverseContinue"})
+        told = self.told()
+        self.assertEqual([found.get("event", "") for found in told], ["", "output", "stopped"])
+        self.assertEqual([told[1]["body"]["output"], told[2]["body"]["description"]], ["it is too far\n", "it is too far"])
+
+    def test_a_pause_that_is_answered_at_once(self) -> None:
+        """It breaks off nothing that comes after it."""
+        is_set: list[bool] = []
+
+        def messages() -> Iterator[Body | None]:
+            yield {"command": "pause"}
+            is_set.append(self.debugger.timeline.interrupted.is_set())
+            yield None
+
+        def put(message: Body | None) -> None:
+            if message is not None:
+                self.session.answer(message)
+        with mock.patch("feulgama.dap.adapter.read_message", side_effect=messages()):
+            read_all(io.BytesIO(), self.session, mock.Mock(put=put))
+        self.assertEqual((is_set, self.told()[0]["command"]), ([False], "pause"))
+
+    def test_a_restart_after_the_end_was_asked_for(self) -> None:
+        self.session.interrupt()
+        self.session.answer({"command": "restart"})
+        self.assertEqual([found["event"] for found in self.told() if found["type"] == "event"][-2:], ["exited", "terminated"])
 
 
 @pytest.mark.program

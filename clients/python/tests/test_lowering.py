@@ -26,7 +26,7 @@ from feulgama.wasm.module import HEAD, decode
 from feulgama.wasm.names import names_of
 from tests import float_modules as f
 from tests import written_modules as m
-from tests.support import EXIT_7, FOREVER_BYTES, SHIM, TOP, TRAPPING_BYTES
+from tests.support import EXIT_7, FOREVER_BYTES, SHIM, TOP, TRAPPING_BYTES, full_disk
 from tests.written_modules import Written
 
 BUILD = TOP / "sdk/c/build-helpers"
@@ -434,6 +434,15 @@ class Command(unittest.TestCase):
             with feulgama.Shim(SHIM) as shim:
                 said.append(shim.run(self.out.read_bytes()).stdout)
         self.assertEqual(said, [m.xorshift(1, 8), m.xorshift(1, 8), m.xorshift(2, 8)])
+
+    def test_a_full_disk(self) -> None:
+        """The module stays that was to be lowered where it is, and nothing else is left."""
+        before = self.file.read_bytes()
+        with full_disk(100):
+            self.assertEqual(self.call("-o", str(self.file))[::2], (1, "feulgama: [Errno 27] File too large\n"))
+        self.assertEqual((self.file.read_bytes(), list(self.file.parent.iterdir())), (before, [self.file]))
+        self.assertEqual(self.call("-o", str(self.file))[0], 0)
+        self.assertEqual(self.file.read_bytes(), lower(before).data)
 
     def test_refused(self) -> None:
         status, out, err = self.call("--refuse", "random_get", "-o", str(self.out))

@@ -1,9 +1,10 @@
-"""Modules that cannot be debugged: the message is the shim's own reason."""
+"""Modules that cannot be debugged: the message is the shim's own reason. The streams of a command, and the files it writes."""
 from __future__ import annotations
 
 import contextlib
 import io
 import os
+import stat
 import subprocess
 import sys
 import tempfile
@@ -16,6 +17,7 @@ import pytest
 import feulgama
 from feulgama import said
 from feulgama.cli import main
+from feulgama.files import write_whole
 from feulgama.opening import NeedsMemoryError, RefusedError, open_debugger
 from tests.support import CLIENT, IS_REFERENCE, SHIM
 
@@ -103,6 +105,16 @@ class Refused(unittest.TestCase):
                                      stdin=subprocess.DEVNULL, stdout=stream, stderr=subprocess.PIPE, text=True)
             self.assertEqual((run.returncode, run.stderr), (1, f"feulgama: {why}\n"))
 
+    def test_streams_that_are_closed(self) -> None:
+        """Standard output alone, or all three, whose numbers pipes of the shim would have then."""
+        lowered = Path(self.enterContext(tempfile.TemporaryDirectory())) / "lowered"
+        for closed, words in ((">&-", ["--version"]), (">&- <&- 2>&-", ["lower", "-o", str(lowered), str(WORDS)]),
+                              (">&-", ["debug", str(WORDS)]), ("<&- >&- 2>&-", ["debug", str(WORDS)])):
+            run = subprocess.run(["sh", "-c", f'exec "$@" {closed}', "sh", sys.executable, "-m", "feulgama", "--shim", SHIM,
+                                  *words], cwd=CLIENT, check=False, capture_output=True, input=b"continue\n")
+            self.assertEqual((run.returncode, run.stdout, run.stderr), (0, b"", b""), (closed, words))
+        self.assertTrue(lowered.is_file())
+
     def test_a_command_that_is_broken_off(self) -> None:
         """By Ctrl-C, before there is a debugger that takes it."""
         with mock.patch("feulgama.cli.open_debugger", side_effect=KeyboardInterrupt), \
@@ -115,3 +127,62 @@ class Refused(unittest.TestCase):
             main(["debug"])
         self.assertEqual(end.exception.code, 2)
         self.assertTrue(told.getvalue().endswith("the following arguments are required: MODULE\n"), told.getvalue())
+
+
+class Files(unittest.TestCase):
+    """A file is written whole, or stays as it was."""
+
+    def setUp(self) -> None:
+        self.folder = Path(self.enterContext(tempfile.TemporaryDirectory()))
+        self.file = self.folder / "file"
+
+    def test_modes(self) -> None:
+        """A new file has what the mask leaves, and one that takes the place of another the other's."""
+        self.addCleanup(os.umask, os.umask(0o027))
+        write_whole(self.file, b"one")
+        self.assertEqual(stat.S_IMODE(self.file.stat().st_mode), 0o640)
+        self.file.chmod(0o755)
+        write_whole(self.file, b"two")
+        self.assertEqual(stat.S_IMODE(self.file.stat().st_mode), 0o755)
+        self.assertEqual((self.file.read_bytes(), list(self.folder.iterdir())), (b"two", [self.file]))
+
+    def test_a_link(self) -> None:
+        """It stays, and what it names is written."""
+        link = self.folder / "link"
+        link.symlink_to("file")
+        for data in (b"one", b"two"):
+            write_whole(link, data)
+            self.assertEqual((os.readlink(link), self.file.read_bytes()), ("file", data))
+
+    def test_what_is_no_regular_file(self) -> None:
+        """A pipe, and standard output, which is a file that others have open."""
+        os.mkfifo(self.file)
+        reader = os.open(self.file, os.O_RDONLY | os.O_NONBLOCK)
+        self.addCleanup(os.close, reader)
+        write_whole(self.file, b"data")
+        self.assertEqual((os.read(reader, 10), stat.S_ISFIFO(self.file.stat().st_mode)), (b"data", True))
+        script = "from pathlib import Path; from feulgama.files import write_whole; " \
+                 "write_whole(Path('/dev/stdout'), b'data')"
+        with open(self.folder / "out", "wb") as out:
+            subprocess.run([sys.executable, "-c", script], cwd=CLIENT, check=True, stdout=out)
+            self.assertEqual(os.fstat(out.fileno()).st_size, 4)
+
+    def test_one_that_may_not_be_written(self) -> None:
+        for name, kind in (("none/file", FileNotFoundError), (".", IsADirectoryError)):
+            with self.assertRaises(kind) as found:
+                write_whole(self.folder / name, b"data")
+            self.assertEqual(found.exception.filename, str(self.folder / name))
+
+    def test_a_page_without_a_folder(self) -> None:
+        """It is told before the run."""
+        with mock.patch("feulgama.cli.open_debugger", side_effect=AssertionError), \
+                contextlib.redirect_stderr(io.StringIO()) as told:
+            self.assertEqual(main(["--shim", SHIM, "timeline", "-o", str(self.folder / "none/page"), str(WORDS)]), 1)
+        self.assertEqual(told.getvalue(), f"feulgama: there is no folder {self.folder}/none for the page\n")
+
+    def test_one_that_is_broken_off(self) -> None:
+        """By Ctrl-C."""
+        self.file.write_bytes(b"before")
+        with mock.patch("os.replace", side_effect=KeyboardInterrupt), self.assertRaises(KeyboardInterrupt):
+            write_whole(self.file, b"after")
+        self.assertEqual((self.file.read_bytes(), list(self.folder.iterdir())), (b"before", [self.file]))

@@ -1,6 +1,7 @@
 """The library over one shim: requests, results, refusals."""
 from __future__ import annotations
 
+import gc
 import os
 import time
 import unittest
@@ -13,7 +14,7 @@ import pytest
 import feulgama
 from feulgama import requests
 from feulgama.model import Cause, Exit, Status
-from tests.support import EXIT_7, SHIM, module_of
+from tests.support import EXIT_7, FOREVER_BYTES, SHIM, module_of
 
 BROKEN = Path(__file__).with_name("broken_shim.py")
 
@@ -205,6 +206,26 @@ class Absent(unittest.TestCase):
         with mock.patch("subprocess.Popen", side_effect=KeyboardInterrupt), self.assertRaises(KeyboardInterrupt):
             feulgama.Shim(SHIM)
         self.assertEqual(os.listdir("/proc/self/fd"), before)
+
+    def test_one_that_is_given_up(self) -> None:
+        """Nobody closes it, and it ends nevertheless. No pipe is left, whether or not a task was waited for."""
+        gc.collect()
+        before = os.listdir("/proc/self/fd")
+        for waits in (False, True):
+            shim = feulgama.Shim(SHIM)
+            task = shim.create(feulgama.Config(shim.ensure(FOREVER_BYTES))).id
+            shim.start(task)
+            if waits:
+                with self.assertRaises(feulgama.TimedOutError):
+                    shim.wait(task, timeout=0.05)
+            process, threads = shim._pipe._process, [shim._pipe._listener, shim._pipe._waits._reader]
+            del shim
+            gc.collect()
+            self.assertEqual(process.wait(5), 0)
+            for thread in threads:
+                if thread is not None:
+                    thread.join(5)
+            self.assertEqual(os.listdir("/proc/self/fd"), before)
 
     def test_not_there(self) -> None:
         with self.assertRaises(feulgama.NoShimError):

@@ -7,8 +7,8 @@ import re
 import shutil
 import subprocess
 import tempfile
-import threading
 import unittest
+from collections.abc import Callable
 from contextlib import redirect_stderr
 from pathlib import Path
 from typing import Any
@@ -20,8 +20,11 @@ import feulgama
 from feulgama.cli import main
 from feulgama.debug import calls_over_time
 from feulgama.debug.calls_over_time import Story, told
+from feulgama.debug.running import Interrupt
+from feulgama.debug.timeline import Why, size_of
+from feulgama.debug.track import Track
 from feulgama.opening import open_debugger
-from tests.support import CLIENT, SHIM, TRAPPING_BYTES, callers, machine_of, some_programs, wasm
+from tests.support import CLIENT, SHIM, TRAPPING_BYTES, callers, full_disk, machine_of, some_programs, wasm
 
 WORDS = CLIENT / "examples/words.wasm"
 BROWSER = shutil.which("chromium")
@@ -32,7 +35,7 @@ Calls = list[tuple[int, int, int, int]]
 def story_of(data: bytes, most: int = 100_000_000) -> Story:
     with feulgama.Shim(SHIM) as shim:
         debugger = open_debugger(shim, Path("module"), data, [], {}, None)
-        story = told(debugger, most, threading.Event(), lambda _turn, _turns: None)
+        story = told(debugger, most, Interrupt(), lambda _turn, _turns: None)
         debugger.timeline.close()
     return story
 
@@ -102,6 +105,50 @@ class Exact(unittest.TestCase):
         self.assertEqual([text for _, _, text in story.output], ["35\n"])
 
 
+class BrokenOff(unittest.TestCase):
+    """Ctrl-C ends one of the three runs, and what is shown is exact up to there."""
+
+    def setUp(self) -> None:
+        shim = self.enterContext(feulgama.Shim(SHIM))
+        self.debugger = open_debugger(shim, Path("module"), WORDS.read_bytes(), [], {}, None)
+        self.addCleanup(self.debugger.timeline.close)
+        self.interrupted = self.debugger.timeline.interrupted
+
+    def story(self, turns: int, progress: Callable[[int, int], None] = lambda _turn, _turns: None) -> Story:
+        """The story of the run. Its calls have to be those of so many turns."""
+        story, second = told(self.debugger, 10_000, self.interrupted, progress), SecondReading(WORDS.read_bytes(), turns)
+        self.assertEqual(story.turns, turns)
+        self.assertEqual(sorted((one.func, one.depth, one.begin, one.end) for one in story.calls), sorted(second.calls))
+        return story
+
+    def test_the_first(self) -> None:
+        seek = self.debugger.timeline.seek
+
+        def broken_off(_turn: int) -> Why:
+            seek(2000)
+            self.interrupted.set()
+            return Why.INTERRUPTED
+        with mock.patch.object(self.debugger.timeline, "seek", broken_off):
+            story = self.story(2000)
+        self.assertEqual(story.end, "not ended; the first 2000 turns are shown")
+        self.assertEqual(story.memory, [(0, 65_536)])
+
+    def test_the_second(self) -> None:
+        def progress(turn: int, _turns: int) -> None:
+            if turn >= 1000:
+                self.interrupted.set()
+        self.assertEqual(self.story(1024, progress).end, "exit, exit 9 after 8069 turns; the first 1024 turns are shown")
+
+    def test_the_third(self) -> None:
+        def size(track: Track) -> int:
+            self.interrupted.set()
+            return size_of(track)
+        with mock.patch.object(calls_over_time, "size_of", size):
+            story = self.story(8069)
+        self.assertEqual(story.end, "exit, exit 9; memory and output are those of the first 0")
+        self.assertEqual((story.memory, story.output), ([(0, 65_536)], []))
+
+
 @pytest.mark.slow
 class Long(unittest.TestCase):
     """At the real limit: `fib` calls itself, as in `fib(n - 1) + fib(n - 2)`."""
@@ -152,6 +199,14 @@ class Page(unittest.TestCase):
         self.file = self.folder / "words.html"
         with redirect_stderr(io.StringIO()):
             self.assertEqual(main(["--shim", SHIM, "timeline", "-o", str(self.file), str(WORDS)]), 0)
+
+    def test_a_full_disk(self) -> None:
+        """The page that was there stays."""
+        before = self.file.read_bytes()
+        with full_disk(100), redirect_stderr(io.StringIO()) as said:
+            self.assertEqual(main(["--shim", SHIM, "timeline", "-o", str(self.file), str(WORDS)]), 1)
+        self.assertEqual(said.getvalue().splitlines()[-1], "feulgama: [Errno 27] File too large")
+        self.assertEqual((self.file.read_bytes(), list(self.folder.iterdir())), (before, [self.file]))
 
     def test_it_needs_no_network(self) -> None:
         text = self.file.read_text()

@@ -9,18 +9,22 @@ import sys
 import threading
 import time
 import unittest
+from collections.abc import Callable
 from pathlib import Path
 from unittest import mock
 
 import pytest
 
 import feulgama
+from feulgama import requests
 from feulgama.aio import WAITERS
 from feulgama.model import Cause, Status
+from feulgama.waits import Wait, Waiter
 from tests.support import CLIENT, EXIT_7, FOREVER_BYTES, SHIM, module_of
 
 OLD, CLIENT_TO_KILL = (Path(__file__).with_name(name) for name in ("old_shim.py", "killed_client.py"))
 NO_MEMORY = feulgama.NoMemoryError("output", {"error": "NoMemory", "number": 17})
+OTHER_FOREVER = FOREVER_BYTES + b"\0\2\1a"  # with a custom section, so that it is another content
 SOON = 0.3
 KILLS = 50
 MARK = "FEULGAMA_TEST_OF_A_KILLED_CLIENT"
@@ -104,6 +108,94 @@ class Threads(unittest.TestCase):
         self.shim.kill(tasks[0])
         thread.join(10)
         self.assertEqual([state.id for state in states], [tasks[2]])
+
+    def take_all_callers(self) -> None:
+        """Lets each caller wait for a task that does not end."""
+        for _ in range(2):
+            with self.assertRaises(feulgama.TimedOutError):
+                self.shim.wait(self.endless(), timeout=0.05)
+
+    def outcome(self, work: Callable[[], object]) -> object:
+        """What something comes to within ten seconds, its result or what it raises; None if to nothing."""
+        found: list[object] = []
+
+        def do() -> None:
+            try:
+                found.append(work())
+            except BaseException as error:
+                found.append(error)
+        thread = threading.Thread(target=do, daemon=True)
+        thread.start()
+        thread.join(10)
+        return found[0] if found else None
+
+    def test_a_run_that_takes_too_long_while_no_caller_is_free(self) -> None:
+        self.take_all_callers()
+        self.assertIsInstance(self.outcome(lambda: self.shim.run(OTHER_FOREVER, timeout=0.05)), feulgama.TimedOutError)
+        self.shim.put(OTHER_FOREVER)
+
+    def test_a_run_that_is_broken_off_while_no_caller_is_free(self) -> None:
+        self.take_all_callers()
+        with mock.patch.object(self.shim, "wait", side_effect=KeyboardInterrupt):
+            self.assertIsInstance(self.outcome(lambda: self.shim.run(OTHER_FOREVER)), KeyboardInterrupt)
+        self.shim.put(OTHER_FOREVER)
+
+    def test_a_run_that_ends_while_no_caller_is_free(self) -> None:
+        """Its state is asked for instead, as is that of a task that is waited for."""
+        self.take_all_callers()
+        self.assertEqual(self.outcome(lambda: self.shim.run(EXIT_7).exit.code), 7)
+        task = self.endless()
+        self.shim.pause(task)
+        self.assertEqual(self.outcome(lambda: self.shim.wait(task, timeout=5).status), Status.PAUSED)
+        with self.assertRaisesRegex(feulgama.NotFoundError, "wait is refused"):
+            self.shim.wait("nobody", timeout=5)
+
+    def resumed(self, resume: Callable[[str], object]) -> None:
+        """Resumes a task; just before that another thread waits for it. That wait is answered before the change, and its
+        answer is read after it."""
+        task, pipe, others = self.endless(), self.shim._pipe, list[Wait | None]()
+        self.shim.pause(task)
+        self.shim.wait(task, timeout=10)
+        take, send = pipe._waits._take, pipe._begin
+        is_read, goes_on = threading.Event(), threading.Event()
+        self.addCleanup(goes_on.set)
+
+        def take_late(waiter: Waiter, data: bytes) -> bool:
+            is_read.set()
+            goes_on.wait(10)
+            return take(waiter, data)
+
+        def send_late(count: int) -> None:
+            others.append(pipe.ask_wait(task, requests.wait(task).line, 10))
+            is_read.wait(10)
+            send(count)
+
+        with mock.patch.object(pipe._waits, "_take", take_late):
+            with mock.patch.object(pipe, "_begin", send_late):
+                resume(task)
+            after = pipe.ask_wait(task, requests.wait(task).line, 10)
+            goes_on.set()
+            self.shim.kill(task)
+            told = [b"" if wait is None else wait.reply.result(10) for wait in (others[0], after)]
+        self.assertEqual([line.partition(b'"status":"')[2][:7] for line in told], [b"paused\"", b"stopped"])
+
+    def test_a_wait_that_another_sends_before_a_change(self) -> None:
+        """What it is told was true before the change, so it is not told whoever waits after that."""
+        self.resumed(self.shim.resume)
+        self.resumed(lambda task: self.shim.call_all([requests.resume(task)]))
+
+    def test_a_thread_that_cannot_be_started(self) -> None:
+        """The next wait tries once more."""
+        task = self.endless()
+        self.shim.kill(task)
+        with mock.patch("threading.Thread.start", side_effect=RuntimeError), self.assertRaises(RuntimeError):
+            self.shim.wait(task)
+        self.assertEqual(self.shim.wait(task, timeout=10).status, Status.STOPPED)
+
+    def test_a_thread_that_was_never_started(self) -> None:
+        with feulgama.Shim(SHIM) as shim, self.assertRaises(RuntimeError), \
+                mock.patch("threading.Thread.start", side_effect=RuntimeError):
+            shim.wait("a")
 
     def test_a_run_that_takes_too_long(self) -> None:
         with self.assertRaises(feulgama.TimedOutError) as found:
@@ -230,6 +322,41 @@ class Asyncio(unittest.IsolatedAsyncioTestCase):
             await self.shim.run(FOREVER_BYTES, timeout=0.05)
         ran = found.exception.ran
         self.assertTrue(ran is not None and ran.exit.cause is Cause.KILL)
+
+    async def test_runs_while_no_caller_is_free(self) -> None:
+        """One takes too long, one ends, and one is cancelled. None leaves a task."""
+        async with feulgama.AsyncShim(SHIM, waiters=1) as shim:
+            foreign = (await shim.create(feulgama.Config(await shim.ensure(FOREVER_BYTES)))).id
+            await shim.start(foreign)
+            waiting = asyncio.create_task(shim.wait(foreign))
+            await asyncio.sleep(SOON)
+            with self.assertRaises(feulgama.TimedOutError):
+                await asyncio.wait_for(shim.run(OTHER_FOREVER, timeout=0.05), 10)
+            self.assertEqual((await asyncio.wait_for(shim.run(EXIT_7), 10)).exit.code, 7)
+            cancelled = asyncio.create_task(shim.run(OTHER_FOREVER))
+            await asyncio.sleep(SOON)
+            cancelled.cancel()
+            await asyncio.wait({cancelled})
+            for work in list(shim._cleaning):
+                await asyncio.wait_for(work, 10)
+            self.assertEqual(set(await shim.gc()), {feulgama.digest_of(EXIT_7), feulgama.digest_of(OTHER_FOREVER)})
+        await asyncio.gather(waiting, return_exceptions=True)
+
+    async def test_a_wait_that_another_sends_before_a_change(self) -> None:
+        """What it is told was true before the change, so it is not told whoever waits after that."""
+        task = await self.endless()
+        await self.shim.pause(task)
+        await self.shim.wait(task)
+        resumed = asyncio.create_task(self.shim.resume(task))
+        await asyncio.sleep(0)
+        early = asyncio.get_running_loop().create_future()  # the answer is here, and nobody has been told of it
+        self.shim._open[task] = early
+        await resumed
+        last = asyncio.create_task(self.shim.wait(task))
+        await asyncio.sleep(0)
+        early.set_result(feulgama.State(task, Status.PAUSED, 0))
+        await self.shim.kill(task)
+        self.assertEqual((await last).status, Status.STOPPED)
 
     @pytest.mark.program
     async def test_reasons(self) -> None:

@@ -16,6 +16,7 @@ import feulgama
 from feulgama.config import Config, digest_of
 from feulgama.debug import counted_body, dwarf, watched_module, writes
 from feulgama.debug.commands import Commands
+from feulgama.debug.running import Interrupt
 from feulgama.debug.track import Track
 from feulgama.debug.watched_module import NotWatchableError, Watch, watched
 from feulgama.debug.writes import Writes
@@ -78,7 +79,7 @@ class Exact(unittest.TestCase):
         self.assertGreater(self.found, 100)
 
     def compare(self, data: bytes, second: SecondReading, address: int, size: int) -> None:
-        module, interrupted = decode(data), threading.Event()
+        module, interrupted = decode(data), Interrupt()
         config = Config(digest_of(module.sent), ARGS, ENV)
         wanted = second.changes(address, size)
         with feulgama.Shim(SHIM) as shim:

@@ -2,13 +2,13 @@
 at are those of tasks of the same module and config, in a shim of the debugger's own."""
 from __future__ import annotations
 
-import threading
 from collections.abc import Callable
 
 from feulgama.attach.link import Link
 from feulgama.attach.live import LiveTrack
 from feulgama.config import Config
 from feulgama.debug.hunt import Search
+from feulgama.debug.running import Interrupt
 from feulgama.debug.timeline import Timeline, Why
 from feulgama.debug.track import Track
 from feulgama.debug.trail import Trail
@@ -51,7 +51,7 @@ class LiveTimeline(Timeline):
             self._say(f"a task of the debugger's own makes {way} turns to get there; Ctrl-C breaks it off")
         return found
 
-    def _take(self, turn: int, interrupted: threading.Event) -> Why:
+    def _take(self, turn: int, interrupted: Interrupt) -> Why:
         was_behind = self.live.turn <= turn
         found = super()._take(turn, interrupted)
         if was_behind and self.live.turn > turn and not interrupted.is_set():

@@ -24,9 +24,9 @@ def read_all(stream: BinaryIO, session: Session, found: Messages) -> None:
     last: BadMessageError | None = None
     try:
         while (message := read_message(stream)) is not None:
-            found.put(message)
             if message.get("command") in BREAKS_OFF:
-                session.interrupt()
+                session.interrupt()  # before the message is taken: a pause takes the interrupt back
+            found.put(message)
             if message.get("command") == "disconnect":
                 return
     except BadMessageError as error:

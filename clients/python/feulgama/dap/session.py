@@ -125,6 +125,7 @@ class Session:
             self._moved("breakpoint", self.debugger.go_on())
 
     def restart(self, request: Message, _given: Body) -> None:
+        self.debugger.timeline.interrupted.clear()  # a `terminate` before has set it
         self.debugger.timeline.seek(0)
         self.configuration_done(request, {})
 

@@ -1,16 +1,15 @@
 """A run as the calls that it makes: for each frame its function, and the turns at which it begins and ends."""
 from __future__ import annotations
 
-import threading
 from collections.abc import Callable, Sequence
 from dataclasses import dataclass, field
 
 from feulgama.debug.debugger import Debugger
 from feulgama.debug.look import Look
-from feulgama.debug.running import Watch
+from feulgama.debug.running import Interrupt, Watch
 from feulgama.debug.timeline import size_of
 from feulgama.debug.track import Track
-from feulgama.model import Frame, Stream
+from feulgama.model import Exit, Frame, Stream
 from feulgama.requests import inspect
 from feulgama.wasm import opcodes as op
 from feulgama.wasm.module import Module
@@ -41,19 +40,34 @@ class Story:
     output: list[tuple[int, int, str]] = field(default_factory=list)
 
 
-def told(debugger: Debugger, most: int, interrupted: threading.Event, progress: Callable[[int, int], None]) -> Story:
-    """The story of a run, of at most so many turns."""
+def told(debugger: Debugger, most: int, interrupted: Interrupt, progress: Callable[[int, int], None]) -> Story:
+    """The story of a run, of at most so many turns. It is run three times: to know how far, for its calls, and for memory and
+    streams. An interrupt ends one of these where it is, and is taken back then."""
     timeline = debugger.timeline
     debugger.stops_at_traps = False
     timeline.seek(most)
+    interrupted.clear()
     turns = timeline.turn
-    end = str(timeline.exit) if timeline.exit is not None else f"not ended; the first {turns} turns are shown"
-    story = Story(1 if turns <= EXACT else max(1, turns // SAMPLES), turns, end)
+    story = Story(1 if turns <= EXACT else max(1, turns // SAMPLES), turns)
     teller = Teller(story, debugger.symbols.module, timeline.new_track)
     while not teller.is_over() and not interrupted.is_set():
         progress(teller.go_on(interrupted), turns)
-    teller.close()
+    interrupted.clear()
+    read = teller.close(interrupted)
+    story.end = end_of(timeline.exit, turns, story.turns, read)
     return story
+
+
+def end_of(exit_: Exit | None, turns: int, shown: int, read: int) -> str:
+    """How a run ended that was followed for some turns, and which of them are shown: of memory and streams those up to the
+    turn `read`."""
+    if exit_ is None:
+        end = f"not ended; the first {shown} turns are shown"
+    elif shown < turns:
+        end = f"{exit_} after {turns} turns; the first {shown} turns are shown"
+    else:
+        end = str(exit_)
+    return end if read == shown else f"{end}; memory and output are those of the first {read}"
 
 
 class Teller:
@@ -73,7 +87,7 @@ class Teller:
         """Whether the task has come to the last turn."""
         return self._track.exit is not None or self._track.turn >= self._story.turns
 
-    def go_on(self, interrupted: threading.Event) -> int:
+    def go_on(self, interrupted: Interrupt) -> int:
         """Goes on for some turns, as far as there are any; where it is then."""
         track, story, watch = self._track, self._story, Watch(interrupted)
         if story.step == 1:
@@ -119,9 +133,9 @@ class Teller:
             self._open.append(Call(func, depth, turn, turn))
             self._story.calls.append(self._open[-1])
 
-    def close(self) -> None:
+    def close(self, interrupted: Interrupt) -> int:
         """The end of the story: what is open ends there. Memory and streams are read by another task, which goes from one
-        turn that may have changed them to the next."""
+        turn that may have changed them to the next. Answers up to which turn: the last one, if nobody interrupts."""
         story, track = self._story, self._new_track()
         story.turns = self._track.turn
         for call in self._open:
@@ -129,13 +143,21 @@ class Teller:
         self._track.drop()
         sizes = {stream: 0 for stream in Stream}
         for turn in sorted({*self._told, story.turns}):
-            track.advance(turn, Watch())
-            size = size_of(track)
-            if not story.memory or story.memory[-1][1] != size:
-                story.memory.append((turn, size))
-            for stream, before in sizes.items():
-                written = track.output(stream)
-                if len(written) > before:
-                    story.output.append((turn, int(stream), written[before:].decode(errors="replace")))
-                    sizes[stream] = len(written)
+            track.advance(turn, Watch(interrupted))
+            self._read(track, sizes)
+            if track.turn < turn and track.exit is None:
+                break
+        read = track.turn
         track.drop()
+        return read
+
+    def _read(self, track: Track, sizes: dict[Stream, int]) -> None:
+        """Takes note of memory and streams at the turn of a task, if these have more than so many bytes."""
+        story, size = self._story, size_of(track)
+        if not story.memory or story.memory[-1][1] != size:
+            story.memory.append((track.turn, size))
+        for stream, before in sizes.items():
+            written = track.output(stream)
+            if len(written) > before:
+                story.output.append((track.turn, int(stream), written[before:].decode(errors="replace")))
+                sizes[stream] = len(written)

@@ -14,6 +14,7 @@ from feulgama.debug.memory import dump, format_of
 from feulgama.debug.numbers import number_of
 from feulgama.debug.timeline import Why
 from feulgama.errors import FeulgamaError
+from feulgama.files import write_whole
 from feulgama.model import Frame, Stream
 
 Lines = Iterable[str]
@@ -226,7 +227,7 @@ class Commands:
         lines = [saved(found) for found in self.debugger.breakpoints.values()]
         lines += [f"watch {found.words}" for found in self.debugger.watchpoints.values()]
         try:
-            Path(file.strip()).write_text("".join(f"{line}\n" for line in lines), encoding="utf-8")
+            write_whole(Path(file.strip()), "".join(f"{line}\n" for line in lines).encode())
         except OSError as error:
             raise BadCommandError(f"{file.strip()}: {error.strerror}") from error
         except ValueError as error:  # a NUL in the name, or half a character in a line

@@ -6,13 +6,12 @@ but each time that it meets a breakpoint they are asked again.
 """
 from __future__ import annotations
 
-import threading
 import time
 from collections.abc import Callable
 from dataclasses import dataclass
 
 from feulgama.debug.look import Look, Place
-from feulgama.debug.running import Watch
+from feulgama.debug.running import Interrupt, Watch
 from feulgama.debug.track import STRIDE, Track
 
 MOST_BREAKS = 32
@@ -48,7 +47,7 @@ def at_any(breaks: frozenset[Place]) -> Search:
 class Hunt:
     """A search on its way. `hits` is how many turns it has met that may be the ones looked for."""
 
-    def __init__(self, search: Search, interrupted: threading.Event, is_patient: bool) -> None:
+    def __init__(self, search: Search, interrupted: Interrupt, is_patient: bool) -> None:
         self._is_dense = search.is_dense()
         self._breaks = frozenset() if self._is_dense else search.breaks
         self._interrupted = interrupted

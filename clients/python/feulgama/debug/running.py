@@ -7,7 +7,6 @@ how fast the task runs and on how late a sleeping client wakes up, so both are m
 from __future__ import annotations
 
 import contextlib
-import threading
 import time
 from dataclasses import dataclass, field
 
@@ -24,11 +23,31 @@ LEAST_MARGIN, MOST_MARGIN, MOST_LAST_TURNS = 0.01, 0.5, 4_000_000
 RUN_ROOM, LAST_REQUESTS = 256, 32
 
 
+class Interrupt:
+    """Whether what is going on has to end. The handler of a signal or another thread may set it. It has no lock: an event of
+    `threading` has one, and a handler would wait for it for ever while its own thread holds it."""
+
+    def __init__(self) -> None:
+        self._is_set = False
+
+    def set(self) -> None:
+        """Asks for the end."""
+        self._is_set = True
+
+    def clear(self) -> None:
+        """Takes that back."""
+        self._is_set = False
+
+    def is_set(self) -> bool:
+        """Whether the end was asked for."""
+        return self._is_set
+
+
 @dataclass(frozen=True, slots=True)
 class Watch:
-    """What ends a move early: an event, and a moment of the clock. `since` is when the move began, or when something
+    """What ends a move early: an interrupt, and a moment of the clock. `since` is when the move began, or when something
     came of it last: the longer ago that is, the more rarely it is looked at."""
-    interrupted: threading.Event = field(default_factory=threading.Event)
+    interrupted: Interrupt = field(default_factory=Interrupt)
     since: float = field(default_factory=time.monotonic)
     deadline: float = float("inf")
 
@@ -87,7 +106,7 @@ class Gait:
 
 
 def rest(seconds: float, watch: Watch) -> None:
-    """Sleeps, unless the move is over. An event's own `wait` has a lock, which the handler of a signal cannot take."""
+    """Sleeps, unless the move is over."""
     end = time.monotonic() + seconds
     while (left := end - time.monotonic()) > 0 and not watch.is_over():
         time.sleep(min(left, LONGEST_SLEEP))

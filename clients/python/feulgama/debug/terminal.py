@@ -18,8 +18,10 @@ from feulgama.errors import FeulgamaError, NoShimError, ShimEndedError
 
 PROMPT = "(feulgama) "
 HISTORY = os.path.expanduser("~/.feulgama_history")
-# What a module writes, and its names, may have characters that a terminal takes for commands. They are shown by number.
+# What a module writes, and its names, may have characters that a terminal takes for commands. They are shown by number. So are
+# surrogates, which stand for bytes that a user has typed and that are not UTF-8.
 CONTROLS = {number: f"\\x{number:02x}" for number in (*range(32), *range(127, 160)) if chr(number) not in "\t\n"}
+CONTROLS |= {number: f"\\u{number:04x}" for number in range(0xD800, 0xE000)}
 TAKES_PLACE = {"break", "b", "until", "u", "list", "l", "disassemble", "dis"}
 
 
@@ -49,6 +51,8 @@ def asked(commands: Commands) -> Iterator[str]:
             yield read()
         except KeyboardInterrupt:
             continue
+        except UnicodeDecodeError:
+            print("a command is text in UTF-8, and this line is not", flush=True)
         except EOFError:
             return
 
@@ -83,7 +87,7 @@ def reader(commands: Commands) -> Callable[[], str]:
                 return []
 
         def store_string(self, string: str) -> None:
-            with contextlib.suppress(OSError):
+            with contextlib.suppress(OSError, UnicodeError):
                 super().store_string(string)
 
     session: PromptSession[str] = PromptSession(history=Kept(HISTORY), completer=Words(),

@@ -6,7 +6,6 @@ is behind is taken, or a new one, and makes turns up to the one that was asked f
 from __future__ import annotations
 
 import enum
-import threading
 import time
 from collections.abc import Callable
 
@@ -14,7 +13,7 @@ from feulgama import requests
 from feulgama.config import Config
 from feulgama.debug.hunt import LONG_WAY, Hunt, Search
 from feulgama.debug.look import Look, look_of
-from feulgama.debug.running import Watch
+from feulgama.debug.running import Interrupt, Watch
 from feulgama.debug.shims import Shims
 from feulgama.debug.track import TooFarError, Track
 from feulgama.debug.trail import Trail, leave_trail
@@ -60,7 +59,7 @@ class Timeline:
         self._end: tuple[int, Exit] | None = None
         self._note_end(self._track)
         self.turn = self._track.turn
-        self.interrupted = threading.Event()
+        self.interrupted = Interrupt()
         self.progress: Callable[[], None] = lambda: None
         self.searching: Callable[[], None] = lambda: None
         self._shim, self._writes = shim, dict[tuple[int, int, bool], Writes]()
@@ -169,10 +168,10 @@ class Timeline:
     def _here(self) -> Track:
         """The task, at this turn."""
         while self._track.turn != self.turn:
-            self._take(self.turn, threading.Event())
+            self._take(self.turn, Interrupt())
         return self._track
 
-    def _take(self, turn: int, interrupted: threading.Event) -> Why:
+    def _take(self, turn: int, interrupted: Interrupt) -> Why:
         """Lets the task that is nearest behind a turn, or a new one, go on to it and be the one that is shown."""
         track = self._behind(turn) or self.new_track()
         try:

@@ -6,7 +6,6 @@ so does the first one after it. A pass goes at the speed of a run, so many times
 from __future__ import annotations
 
 import contextlib
-import threading
 from collections.abc import Callable
 from dataclasses import replace
 
@@ -14,6 +13,7 @@ from feulgama import requests
 from feulgama.config import Config, digest_of
 from feulgama.debug.hunt import Hunt, at_any
 from feulgama.debug.look import Look
+from feulgama.debug.running import Interrupt
 from feulgama.debug.running import Watch as Moment
 from feulgama.debug.shims import FRESH, Shims
 from feulgama.debug.track import Track
@@ -37,7 +37,7 @@ class InterruptedSearchError(NotWatchableError):
 class Search:
     """How a search is broken off, and what is told of it on its way."""
 
-    def __init__(self, interrupted: threading.Event, progress: Callable[[], None]) -> None:
+    def __init__(self, interrupted: Interrupt, progress: Callable[[], None]) -> None:
         self.interrupted, self._progress = interrupted, progress
 
     def go_on(self) -> None:
@@ -217,7 +217,7 @@ class Writes:
         fit = [one for one in self._passes if one.after <= turn and (one.knows(turn) or one.stops_up_to(turn) <= MANY)]
         return max(fit, key=lambda one: (one.knows(turn), one.after)) if fit else None
 
-    def last(self, turn: int, interrupted: threading.Event) -> int | None:
+    def last(self, turn: int, interrupted: Interrupt) -> int | None:
         """The last write among the turns up to one: how many turns are made after it. None if there is none."""
         search = Search(interrupted, self._progress)
         passed = self._begun(turn)
@@ -242,11 +242,11 @@ class Writes:
             return None
         return max(0, turn - WINDOW * (self._answers[0] - self._answers[1]))
 
-    def next(self, turn: int, interrupted: threading.Event) -> int | None:
+    def next(self, turn: int, interrupted: Interrupt) -> int | None:
         """The first write after a turn, in the same way; None if there is none up to the end of the run."""
         return self.next_up_to(turn, FAR, interrupted)
 
-    def next_up_to(self, turn: int, end: int, interrupted: threading.Event) -> int | None:
+    def next_up_to(self, turn: int, end: int, interrupted: Interrupt) -> int | None:
         """The first write after a turn and up to another one."""
         search = Search(interrupted, self._progress)
         passed = self._begun(turn)

@@ -6,6 +6,7 @@ import sys
 from pathlib import Path
 
 from feulgama.errors import FeulgamaError
+from feulgama.files import write_whole
 from feulgama.lowering.additions import SEED
 from feulgama.lowering.errors import LoweringError
 from feulgama.lowering.lower import Lowered, Options, lower
@@ -51,7 +52,7 @@ def run(words: argparse.Namespace, data: bytes) -> int:
     if words.list:
         print(listing(found), file=sys.stderr if is_written else sys.stdout)
     if words.output is not None and not is_written:
-        words.output.write_bytes(found.data)
+        write_whole(words.output, found.data)
     elif is_written:
         if sys.stdout.isatty():
             raise FeulgamaError("a module is not written to a terminal; -o OUT names a file")
