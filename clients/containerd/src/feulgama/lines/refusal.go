@@ -12,6 +12,7 @@ const (
 	WrongStatus = 11
 	Busy        = 12
 	JournalFull = 15
+	NoMemory    = 17
 	BadConfig   = 10
 )
 

@@ -26,6 +26,15 @@ const (
 	Full   = Head + "full"   // answers nothing more once it has started, as a shim whose journal is full
 )
 
+// Slow is what a module of Short may end with: a slice of it lasts until its end is waited for.
+const Slow = " slow"
+
+// Short is a module that does as Loop, while memory runs out: the first requests of an op find none. The wait of the
+// second caller is "watch" here. A pause is answered as one of a task with a slice out.
+func Short(op string, requests int) string {
+	return fmt.Sprintf("%sshort %s %d", Head, op, requests)
+}
+
 // StepsToTheEnd is how many turns of a debugger end a task, with the status 7.
 const StepsToTheEnd = 5000
 
@@ -54,7 +63,7 @@ func Main(words []string) int {
 			return 1
 		}
 		go func(owns bool) {
-			board.serve(input, read, write)
+			board.serve(input, owns, read, write)
 			if owns {
 				close(owner)
 			}
@@ -81,18 +90,20 @@ type board struct {
 	signal   int
 	turns    int // made by steps
 	breaks   map[[2]int]bool
+	shortOf  string // the op that finds no memory
+	refusals int    // that are left of it
 }
 
 type object map[string]interface{}
 
-func (b *board) serve(input string, read, write *os.File) {
+func (b *board) serve(input string, owns bool, read, write *os.File) {
 	lines := bufio.NewScanner(read)
 	lines.Buffer(nil, 2<<20)
 	for number := 1; lines.Scan(); number++ {
 		var r request
 		answer := object{"ok": false, "number": 1, "error": "BadRequest"}
 		if json.Unmarshal(lines.Bytes(), &r) == nil {
-			answer = b.answer(r, fmt.Sprintf("%s line %d", input, number))
+			answer = b.answer(r, owns, fmt.Sprintf("%s line %d", input, number))
 		}
 		text, _ := json.Marshal(answer)
 		if r.Op == "start" && b.is(Noise) {
@@ -108,12 +119,15 @@ func (b *board) is(module string) bool {
 	return b.module == module
 }
 
-func (b *board) answer(r request, line string) object {
+func (b *board) answer(r request, owns bool, line string) object {
 	b.mu.Lock()
 	defer b.mu.Unlock()
 	defer b.changed.Broadcast()
 	if b.module == Full && b.status == "running" {
 		return object{"ok": false, "number": 15, "error": "JournalFull"}
+	}
+	if b.findsNoMemory(r.Op, owns) {
+		return object{"ok": false, "number": 17, "error": "NoMemory"}
 	}
 	switch r.Op {
 	case "put":
@@ -124,7 +138,10 @@ func (b *board) answer(r request, line string) object {
 	case "create":
 		return b.create(r, line)
 	case "wait":
-		for b.status == "running" {
+		if b.status == "pausing" && owns {
+			b.status = "paused"
+		}
+		for b.status == "running" || b.status == "pausing" {
 			b.changed.Wait()
 		}
 	case "kill":
@@ -143,7 +160,23 @@ func (b *board) answer(r request, line string) object {
 			return wrongStatus()
 		}
 	}
-	return b.state(r.ID)
+	answer := b.state(r.ID)
+	if r.Op == "pause" && b.shortOf != "" {
+		answer["status"] = "pausing"
+	}
+	return answer
+}
+
+// findsNoMemory tells whether a request is one of those of a module of Short.
+func (b *board) findsNoMemory(op string, owns bool) bool {
+	if op == "wait" && !owns {
+		op = "watch"
+	}
+	if b.shortOf != op || b.refusals == 0 {
+		return false
+	}
+	b.refusals--
+	return true
 }
 
 // shown answers what only shows something.
@@ -197,6 +230,9 @@ func (b *board) change(op string) bool {
 		b.start()
 	case "pause":
 		b.status = "paused"
+		if strings.HasSuffix(b.module, Slow) {
+			b.status = "pausing"
+		}
 	case "resume":
 		b.status = "running"
 		if len(b.breaks) > 0 {
@@ -230,6 +266,7 @@ func (b *board) create(r request, line string) object {
 		fmt.Fprintf(os.Stderr, "why: %s, 7 BadModule: create: it is written so\n", line)
 		return object{"ok": false, "number": 7, "error": "BadModule"}
 	}
+	_, _ = fmt.Sscanf(strings.TrimPrefix(b.module, Head), "short %s %d", &b.shortOf, &b.refusals) // no other has them
 	b.status = "created"
 	return b.state(r.ID)
 }

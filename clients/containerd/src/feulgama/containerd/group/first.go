@@ -24,6 +24,10 @@ func newFirst(name string, limits *specs.LinuxResources) (Group, error) {
 		return nil, ErrNone
 	}
 	if err != nil {
+		// The library leaves what it has made by then.
+		if left, loadErr := loadFirst(name); loadErr == nil {
+			_ = left.Delete()
+		}
 		return nil, fmt.Errorf("make the cgroup %s: %w", name, err)
 	}
 	return first{made, name}, nil
@@ -37,7 +41,10 @@ func loadFirst(name string) (Group, error) {
 	return first{found, name}, nil
 }
 
-func hierarchy() ([]cgroups.Subsystem, error) {
+// hierarchy is the machine's, but for tests.
+var hierarchy cgroups.Hierarchy = ofTheMachine
+
+func ofTheMachine() ([]cgroups.Subsystem, error) {
 	all, err := cgroups.V1()
 	if err != nil {
 		return nil, err

@@ -9,6 +9,7 @@ import (
 	"strings"
 	"testing"
 
+	"github.com/containerd/cgroups"
 	specs "github.com/opencontainers/runtime-spec/specs-go"
 )
 
@@ -46,6 +47,43 @@ func TestOurLimits(t *testing.T) {
 	}
 	if got := ours(nil); got == nil || got.Memory != nil {
 		t.Errorf("%+v", got)
+	}
+}
+
+// controller is one of version 1, in a folder of a test. It refuses limits if it has a reason.
+type controller struct {
+	name   cgroups.Name
+	root   string
+	reason error
+}
+
+func (c controller) Name() cgroups.Name { return c.name }
+
+func (c controller) Path(path string) string { return filepath.Join(c.root, string(c.name), path) }
+
+func (c controller) Create(path string, _ *specs.LinuxResources) error {
+	if err := os.MkdirAll(c.Path(path), 0o700); err != nil {
+		return err
+	}
+	return c.reason
+}
+
+func TestALimitThatIsRefusedLeavesNoCgroup(t *testing.T) {
+	before := hierarchy
+	defer func() { hierarchy = before }()
+	for _, reason := range []error{nil, errors.New("it is too low")} {
+		root := t.TempDir()
+		hierarchy = func() ([]cgroups.Subsystem, error) {
+			return []cgroups.Subsystem{controller{cgroups.Cpu, root, nil}, controller{cgroups.Memory, root, reason}}, nil
+		}
+		_, err := newFirst("/pod/one", nil)
+		if !errors.Is(err, reason) {
+			t.Errorf("%v, and not %v", err, reason)
+		}
+		left, globErr := filepath.Glob(filepath.Join(root, "*", "pod", "one"))
+		if globErr != nil || (len(left) == 0) != (reason != nil) {
+			t.Errorf("%v: %v is left, %v", reason, left, globErr)
+		}
 	}
 }
 

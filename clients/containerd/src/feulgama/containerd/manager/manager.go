@@ -42,7 +42,7 @@ func (m Manager) Start(ctx context.Context, id string, opts shim.StartOpts) (str
 		return "", err
 	}
 	sweep(filepath.Dir(strings.TrimPrefix(address, scheme)))
-	socket, err := listen(address)
+	socket, err := listen(ctx, address, timeToEnd(id, group))
 	if err != nil {
 		return "", err
 	}
@@ -79,11 +79,23 @@ func groupOf(id string) (string, error) {
 	return id, nil
 }
 
+// timeToEnd is how long a shim that answers for a container is given to end. containerd makes no container that is there.
+// So a shim at the container's own address had it before, and ends. That of a pod is used at once by other containers.
+func timeToEnd(id, group string) time.Duration {
+	if group == id {
+		return endTime
+	}
+	return 0
+}
+
 const (
 	scheme = "unix://"
 	prefix = "feulgama-" // of the names of sockets, beside those of other shims
 	// oldAge is the age at which a socket that nobody listens at is not one that is just being made.
 	oldAge = 5 * time.Second
+	// endTime is how long a shim may take to end once its last container is deleted, and restTime the time between looks.
+	endTime  = 3 * time.Second
+	restTime = 10 * time.Millisecond
 )
 
 // addressOf is the library's address of a shim, with a name that says whose it is.
@@ -117,9 +129,18 @@ func sweep(folder string) {
 	}
 }
 
-// listen answers a new socket, or none if a shim answers there.
-func listen(address string) (*os.File, error) {
+// listen answers a new socket, or none if a shim answers there, and still does after some time.
+func listen(ctx context.Context, address string, patience time.Duration) (*os.File, error) {
 	socket, err := shim.NewSocket(address)
+	last := time.Now().Add(patience)
+	for shim.SocketEaddrinuse(err) && time.Now().Before(last) && answers(address) {
+		select {
+		case <-ctx.Done():
+			return nil, fmt.Errorf("wait for the end of the shim before: %w", ctx.Err())
+		case <-time.After(restTime):
+		}
+		socket, err = shim.NewSocket(address)
+	}
 	if err != nil && shim.SocketEaddrinuse(err) {
 		if answers(address) {
 			return nil, nil
@@ -146,7 +167,7 @@ func answers(address string) bool {
 		if shim.CanConnect(address) {
 			return true
 		}
-		time.Sleep(10 * time.Millisecond)
+		time.Sleep(restTime)
 	}
 	return false
 }

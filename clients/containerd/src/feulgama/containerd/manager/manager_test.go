@@ -13,6 +13,8 @@ import (
 	"github.com/containerd/containerd/namespaces"
 )
 
+var background = context.Background()
+
 // socket makes a socket that is as old as is said. Nobody listens at it, unless it is to live.
 func socket(t *testing.T, path string, age time.Duration, lives bool) {
 	t.Helper()
@@ -71,22 +73,54 @@ func TestAddresses(t *testing.T) {
 
 func TestAShimThatListensIsUsedAgain(t *testing.T) {
 	path := filepath.Join(t.TempDir(), "s")
-	first, err := listen(scheme + path)
+	first, err := listen(background, scheme+path, 0)
 	if err != nil || first == nil {
 		t.Fatalf("%v, %v", first, err)
 	}
 	if about, err := os.Stat(path); err != nil || about.Mode().Perm() != 0o600 {
 		t.Errorf("%v, %v", about, err)
 	}
-	if second, err := listen(scheme + path); err != nil || second != nil {
-		t.Errorf("a second shim gets a socket: %v, %v", second, err)
+	for _, patience := range []time.Duration{0, 50 * time.Millisecond} {
+		if second, err := listen(background, scheme+path, patience); err != nil || second != nil {
+			t.Errorf("a second shim gets a socket after %v: %v, %v", patience, second, err)
+		}
+	}
+	gone, cancel := context.WithCancel(background)
+	cancel()
+	if _, err := listen(gone, scheme+path, time.Minute); !errors.Is(err, context.Canceled) {
+		t.Errorf("%v", err)
 	}
 	first.Close()
-	third, err := listen(scheme + path)
-	if err != nil || third == nil {
-		t.Fatalf("the socket of a dead shim is in the way: %v", err)
+	for _, patience := range []time.Duration{0, time.Minute} {
+		third, err := listen(background, scheme+path, patience)
+		if err != nil || third == nil {
+			t.Fatalf("the socket of a dead shim is in the way: %v", err)
+		}
+		third.Close()
 	}
-	third.Close()
+}
+
+// A container may be made again under its name while the shim that had it still answers.
+func TestAShimThatEndsIsNotUsedAgain(t *testing.T) {
+	path := filepath.Join(t.TempDir(), "s")
+	last, err := net.Listen("unix", path)
+	if err != nil {
+		t.Fatal(err)
+	}
+	go func() {
+		if connection, err := last.Accept(); err == nil {
+			connection.Close()
+		}
+		last.Close() // its socket is gone then
+	}()
+	next, err := listen(background, scheme+path, time.Minute)
+	if err != nil || next == nil {
+		t.Fatalf("%v, %v", next, err)
+	}
+	defer next.Close()
+	if !answers(scheme + path) {
+		t.Error("the next shim has no socket")
+	}
 }
 
 // in runs a test in a folder with a config.
@@ -138,8 +172,12 @@ func TestGroups(t *testing.T) {
 		`{}`: "one", `{"annotations":{"other":"x"}}`: "one", `{"annotations":{"io.kubernetes.cri.sandbox-id":"pod"}}`: "pod",
 	} {
 		in(t, config)
-		if got, err := groupOf("one"); err != nil || got != want {
+		got, err := groupOf("one")
+		if err != nil || got != want {
 			t.Errorf("%s: %s, %v", config, got, err)
+		}
+		if ends := timeToEnd("one", got) > 0; ends != (want == "one") {
+			t.Errorf("%s: a shim that answers is taken for one that ends: %v", config, ends)
 		}
 	}
 	in(t, "{")

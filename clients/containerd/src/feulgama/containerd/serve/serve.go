@@ -27,6 +27,13 @@ const (
 // reasonTime is how long the reason of a refusal may be behind the refusal.
 const reasonTime = 100 * time.Millisecond
 
+// How often a request is sent again that found no memory, and the time before each.
+const (
+	askTries  = 25   // other requests for the container may be held up meanwhile
+	waitTries = 1000 // none are
+	restTime  = 10 * time.Millisecond
+)
+
 // ErrEnded says that the process has ended.
 var ErrEnded = errors.New("wasm-shim has ended")
 
@@ -109,37 +116,48 @@ func (p *Process) Kill() {
 
 // Ask sends a request by the caller that controls, and answers the reply. A refusal has its reason.
 func (p *Process) Ask(request []byte) (lines.Reply, error) {
-	return p.ask(p.control, request)
+	return p.ask(p.control, request, askTries)
 }
 
 // Wait sends a request by the caller that waits. Requests by the other one are heard meanwhile.
 func (p *Process) Wait(request []byte) (lines.Reply, error) {
-	return p.ask(p.waiter, request)
+	return p.ask(p.waiter, request, waitTries)
 }
 
 // Relay sends a request by the caller that controls, and answers the line of the reply too. A refusal has no reason.
 func (p *Process) Relay(request []byte) ([]byte, lines.Reply, error) {
-	atomic.AddInt64(&p.left, -1)
-	text, _, err := p.control.ask(request)
-	if err != nil {
-		return nil, lines.Reply{}, err
-	}
-	reply, err := lines.Read(text)
+	text, _, reply, err := p.send(p.control, request, askTries)
 	return text, reply, err
 }
 
-func (p *Process) ask(by *caller, request []byte) (lines.Reply, error) {
-	atomic.AddInt64(&p.left, -1)
-	text, number, err := by.ask(request)
-	if err != nil {
-		return lines.Reply{}, err
-	}
-	reply, err := lines.Read(text)
+func (p *Process) ask(by *caller, request []byte, tries int) (lines.Reply, error) {
+	_, number, reply, err := p.send(by, request, tries)
 	var refusal *lines.Refusal
 	if errors.As(err, &refusal) {
 		refusal.Why = p.reasons.find(by.input, number, reasonTime)
 	}
 	return reply, err
+}
+
+// send answers the line of a reply, the number of the request's line, and what the reply says. A request that found no
+// memory has changed nothing and does not count, and is sent again.
+func (p *Process) send(by *caller, request []byte, tries int) ([]byte, int, lines.Reply, error) {
+	for ; ; tries-- {
+		atomic.AddInt64(&p.left, -1)
+		text, number, err := by.ask(request)
+		if err != nil {
+			return nil, 0, lines.Reply{}, err
+		}
+		reply, err := lines.Read(text)
+		if !lines.IsRefused(err, lines.NoMemory) {
+			return text, number, reply, err
+		}
+		atomic.AddInt64(&p.left, 1)
+		if tries == 0 {
+			return text, number, reply, err
+		}
+		time.Sleep(restTime)
+	}
 }
 
 // reapSoon takes the status of the process once its pipes have ended.

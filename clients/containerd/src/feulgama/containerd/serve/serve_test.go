@@ -95,6 +95,28 @@ func TestARefusalHasItsReason(t *testing.T) {
 	}
 }
 
+func TestARequestThatFindsNoMemoryIsSentAgain(t *testing.T) {
+	p := start(t)
+	load(t, p, fakeshim.Short("start", 3))
+	ask(t, p, lines.Of(lines.Start, "a"))
+	if left := p.Left(); left != lines.Requests-3 {
+		t.Errorf("%d requests are left after 3", left)
+	}
+	p = start(t)
+	load(t, p, fakeshim.Short("start", 1000))
+	_, err := p.Ask(lines.Of(lines.Start, "a"))
+	text, _, relayErr := p.Relay(lines.Of(lines.Start, "a"))
+	if !lines.IsRefused(err, lines.NoMemory) || !lines.IsRefused(relayErr, lines.NoMemory) {
+		t.Errorf("%v, %v", err, relayErr)
+	}
+	if !strings.Contains(string(text), "NoMemory") {
+		t.Errorf("the line is %s", text)
+	}
+	if left := p.Left(); left != lines.Requests-2 {
+		t.Errorf("%d requests are left after 2", left)
+	}
+}
+
 func TestTheEndOfTheProgramIsNoticed(t *testing.T) {
 	byTheClock(t)
 	p := start(t)

@@ -2,6 +2,7 @@ package task
 
 import (
 	"errors"
+	"fmt"
 	"time"
 
 	"github.com/sirupsen/logrus"
@@ -72,13 +73,56 @@ func (c *container) outputs() (map[int][]byte, error) {
 	return all, nil
 }
 
-// halt pauses the task, waits until no slice of it is out, and answers what it is then: paused or stopped.
+// halt pauses the task, waits until no slice of it is out, and answers what it is then: paused or stopped. If it fails,
+// the task goes on. Whoever calls it holds mu.
 func (c *container) halt() (string, error) {
 	reply, err := c.process.Ask(lines.Of(lines.Pause, c.task))
 	if err == nil && reply.Status == lines.Pausing {
-		reply, err = c.process.Ask(lines.Of(lines.Wait, c.task))
+		if reply, err = c.process.Ask(lines.Of(lines.Wait, c.task)); err != nil {
+			_ = c.goOn() // the first error is the one to tell
+			err = fmt.Errorf("wait until the task stands still: %w", err)
+		}
 	}
 	return reply.Status, err
+}
+
+// goOn lets a task go on that stands still, or soon will. It is refused WrongStatus if the task has ended. A task that
+// cannot go on is ended, because nobody would see that it stands still. Whoever calls it holds mu.
+func (c *container) goOn() error {
+	defer c.wake()
+	_, err := c.process.Ask(lines.Of(lines.Resume, c.task))
+	if lines.IsRefused(err, lines.WrongStatus) {
+		err = c.goOnLater(err)
+	}
+	if err == nil || hasEnded(err) {
+		return err
+	}
+	logrus.WithError(err).Errorf("let %s go on", c.request.ID)
+	c.process.Kill()
+	return fmt.Errorf("let the task go on: %w", err)
+}
+
+// goOnLater is goOn for a task that does not stand still. If a slice of it is out, it will once that is back.
+func (c *container) goOnLater(refused error) error {
+	reply, err := c.process.Ask(lines.Of(lines.State, c.task))
+	if err == nil && reply.Status == lines.Pausing {
+		reply, err = c.process.Ask(lines.Of(lines.Wait, c.task))
+	}
+	switch {
+	case err != nil:
+		return err
+	case reply.Status == lines.Running:
+		return nil
+	case reply.Status == lines.Paused:
+		_, err = c.process.Ask(lines.Of(lines.Resume, c.task))
+		return err
+	}
+	return refused
+}
+
+// hasEnded tells whether a request has failed because the task has ended, as by a kill.
+func hasEnded(err error) bool {
+	return errors.Is(err, serve.ErrEnded) || lines.IsRefused(err, lines.WrongStatus)
 }
 
 // still calls look while the task stands still, with what it was doing before. Whoever calls it holds mu.
@@ -93,24 +137,21 @@ func (c *container) still(look func(status string) error) error {
 		if stateErr != nil {
 			return stateErr
 		}
-		return look(reply.Status)
+		if reply.Status != lines.Paused || c.guest != nil {
+			return look(reply.Status)
+		}
+		// It stands still for nobody, and goes on below.
 	case err != nil:
 		return err
 	case status == lines.Stopped:
 		return look(lines.Stopped)
-	}
-	if c.guest != nil && c.guest.isAtBreakpoint() {
+	case c.guest != nil && c.guest.isAtBreakpoint():
 		c.status = lines.Paused // where the debugger will find it
 		return look(lines.Paused)
 	}
 	err = look(lines.Running)
-	_, resumeErr := c.process.Ask(lines.Of(lines.Resume, c.task))
-	c.wake()
-	if errors.Is(resumeErr, serve.ErrEnded) || lines.IsRefused(resumeErr, lines.WrongStatus) {
-		return err // it was killed meanwhile
-	}
-	if err == nil {
-		err = resumeErr
+	if goErr := c.goOn(); err == nil && !hasEnded(goErr) {
+		err = goErr
 	}
 	return err
 }

@@ -1,15 +1,14 @@
 package task
 
 import (
+	"context"
 	"crypto/sha256"
 	"encoding/hex"
 	"fmt"
 	"regexp"
 	"time"
 
-	events "github.com/containerd/containerd/api/events"
 	"github.com/containerd/containerd/mount"
-	"github.com/containerd/containerd/runtime"
 	api "github.com/containerd/containerd/runtime/v2/task"
 	"github.com/sirupsen/logrus"
 
@@ -22,26 +21,20 @@ import (
 	"feulgama/lines"
 )
 
-// create makes a container, and tells containerd.
-func (s *Service) create(r *api.CreateTaskRequest) (unit, error) {
+// create makes a container for good, and tells containerd.
+func (s *Service) create(ctx context.Context, r *api.CreateTaskRequest) (unit, error) {
 	b, err := bundle.Open(r.Bundle)
 	if err != nil {
 		return nil, err
 	}
-	var made unit
 	if b.IsSandbox() {
-		made = newSandbox(r, s.events)
-	} else if made, err = s.createContainer(r, b); err != nil {
-		return nil, err
+		made := newSandbox(r, s.events)
+		return made, s.keep(ctx, r, made)
 	}
-	s.events.Tell(runtime.TaskCreateEventTopic, &events.TaskCreate{
-		ContainerID: r.ID, Bundle: r.Bundle, Rootfs: r.Rootfs, Pid: made.pid(),
-		IO: &events.TaskIO{Stdin: r.Stdin, Stdout: r.Stdout, Stderr: r.Stderr, Terminal: r.Terminal},
-	})
-	return made, nil
+	return s.createContainer(ctx, r, b)
 }
 
-func (s *Service) createContainer(r *api.CreateTaskRequest, b *bundle.Bundle) (unit, error) {
+func (s *Service) createContainer(ctx context.Context, r *api.CreateTaskRequest, b *bundle.Bundle) (unit, error) {
 	c := &container{
 		request: r, namespace: s.namespace, events: s.events, task: taskID(r.ID),
 		status: lines.Created, wakes: make(chan struct{}, 1), end: newEnding(), looks: map[string]*looking{},
@@ -61,15 +54,20 @@ func (s *Service) createContainer(r *api.CreateTaskRequest, b *bundle.Bundle) (u
 	if err == nil {
 		err = c.load(b)
 	}
+	if err == nil {
+		var doorErr error
+		if c.door, doorErr = door.Open(r.Bundle); doorErr != nil {
+			logrus.WithError(doorErr).Warn("let debuggers in")
+		}
+		err = s.keep(ctx, r, c)
+	}
 	if err != nil {
 		err = c.fault(err)
 		c.letGo()
 		return nil, err
 	}
 	go c.watch()
-	if c.door, err = door.Open(r.Bundle); err != nil {
-		logrus.WithError(err).Warn("let debuggers in")
-	} else {
+	if c.door != nil {
 		go c.answerTheDoor()
 	}
 	return c, nil

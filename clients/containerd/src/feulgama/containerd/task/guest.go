@@ -202,7 +202,9 @@ func (g *guest) answer(line []byte) ([]byte, error) {
 	}
 	text, reply, err := c.process.Relay(request)
 	if err == nil && reply.Status == lines.Pausing {
-		text, reply, err = c.process.Relay(lines.Of(lines.Wait, c.task))
+		if text, reply, err = c.process.Relay(lines.Of(lines.Wait, c.task)); err != nil {
+			_ = c.goOn() // the debugger is told that it does not stand still
+		}
 	}
 	var refused *lines.Refusal
 	if errors.As(err, &refused) {
@@ -264,15 +266,10 @@ func (g *guest) leave() {
 	if c.end.is() {
 		return
 	}
-	if c.status == lines.Running {
-		if _, err := c.halt(); err == nil || lines.IsRefused(err, lines.WrongStatus) {
-			c.status = lines.Paused
-		}
-	}
-	for at := range g.breaks {
-		if _, err := c.process.Ask(lines.Unbreak(c.task, at)); err != nil {
-			logrus.WithError(err).Debug("take a breakpoint away") // the task has ended
-		}
+	if err := g.clear(); err != nil {
+		logrus.WithError(err).Errorf("take the breakpoints of %s away", c.request.ID)
+		c.process.Kill() // nobody would see that it stands still at one
+		return
 	}
 	c.copyNow()
 	if g.ran {
@@ -280,16 +277,35 @@ func (g *guest) leave() {
 	}
 }
 
+// clear takes the breakpoints away. A task has to stand still for that.
+func (g *guest) clear() error {
+	c := g.of
+	if c.status == lines.Running {
+		_, err := c.halt()
+		switch {
+		case err == nil, lines.IsRefused(err, lines.WrongStatus):
+			c.status = lines.Paused
+		case len(g.breaks) > 0 && !hasEnded(err):
+			return err
+		}
+	}
+	for at := range g.breaks {
+		if _, err := c.process.Ask(lines.Unbreak(c.task, at)); err != nil && !hasEnded(err) {
+			return err
+		}
+	}
+	return nil
+}
+
 // resume lets the container run on.
 func (g *guest) resume() {
 	c := g.of
-	if _, err := c.process.Ask(lines.Of(lines.Resume, c.task)); err != nil {
+	if err := c.goOn(); err != nil {
 		logrus.WithError(err).Debug("resume after a debugger") // the task has ended
-	} else {
-		c.status = lines.Running
-		c.events.Tell(runtime.TaskResumedEventTopic, &events.TaskResumed{ContainerID: c.request.ID})
+		return
 	}
-	c.wake()
+	c.status = lines.Running
+	c.events.Tell(runtime.TaskResumedEventTopic, &events.TaskResumed{ContainerID: c.request.ID})
 }
 
 func refusal(number int, name string) []byte {

@@ -28,16 +28,16 @@ type unit interface {
 }
 
 // Create makes a container. A module or a config that wasm-shim refuses fails here.
-func (s *Service) Create(_ context.Context, r *api.CreateTaskRequest) (*api.CreateTaskResponse, error) {
+func (s *Service) Create(ctx context.Context, r *api.CreateTaskRequest) (*api.CreateTaskResponse, error) {
 	if r.Checkpoint != "" {
 		return nil, missing("checkpoints")
 	}
 	if err := s.reserve(r.ID); err != nil {
 		return nil, err
 	}
-	made, err := s.create(r)
-	s.settle(r.ID, made)
+	made, err := s.create(ctx, r)
 	if err != nil {
+		s.free(r.ID)
 		return nil, failed("create", err)
 	}
 	return &api.CreateTaskResponse{Pid: made.pid()}, nil
@@ -144,7 +144,11 @@ func (s *Service) Resume(_ context.Context, r *api.ResumeRequest) (*types.Empty,
 
 // Delete removes a container that has ended, or a look.
 func (s *Service) Delete(_ context.Context, r *api.DeleteRequest) (*api.DeleteResponse, error) {
-	found, err := s.find(r.ID)
+	find := s.release
+	if r.ExecID != "" {
+		find = s.find
+	}
+	found, err := find(r.ID)
 	if err != nil {
 		return nil, err
 	}
@@ -163,7 +167,7 @@ func (s *Service) Delete(_ context.Context, r *api.DeleteRequest) (*api.DeleteRe
 		if err := found.remove(); err != nil {
 			return nil, failed("delete", err)
 		}
-		s.settle(r.ID, nil)
+		s.free(r.ID)
 	}
 	answer.ExitStatus, answer.ExitedAt = end.told()
 	return answer, nil

@@ -9,8 +9,10 @@ import (
 	"sync"
 	"time"
 
+	events "github.com/containerd/containerd/api/events"
 	"github.com/containerd/containerd/errdefs"
 	"github.com/containerd/containerd/pkg/shutdown"
+	"github.com/containerd/containerd/runtime"
 	api "github.com/containerd/containerd/runtime/v2/task"
 	"github.com/containerd/ttrpc"
 	"github.com/gogo/protobuf/types"
@@ -38,6 +40,7 @@ type Service struct {
 	shutdown  shutdown.Service
 	mu        sync.Mutex
 	units     map[string]unit // nil while it is made
+	givenUp   map[string]bool // those that were to be deleted while they were made
 }
 
 // idleTime is how long a shim stays without a container. containerd ends it before, unless it was killed meanwhile.
@@ -49,7 +52,7 @@ var answerTime = 100 * time.Millisecond
 // New makes the service of a shim.
 func New(namespace string, events Teller, program func() (string, error), down shutdown.Service) *Service {
 	s := &Service{namespace: namespace, events: events, program: program, newGroup: group.New, shutdown: down,
-		units: map[string]unit{}}
+		units: map[string]unit{}, givenUp: map[string]bool{}}
 	go s.endWhenIdle(idleTime / 2)
 	return s
 }
@@ -94,15 +97,45 @@ func (s *Service) reserve(id string) error {
 	return nil
 }
 
-// settle says what became of a reserved id.
-func (s *Service) settle(id string, made unit) {
+// keep makes a container the one of its reserved id, and tells containerd. One that containerd has given up meanwhile is
+// refused, since nobody would delete it.
+func (s *Service) keep(ctx context.Context, r *api.CreateTaskRequest, made unit) error {
 	s.mu.Lock()
 	defer s.mu.Unlock()
-	if made == nil {
-		delete(s.units, id)
-	} else {
-		s.units[id] = made
+	if err := ctx.Err(); err != nil {
+		return fmt.Errorf("the request ended before the container was made: %w", err)
 	}
+	if s.givenUp[r.ID] {
+		return fmt.Errorf("the container was deleted before it was made: %w", errdefs.ErrUnavailable)
+	}
+	s.units[r.ID] = made
+	s.events.Tell(runtime.TaskCreateEventTopic, &events.TaskCreate{
+		ContainerID: r.ID, Bundle: r.Bundle, Rootfs: r.Rootfs, Pid: made.pid(),
+		IO: &events.TaskIO{Stdin: r.Stdin, Stdout: r.Stdout, Stderr: r.Stderr, Terminal: r.Terminal},
+	})
+	return nil
+}
+
+// free says that an id is no container's any more.
+func (s *Service) free(id string) {
+	s.mu.Lock()
+	early := s.givenUp[id]
+	delete(s.units, id)
+	delete(s.givenUp, id)
+	s.mu.Unlock()
+	if early {
+		s.endSoon() // containerd has asked for it when the container was still being made
+	}
+}
+
+// release answers a container that is to be deleted. One that is still being made is not there, and will not be kept.
+func (s *Service) release(id string) (unit, error) {
+	s.mu.Lock()
+	if found, there := s.units[id]; there && found == nil {
+		s.givenUp[id] = true
+	}
+	s.mu.Unlock()
+	return s.find(id)
 }
 
 // Connect answers the ids of processes.
@@ -117,6 +150,12 @@ func (s *Service) Connect(_ context.Context, r *api.ConnectRequest) (*api.Connec
 // Shutdown ends the shim, unless it has containers. containerd may ask for it as soon as it has heard of an exit, so a
 // request that made the container exit may not be answered yet.
 func (s *Service) Shutdown(context.Context, *api.ShutdownRequest) (*types.Empty, error) {
+	s.endSoon()
+	return empty, nil
+}
+
+// endSoon ends a shim without containers, unless it gets one before.
+func (s *Service) endSoon() {
 	if s.isEmpty() {
 		time.AfterFunc(answerTime, func() {
 			if s.isEmpty() {
@@ -124,7 +163,6 @@ func (s *Service) Shutdown(context.Context, *api.ShutdownRequest) (*types.Empty,
 			}
 		})
 	}
-	return empty, nil
 }
 
 // isEmpty tells whether the shim has no container.

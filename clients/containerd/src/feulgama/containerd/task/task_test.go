@@ -68,6 +68,52 @@ func TestARefusedModuleFailsAtCreate(t *testing.T) {
 	}
 }
 
+// meanwhile does something each time while a container is made.
+func (s *tested) meanwhile(do func()) {
+	s.newGroup = func(string, *specs.LinuxResources) (group.Group, error) {
+		do()
+		return noGroup{}, nil
+	}
+}
+
+// isNowhere checks that the shim has nothing of a container, and has told nothing of it.
+func (s *tested) isNowhere(id string) {
+	s.t.Helper()
+	topics, _ := s.events.all()
+	left, err := filepath.Glob(filepath.Join(s.folder, id, "*.*"))
+	if !s.isEmpty() || len(topics) != 0 || err != nil || len(left) != 1 || filepath.Base(left[0]) != "config.json" {
+		s.t.Errorf("%v, %v, %v, %v", s.units, topics, left, err)
+	}
+}
+
+// Nobody is there who would delete it.
+func TestAContainerWhoseRequestEndsWhileItIsMade(t *testing.T) {
+	s := newShim(t)
+	ctx, cancel := context.WithCancel(background)
+	s.meanwhile(cancel)
+	_, err := s.Create(ctx, &api.CreateTaskRequest{ID: "one", Bundle: s.bundle("one", fakeshim.Loop, nil)})
+	is(t, err, context.Canceled)
+	s.isNowhere("one")
+}
+
+// So containerd asks when it has given a container up. It asks for the end of the shim right after that, and not again.
+func TestAContainerThatIsDeletedWhileItIsMade(t *testing.T) {
+	for module, class := range map[string]error{
+		fakeshim.Loop: errdefs.ErrUnavailable, fakeshim.Refuse: errdefs.ErrInvalidArgument,
+	} {
+		s := newShim(t)
+		s.meanwhile(func() {
+			_, err := s.delete("one")
+			is(t, err, errdefs.ErrNotFound)
+		})
+		is(t, s.create("one", module), class)
+		s.isNowhere("one")
+		until(t, "the end of the shim", s.down.called)
+		s.meanwhile(func() {})
+		s.run("one", fakeshim.Loop) // the id is free
+	}
+}
+
 // An older wasm-shim does not know the options, says so and ends.
 func TestAProgramThatEndsAtOnce(t *testing.T) {
 	s := newShim(t)
