@@ -1,6 +1,7 @@
 //! Streams of lines, which keep why they failed.
 
-ghost use Rattle.std.specs.Prelude.{◌≡◌, ◌≢◌, ◌<◌, ◌++◌, ℕ, List, None, OnOk, OnErr, true, false};
+ghost use Rattle.std.specs.Prelude.{◌≡◌, ◌≢◌, ◌<◌, ◌++◌, ℕ, List, Some, None, OnOk, OnErr};
+ghost use Rattle.std.specs.Prelude.{true, false};
 ghost use Rattle.std.specs.Io.{ReadsAtMost};
 ghost use Rattle.std.specs.Io.KnownBytes.{Appends, ReadConsumes};
 ghost use Rattle.std.specs.IoError.{error_kind};
@@ -92,7 +93,8 @@ impl<S> Watched<S> {
     // Keeps why it failed.
     fn fail(&mut self, error: Error) -> StreamFailed
         ensures stream { self.new.stream ≡ self.old.stream }
-        ensures failed { self.new.error ≢ None }
+        ensures reads { self.new.reads_left ≡ self.old.reads_left }
+        ensures failed { self.new.error ≡ Some error }
     {
         self.error = Some(error);
         StreamFailed
@@ -108,11 +110,15 @@ fn is_interrupted(error: &Error) -> bool
 }
 
 impl<S: Read> Source for Watched<S> {
-    ghost use Rattle.std.specs.Prelude.{◌≢◌, None};
+    ghost use Rattle.std.specs.Prelude.{◌≡◌, ◌≢◌, ◌⊎◌, IsSomeAnd};
+    ghost use Rattle.std.specs.IoError.{error_kind};
+    ghost use Rattle.std.specs.declared.io.ErrorKind.TheVariants.{Interrupted};
 
     ghost remaining = { λ w. S.remaining w.stream };
 
-    ghost has_failed = { λ w. w.error ≢ None };
+    // By an error that is no interruption, or because it was read as often as it may.
+    ghost has_failed = { λ w. IsSomeAnd w.error
+        (λ e. (error_kind e ≢ Interrupted) ⊎ (w.reads_left ≡ 0)) };
 
     ghost reads_left = { λ w. w.reads_left };
 
