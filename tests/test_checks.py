@@ -365,6 +365,13 @@ def test_hands_are_those_of_threads() -> None:
     assert not list(listed_calls.places_in("crates/flat_code/src/a.rt", "fn f() {\n    blocks.close();\n}\n"))
 
 
+def test_writes_are_listed_where_no_clause_speaks_of_them() -> None:
+    code = "fn f() {\n    file.write(bytes)\n    file.write_all(bytes)\n}\n"
+    found = listed_calls.places_in("crates/wasm_shim/src/a.rt", code)
+    assert [place.text for place in found] == ["file.write(bytes)", "file.write_all(bytes)"]
+    assert not list(listed_calls.places_in("crates/file_commands/src/a.rt", code))
+
+
 def test_tests_may_keep_memory(tmp_path: Path) -> None:
     tree = tree_of(tmp_path, {"crates/test_serve/src/a.rt": "fn f() {\n    lines.leak();\n}\n"})
     assert listed_calls.check(tree)[1] == []

@@ -2,11 +2,11 @@
 
 A task that is turned into a plain ticket can be forgotten, a seat more makes calls that nobody asked for, a shim that is
 closed refuses all that follows, a slice that runs under a lock holds up all others, who sleeps and is not woken waits for
-ever, workers may be fewer than were asked for, and the turns of a slice more, room that is asked for is memory, and memory
-that is let go of and not freed is lost. No contract says where these calls may be made, and with what, and code that makes
-another one is proved as before. So each place that makes one is in a list, tests/listed_calls.txt, with the reason for it, and
-the check fails where the sources and the list differ. In the crates of threads the list also has the condition that a place is
-under, if it begins on a line before.
+ever, workers may be fewer than were asked for, and the turns of a slice more, room that is asked for is memory, memory that
+is let go of and not freed is lost, and a single write may write a part. No contract says where these calls may be made, and
+with what, and code that makes another one is proved as before. So each place that makes one is in a list,
+tests/listed_calls.txt, with the reason for it, and the check fails where the sources and the list differ. In the crates of
+threads the list also has the condition that a place is under, if it begins on a line before.
 """
 from __future__ import annotations
 
@@ -24,6 +24,9 @@ SOURCES = "crates/*/src/*.rt"
 ROOM = re.compile(r"(?<!fn )\b(?:with_capacity(?:_and_hasher)?|allocate|from_elem|(?:try_)?reserve(?:_exact)?"
                   r"|resize(?:_with)?|repeat)\(|\bvec!\[in\b")
 LEFT = re.compile(r"(?<!fn )\b(?:forget|leak|into_raw(?:_parts|_with_allocator)?|ManuallyDrop)\b")
+# Calls of the crates that write files, standard streams and the log without a clause: a single write may take a part only.
+WRITES = re.compile(r"\.write(?:_all|_fmt|_vectored)?\(")
+WITH_WRITES = re.compile(r"crates/(?:serve_command|shim_log|wasm_shim)/")
 # Calls of the crates of threads: what lets go of a task, closes a shim, hands out a seat, sets workers to work, takes a lock,
 # makes a call under it, sleeps, wakes, lends a machine, or runs it. After the name of a type it is a call too, or a function
 # that is handed on.
@@ -47,7 +50,7 @@ CONSTANT = re.compile(r"\b[A-Z][A-Z_]+\b")
 
 def calls_in(path: str, code: str) -> list[int]:
     """Where code makes such calls, as often as it does."""
-    calls = [ROOM, LEFT, HANDS] if WITH_HANDS.match(path) else [ROOM, LEFT]
+    calls = [ROOM, LEFT, *([HANDS] if WITH_HANDS.match(path) else []), *([WRITES] if WITH_WRITES.match(path) else [])]
     return [match.start() for call in calls for match in call.finditer(code)]
 
 
