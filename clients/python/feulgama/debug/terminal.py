@@ -19,7 +19,7 @@ from feulgama.errors import FeulgamaError, NoShimError, ShimEndedError
 PROMPT = "(feulgama) "
 HISTORY = os.path.expanduser("~/.feulgama_history")
 # What a module writes, and its names, may have characters that a terminal takes for commands. They are shown by number. So are
-# surrogates, which stand for bytes that a user has typed and that are not UTF-8.
+# surrogates, which represent bytes that a user has typed and that are not UTF-8.
 CONTROLS = {number: f"\\x{number:02x}" for number in (*range(32), *range(127, 160)) if chr(number) not in "\t\n"}
 CONTROLS |= {number: f"\\u{number:04x}" for number in range(0xD800, 0xE000)}
 TAKES_PLACE = {"break", "b", "until", "u", "list", "l", "disassemble", "dis"}
