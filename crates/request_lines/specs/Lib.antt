@@ -5,5 +5,6 @@ pub mod Reply
 pub mod Lines
 pub mod Session
 pub mod Input
+pub mod Stream
 pub mod Examples
 pub mod Inside

@@ -2,6 +2,7 @@
 //! read from a stream.
 #![tactic(auto)]
 
+mod calls_left;
 mod frame_value;
 pub mod laws;
 mod line_error;

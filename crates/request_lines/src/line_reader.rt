@@ -312,7 +312,7 @@ impl LineReader {
 
     /// Reads the next line; false if there is none. `Stream` only if the source has failed: what was read
     /// since the last line has no line feed then. A line comes without its line feed only at the end of the
-    /// source, and none comes after it.
+    /// source. After that end none comes, and the source is asked for nothing more.
     pub fn next<R: Source>(&mut self, reader: &mut R) -> Result<bool, Stop>
         requires { KnowsEnd self.old.at_end
             (prepend_known self.old.chunk (R.remaining reader.old)) }
@@ -323,6 +323,7 @@ impl LineReader {
             → Consumes (prepend_known self.old.chunk (R.remaining reader.old))
             (prepend_known self.new.chunk (R.remaining reader.new)) (text ++ 10 ∷ [])) }
         ensures goes_on { result ≡ Ok true → self.old.at_end ≡ false }
+        ensures over { self.old.at_end ≡ true → reader.new ≡ reader.old }
         ensures end { result ≡ Ok false
             → IsAtEnd (prepend_known self.old.chunk (R.remaining reader.old)) }
         ensures ends { OnOk result (KnowsEnd self.new.at_end

@@ -3,10 +3,11 @@
 ghost use Rattle.std.specs.Prelude.{◌≡◌, ◌≢◌, ◌<◌, ◌++◌, ℕ, List, Some, None, OnOk, OnErr};
 ghost use Rattle.std.specs.Prelude.{true, false};
 ghost use Rattle.std.specs.Io.{ReadsAtMost};
-ghost use Rattle.std.specs.Io.KnownBytes.{Appends, ReadConsumes};
+ghost use Rattle.std.specs.Io.KnownBytes.{Appends, Keeps, ReadConsumes};
 ghost use Rattle.std.specs.IoError.{error_kind};
+ghost use Rattle.request_lines.specs.Stream.{HasFailed};
 
-use std::io;
+use crate::calls_left::CallsLeft;
 use std::io::{Error, ErrorKind, Read, Write};
 
 /// A stream failed. It keeps why.
@@ -58,21 +59,21 @@ pub trait Sink {
 pub struct Watched<S> {
     stream: S,
     error: Option<Error>,
-    /// How many more times it is read at most.
-    reads_left: u64,
+    /// How many more times it is read, written to or flushed at most.
+    calls: CallsLeft,
 }
 
 impl<S> Watched<S> {
-    /// A stream that has not failed, and may be read 2^64 - 1 times.
+    /// A stream that has not failed, and may be read, written to and flushed 2^64 - 1 times together.
     pub fn new(stream: S) -> Watched<S>
         ensures stream { result.stream ≡ stream }
         ensures whole { result.error ≡ None }
-        ensures reads { result.reads_left ≡ 18446744073709551615 }
+        ensures calls { result.calls.left ≡ 18446744073709551615 }
     {
         Watched {
             stream,
             error: None,
-            reads_left: u64::MAX,
+            calls: CallsLeft::all(),
         }
     }
 
@@ -93,7 +94,7 @@ impl<S> Watched<S> {
     // Keeps why it failed.
     fn fail(&mut self, error: Error) -> StreamFailed
         ensures stream { self.new.stream ≡ self.old.stream }
-        ensures reads { self.new.reads_left ≡ self.old.reads_left }
+        ensures calls { self.new.calls ≡ self.old.calls }
         ensures failed { self.new.error ≡ Some error }
     {
         self.error = Some(error);
@@ -110,21 +111,16 @@ fn is_interrupted(error: &Error) -> bool
 }
 
 impl<S: Read> Source for Watched<S> {
-    ghost use Rattle.std.specs.Prelude.{◌≡◌, ◌≢◌, ◌⊎◌, IsSomeAnd};
-    ghost use Rattle.std.specs.IoError.{error_kind};
-    ghost use Rattle.std.specs.declared.io.ErrorKind.TheVariants.{Interrupted};
+    ghost use Rattle.request_lines.specs.Stream.{HasFailed};
 
     ghost remaining = { λ w. S.remaining w.stream };
 
-    // By an error that is no interruption, or because it was read as often as it may.
-    ghost has_failed = { λ w. IsSomeAnd w.error
-        (λ e. (error_kind e ≢ Interrupted) ⊎ (w.reads_left ≡ 0)) };
+    ghost has_failed = { λ w. HasFailed w.error w.calls.left };
 
-    ghost reads_left = { λ w. w.reads_left };
+    ghost reads_left = { λ w. w.calls.left };
 
     fn read(&mut self, buf: &mut [u8]) -> Result<usize, StreamFailed> {
-        while self.reads_left > 0 {
-            self.reads_left -= 1;
+        while self.calls.take_one() {
             match self.stream.read(buf) {
                 Ok(count) => return Ok(count),
                 Err(error) => {
@@ -140,53 +136,61 @@ impl<S: Read> Source for Watched<S> {
 
 impl<S: Write> Watched<S> {
     // Writes all the bytes.
-    fn write_whole(&mut self, bytes: &[u8]) -> io::Result<()>
+    fn write_whole(&mut self, bytes: &[u8]) -> Result<(), StreamFailed>
         ensures all { OnOk result
             (Appends (S.contents self.old.stream) (S.contents self.new.stream) bytes.now) }
         ensures some { (front : List ℕ) × ((rest : List ℕ) × (front ++ rest ≡ bytes.now))
             × Appends (S.contents self.old.stream) (S.contents self.new.stream) front }
+        ensures failed { OnErr result (HasFailed self.new.error self.new.calls.left) }
     {
         let mut at = 0;
-        for _ in 0..u64::MAX {
+        loop {
             if at == bytes.len() {
                 return Ok(());
             }
+            if !self.calls.take_one() {
+                return Err(self.fail(Error::from(ErrorKind::Interrupted)));
+            }
             match self.stream.write(&bytes[at..]) {
-                Ok(0) => return Err(Error::from(ErrorKind::WriteZero)),
+                Ok(0) => return Err(self.fail(Error::from(ErrorKind::WriteZero))),
                 Ok(count) => at += count,
                 Err(error) => {
                     if !is_interrupted(&error) {
-                        return Err(error);
+                        return Err(self.fail(error));
                     }
                 }
             }
         }
-        Err(Error::from(ErrorKind::Interrupted))
     }
 
-    // Writes all the bytes, and flushes.
-    fn write_and_flush(&mut self, bytes: &[u8]) -> io::Result<()>
-        ensures all { OnOk result
-            (Appends (S.contents self.old.stream) (S.contents self.new.stream) bytes.now) }
-        ensures some { (front : List ℕ) × ((rest : List ℕ) × (front ++ rest ≡ bytes.now))
-            × Appends (S.contents self.old.stream) (S.contents self.new.stream) front }
+    // Flushes what was written.
+    fn flush_whole(&mut self) -> Result<(), StreamFailed>
+        ensures stays { Keeps (S.contents self.old.stream) (S.contents self.new.stream) }
+        ensures failed { OnErr result (HasFailed self.new.error self.new.calls.left) }
     {
-        self.write_whole(bytes)?;
-        self.stream.flush()
+        while self.calls.take_one() {
+            match self.stream.flush() {
+                Ok(()) => return Ok(()),
+                Err(error) => {
+                    if !is_interrupted(&error) {
+                        return Err(self.fail(error));
+                    }
+                }
+            }
+        }
+        Err(self.fail(Error::from(ErrorKind::Interrupted)))
     }
 }
 
 impl<S: Write> Sink for Watched<S> {
-    ghost use Rattle.std.specs.Prelude.{◌≢◌, None};
+    ghost use Rattle.request_lines.specs.Stream.{HasFailed};
 
     ghost contents = { λ w. S.contents w.stream };
 
-    ghost has_failed = { λ w. w.error ≢ None };
+    ghost has_failed = { λ w. HasFailed w.error w.calls.left };
 
     fn put(&mut self, bytes: &[u8]) -> Result<(), StreamFailed> {
-        match self.write_and_flush(bytes) {
-            Ok(()) => Ok(()),
-            Err(error) => Err(self.fail(error)),
-        }
+        self.write_whole(bytes)?;
+        self.flush_whole()
     }
 }

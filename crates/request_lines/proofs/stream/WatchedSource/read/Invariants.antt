@@ -6,7 +6,7 @@ use Rattle.request_lines.proofs.stream.WatchedSource.read.Given as goal
 abbrev pub invariant-loop-self : goal.invariant-loop-self
 invariant-loop-self g l =
     Keeps (g.S.Read.remaining l.fn.self.stream) (g.S.Read.remaining l.self.stream)
-    × (l.self.reads_left ≤ l.fn.self.reads_left)
+    × (l.self.calls.left ≤ l.fn.self.calls.left)
 
 abbrev pub decreases-loop-self : goal.decreases-loop-self
-decreases-loop-self g l = l.self.reads_left
+decreases-loop-self g l = l.self.calls.left
