@@ -41,7 +41,7 @@ first_away e id es d is = nowhere id es (subst (λ (x : List ℕ). Each (λ y. x
 
 -- ---- one is changed
 
-changed_own : (t : Task) (es : Entries)
+pub changed_own : (t : Task) (es : Entries)
     → task_of t.id (change_task t es) ≡ option_map (λ (x : Task). t) (task_of t.id es)
 changed_own t [] = refl
 changed_own t (e ∷ es) =

@@ -8,7 +8,7 @@ use Rattle.step_machine.specs.Configuration.{State as ExecutionState, running, e
 use Rattle.step_machine.specs.Instantiation.{ended}
 use Rattle.step_machine.specs.Slices.{at_break, ends_slice}
 use Rattle.task_lifecycle.specs.declared.status.Status.{Status}
-use Rattle.task_lifecycle.specs.declared.status.Status.TheVariants.{Created, Running, Pausing, Paused, Stopped}
+use Rattle.task_lifecycle.specs.declared.status.Status.TheVariants.{Running}
 use Rattle.task_lifecycle.specs.declared.status.Signal.{Signal}
 use Rattle.task_lifecycle.specs.Lifecycle.{takes_turns, is_running, is_pausing}
 use Rattle.task_requests.specs.declared.request.Request.{Request}

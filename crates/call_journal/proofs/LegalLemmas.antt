@@ -14,7 +14,7 @@ use Rattle.task_board.proofs.EffectLemmas.{answers_sound}
 use Rattle.call_journal.specs.declared.entry.Entry.{Entry}
 use Rattle.call_journal.specs.declared.entry.Found.{Found}
 use Rattle.call_journal.specs.Finding.{found_of}
-use Rattle.call_journal.specs.Replay.{ComesTo, stays, is_taken, advances, is_retaken, Finds, no_task, task, Replays, HaveCome, IsLegal, IsReplay}
+use Rattle.call_journal.specs.Replay.{ComesTo, stays, Finds, no_task, task, Replays, HaveCome, IsLegal, IsReplay}
 use Rattle.call_journal.specs.Records.{Records, ends, call}
 use Rattle.call_journal.proofs.SinceLemmas.{same_id_of, now_there}
 use Rattle.call_journal.proofs.JournalLemmas.{found_at}

@@ -20,4 +20,6 @@ pub mod SentBoard
 pub mod SentShim
 pub mod BookLemmas
 pub mod DueLemmas
+pub mod WaitingLemmas
+pub mod SettleLemmas
 pub mod DeskLemmas

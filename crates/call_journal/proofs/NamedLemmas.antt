@@ -83,7 +83,7 @@ makes s config new (Ok r) s' id away d =
     ap (λ (x : BoardState). task_of id x.tasks) d.4.3.2
     ∙ put_beside d.4.3.0 (created_task new s.creates d.1 d.4.0 d.0) id s.tasks away
 
-keeps_id : (k : Ask) → KeepsId (does k)
+pub keeps_id : (k : Ask) → KeepsId (does k)
 keeps_id (ask.Kill number) t u is = id_of t _ u (killed_id (signal_of number) t) is
 keeps_id ask.Delete t u is = absurd (none_is_not u is)
 keeps_id _ t u is = id_of t _ u refl is

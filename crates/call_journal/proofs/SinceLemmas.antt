@@ -3,7 +3,7 @@ use Rattle.std.proofs.Common.{◌≡◌, ℕ, suc, List, [], ◌∷◌, length, 
 use Rattle.oci_config.specs.declared.process.ProcessConfig.{ProcessConfig}
 use Rattle.task_board.specs.BoardState.{Task, Entries, used_by, task_in, entry_of, task_of, put_task, change_task, remove_task}
 use Rattle.task_board.proofs.EntryLemmas.{none_is_not, some_is, by_slot, cond_true, cond_false, cond_is_true, cond_is_false, same_id}
-use Rattle.call_journal.specs.Replay.{ComesTo, stays, is_taken, advances, is_retaken, HaveCome}
+use Rattle.call_journal.specs.Replay.{ComesTo, stays, HaveCome}
 use Rattle.call_journal.proofs.ComingLemmas.{comes_again}
 
 -- ---- what stays of a task

@@ -2,7 +2,10 @@
 use Rattle.std.specs.Prelude.{◌≡◌, ◌||◌, ◌&&◌, ◌+◌, ◌++◌, ◌==◌, ℕ, length, List, [], ◌∷◌, Ok, Err, Bool, true, false, not}
 use Rattle.wasm_ast.specs.declared.refusal.Refusal.{Refusal}
 use Rattle.wasm_ast.specs.declared.refusal.Refusal.TheVariants as refusal
+use Rattle.task_lifecycle.specs.declared.status.Status.{Status}
+use Rattle.task_lifecycle.specs.declared.status.Status.TheVariants.{Paused, Stopped}
 use Rattle.task_requests.specs.declared.request.Request.{Request}
+use Rattle.task_requests.specs.declared.request.Reply.TheVariants as reply
 use Rattle.task_board.specs.declared.ticket.Ticket.{Ticket}
 use Rattle.task_board.specs.BoardState.{BoardState, task_of}
 use Rattle.task_board.specs.BoardValue.{Room}
@@ -66,3 +69,15 @@ is_due b id = b.closed || (is_full b || is_settled (task_of id b.board.tasks))
 -- a worker has nothing to do: the book is not closed, and no task waits for a worker
 abbrev pub is_idle : BookValue → Bool
 is_idle b = not b.closed && (length b.waiting == 0)
+
+-- the status of a task that has paused or ended
+abbrev pub is_at_rest : Status → Bool
+is_at_rest Paused = true
+is_at_rest Stopped = true
+is_at_rest other = false
+
+-- a pause or a kill has left its task paused or stopped
+abbrev pub settles : Answer → Bool
+settles (Ok (reply.Pause id status)) = is_at_rest status
+settles (Ok (reply.Kill id status)) = is_at_rest status
+settles other = false

@@ -1,5 +1,5 @@
 //! The book: the board, its journal, which is in the first cells of a row, and the ledger.
-ghost use Rattle.std.specs.Prelude.{◌≡◌, ◌↔◌, ◌≢◌, ◌⊎◌, ◌+◌, ◌<◌, ◌≤◌, ◌==◌, [], ◌∷◌, ◌++◌, length, true, false, Err, None, IfOk, IfSome, IfNone, IsSome, IsOk, IfErr, OnErr};
+ghost use Rattle.std.specs.Prelude.{◌≡◌, ◌↔◌, ◌≢◌, ◌⊎◌, ◌+◌, ◌<◌, ◌≤◌, ◌==◌, [], ◌∷◌, ◌++◌, length, true, false, Err, Some, None, IfOk, IfSome, IfNone, IsSome, IsOk, IfErr, OnErr};
 ghost use Rattle.call_journal.specs.Books.{is_due, is_full, is_idle, is_refused, is_journalled, HasCalled, IsUnchanged};
 ghost use Rattle.call_journal.specs.Replay.{IsReplay, IsLegal};
 ghost use Rattle.task_requests.specs.declared.request.Request.{Request as RequestValue};
@@ -13,6 +13,7 @@ ghost use Rattle.task_board.specs.Loans.{Fits};
 ghost use Rattle.task_board.specs.Sound.{IsBoard};
 ghost use Rattle.task_board.specs.Step.{Step};
 ghost use Rattle.task_board.specs.Tickets.{CanLend, Lends, ticket_in};
+ghost use Rattle.task_board.specs.declared.ticket.Ticket.{Ticket as TicketValue};
 ghost use Rattle.task_board.specs.Waiting.{enter_again, waiting_ticket, without};
 ghost use Rattle.call_journal.specs.Desks.{AreIdle, spot_names};
 ghost use Rattle.call_journal.specs.Seats.{most_entries, most_seats, GoesOn};
@@ -346,6 +347,29 @@ impl<R: Row> Book<R> {
         let slip = self.desk.lend(ticket.slot, &loan);
         let receipt = Receipt::new(ticket.slot, &loan, slip);
         Some((loan, receipt))
+    }
+
+    /// Lends the machine of the task with an id for a slice of at most `budget` turns, if that waits for a
+    /// worker, which it does no more.
+    pub fn take_waiting(&mut self, id: &Text, budget: u64) -> Option<(Loan, Receipt<R>)>
+        requires { (1 ≤ budget) × (budget ≤ max_budget) }
+        ensures id { IfSome result (λ p. p.0.id ≡ id.now) }
+        ensures some { (t : TicketValue)
+            → waiting_ticket id.now self.old.board.tasks self.old.waiting ≡ Some t
+            → IfSome result (λ p. Lends self.old.board t budget p.0 self.new.board) }
+        ensures none { waiting_ticket id.now self.old.board.tasks self.old.waiting ≡ None
+            → (result ≡ None) × (self.new ≡ self.old) }
+        ensures rest { self.new ≡ record self.old {
+          board = self.new.board;
+          room = self.new.room;
+          waiting = self.new.waiting;
+        } }
+        ensures loan { IfSome result (λ p. (p.0.ran ≡ false) × (p.0.budget ≡ budget)) }
+        ensures receipt { IfSome result (λ p. p.1 ≡ p.0) }
+    {
+        self.board.sound();
+        let task = self.leave_waiting(id)?;
+        self.take(task, budget)
     }
 
     /// Takes back the machine of a loan that has been run, with its receipt: so nothing is compared. A loan

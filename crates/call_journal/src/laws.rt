@@ -1,6 +1,6 @@
 //! Laws of histories. Each function is nothing but its contract.
 
-ghost use Rattle.std.specs.Prelude.{◌≡◌, ◌<◌, ◌+◌, ◌++◌, ℕ, List, [], ◌∷◌, Option, Some, option_map, true};
+ghost use Rattle.std.specs.Prelude.{◌≡◌, ◌⊎◌, ◌<◌, ◌+◌, ◌++◌, ℕ, List, [], ◌∷◌, Option, Some, option_map, true, false};
 ghost use Rattle.task_requests.specs.declared.request.Request.{Request};
 ghost use Rattle.task_requests.specs.declared.event.Event.{Event};
 ghost use Rattle.task_requests.specs.declared.event.EventReply.{EventReply};
@@ -11,7 +11,7 @@ ghost use Rattle.task_board.specs.Tasks.{can_lend, lent, HasReturned};
 ghost use Rattle.call_journal.specs.declared.entry.Entry.{Entry as EntryValue};
 ghost use Rattle.call_journal.specs.declared.entry.Found.{Found as FoundValue};
 ghost use Rattle.task_board.specs.Waiting.{waiting_after};
-ghost use Rattle.call_journal.specs.Books.{BookValue, HasCalled, is_journalled};
+ghost use Rattle.call_journal.specs.Books.{BookValue, HasCalled, is_due, is_full, is_journalled, settles};
 ghost use Rattle.call_journal.specs.Finding.{named, found_in};
 ghost use Rattle.call_journal.specs.Fronts.{Begins};
 ghost use Rattle.call_journal.specs.Records.{entry_on, IsOfSlice, Records};
@@ -97,6 +97,14 @@ pub fn calls_are_the_boards()
 pub fn calls_change_the_task_they_name()
     ensures { (s : BoardState) (r : Request) (a : Answer) (s' : BoardState) (id : List ℕ)
         → Answers s r a s' → (named r ≡ Some id → ⊥) → task_of id s'.tasks ≡ task_of id s.tasks }
+{}
+
+/// A wait that a call makes due is for a task that the call has paused or killed, or the call fills the
+/// journal. So callers that sleep need not be told of another call.
+pub fn few_calls_make_waits_due()
+    ensures { (old new : BookValue) (was now : Known) (r : Request) (a : Answer) (id : List ℕ)
+        → HasCalled old new was now r a → is_due old id ≡ false → is_due new id ≡ true
+        → (settles a ≡ true) ⊎ (is_full new ≡ true) }
 {}
 
 /// What takes and returns make of a task, one after another, is one advance at most, and then perhaps a take.

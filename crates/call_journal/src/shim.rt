@@ -4,7 +4,7 @@ ghost use Rattle.std.specs.Ordering.{nat_cmp};
 ghost use Rattle.task_requests.specs.declared.request.Request.TheVariants as request;
 ghost use Rattle.task_requests.specs.declared.request.Ask.TheVariants as ask;
 ghost use Rattle.task_requests.specs.Limits.{max_budget};
-ghost use Rattle.call_journal.specs.Books.{is_journalled};
+ghost use Rattle.call_journal.specs.Books.{is_journalled, settles};
 ghost use Rattle.call_journal.specs.Desks.{AreIdle, spot_names};
 ghost use Rattle.call_journal.specs.Fronts.{Begins};
 ghost use Rattle.call_journal.specs.Seats.{most_seats, Extends};
@@ -25,6 +25,18 @@ use std::sync::ledger::Blank;
 use std::sync::{Condvar, Mutex, Wait};
 use task_board::{ExitRecord, Loan, Reply, Request, Status};
 use wasm_ast::{Refusal, Text};
+
+// Whether a call that was answered so has left its task paused or stopped: a pause or a kill of an idle task.
+fn settles(answer: &Result<Reply, Refusal>) -> bool
+    ensures { result ≡ settles answer.now }
+{
+    match answer {
+        Ok(Reply::Pause { status, .. }) | Ok(Reply::Kill { status, .. }) => {
+            matches!(status, Status::Paused | Status::Stopped)
+        }
+        _ => false,
+    }
+}
 
 /// A shim: a book that callers and workers share, and the cells that hold its journal.
 //
@@ -124,13 +136,7 @@ impl<R: Row> Shim<R> {
     // Tells the callers that sleep, if a call that was answered so may have made a wait due: by the lifecycle
     // only a pause or a kill of an idle task does, and any call that fills the journal.
     fn tell_settled(&self, shared: &Shared<R>, answer: &Result<Reply, Refusal>) {
-        let settles = match answer {
-            Ok(Reply::Pause { status, .. }) | Ok(Reply::Kill { status, .. }) => {
-                matches!(status, Status::Paused | Status::Stopped)
-            }
-            _ => false,
-        };
-        if settles || shared.book.is_full() {
+        if settles(answer) || shared.book.is_full() {
             self.tell_callers(shared);
         }
     }
@@ -198,14 +204,14 @@ impl<R: Row> Shim<R> {
         }
     }
 
-    // Lends the machine of the task with an id, which waits for a worker and now no more.
+    // Lends the machine of the task with an id, as `Book::take_waiting` does.
     fn take_waiting<W: Wait>(&self, rt: &W, id: &Text, budget: u64) -> Option<(Loan, Receipt<R>)>
         requires { (1 ≤ budget) × (budget ≤ max_budget) }
-        ensures { IfSome result (λ p. (p.0.ran ≡ false) × (p.0.budget ≡ budget) × (p.1 ≡ p.0)) }
+        ensures id { IfSome result (λ p. p.0.id ≡ id.now) }
+        ensures loan { IfSome result (λ p. (p.0.ran ≡ false) × (p.0.budget ≡ budget)) }
+        ensures receipt { IfSome result (λ p. p.1 ≡ p.0) }
     {
-        let mut shared = self.shared.lock(rt);
-        let task = shared.book.leave_waiting(id)?;
-        shared.book.take(task, budget)
+        self.shared.lock(rt).book.take_waiting(id, budget)
     }
 
     /// The entry, exactly if the seat has seen it. It takes no lock.

@@ -6,6 +6,7 @@ ghost use Rattle.request_lines.specs.Input.{IsKept};
 ghost use Rattle.request_lines.specs.Reply.{json_of, line_text};
 ghost use Rattle.callers.specs.Answered.{IsAnswered, IsCall, IsDue, IsServed};
 ghost use Rattle.callers.specs.Driving.{Drives, IsTold};
+ghost use Rattle.callers.specs.Inside.Told.{HasStopped, IsWait};
 ghost use Rattle.callers.specs.Inside.Writing.{Writes};
 
 use crate::notes::Notes;
@@ -83,6 +84,7 @@ fn call<J: Row, H: Wait, N: Notes>(
 ) -> (Seat<J>, Result<Reply, Refusal>)
     ensures call { IsCall seat result.0 request result.1 }
     ensures due { IsDue request result.1 }
+    ensures told { (IsWait request → ⊥) → notes.new ≡ notes.old }
 {
     match request {
         Request::Task { id, ask: Ask::Wait } => {
@@ -182,7 +184,9 @@ fn tell_killed<J: Row, H: Wait, N: Notes>(
     shim: &Shim<J>,
     answer: &Result<Reply, Refusal>,
     notes: &mut N,
-) {
+)
+    ensures told { (HasStopped answer.now → ⊥) → notes.new ≡ notes.old }
+{
     let Ok(Reply::Kill { id, status }) = answer else {
         return;
     };
@@ -228,8 +232,8 @@ fn serve_line<J: Row, W: Sink, H: Wait, N: Notes>(
 /// A fault of a stream is told only if that stream has failed. A worker is woken for a task that was
 /// started before the reply is written, or, if another line is at hand, at the latest when that was
 /// read and is no wait for that task. The seat is that of the caller, and is given back. The notes
-/// are told each line and its answer, before its reply is written; what is answered and written is
-/// the same, whatever they do.
+/// are told each line and its answer, before its reply is written; what is answered and written is as
+/// the clauses say, whatever they do.
 pub fn drive<J: Row, R: Source, W: Sink, H: Wait, N: Notes>(
     rt: &H,
     alloc: Global,

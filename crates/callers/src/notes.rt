@@ -5,8 +5,8 @@ use call_journal::{Row, Seat, Shim};
 use task_board::{ExitRecord, Reply};
 use wasm_ast::{Refusal, Text};
 
-/// What is told each line of a caller and its answer, in their order. Nothing that it does changes
-/// what is answered or written.
+/// What is told each line of a caller and its answer, in their order. What is answered and written is as
+/// the clauses say, whatever it does.
 pub trait Notes {
     /// A line, of which nothing is there if it is too long, is answered so, and its reply is
     /// written next. The seat is that of the caller after its call.

@@ -1,4 +1,4 @@
-use Rattle.std.proofs.Common.{◌≡◌, sym, refl, subst, ◌∙◌, ap}
+use Rattle.std.proofs.Common.{sym, refl, subst, ◌∙◌, ap}
 use Rattle.task_board.specs.BoardState.{empty}
 use Rattle.call_journal.specs.Replay.{IsLegal}
 use Rattle.call_journal.specs.Seats.{own_calls}
