@@ -42,6 +42,23 @@ fn check(rt: &impl Abort, text: &RefCell<String>, wanted: &str) {
     }
 }
 
+// Asserts what is in a log of JSON: the event of each line, with its members.
+fn check_json(
+    rt: &impl Abort,
+    alloc: Global,
+    text: &RefCell<String>,
+    wanted: &[&str],
+) -> Result<(), AllocError> {
+    let mut all = String::new(alloc);
+    for event in wanted {
+        all.push_str("{\"time\":\"-\",\"seconds\":null,\"event\":")?;
+        all.push_str(*event)?;
+        all.push_str("}\n")?;
+    }
+    check(rt, text, all.as_str());
+    Ok(())
+}
+
 // The id `a`.
 fn id(alloc: Global) -> Result<Text, AllocError> {
     Text::from_str(alloc, "a")
@@ -114,6 +131,24 @@ fn statuses_are_told(rt: HostRuntime) -> Result<(), AllocError> {
     Ok(())
 }
 
+#[test]
+fn statuses_are_told_in_json(rt: HostRuntime) -> Result<(), AllocError> {
+    let alloc = rt.alloc();
+    let text = RefCell::new(String::new(alloc));
+    log_statuses(
+        alloc,
+        Log::new(alloc, Kept { text: &text }, Some(Format::Json)),
+    )?;
+    let events = [
+        "\"created\",\"line\":1,\"id\":\"a\",\"turns\":0",
+        "\"started\",\"line\":2,\"id\":\"a\",\"status\":\"running\"",
+        "\"paused\",\"caller\":\"x\",\"line\":3,\"id\":\"a\",\"status\":\"paused\"",
+        "\"resumed\",\"caller\":\"x\",\"line\":4,\"id\":\"a\",\"status\":\"running\"",
+        "\"killed\",\"caller\":\"x\",\"line\":5,\"id\":\"a\",\"status\":\"stopped\"",
+    ];
+    check_json(&rt, alloc, &text, events.as_slice())
+}
+
 // Line 1 set a breakpoint.
 fn log_break(alloc: Global, log: Log<Kept<'_>>) -> Result<(), AllocError> {
     log.accepted(By::Line("", 1), &Reply::Break { id: id(alloc)? });
@@ -165,6 +200,25 @@ fn steps_and_breakpoints_are_told(rt: HostRuntime) -> Result<(), AllocError> {
         "log: - - line 1 break-set id=a\nlog: - - line 1 break-removed id=a\nlog: - - line 1 stepped id=a turns=3\nlog: - - line 1 stepped id=a turns=3\nlog: - - line 1 ended id=a turns=3 cause=exit exit=7\nlog: - - line 1 deleted id=a\n",
     );
     Ok(())
+}
+
+#[test]
+fn steps_and_breakpoints_are_told_in_json(rt: HostRuntime) -> Result<(), AllocError> {
+    let alloc = rt.alloc();
+    let text = RefCell::new(String::new(alloc));
+    log_others(
+        alloc,
+        Log::new(alloc, Kept { text: &text }, Some(Format::Json)),
+    )?;
+    let events = [
+        "\"break-set\",\"line\":1,\"id\":\"a\"",
+        "\"break-removed\",\"line\":1,\"id\":\"a\"",
+        "\"stepped\",\"line\":1,\"id\":\"a\",\"turns\":3",
+        "\"stepped\",\"line\":1,\"id\":\"a\",\"turns\":3",
+        "\"ended\",\"line\":1,\"id\":\"a\",\"turns\":3,\"cause\":\"exit\",\"exit\":7",
+        "\"deleted\",\"line\":1,\"id\":\"a\"",
+    ];
+    check_json(&rt, alloc, &text, events.as_slice())
 }
 
 // Line 1 asked for the state of the task.
@@ -245,6 +299,23 @@ fn refusals_ends_and_marks_are_told(rt: HostRuntime) -> Result<(), AllocError> {
 }
 
 #[test]
+fn refusals_ends_and_marks_are_told_in_json(rt: HostRuntime) -> Result<(), AllocError> {
+    let alloc = rt.alloc();
+    let text = RefCell::new(String::new(alloc));
+    log_rest(Log::new(alloc, Kept { text: &text }, Some(Format::Json)));
+    let events = [
+        "\"refused\",\"caller\":\"x\",\"line\":9,\"number\":1,\"cause\":\"BadRequest\"",
+        "\"refused\",\"caller\":\"x\",\"line\":9,\"id\":\"b\",\"number\":4,\"cause\":\"NotFound\"",
+        "\"ended\",\"id\":\"a\",\"turns\":2,\"cause\":\"trap\",\"exit\":134,\"trap\":\"unreachable\"",
+        "\"journal\",\"caller\":\"x\",\"line\":9,\"entries\":8192",
+        "\"journal\",\"caller\":\"x\",\"line\":9,\"entries\":14746",
+        "\"journal\",\"caller\":\"x\",\"line\":9,\"entries\":16384",
+        "\"caller-ended\",\"caller\":\"x\",\"lines\":9",
+    ];
+    check_json(&rt, alloc, &text, events.as_slice())
+}
+
+#[test]
 fn no_log_is_wanted(rt: HostRuntime) -> Result<(), AllocError> {
     let text = RefCell::new(String::new(rt.alloc()));
     let log = Log::new(rt.alloc(), Kept { text: &text }, None);
@@ -298,6 +369,37 @@ fn clocks_are_read(rt: HostRuntime) -> Result<(), AllocError> {
     assert!(rt; known.wall.is_some());
     let unknown = Clocks::new(Standing { fails: true }).now();
     assert!(rt; unknown.since.is_none() && unknown.wall.is_none());
+    Ok(())
+}
+
+// A clock that goes on by 72 seconds and 271 microseconds each time it is read.
+#[derive(Clone, Copy)]
+struct Going<'a> {
+    micros: &'a RefCell<u64>,
+}
+
+impl Clock for Going<'_> {
+    fn monotonic(&self) -> io::Result<Duration> {
+        match self.micros.try_borrow_mut() {
+            Ok(mut micros) => {
+                *micros = micros.wrapping_add(72_000_271);
+                Ok(Duration::from_micros(*micros))
+            }
+            Err(_) => Err(io::Error::from(ErrorKind::Other)),
+        }
+    }
+
+    fn since_1970(&self) -> io::Result<Duration> {
+        Ok(Duration::from_secs(9))
+    }
+}
+
+#[test]
+fn time_since_the_program_began_goes_on(rt: HostRuntime) -> Result<(), AllocError> {
+    let micros = RefCell::new(0);
+    let clocks = Clocks::new(Going { micros: &micros });
+    assert!(rt; clocks.now().since == Some(Duration::from_micros(72_000_271)));
+    assert!(rt; clocks.now().since == Some(Duration::from_micros(144_000_542)));
     Ok(())
 }
 

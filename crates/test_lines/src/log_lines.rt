@@ -25,11 +25,12 @@ impl From<jiff::Error> for Fail {
     }
 }
 
-// Half a second past nine in the morning of 28 November 2026, and 271 microseconds after the program began.
+// Half a second past nine in the morning of 28 November 2026, and 72 seconds and 271 microseconds after the
+// program began.
 fn moment() -> Result<Moment, Fail> {
     Ok(Moment {
         wall: Some(Timestamp::from_microsecond(1_795_856_400_500_000)?),
-        since: Some(Duration::from_micros(271)),
+        since: Some(Duration::from_micros(72_000_271)),
     })
 }
 
@@ -101,13 +102,13 @@ fn check_text(
 
 #[test]
 fn a_line_of_the_one_caller(rt: HostRuntime) -> Result<(), Fail> {
-    let wanted = "log: 2026-11-28T09:00:00.500000Z 0.000271 line 4 ended id=a turns=2\n";
+    let wanted = "log: 2026-11-28T09:00:00.500000Z 72.000271 line 4 ended id=a turns=2\n";
     check_now(&rt, rt.alloc(), Format::Text, By::Line("", 4), wanted)
 }
 
 #[test]
 fn a_line_of_a_caller_with_a_name(rt: HostRuntime) -> Result<(), Fail> {
-    let wanted = "log: 2026-11-28T09:00:00.500000Z 0.000271 x.jsonl line 4 ended id=a turns=2\n";
+    let wanted = "log: 2026-11-28T09:00:00.500000Z 72.000271 x.jsonl line 4 ended id=a turns=2\n";
     check_now(
         &rt,
         rt.alloc(),
@@ -119,14 +120,14 @@ fn a_line_of_a_caller_with_a_name(rt: HostRuntime) -> Result<(), Fail> {
 
 #[test]
 fn a_line_of_a_worker(rt: HostRuntime) -> Result<(), Fail> {
-    let wanted = "log: 2026-11-28T09:00:00.500000Z 0.000271 worker ended id=a turns=2\n";
+    let wanted = "log: 2026-11-28T09:00:00.500000Z 72.000271 worker ended id=a turns=2\n";
     check_now(&rt, rt.alloc(), Format::Text, By::Worker, wanted)
 }
 
 #[test]
 fn json_of_a_caller_with_a_name(rt: HostRuntime) -> Result<(), Fail> {
     let wanted =
-        "{\"time\":\"2026-11-28T09:00:00.500000Z\",\"seconds\":0.000271,\"event\":\"ended\",\"caller\":\"x.jsonl\",\"line\":4,\"id\":\"a\",\"turns\":2}\n";
+        "{\"time\":\"2026-11-28T09:00:00.500000Z\",\"seconds\":72.000271,\"event\":\"ended\",\"caller\":\"x.jsonl\",\"line\":4,\"id\":\"a\",\"turns\":2}\n";
     check_now(
         &rt,
         rt.alloc(),
@@ -139,7 +140,7 @@ fn json_of_a_caller_with_a_name(rt: HostRuntime) -> Result<(), Fail> {
 #[test]
 fn json_of_a_worker(rt: HostRuntime) -> Result<(), Fail> {
     let wanted =
-        "{\"time\":\"2026-11-28T09:00:00.500000Z\",\"seconds\":0.000271,\"event\":\"ended\",\"id\":\"a\",\"turns\":2}\n";
+        "{\"time\":\"2026-11-28T09:00:00.500000Z\",\"seconds\":72.000271,\"event\":\"ended\",\"id\":\"a\",\"turns\":2}\n";
     check_now(&rt, rt.alloc(), Format::Json, By::Worker, wanted)
 }
 

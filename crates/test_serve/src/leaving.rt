@@ -6,7 +6,7 @@ use crate::waiting::comes_to;
 use serve_command::Work;
 use std::alloc::{AllocError, Global};
 use std::io;
-use std::io::{Read, Write};
+use std::io::{ErrorKind, Read, Write};
 use std::process::Abort;
 use std::sync::atomic::{AtomicU64, Ordering};
 use std::sync::{Mutex, Wait};
@@ -54,21 +54,29 @@ impl<H: Clock> Read for PatientReader<H> {
     }
 }
 
-/// A page as the OUT of a caller: it counts there when it is closed.
+/// A page as the OUT of a caller, which takes nothing if it fails: it counts there when it is closed.
 struct ClosingPage<H: Copy> {
     page: Page<H>,
     closed: &'static AtomicU64,
+    fails: bool,
 }
 
 impl<H: Copy> Drop for ClosingPage<H> {
     fn drop(self) {
-        let ClosingPage { page: _, closed } = self;
+        let ClosingPage {
+            page: _,
+            closed,
+            fails: _,
+        } = self;
         closed.fetch_add(1, Ordering::SeqCst);
     }
 }
 
 impl<H: Wait + Copy> Write for ClosingPage<H> {
     fn write(&mut self, buf: &[u8]) -> io::Result<usize> {
+        if self.fails {
+            return Err(io::Error::from(ErrorKind::BrokenPipe));
+        }
         self.page.add(buf);
         Ok(buf.len())
     }
@@ -99,13 +107,15 @@ type Streams<H> = (
 );
 
 impl<H: Copy> Room<H> {
-    // A caller whose lines come once this number of others have gone, and the text of its replies.
+    // A caller whose lines come once this number of others have gone, and the text of its replies. A fault
+    // may be that of its OUT.
     fn caller(
         &self,
         names: (&'static str, &'static str),
         lines: ChunkedReader<'static>,
         wanted: u64,
         text: &'static Mutex<Vec<u8>>,
+        fault: Fault,
     ) -> Streams<H> {
         let Room { rt, alloc, closed } = *self;
         let reader = PatientReader {
@@ -115,34 +125,50 @@ impl<H: Copy> Room<H> {
             wanted,
         };
         let page = Page { rt, alloc, text };
-        (names, reader, ClosingPage { page, closed })
+        let fails = fault == Fault::Out;
+        (
+            names,
+            reader,
+            ClosingPage {
+                page,
+                closed,
+                fails,
+            },
+        )
     }
 }
 
 type LeavingWork<H> = Work<PatientReader<H>, ClosingPage<H>, Vec<u8>>;
+
+/// Which stream of a caller fails: IN after its lines, OUT at the first reply.
+#[derive(Clone, Copy, PartialEq, Eq)]
+enum Fault {
+    None,
+    In,
+    Out,
+}
 
 /// Another caller that ends, and what the owner asks then.
 #[derive(Clone, Copy)]
 struct Leaving {
     names: (&'static str, &'static str),
     lines: &'static str,
-    /// Whether its reader fails after the lines.
-    fails: bool,
+    fault: Fault,
     replies: &'static str,
     owner: &'static str,
     answers: &'static str,
-    /// What is said on standard error.
+    /// What is said on standard error, and what of.
     said: &'static str,
+    told: Told,
     status: u8,
 }
 
 // A reader of these lines, which fails after them or is at its end.
-fn reader_of(text: &'static str, fails: bool) -> ChunkedReader<'static> {
+fn reader_of(text: &'static str, fault: Fault) -> ChunkedReader<'static> {
     let lines = text.as_bytes();
-    if fails {
-        ChunkedReader::failing(lines)
-    } else {
-        ChunkedReader::new(lines)
+    match fault {
+        Fault::In => ChunkedReader::failing(lines),
+        Fault::None | Fault::Out => ChunkedReader::new(lines),
     }
 }
 
@@ -159,12 +185,18 @@ fn two_callers<H: Copy>(
     let Leaving {
         names,
         lines,
-        fails,
+        fault,
         owner,
         ..
     } = *leaving;
-    let own = room.caller(OWN_NAMES, reader_of(owner, false), 1, answers);
-    let other = room.caller(names, reader_of(lines, fails), 0, replies);
+    let own = room.caller(
+        OWN_NAMES,
+        reader_of(owner, Fault::None),
+        1,
+        answers,
+        Fault::None,
+    );
+    let other = room.caller(names, reader_of(lines, fault), 0, replies, fault);
     let mut callers: Vec<Streams<H>> = Vec::new(room.alloc);
     callers.push(own)?;
     callers.push(other)?;
@@ -180,7 +212,7 @@ fn check_leaving<H: Threads + Wait + Clock + Abort + Copy + Send + Sync + 'stati
     let (answers, replies) = (empty_text(alloc)?, empty_text(alloc)?);
     let said = empty_text(alloc)?;
     let work = two_callers(&new_room(rt, alloc)?, leaving, answers, replies)?;
-    let status = served(rt, alloc, said, Told::Nothing, work);
+    let status = served(rt, alloc, said, leaving.told, work);
     check_text(rt, replies, leaving.replies);
     check_text(rt, answers, leaving.answers);
     check_text(rt, said, leaving.said);
@@ -194,14 +226,62 @@ fn the_owner_goes_on_after_the_reader_of_another_fails(rt: HostRuntime) -> Resul
     let leaving = Leaving {
         names: ("in", "out"),
         lines: STATE_LINE,
-        fails: true,
+        fault: Fault::In,
         replies: NOT_FOUND_LINE,
         owner: STATE_LINE,
         answers: NOT_FOUND_LINE,
         said: "wasm-shim: in: connection reset\n",
+        told: Told::Nothing,
         status: 1,
     };
     check_leaving(rt, rt.alloc(), &leaving)
+}
+
+// It is named by the OUT that failed.
+#[test]
+fn the_owner_goes_on_after_the_writer_of_another_fails(rt: HostRuntime) -> Result<(), Fail> {
+    let leaving = Leaving {
+        names: ("in", "out"),
+        lines: STATE_LINE,
+        fault: Fault::Out,
+        replies: "",
+        owner: STATE_LINE,
+        answers: NOT_FOUND_LINE,
+        said: "wasm-shim: out: broken pipe\n",
+        told: Told::Nothing,
+        status: 1,
+    };
+    check_leaving(rt, rt.alloc(), &leaving)
+}
+
+// Two callers that ask for a task that is not there, the owner after the other.
+fn two_refused(told: Told, said: &'static str) -> Leaving {
+    Leaving {
+        names: ("in", "out"),
+        lines: STATE_LINE,
+        fault: Fault::None,
+        replies: NOT_FOUND_LINE,
+        owner: STATE_LINE,
+        answers: NOT_FOUND_LINE,
+        said,
+        told,
+        status: 0,
+    }
+}
+
+// The lines of the owner are counted by themselves, and the end of each caller is told after its last line.
+#[test]
+fn the_log_names_live_callers(rt: HostRuntime) -> Result<(), Fail> {
+    let said =
+        "log: - - in line 1 refused id=zz number=4 cause=NotFound\nlog: - - in caller-ended lines=1\nlog: - - own.in line 1 refused id=zz number=4 cause=NotFound\nlog: - - own.in caller-ended lines=1\n";
+    check_leaving(rt, rt.alloc(), &two_refused(Told::Log, said))
+}
+
+#[test]
+fn reasons_name_live_callers(rt: HostRuntime) -> Result<(), Fail> {
+    let said =
+        "why: in line 1, 4 NotFound: state: id \"zz\": no task has that id\nwhy: own.in line 1, 4 NotFound: state: id \"zz\": no task has that id\n";
+    check_leaving(rt, rt.alloc(), &two_refused(Told::Reasons, said))
 }
 
 // No lease has the content as a member, and no task is of it yet.
@@ -210,11 +290,12 @@ fn the_content_of_a_caller_that_has_ended_stays(rt: HostRuntime) -> Result<(), F
     let leaving = Leaving {
         names: ("in", "out"),
         lines: PUT_LINE,
-        fails: false,
+        fault: Fault::None,
         replies: PUT_ANSWER,
         owner: CREATE_LINE,
         answers: CREATE_ANSWER,
         said: "",
+        told: Told::Nothing,
         status: 0,
     };
     check_leaving(rt, rt.alloc(), &leaving)
@@ -225,11 +306,12 @@ fn both_streams_of_a_caller_may_have_one_name(rt: HostRuntime) -> Result<(), Fai
     let leaving = Leaving {
         names: ("tty", "tty"),
         lines: STATE_LINE,
-        fails: false,
+        fault: Fault::None,
         replies: NOT_FOUND_LINE,
         owner: STATE_LINE,
         answers: NOT_FOUND_LINE,
         said: "",
+        told: Told::Nothing,
         status: 0,
     };
     check_leaving(rt, rt.alloc(), &leaving)
@@ -244,7 +326,7 @@ fn all_callers<H: Copy>(
     let mut wanted = OTHERS;
     for text in texts {
         let lines = ChunkedReader::new(STATE_LINE.as_bytes());
-        callers.push(room.caller(("in", "out"), lines, wanted, text))?;
+        callers.push(room.caller(("in", "out"), lines, wanted, text, Fault::None))?;
         wanted = 0;
     }
     Ok(Work::Live(callers))
