@@ -71,6 +71,7 @@ def test_the_gate_makes_each_of_these_checks() -> None:
 CODE = FILES["crates/file_commands/src/command.rt"]
 MAP = FILES["docs/Map.md"]
 HANDS = FILES["crates/callers/src/hands.rt"]
+TOLD = "fn b() {\n    sleepers.notify_all();\n    book.close();\n}\n"
 WRONG: dict[str, tuple[Check, dict[str, str | None], str]] = {
     "a stale edit": (
         edits.check, {"crates/file_commands/src/command.rt": CODE.replace("one_more(2)", "one_more(3)")}, "is 0 times"),
@@ -172,6 +173,15 @@ WRONG: dict[str, tuple[Check, dict[str, str | None], str]] = {
     "a task that is not found": (
         memory_words.check, {"crates/callers/src/hands.rt": HANDS + "fn b() -> Option<Runnable> {\n    None\n}\n"},
         "crates/callers/src/hands.rt b: None"),
+    "nothing by a question mark": (
+        memory_words.check, {"crates/callers/src/hands.rt": HANDS + "fn b() -> Option<A> {\n    (n < 9).then_some(())?;\n}\n"},
+        "crates/callers/src/hands.rt b: (n < 9).then_some(())?;"),
+    "an output that is said to have failed": (
+        memory_words.check, {"crates/file_commands/src/a.rt": "fn b() {\n    Err(RunError::StandardError(e))\n}\n"},
+        "b: Err(RunError::StandardError(e))"),
+    "a number that is said to be too large": (
+        memory_words.check, {"crates/flat_code/src/a.rt": "fn b() {\n    narrow(usize::MAX)?;\n}\n"},
+        "b: narrow(usize::MAX)?;"),
     "a reason for a word that is gone": (
         memory_words.check, {"crates/file_commands/src/command.rt": 'const VERSION: &str = "0.2.0";\n'}, "remove it"),
     "a list without the reason": (
@@ -217,6 +227,22 @@ WRONG: dict[str, tuple[Check, dict[str, str | None], str]] = {
         "b: std::mem::forget(line);"),
     "more memory than was asked for": (
         listed_calls.check, {"crates/callers/src/hands.rt": HANDS.replace("= 2", "= 3")}, "ROOM: const ROOM: usize = 3;"),
+    "a worker that leaves where it has to sleep": (
+        listed_calls.check, {"crates/slice_workers/src/a.rt": "fn b() {\n    shim.next_waiting(rt)\n}\n"},
+        "b: shim.next_waiting(rt)"),
+    "an end that is told twice": (
+        listed_calls.check, {"crates/callers/src/hands.rt": HANDS + "fn b() {\n    notes.ended(id, n, end);\n}\n"},
+        "b: notes.ended(id, n, end);"),
+    "a read whose error is passed over": (
+        listed_calls.check, {"crates/wasm_shim/src/a.rt": "fn b() {\n    Ok(file.read(buf).unwrap_or(0))\n}\n"},
+        "b: Ok(file.read(buf).unwrap_or(0))"),
+    "calls in another order": (
+        listed_calls.check, {
+            "crates/callers/src/hands.rt": HANDS + TOLD,
+            "tests/call_order.txt": "crates/callers/src/hands.rt b close notify_all\n"},
+        "crates/callers/src/hands.rt b notify_all close: tests/call_order.txt has not this order"),
+    "an order that is no longer kept": (
+        listed_calls.check, {"tests/call_order.txt": "crates/callers/src/hands.rt end lock close\n"}, "remove the line"),
     "a reason for a call that is gone": (
         listed_calls.check, {"crates/callers/src/hands.rt": HANDS.replace("task.into_ticket()", "task")}, "remove it"),
     "spaces at the end of a line": (layout.check, {"docs/A.md": "# A \n\n## Two words\n"}, "spaces at the end"),
@@ -370,6 +396,25 @@ def test_writes_are_listed_where_no_clause_speaks_of_them() -> None:
     found = listed_calls.places_in("crates/wasm_shim/src/a.rt", code)
     assert [place.text for place in found] == ["file.write(bytes)", "file.write_all(bytes)"]
     assert not list(listed_calls.places_in("crates/file_commands/src/a.rt", code))
+
+
+def test_a_question_mark_may_end_what_answers_no_option() -> None:
+    code = "fn b() -> Result<u8, E> {\n    one(2)?\n}\n\nfn c(n: Option<u8>) -> u8 {\n    n.map(f)?\n}\n"
+    assert list(memory_words.places_in("crates/callers/src/a.rt", code)) == []
+    code = ("fn b(\n    n: u8,\n) -> Option<(u8, Loan)>\n    requires { 1 ≤ n }\n{\n"
+            "    let a = one(n)?;\n    Some((a, two(n)?))\n}\n")
+    assert [place.text for place in memory_words.places_in("crates/callers/src/a.rt", code)] == [
+        "let a = one(n)?;", "Some((a, two(n)?))"]
+    assert list(memory_words.places_in("crates/reasons/src/a.rt", code)) == []
+
+
+def test_an_order_of_calls_is_that_of_their_places() -> None:
+    code = "fn b(&self) {\n    let a = self.lock(rt);\n    a.close();\n    self.more.notify_all();\n}\n"
+    path = "crates/callers/src/a.rt"
+    assert list(listed_calls.orders_in(path, code)) == [f"{path} b lock close notify_all"]
+    assert list(listed_calls.orders_in("crates/reasons/src/a.rt", code)) == []
+    code = "fn b() {\n    a.close();\n}\n\nfn c() {\n    a.lock(rt);\n}\n"
+    assert list(listed_calls.orders_in(path, code)) == []
 
 
 def test_tests_may_keep_memory(tmp_path: Path) -> None:

@@ -3,10 +3,13 @@
 A task that is turned into a plain ticket can be forgotten, a seat more makes calls that nobody asked for, a shim that is
 closed refuses all that follows, a slice that runs under a lock holds up all others, who sleeps and is not woken waits for
 ever, workers may be fewer than were asked for, and the turns of a slice more, room that is asked for is memory, memory that
-is let go of and not freed is lost, and a single write may write a part. No contract says where these calls may be made, and
-with what, and code that makes another one is proved as before. So each place that makes one is in a list,
-tests/listed_calls.txt, with the reason for it, and the check fails where the sources and the list differ. In the crates of
-threads the list also has the condition that a place is under, if it begins on a line before.
+is let go of and not freed is lost, a single write may write a part, and an end that is told twice is wrong. No contract says
+where these calls may be made, and with what, and code that makes another one is proved as before. So each place that makes
+one is in a list, tests/listed_calls.txt, with the reason for it, and the check fails where the sources and the list differ.
+In the crates of threads the list also has the condition that a place is under, if it begins on a line before.
+
+What is told after the end, or before a change, is told in vain. So a second list, tests/call_order.txt, has the order in which
+a function of those crates makes several such calls.
 """
 from __future__ import annotations
 
@@ -18,24 +21,26 @@ from suite.checks.memory_words import NAMED, Place, condition_of, differences, f
 from suite.checks.tree import Tree
 from suite.checks.values import Source, blanked, renamed
 
-LIST = "tests/listed_calls.txt"
+LIST, ORDER = "tests/listed_calls.txt", "tests/call_order.txt"
 SOURCES = "crates/*/src/*.rt"
 # Calls of any crate but those of tests: what asks for room of a size, and what lets go of memory and does not free it.
 ROOM = re.compile(r"(?<!fn )\b(?:with_capacity(?:_and_hasher)?|allocate|from_elem|(?:try_)?reserve(?:_exact)?"
                   r"|resize(?:_with)?|repeat)\(|\bvec!\[in\b")
 LEFT = re.compile(r"(?<!fn )\b(?:forget|leak|into_raw(?:_parts|_with_allocator)?|ManuallyDrop)\b")
-# Calls of the crates that write files, standard streams and the log without a clause: a single write may take a part only.
-WRITES = re.compile(r"\.write(?:_all|_fmt|_vectored)?\(")
+# Calls of the crates that read and write files, standard streams and the log without a clause: a single write may take a part
+# only, and a read that is left out, or whose error is, loses what comes.
+WRITES = re.compile(r"\.(?:write(?:_all|_fmt|_vectored)?|read(?:_to_end|_exact|_to_string)?)\(")
 WITH_WRITES = re.compile(r"crates/(?:serve_command|shim_log|wasm_shim)/")
 # Calls of the crates of threads: what lets go of a task, closes a shim, hands out a seat, sets workers to work, takes a lock,
-# makes a call under it, sleeps, wakes, lends a machine, or runs it. After the name of a type it is a call too, or a function
-# that is handed on.
+# makes a call under it, sleeps, wakes, waits for a thread, gives the next task or line, lends a machine, runs it, takes it
+# back, or tells an end. After the name of a type it is a call too, or a function that is handed on.
 OF_VALUES = (r"(?:into_ticket|close|seat|lock|take|run|slice|wait_while|wait_timeout_while|notify_one|notify_all|tell_worker"
-             r"|tell_callers|tell_settled|wake|call_due)\b")
+             r"|tell_callers|tell_settled|wake|call_due|join|next|next_waiting|leave_waiting|take_waiting|wait_again|give_back"
+             r"|receive|ended|lines_ended|report)\b")
 HANDS = re.compile(rf"\.{OF_VALUES}\(|::{OF_VALUES}(?!::\w)|\bRunnable\b[^\s(,;]*::of\b"
-                   r"|\bbook\.call\(|\bBook\b[^\s(,;]*::call\b|\bflight\.(?:enter|leave|end)\("
+                   r"|\bbook\.call\(|\bBook\b[^\s(,;]*::call\b|\bflight\.(?:enter|leave|end)\(|\bnotes\.note\("
                    r"|(?<!fn )\b(?:worker|with_workers|with_gated_workers|with_workers_of|serve|run_waiting|take_waiting"
-                   r"|run_slice)\(")
+                   r"|run_slice|drive|tell_killed|join_promised|spare_memory)\(")
 WITH_HANDS = re.compile(r"crates/(?:call_journal|callers|slice_workers|serve_command|wasm_shim)/")
 # The type whose function makes a task of a ticket: under another name it is not seen.
 HANDED = {"Runnable"}
@@ -52,6 +57,29 @@ def calls_in(path: str, code: str) -> list[int]:
     """Where code makes such calls, as often as it does."""
     calls = [ROOM, LEFT, *([HANDS] if WITH_HANDS.match(path) else []), *([WRITES] if WITH_WRITES.match(path) else [])]
     return [match.start() for call in calls for match in call.finditer(code)]
+
+
+def orders_in(path: str, text: str) -> Iterator[str]:
+    """The functions of a file of the crates of threads that make several such calls, each with their order: a line each."""
+    if not WITH_HANDS.match(path):
+        return
+    code, orders = blanked(text), dict[str, list[str]]()
+    functions = list(functions_of(code))
+    for match in sorted((match for call in (HANDS, WRITES) for match in call.finditer(code)), key=lambda match: match.start()):
+        name = re.findall(r"\w+", match[0])[-1]
+        orders.setdefault(functions[code.count("\n", 0, match.start())], []).append(name)
+    for function, names in orders.items():
+        if len(names) > 1:
+            yield f"{path} {function} {' '.join(names)}"
+
+
+def order_faults(tree: Tree) -> tuple[int, list[str]]:
+    """How many functions make several such calls, and where their orders and the list of orders differ."""
+    found = {line for path in tree.matching(SOURCES) if not OF_TESTS.match(path) for line in orders_in(path, tree.text(path))}
+    given = {line for line in (tree.text(ORDER) if tree.has(ORDER) else "").splitlines() if line and not line.startswith("#")}
+    return len(found), [
+        *(f"{line}: {ORDER} has not this order of calls: if it is right, add the line" for line in sorted(found - given)),
+        *(f"{line}: calls are not made in this order: remove the line from {ORDER}" for line in sorted(given - found))]
 
 
 def is_listed(path: str, name: str) -> bool:
@@ -103,4 +131,6 @@ def check(tree: Tree) -> tuple[int, list[str]]:
     """How many places there are, and where the list and the sources differ."""
     found = found_in(tree)
     given, faults = listed(tree.text(LIST) if tree.has(LIST) else "", LIST)
-    return found.total(), faults + differences(found, given, LIST, "such a call is made here", "add a line with the reason")
+    count, orders = order_faults(tree)
+    return found.total() + count, [
+        *faults, *differences(found, given, LIST, "such a call is made here", "add a line with the reason"), *orders]

@@ -2,8 +2,9 @@
 
 An allocation that is refused answers "out of memory" by itself, through `?` and `From`. Wherever code makes this answer by
 hand, it says so of something else, or hides what it was. Others can be made without a cause too, and the code is proved as
-before: the answers `Closed`, `JournalFull` and `JournalFault`, the error `NoThread`, the texts that say why the program ended,
-and in the crates of threads `None`: no task, no seat, no caller.
+the answers `Closed`, `JournalFull` and `JournalFault`, the error `NoThread`, the texts that say why the program ended,
+that an output of a `run` has failed, and in the crates of threads `None`: no task, no seat, no caller. There `?` makes one
+too, in a function that answers an Option. A function that makes the answer by hand can be called with what makes it.
 So each place that makes one of all these is in a list, tests/memory_words.txt, with the reason for it, and the check fails
 where the sources and the list differ. Where a place's own line has no condition, the list also has the one that it is under.
 """
@@ -22,8 +23,15 @@ SOURCES = "crates/*/src/*.rt"
 # Errors of memory, and after them refusals, the error of threads, and texts of `serve`.
 WORD = re.compile(r"(?:\b(?P<of>[A-Z]\w*)::)?(?<![\w.])(?P<word>AllocError|NoMemory|OutOfMemory|Memory"
                   r"|Closed|JournalFull|JournalFault|NoThread|OUT_OF_MEMORY|NO_SEAT)\b")
+# That an output of a `run` has failed.
+FAILED, FAILING = re.compile(r"\bRunError::Standard(?:Output|Error)\b"), re.compile(r"crates/file_commands/")
+# Functions that answer out of memory by hand, of a number that is too large, by the files that call them.
+LARGE = {"file_commands/src/check.rt": "next", "flat_code/src/": "sum|narrow|narrow_to_byte",
+         "label_machine/src/numbered.rt": "number"}
 # Nothing, in the crates of threads.
 NOTHING = re.compile(r"(?:(?<![\w.:])|\bOption(?:::<[^()]*>)?::)None\b")
+# A function that answers an Option, up to its body, and what may end it without a value.
+OF_OPTION, ENDS = re.compile(r"\bfn \w+[^{;]*?-> Option<"), re.compile(r"\?(?=[;.,)\s])")
 OF_THREADS = re.compile(r"crates/(?:call_journal|callers|slice_workers|serve_command|wasm_shim)/")
 # What says why the program ended, and the crates that do.
 SAYS, SAYING = re.compile(r"\b(?:stream_)?failed\("), re.compile(r"crates/(?:serve_command|wasm_shim)/")
@@ -50,7 +58,7 @@ def is_made(code: str, match: re.Match[str]) -> bool:
     """Whether a word, where code makes values, is one: not one that is compared, a type, or a thing."""
     if COMPARED.search(code, max(0, match.start() - 80), match.start()):
         return False
-    if match.re is NOTHING:
+    if match.re in (NOTHING, FAILED):
         return True
     return match["of"] not in THINGS and (match["word"] != "AllocError" or not LAST_TYPE.match(code, match.end()))
 
@@ -62,13 +70,29 @@ def said_in(source: Source, text: str) -> Iterator[int]:
             yield match.start()
 
 
+def ended_in(code: str) -> Iterator[int]:
+    """Where `?` may end a function that answers an Option."""
+    begins = [match.start() for match in re.finditer(r"\bfn \w+", code)]
+    for begin, end in zip(begins, [*begins[1:], len(code)]):
+        if OF_OPTION.match(code, begin, end):
+            yield from (match.start() for match in ENDS.finditer(code, code.find("{", begin), end))
+
+
+def large_in(path: str, code: str) -> Iterator[int]:
+    """Where code calls a function that answers out of memory of a number that is too large."""
+    for begin, names in LARGE.items():
+        if path.startswith(f"crates/{begin}"):
+            yield from (match.start() for match in re.finditer(rf"(?<![\w.:])(?<!fn )(?:{names})\(", code))
+
+
 def made_in(path: str, source: Source, text: str) -> list[int]:
     """Where code makes the answer, as often as it does."""
-    words = [WORD, NOTHING] if OF_THREADS.match(path) else [WORD]
+    words = [WORD, NOTHING] if OF_THREADS.match(path) else [WORD, *([FAILED] if FAILING.match(path) else [])]
     found = [match.start() for word in words for match in word.finditer(source.code) if is_made(source.code, match)]
     unmade = list(source.stretches()) if found else []
     made = [at for at in found if not any(begin <= at < end for begin, end in unmade)]
-    return made + (list(said_in(source, text)) if SAYING.match(path) else [])
+    return [*made, *(said_in(source, text) if SAYING.match(path) else []),
+            *(ended_in(source.code) if OF_THREADS.match(path) else []), *large_in(path, source.code)]
 
 
 def functions_of(code: str) -> Iterator[str]:
