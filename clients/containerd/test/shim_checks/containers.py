@@ -225,22 +225,28 @@ class Containers(WithDaemon):
         until("the program has the line", lambda: log.exists() and log.read_text() == "begun\n")
         self.assertEqual(self.end(name), 143)
 
-    def test_terminal(self) -> None:
-        """with a terminal (-t) the output is there"""
-        reference = self.setting.images.all["hello"].reference
-        words = self.daemon.words("run", "--rm", "-t", *self.daemon.options("tty"), reference, "tty")
+    def in_terminal(self, image: str, want: bytes) -> tuple[int, bytes]:
+        """How a container with a terminal ends, and what the terminal shows until it has what is wanted."""
+        reference, name = self.setting.images.all[image].reference, f"tty-{image}"
+        words = self.daemon.words("run", "--rm", "-t", *self.daemon.options(name), reference, name)
         leader, follower = os.openpty()
         with subprocess.Popen(words, stdin=follower, stdout=follower, stderr=follower, env=self.daemon.environment) as process:
             os.close(follower)
             text = b""
-            while process.poll() is None or b"feulgama" not in text:
+            while process.poll() is None or want not in text:
                 try:
                     text += os.read(leader, 1000)
                 except OSError:
                     break
         os.close(leader)
-        self.assertEqual(process.returncode, 0, text)
-        self.assertIn(b"hello, feulgama", text)
+        return process.returncode, text
+
+    def test_terminal(self) -> None:
+        """with a terminal (-t) the output is there, and so is the name of a trap"""
+        for image, status, want in (("hello", 0, b"hello, feulgama"), ("trap", 134, b"trap: unreachable")):
+            ended, text = self.in_terminal(image, want)
+            self.assertEqual(ended, status, text)
+            self.assertIn(want, text)
 
     # where the module comes from
 

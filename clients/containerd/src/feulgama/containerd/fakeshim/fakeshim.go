@@ -24,6 +24,8 @@ const (
 	Die    = Head + "die"    // ends the program when it starts
 	Noise  = Head + "noise"  // answers a line that is no reply, when it starts
 	Full   = Head + "full"   // answers nothing more once it has started, as a shim whose journal is full
+	Trap   = Head + "trap"   // writes a line to each stream, and traps
+	Mute   = Head + "mute"   // does as Trap, and what it has written to standard output is not answered
 )
 
 // Slow is what a module of Short may end with: a slice of it lasts until its end is waited for.
@@ -38,8 +40,11 @@ func Short(op string, requests int) string {
 // StepsToTheEnd is how many turns of a debugger end a task, with the status 7.
 const StepsToTheEnd = 5000
 
-// Written is what Hello and Loop write to standard output.
-const Written = "begun\n"
+// What modules write: all of them to standard output, and those that trap to standard error too.
+const (
+	Written    = "begun\n"
+	Complained = "it goes wrong\n"
+)
 
 // Main is the program. It returns when the lines of the first caller have ended.
 func Main(words []string) int {
@@ -86,6 +91,7 @@ type board struct {
 	contents map[string]string
 	module   string
 	status   string
+	cause    string // of the end, as those below
 	exit     uint32
 	signal   int
 	turns    int // made by steps
@@ -183,10 +189,10 @@ func (b *board) findsNoMemory(op string, owns bool) bool {
 func (b *board) shown(r request) object {
 	switch r.Op {
 	case "output":
-		written := ""
-		if r.Stream == 1 && b.status != "created" {
-			written = Written
+		if b.module == Mute && r.Stream == 1 {
+			return object{"ok": false, "number": 15, "error": "JournalFull"}
 		}
+		written := b.written(r.Stream)
 		return object{"ok": true, "id": r.ID, "hex": hex.EncodeToString([]byte(written)), "size": len(written)}
 	case "peek":
 		return object{"ok": true, "id": r.ID, "hex": strings.Repeat("2a", 4)}
@@ -195,6 +201,19 @@ func (b *board) shown(r request) object {
 			"labels": []int{}, "operands": []string{}}}}
 	}
 	return wrongStatus()
+}
+
+// written is what the task has written to a stream.
+func (b *board) written(stream int) string {
+	switch {
+	case b.status == "created":
+		return ""
+	case stream == 1:
+		return Written
+	case b.module == Trap || b.module == Mute:
+		return Complained
+	}
+	return ""
 }
 
 // debugged answers what a debugger asks of a task that is paused.
@@ -248,14 +267,19 @@ func (b *board) start() {
 	case Die:
 		os.Exit(3)
 	case Hello:
-		go func() {
-			time.Sleep(10 * time.Millisecond)
-			b.mu.Lock()
-			defer b.mu.Unlock()
-			b.stop("exit", 7, 0)
-			b.changed.Broadcast()
-		}()
+		go b.stopSoon("exit", 7)
+	case Trap, Mute:
+		go b.stopSoon("trap", 134)
 	}
+}
+
+// stopSoon ends the task by itself.
+func (b *board) stopSoon(cause string, exit uint32) {
+	time.Sleep(10 * time.Millisecond)
+	b.mu.Lock()
+	defer b.mu.Unlock()
+	b.stop(cause, exit, 0)
+	b.changed.Broadcast()
 }
 
 func (b *board) create(r request, line string) object {
@@ -272,15 +296,18 @@ func (b *board) create(r request, line string) object {
 }
 
 func (b *board) stop(cause string, exit uint32, signal int) {
-	b.status, b.exit, b.signal = "stopped", exit, signal
+	b.status, b.cause, b.exit, b.signal = "stopped", cause, exit, signal
 }
 
 func (b *board) state(id string) object {
 	answer := object{"ok": true, "id": id, "status": b.status, "n": 3 + b.turns}
 	if b.status == "stopped" {
-		answer["cause"], answer["exit"] = "exit", b.exit
+		answer["cause"], answer["exit"] = b.cause, b.exit
 		if b.signal != 0 {
-			answer["cause"], answer["signal"] = "kill", b.signal
+			answer["signal"] = b.signal
+		}
+		if b.cause == "trap" {
+			answer["trap"] = "unreachable"
 		}
 	}
 	return answer

@@ -108,6 +108,9 @@ func addressOf(ctx context.Context, containerd, group string) (string, error) {
 	return scheme + filepath.Join(filepath.Dir(path), prefix+filepath.Base(path)), nil
 }
 
+// dial is another one in tests.
+var dial = func(path string) (net.Conn, error) { return net.DialTimeout("unix", path, time.Second) }
+
 // sweep removes the sockets of shims that were killed before containerd knew of them, for which it calls nobody.
 func sweep(folder string) {
 	entries, err := os.ReadDir(folder)
@@ -115,18 +118,23 @@ func sweep(folder string) {
 		return // there are none yet
 	}
 	for _, entry := range entries {
-		about, err := entry.Info()
-		if err != nil || !strings.HasPrefix(entry.Name(), prefix) || time.Since(about.ModTime()) < oldAge {
+		path := filepath.Join(folder, entry.Name())
+		if !strings.HasPrefix(entry.Name(), prefix) || !isOld(path) {
 			continue
 		}
-		path := filepath.Join(folder, entry.Name())
-		connection, err := net.DialTimeout("unix", path, time.Second)
+		connection, err := dial(path)
 		if err == nil {
 			connection.Close()
-		} else if errors.Is(err, syscall.ECONNREFUSED) {
+		} else if errors.Is(err, syscall.ECONNREFUSED) && isOld(path) { // another start may have made it anew meanwhile
 			os.Remove(path)
 		}
 	}
+}
+
+// isOld tells whether a socket is there that is not just being made.
+func isOld(path string) bool {
+	about, err := os.Lstat(path)
+	return err == nil && time.Since(about.ModTime()) >= oldAge
 }
 
 // listen answers a new socket, or none if a shim answers there, and still does after some time.

@@ -51,6 +51,28 @@ func TestSweepRemovesOldSocketsOfDeadShims(t *testing.T) {
 	sweep(filepath.Join(folder, "nothing")) // the first shim of a machine
 }
 
+// Another start may do so between two looks at the socket.
+func TestSweepLeavesASocketThatIsMadeAnew(t *testing.T) {
+	path := filepath.Join(t.TempDir(), "feulgama-dead")
+	socket(t, path, time.Minute, false)
+	before := dial
+	defer func() { dial = before }()
+	dial = func(path string) (net.Conn, error) {
+		connection, err := before(path)
+		if err := os.Remove(path); err != nil {
+			t.Fatal(err)
+		}
+		socket(t, path, 0, true)
+		return connection, err
+	}
+	sweep(filepath.Dir(path))
+	if connection, err := before(path); err != nil {
+		t.Errorf("nobody answers: %v", err)
+	} else {
+		connection.Close()
+	}
+}
+
 func TestAddresses(t *testing.T) {
 	ctx := namespaces.WithNamespace(context.Background(), "here")
 	one, err := addressOf(ctx, "/run/c.sock", "pod")

@@ -27,6 +27,7 @@ type Wish struct {
 	Namespace string
 	Stdout    string
 	Stderr    string
+	Terminal  bool // standard error goes where standard output goes, unless it has a word of its own
 }
 
 // place is one place that output goes to.
@@ -41,6 +42,7 @@ type place interface {
 // Streams are the two streams of a container.
 type Streams struct {
 	streams map[int]*stream
+	areOne  bool // they have the same place
 }
 
 type stream struct {
@@ -59,6 +61,10 @@ func Open(wish Wish) (*Streams, error) {
 	if address.Scheme == "binary" {
 		return s, s.openProgram(wish, address)
 	}
+	if wish.Terminal && wish.Stderr == "" {
+		wish.Stderr = wish.Stdout
+	}
+	s.areOne = wish.Stdout != "" && wish.Stderr == wish.Stdout
 	for number, name := range map[int]string{lines.Stdout: wish.Stdout, lines.Stderr: wish.Stderr} {
 		if name == "" {
 			continue
@@ -96,18 +102,28 @@ func (s *Streams) Takes(number int) bool { return s.streams[number] != nil }
 // Deliver writes what is new of all that a stream has so far. What the reader does not take now comes with the next call.
 func (s *Streams) Deliver(number int, all []byte) {
 	if one := s.streams[number]; one != nil {
-		one.deliver(all, writeTime)
+		one.deliver(all, time.Now().Add(writeTime))
 	}
 }
 
-// Finish writes the rest, and waits for some time until the readers have it. The ends of those that have are closed.
-func (s *Streams) Finish(all map[int][]byte) {
+// Finish writes the rest, and a remark after standard error, and waits for some time until the readers have it. The ends of
+// those that have are closed.
+func (s *Streams) Finish(all map[int][]byte, remark string) {
+	until := time.Now().Add(drainTime)
+	if s.areOne { // so that standard error is not in the middle of it
+		s.streams[lines.Stdout].deliver(all[lines.Stdout], until)
+	}
 	var wait sync.WaitGroup
 	for number, one := range s.streams {
+		said := ""
+		if number == lines.Stderr {
+			said = remark
+		}
 		wait.Add(1)
 		go func(one *stream, data []byte) {
 			defer wait.Done()
-			one.deliver(data, drainTime)
+			one.deliver(data, until)
+			one.say(said, until)
 			one.drain()
 		}(one, all[number])
 	}
@@ -121,16 +137,28 @@ func (s *Streams) Close() {
 	}
 }
 
-func (s *stream) deliver(all []byte, patience time.Duration) {
+func (s *stream) deliver(all []byte, until time.Time) {
 	s.mu.Lock()
 	defer s.mu.Unlock()
 	if s.to == nil || s.taken >= len(all) {
 		return
 	}
-	count, err := s.to.write(all[s.taken:], time.Now().Add(patience))
+	count, err := s.to.write(all[s.taken:], until)
 	s.taken += count
 	if err != nil {
 		logrus.WithError(err).Warnf("%d of %d bytes of output were written", s.taken, len(all))
+	}
+}
+
+// say writes what is none of the stream after all that was delivered.
+func (s *stream) say(text string, until time.Time) {
+	s.mu.Lock()
+	defer s.mu.Unlock()
+	if s.to == nil || text == "" {
+		return
+	}
+	if _, err := s.to.write([]byte(text), until); err != nil {
+		logrus.WithError(err).Warnf("it was not written that %q", text)
 	}
 }
 

@@ -50,9 +50,34 @@ func TestAFileGetsEachByteOnce(t *testing.T) {
 	s.Deliver(lines.Stdout, []byte("one "))
 	s.Deliver(lines.Stderr, []byte("err "))
 	s.Deliver(lines.Stdout, []byte("one two "))
-	s.Finish(map[int][]byte{lines.Stdout: []byte("one two three"), lines.Stderr: []byte("err ")})
+	s.Finish(map[int][]byte{lines.Stdout: []byte("one two three"), lines.Stderr: []byte("err ")}, "")
 	s.Deliver(lines.Stdout, []byte("one two three four"))
 	if text, err := os.ReadFile(path); err != nil || string(text) != "one err two three" {
+		t.Errorf("%q, %v", text, err)
+	}
+}
+
+// What comes at the end to a place that both streams have comes in order.
+func TestStreamsWithOnePlace(t *testing.T) {
+	for tries := 0; tries < 64; tries++ {
+		path := filepath.Join(t.TempDir(), "log")
+		for _, wish := range []Wish{{Stdout: "file://" + path, Terminal: true}, {Stdout: "file://" + path, Stderr: "file://" + path}} {
+			s := opened(t, wish)
+			s.Finish(map[int][]byte{lines.Stdout: []byte("out "), lines.Stderr: []byte("err ")}, "and a remark; ")
+		}
+		if text, err := os.ReadFile(path); err != nil || string(text) != strings.Repeat("out err and a remark; ", 2) {
+			t.Fatalf("%q, %v", text, err)
+		}
+	}
+}
+
+// A remark does not depend on how much of standard error is known.
+func TestARemarkComesAfterWhatIsWritten(t *testing.T) {
+	path := filepath.Join(t.TempDir(), "log")
+	s := opened(t, Wish{Stderr: "file://" + path})
+	s.Deliver(lines.Stderr, []byte("a long line of the module "))
+	s.Finish(nil, "a remark")
+	if text, err := os.ReadFile(path); err != nil || string(text) != "a long line of the module a remark" {
 		t.Errorf("%q, %v", text, err)
 	}
 }
@@ -63,7 +88,7 @@ func TestNobodyGetsIt(t *testing.T) {
 		t.Error("somebody gets it")
 	}
 	s.Deliver(lines.Stdout, []byte("x"))
-	s.Finish(map[int][]byte{lines.Stdout: []byte("x")})
+	s.Finish(map[int][]byte{lines.Stdout: []byte("x")}, "")
 }
 
 // The end is not told before the reader of a FIFO has all.
@@ -78,7 +103,7 @@ func TestFinishWaitsForTheReader(t *testing.T) {
 	defer reader.Close()
 	all := bytes.Repeat([]byte("0123456789abcdef"), 4096) // as much as a stream of a module can have
 	finished := make(chan struct{})
-	go func() { s.Finish(map[int][]byte{lines.Stdout: all}); close(finished) }()
+	go func() { s.Finish(map[int][]byte{lines.Stdout: all}, ""); close(finished) }()
 	select {
 	case <-finished:
 		t.Fatal("it does not wait")
@@ -97,7 +122,7 @@ func TestAReaderThatComesLate(t *testing.T) {
 	path := makeFifo(t)
 	s := opened(t, Wish{Stdout: path})
 	began := time.Now()
-	s.Finish(map[int][]byte{lines.Stdout: []byte("kept")})
+	s.Finish(map[int][]byte{lines.Stdout: []byte("kept")}, "")
 	if took := time.Since(began); took < drainTime || took > 5*drainTime {
 		t.Errorf("it waits %v", took)
 	}
@@ -150,7 +175,7 @@ wait; sleep 0.1; echo "$CONTAINER_NAMESPACE $CONTAINER_ID" >"$1.end"
 	uri := "binary://" + program + "?" + to
 	s := opened(t, Wish{ID: "one", Namespace: "here", Stdout: uri, Stderr: uri})
 	s.Deliver(lines.Stdout, []byte("a"))
-	s.Finish(map[int][]byte{lines.Stdout: []byte("ab"), lines.Stderr: []byte("c")})
+	s.Finish(map[int][]byte{lines.Stdout: []byte("ab"), lines.Stderr: []byte("c")}, "")
 	for end, want := range map[string]string{".out": "ab", ".err": "c", ".end": "here one\n"} {
 		if got, err := os.ReadFile(to + end); err != nil || string(got) != want {
 			t.Errorf("%s: %q, %v", end, got, err)

@@ -119,6 +119,11 @@ func (p *Process) Ask(request []byte) (lines.Reply, error) {
 	return p.ask(p.control, request, askTries)
 }
 
+// AskLong is Ask where nothing is held up meanwhile: a request that finds no memory is sent again for as long as a wait is.
+func (p *Process) AskLong(request []byte) (lines.Reply, error) {
+	return p.ask(p.control, request, waitTries)
+}
+
 // Wait sends a request by the caller that waits. Requests by the other one are heard meanwhile.
 func (p *Process) Wait(request []byte) (lines.Reply, error) {
 	return p.ask(p.waiter, request, waitTries)

@@ -62,6 +62,9 @@ func (c *container) ended() *ending { return c.end }
 func (c *container) start() error {
 	c.mu.Lock()
 	defer c.mu.Unlock()
+	if err := c.allows(lines.Created); err != nil {
+		return err
+	}
 	if _, err := c.process.Ask(lines.Of(lines.Start, c.task)); err != nil {
 		return c.fault(err)
 	}
@@ -73,6 +76,15 @@ func (c *container) start() error {
 		go c.copyWhileItRuns()
 	}
 	return nil
+}
+
+// allows refuses what only a container with a status can do. wasm-shim would refuse it too, but each refusal takes a request,
+// and a container that has none left is ended. Of one that has ended wasm-shim says more. Whoever calls it holds mu.
+func (c *container) allows(status string) error {
+	if c.status == status || c.status == lines.Stopped {
+		return nil
+	}
+	return fmt.Errorf("the container is %s, and not %s: %w", c.status, status, errdefs.ErrFailedPrecondition)
 }
 
 func (c *container) state() *api.StateResponse {
@@ -150,6 +162,9 @@ func (c *container) resume() error {
 	defer c.mu.Unlock()
 	if c.guest != nil {
 		return errAttached
+	}
+	if err := c.allows(lines.Paused); err != nil {
+		return err
 	}
 	if _, err := c.process.Ask(lines.Of(lines.Resume, c.task)); err != nil {
 		return c.fault(err)

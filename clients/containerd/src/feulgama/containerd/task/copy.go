@@ -46,31 +46,36 @@ func (c *container) copyNow() {
 	if c.process.Left() < serve.ForCopies {
 		return
 	}
-	all, err := c.outputs()
+	all, err := c.outputs(c.process.Ask)
 	if err != nil {
 		logrus.WithError(err).Debug("copy the output of a task")
 	}
-	for stream, data := range all {
-		c.streams.Deliver(stream, data)
+	for _, stream := range streams {
+		c.streams.Deliver(stream, all[stream])
 	}
 }
 
-// outputs answers all that the task has written to the streams that somebody gets.
-func (c *container) outputs() (map[int][]byte, error) {
+// streams are those of a task, in the order in which they are written to a place that is one for both.
+var streams = []int{lines.Stdout, lines.Stderr}
+
+// outputs answers all that the task has written to the streams that somebody gets. One that cannot be read takes nothing away
+// of the other, and the last error is answered.
+func (c *container) outputs(ask func([]byte) (lines.Reply, error)) (map[int][]byte, error) {
 	all := map[int][]byte{}
-	for _, stream := range []int{lines.Stdout, lines.Stderr} {
+	var fault error
+	for _, stream := range streams {
 		if !c.streams.Takes(stream) {
 			continue
 		}
-		reply, err := c.process.Ask(lines.Output(c.task, stream))
-		if err != nil {
-			return all, err
+		reply, err := ask(lines.Output(c.task, stream))
+		if err == nil {
+			all[stream], err = reply.Bytes()
 		}
-		if all[stream], err = reply.Bytes(); err != nil {
-			return all, err
+		if err != nil {
+			fault = err
 		}
 	}
-	return all, nil
+	return all, fault
 }
 
 // halt pauses the task, waits until no slice of it is out, and answers what it is then: paused or stopped. If it fails,

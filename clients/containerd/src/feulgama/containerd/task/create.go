@@ -101,6 +101,10 @@ func (c *container) open(s *Service, b *bundle.Bundle) error {
 	if err != nil {
 		return err
 	}
+	// It is written first, so that whoever cleans up after a shim that is killed now finds the cgroup.
+	if err := remains.Write(c.request.Bundle, remains.Record{Cgroup: cgroup}); err != nil {
+		return err
+	}
 	if c.group, err = s.newGroup(cgroup, b.Resources); err != nil {
 		return err
 	}
@@ -116,6 +120,7 @@ func (c *container) open(s *Service, b *bundle.Bundle) error {
 	}
 	c.streams, err = output.Open(output.Wish{
 		ID: c.request.ID, Namespace: s.namespace, Stdout: c.request.Stdout, Stderr: c.request.Stderr,
+		Terminal: c.request.Terminal,
 	})
 	return err
 }

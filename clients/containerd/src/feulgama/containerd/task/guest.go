@@ -62,13 +62,10 @@ func (c *container) answerTheDoor() {
 func (c *container) receive(connection net.Conn) {
 	defer connection.Close()
 	g := &guest{of: c, connection: connection, breaks: map[lines.Breakpoint]bool{}}
-	first, err := c.attach(g)
-	if err != nil {
-		g.say(map[string]interface{}{"ok": false, "error": err.Error()})
+	if !g.greet() {
 		return
 	}
 	defer g.leave()
-	g.say(first)
 	reader := bufio.NewReaderSize(connection, mostLine)
 	for {
 		line, isPart, err := reader.ReadLine()
@@ -81,6 +78,20 @@ func (c *container) receive(connection net.Conn) {
 		}
 		g.say(json.RawMessage(answer))
 	}
+}
+
+// greet attaches a debugger and writes its first line, and answers whether it is attached. The end of the task may be told at
+// once, and comes after that line.
+func (g *guest) greet() bool {
+	g.saying.Lock()
+	defer g.saying.Unlock()
+	first, err := g.of.attach(g)
+	if err != nil {
+		g.write(map[string]interface{}{"ok": false, "error": err.Error()})
+		return false
+	}
+	g.write(first)
+	return true
 }
 
 // attach makes a debugger the one of the container, which stands still then.
@@ -122,14 +133,19 @@ func (c *container) attach(g *guest) (*greeting, error) {
 	}, nil
 }
 
-// say writes a line. Who does not read in time is not attached any more.
+// say writes a line, once others are written.
 func (g *guest) say(what interface{}) {
+	g.saying.Lock()
+	defer g.saying.Unlock()
+	g.write(what)
+}
+
+// write writes a line. Who does not read in time is not attached any more. Whoever calls it holds saying.
+func (g *guest) write(what interface{}) {
 	text, err := json.Marshal(what)
 	if err != nil {
 		panic(err) // none of them can fail to be written
 	}
-	g.saying.Lock()
-	defer g.saying.Unlock()
 	_ = g.connection.SetWriteDeadline(time.Now().Add(sayTime))
 	if _, err := g.connection.Write(append(text, '\n')); err != nil {
 		g.connection.Close()

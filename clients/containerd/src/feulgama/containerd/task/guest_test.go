@@ -15,6 +15,7 @@ import (
 
 	"github.com/containerd/containerd/api/types/task"
 	"github.com/containerd/containerd/errdefs"
+	"github.com/containerd/containerd/runtime"
 	api "github.com/containerd/containerd/runtime/v2/task"
 	"golang.org/x/sys/unix"
 
@@ -291,6 +292,36 @@ func TestAKillIsHeardWhileADebuggerIsAttached(t *testing.T) {
 		t.Errorf("exit status %d", status)
 	}
 	if end := d.read()["ended"].(map[string]interface{}); end["signal"] != 15.0 || end["cause"] != "kill" {
+		t.Errorf("%v", end)
+	}
+}
+
+// atPause is told of events, and does something when it is told of a pause.
+type atPause struct {
+	*told
+	do func()
+}
+
+func (a atPause) Tell(topic string, event interface{}) {
+	a.told.Tell(topic, event)
+	if topic == runtime.TaskPausedEventTopic {
+		a.do()
+	}
+}
+
+// A debugger reads what the container is before it reads how it has ended, which may be told in the same moment.
+func TestTheEndIsToldAfterTheFirstLine(t *testing.T) {
+	s := newShim(t)
+	c := s.run("one", fakeshim.Loop)
+	c.mu.Lock()
+	c.module = make([]byte, 1<<20) // so that the first line takes its time
+	c.events = atPause{s.events, func() { go c.tellGuest(lines.Reply{Status: lines.Stopped, Cause: "exit", Exit: 7}) }}
+	c.mu.Unlock()
+	d, first := s.attached("one")
+	if first["ok"] != true || first["container"] != "one" {
+		t.Errorf("the first line has %d keys, and ok is %v", len(first), first["ok"])
+	}
+	if end, ok := d.read()["ended"].(map[string]interface{}); !ok || end["exit"] != 7.0 {
 		t.Errorf("%v", end)
 	}
 }

@@ -133,7 +133,7 @@ func (l *looking) run() {
 			written[lines.Stdout] = append(written[lines.Stdout], written[lines.Stderr]...)
 		}
 	}
-	l.streams.Finish(written)
+	l.streams.Finish(written, "")
 	l.mu.Lock()
 	defer l.mu.Unlock()
 	l.status = task.StatusStopped

@@ -127,6 +127,21 @@ func TestAWatchWithoutMemory(t *testing.T) {
 	}
 }
 
+// Nothing is held up at the end of a task, so its output is asked for as long as its end is waited for.
+func TestTheLastOutputWithoutMemory(t *testing.T) {
+	s := newShim(t)
+	s.run("one", fakeshim.Short("output", 60))
+	if err := s.signal("one", 15); err != nil {
+		t.Error(err)
+	}
+	if status := s.wait("one"); status != 143 {
+		t.Errorf("exit status %d", status)
+	}
+	if text := s.written("one"); text != fakeshim.Written {
+		t.Errorf("written: %q", text)
+	}
+}
+
 func TestADebuggerThatLeavesWithoutMemory(t *testing.T) {
 	for name, c := range map[string]struct {
 		module string

@@ -3,6 +3,7 @@ package task
 import (
 	"context"
 	"encoding/hex"
+	"encoding/json"
 	"errors"
 	"os"
 	"path/filepath"
@@ -19,6 +20,7 @@ import (
 
 	"feulgama/containerd/fakeshim"
 	"feulgama/containerd/group"
+	"feulgama/containerd/remains"
 	"feulgama/containerd/serve"
 	"feulgama/lines"
 	"feulgama/oci/programs"
@@ -84,6 +86,26 @@ func (s *tested) isNowhere(id string) {
 	if !s.isEmpty() || len(topics) != 0 || err != nil || len(left) != 1 || filepath.Base(left[0]) != "config.json" {
 		s.t.Errorf("%v, %v, %v, %v", s.units, topics, left, err)
 	}
+}
+
+// A shim that is killed as soon as it has made a cgroup leaves a folder that says which one.
+func TestTheCgroupIsKnownBeforeItIsMade(t *testing.T) {
+	s := newShim(t)
+	var record remains.Record
+	s.newGroup = func(name string, _ *specs.LinuxResources) (group.Group, error) {
+		text, err := os.ReadFile(filepath.Join(s.folder, "one", "feulgama.json"))
+		if err == nil {
+			err = json.Unmarshal(text, &record)
+		}
+		if err != nil || record.Cgroup != name || record.PID != 0 {
+			t.Errorf("%s: %+v, %v", name, record, err)
+		}
+		return nil, group.ErrNone
+	}
+	if err := s.create("one", fakeshim.Loop); err == nil || !strings.Contains(err.Error(), group.ErrNone.Error()) {
+		t.Errorf("%v", err)
+	}
+	s.isNowhere("one")
 }
 
 // Nobody is there who would delete it.
@@ -249,6 +271,58 @@ func TestOutputComesWhileTheTaskRuns(t *testing.T) {
 	until(t, "output", func() bool { return s.written("one") == fakeshim.Written })
 	if state, _ := s.State(background, &api.StateRequest{ID: "one"}); state.Status != task.StatusRunning {
 		t.Errorf("%v", state)
+	}
+}
+
+// A terminal has one place for both streams, and containerd names it as that of standard output.
+func TestATerminalShowsStandardErrorToo(t *testing.T) {
+	s := newShim(t)
+	_, err := s.Create(background, &api.CreateTaskRequest{
+		ID: "one", Bundle: s.bundle("one", fakeshim.Trap, nil), Stdout: "file://" + s.log("one"), Terminal: true,
+	})
+	if err == nil {
+		_, err = s.Start(background, &api.StartRequest{ID: "one"})
+	}
+	if err != nil {
+		t.Fatal(err)
+	}
+	if status := s.wait("one"); status != 134 {
+		t.Errorf("exit status %d", status)
+	}
+	if text := s.written("one"); text != fakeshim.Written+fakeshim.Complained+"trap: unreachable\n" {
+		t.Errorf("written: %q", text)
+	}
+}
+
+// A stream that cannot be read takes nothing of the other one away, and somebody is told.
+func TestAnOutputThatCannotBeRead(t *testing.T) {
+	s := newShim(t)
+	s.run("one", fakeshim.Mute)
+	if status := s.wait("one"); status != 134 {
+		t.Errorf("exit status %d", status)
+	}
+	want := fakeshim.Complained + "trap: unreachable\nthe rest of the output could not be read: refused 15 JournalFull\n"
+	if text := s.written("one"); text != want {
+		t.Errorf("written: %q", text)
+	}
+}
+
+// wasm-shim would refuse these too, and each refusal would take one of the requests that it answers.
+func TestWhatTheStatusDoesNotAllowTakesNoRequest(t *testing.T) {
+	s := newShim(t)
+	if err := s.create("new", fakeshim.Loop); err != nil {
+		t.Fatal(err)
+	}
+	one, created := s.quiet("one", fakeshim.Loop), s.units["new"].(*container)
+	until(t, "put, create, start and wait", func() bool { return one.process.Left() == lines.Requests-4 })
+	_, again := s.Start(background, &api.StartRequest{ID: "one"})
+	_, running := s.Resume(background, &api.ResumeRequest{ID: "one"})
+	_, early := s.Resume(background, &api.ResumeRequest{ID: "new"})
+	for _, err := range []error{again, running, early} {
+		is(t, err, errdefs.ErrFailedPrecondition)
+	}
+	if one.process.Left() != lines.Requests-4 || created.process.Left() != lines.Requests-2 {
+		t.Errorf("%d and %d requests are left", one.process.Left(), created.process.Left())
 	}
 }
 

@@ -52,12 +52,13 @@ func (c *container) watch() {
 
 // finish brings the rest of the output to its readers, and then tells the end.
 func (c *container) finish(reply lines.Reply) {
-	all, err := c.outputs()
+	all, err := c.outputs(c.process.AskLong)
+	remark := remarks(all, reply)
 	if err != nil {
 		logrus.WithError(err).Errorf("read the output of %s", c.request.ID)
+		remark += fmt.Sprintf("the rest of the output could not be read: %v\n", err)
 	}
-	all[lines.Stderr] = append(all[lines.Stderr], remarks(all, reply)...)
-	c.streams.Finish(all)
+	c.streams.Finish(all, remark)
 	c.tellGuest(reply) // before somebody can remove the container
 	c.tellEnd(reply.Exit)
 }
@@ -86,7 +87,7 @@ func (c *container) lost() {
 	if status == 0 {
 		status = 255 // no task has ended well
 	}
-	c.streams.Finish(nil)
+	c.streams.Finish(nil, "")
 	c.tellEnd(status)
 }
 
