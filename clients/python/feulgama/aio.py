@@ -122,7 +122,13 @@ class AsyncShim(Calls, Awaits):
         """The result of a request."""
         if request.op == "wait":
             return await self._wait(request)
-        result: T = await self._send(self._running.control, request)
+        return await self._ask(request)
+
+    async def _ask(self, request: Request[T]) -> T:
+        """The result of a request to the caller that controls. If this is cancelled, the request is not answered yet."""
+        asked = self._send(self._running.control, request)
+        asked.add_done_callback(retrieved)
+        result: T = await asyncio.shield(asked)
         return result
 
     def _send(self, caller: Caller, request: Request[Any]) -> Future:
@@ -165,8 +171,7 @@ class AsyncShim(Calls, Awaits):
         held: Future = asyncio.get_running_loop().create_future()
         self._held.append(held)
         while not (await asyncio.wait({held}, timeout=pause(begin)))[0]:
-            found: T | None = await self._send(self._running.control, requests.glance(request, task))
-            if found is not None:
+            if (found := await self._ask(requests.glance(request, task))) is not None:
                 return found
         return None
 
@@ -306,8 +311,7 @@ class AsyncShim(Calls, Awaits):
         that controls for a moment only, and all others may be taken."""
         with contextlib.suppress(WrongStatusError):
             await self.kill(task)
-        state: State = await self._send(self._running.control, requests.wait(task))
-        return state
+        return await self._ask(requests.wait(task))
 
     async def _discard(self, task: str) -> None:
         """Ends a task of which nobody wants to know, and deletes it."""

@@ -3,6 +3,7 @@ from __future__ import annotations
 
 import argparse
 import contextlib
+import io
 import os
 import signal
 import sys
@@ -128,10 +129,13 @@ def give_up_output() -> None:
 
 def complete_streams() -> None:
     """Puts a file that has nothing and keeps nothing in the place of each standard stream that is closed. It is opened under
-    the number of that stream, which a pipe would take otherwise."""
+    the number of that stream, which a pipe would take otherwise. Standard output shows characters that its encoding does not
+    have by their numbers."""
     for name, mode in (("stdin", "r"), ("stdout", "w"), ("stderr", "w")):
         if getattr(sys, name) is None:
             setattr(sys, name, open(os.devnull, mode))
+    if isinstance(sys.stdout, io.TextIOWrapper):
+        sys.stdout.reconfigure(errors="backslashreplace")
 
 
 def main(words: Sequence[str] | None = None) -> int:

@@ -25,7 +25,8 @@ class Pipe:
     """A running `wasm-shim serve`, of the words that start it, with a caller that controls it and so many that wait. It
     has a session of its own, so that a Ctrl-C in a terminal does not reach it. If the words make it the process of another
     user, that is `user`. `asked` is how many lines it was sent; `said` is what it writes to standard error, which a thread
-    reads, so that the shim never waits for a reader."""
+    reads, so that the shim never waits for a reader. Once `is_closed` is set it is sent no line more. One thread at a time may
+    exchange lines, or close it; all may wait."""
 
     def __init__(self, words: list[str], waiters: int, user: int | None = None) -> None:
         made = pipes(waiters, user)
@@ -52,6 +53,7 @@ class Pipe:
         self._ending = threading.Lock()
         self._ended: ShimEndedError | None = None
         self._unanswered = self._controlled = 0
+        self.is_closed = False
 
     @property
     def asked(self) -> int:
@@ -97,6 +99,8 @@ class Pipe:
     def _begin(self, count: int) -> None:
         if self._ended is not None:
             raise self._ended
+        if self.is_closed:
+            raise ShimEndedError("the shim was closed")
         if self._unanswered:
             raise self.end("an earlier request was broken off")
         self._unanswered = count
@@ -194,6 +198,7 @@ class Pipe:
 
     def close(self) -> None:
         """Closes its input, and waits until it has ended."""
+        self.is_closed = True
         if self._streams[0].closed:
             return
         self._streams[0].close()

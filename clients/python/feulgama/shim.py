@@ -1,11 +1,12 @@
 """A shim whose requests are answered one after another."""
 from __future__ import annotations
 
+import collections
 import contextlib
 import os
 import threading
 import time
-from collections.abc import Mapping, Sequence
+from collections.abc import Iterator, Mapping, Sequence
 from functools import partial
 from types import TracebackType
 from typing import Self, TypeVar
@@ -15,11 +16,12 @@ from feulgama.answering import Answering
 from feulgama.callers import pause
 from feulgama.config import Config, digest_of
 from feulgama.confinement import Confinement
-from feulgama.errors import BadReplyError, ExistsError, FeulgamaError, TimedOutError, WrongStatusError
+from feulgama.errors import (BadReplyError, ExistsError, FeulgamaError, NoContentError, TimedOutError,
+                             WrongStatusError)
 from feulgama.lowering import lower as lowered
 from feulgama.model import Ran, State, Stream
 from feulgama.operation import Request
-from feulgama.pipe import Pipe
+from feulgama.pipe import LAST_WORDS, PATIENCE, Pipe
 from feulgama.program import program, serving
 from feulgama.requests import CHANGES, JOURNAL, ran_of
 from feulgama.said import Line
@@ -43,6 +45,8 @@ class Shim(Answering):
         self._pipe = Pipe(words if confined is None else [*confined.words, *words], waiters,
                           None if confined is None else confined.user)
         self._lock = threading.Lock()
+        # How many runs use each module, and the modules that a run has stored.
+        self._runs, self._stored, self._storing = collections.Counter[str](), set[str](), threading.Lock()
 
     def __enter__(self) -> Self:
         return self
@@ -67,8 +71,19 @@ class Shim(Answering):
         return max(0, JOURNAL - self._pipe.asked)
 
     def close(self) -> None:
-        """Ends the shim. Its board is lost."""
-        self._pipe.close()
+        """Ends the shim. Its board is lost. A request of another thread that is not answered in a moment is broken off."""
+        if self._pipe.is_closed:
+            return
+        self._pipe.is_closed = True
+        is_idle = self._lock.acquire(timeout=LAST_WORDS)
+        if not is_idle:
+            self._pipe.kill()
+            is_idle = self._lock.acquire(timeout=PATIENCE)
+        try:
+            self._pipe.close()
+        finally:
+            if is_idle:
+                self._lock.release()
 
     def another(self) -> Shim:
         """A new shim of the same program, with as many workers."""
@@ -140,25 +155,46 @@ class Shim(Answering):
             return self._pipe.exchange_many(lines, count)
 
     def ensure(self, data: bytes) -> str:
-        """Stores bytes unless they are there; their digest."""
-        self._put_new(data)
+        """Stores bytes unless they are there; their digest. They stay, also if a run has stored them."""
+        with self._storing:
+            self._put_new(data)
+            self._stored.discard(digest_of(data))
         return digest_of(data)
 
     def run(self, module: bytes, args: Sequence[str] = ("module",), env: Mapping[str, str] | None = None,
             memory_limit: int | None = None, lower: bool = False, timeout: float | None = None) -> Ran:
         """Runs a module to its end as one task, which is deleted then. A module that was not stored before is
-        removed again. With `lower` it is lowered first, which raises LoweringError if that cannot be done. After
-        `timeout` seconds it is killed, and TimedOutError raised. If it is broken off while it waits, as by Ctrl-C, the
-        task is killed too."""
+        removed again, by the last of the threads that run it at once. With `lower` it is lowered first, which raises
+        LoweringError if that cannot be done. After `timeout` seconds it is killed, and TimedOutError raised. If it is
+        broken off while it waits, as by Ctrl-C, the task is killed too."""
         module = lowered(module).data if lower else module
         config = Config(digest_of(module), args, env or {}, memory_limit)
-        is_new = self._put_new(module)
+        with self._in_use(config.module):
+            return self._run(self._created(module, config), timeout)
+
+    @contextlib.contextmanager
+    def _in_use(self, digest: str) -> Iterator[None]:
+        """Counts a run of a module. After the last of those at once a module that one of them has stored is removed."""
+        with self._storing:
+            self._runs[digest] += 1
         try:
-            return self._run(self.create(config).id, timeout)
+            yield
         finally:
-            if is_new:
-                with contextlib.suppress(FeulgamaError):
-                    self.remove(config.module)
+            with self._storing:
+                self._runs -= collections.Counter([digest])
+                if digest in self._stored and digest not in self._runs:
+                    self._stored.discard(digest)
+                    with contextlib.suppress(FeulgamaError):
+                        self.remove(digest)
+
+    def _created(self, module: bytes, config: Config) -> str:
+        """The id of a new task. Its module is stored before, and once more if another thread removes it just then."""
+        while True:
+            with self._storing:
+                if self._put_new(module):
+                    self._stored.add(config.module)
+            with contextlib.suppress(NoContentError):
+                return self.create(config).id
 
     def _run(self, task: str, timeout: float | None) -> Ran:
         """Runs a task to its end, and deletes it, also if this is broken off."""

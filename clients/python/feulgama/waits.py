@@ -60,9 +60,9 @@ class Waits:
             waiter = self._free.pop()
             waiter.asked, self.asked = waiter.asked + 1, self.asked + 1
             waiter.wait = self._open[task] = wait = Wait(waiter.ends.name, waiter.asked)
-        with contextlib.suppress(OSError):  # the reader finds that the shim has ended
-            os.write(waiter.ends.lines, line)
-        return wait
+            with contextlib.suppress(OSError):  # the reader finds that the shim has ended
+                os.write(waiter.ends.lines, line)  # it does not block, and nobody closes the pipe meanwhile
+            return wait
 
     def _start_reader(self) -> None:
         reader = threading.Thread(target=self._read, daemon=True)

@@ -22,7 +22,8 @@ FULL = b'{"error":"JournalFull","number":15,"ok":false}\n'
 
 class StubContainer:
     """A container of a module that is at a turn, in a folder of states of tasks. `left` is how many requests it answers
-    yet; `asked` are the operations that it was asked, in their order. `other` has what it says first in another way."""
+    yet; `asked` are the operations that it was asked, in their order. `other` has what it says first in another way, `before`
+    what it says before that."""
 
     def __init__(self, program: str, state: Path, module: bytes, turns: int = 0, name: str = "one",
                  env: tuple[str, ...] = (), original: bytes | None = None) -> None:
@@ -30,6 +31,7 @@ class StubContainer:
         self.module, self.original, self.name = module, original, name
         self.left, self.asked, self.ran = 10_000, list[str](), True
         self.other: dict[str, object] = {}
+        self.before = b""
         self.shim.ensure(module)
         config = json.loads(Config(digest_of(module), ("m.wasm",)).text())
         config["process"]["env"], config["hostname"] = list(env), "of the container"
@@ -89,7 +91,7 @@ class StubContainer:
                  "module": self.module.hex(), "config": self.config,
                  **({} if self.original is None else {"original": self.original.hex()}), **self.other}
         with contextlib.suppress(OSError, FeulgamaError), guest, guest.makefile("rb") as lines:
-            guest.sendall(json.dumps(first).encode() + b"\n")
+            guest.sendall(self.before + json.dumps(first).encode() + b"\n")
             for line in lines:
                 guest.sendall(self._answer(json.loads(line)))
         self.guest = None

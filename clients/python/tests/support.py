@@ -21,6 +21,8 @@ REFERENCE = CLIENT / "tests/reference_shim.py"
 # The shim of the tests: the built program, if `pytest --program` or FEULGAMA_SHIM names one, else the second reading.
 SHIM = os.path.abspath(os.environ.get("FEULGAMA_SHIM") or REFERENCE)
 IS_REFERENCE = SHIM.endswith(".py")
+# Variables of the environment with which Python takes standard output for ASCII, as if the locale were that.
+ASCII = {"LC_ALL": "C", "PYTHONCOERCECLOCALE": "0", "PYTHONUTF8": "0"}
 
 __all__ = ["callers", "wasm"]
 

@@ -8,6 +8,7 @@ import json
 import os
 import socket
 import tempfile
+import threading
 import time
 import unittest
 from collections.abc import Callable
@@ -17,6 +18,7 @@ from unittest import mock
 import pytest
 
 import feulgama
+from feulgama import requests
 from feulgama.attach.command import goodbye, modules_of, open_container
 from feulgama.attach.config import config_of
 from feulgama.attach.door import NAME, TASKS, NoContainerError, find
@@ -24,6 +26,7 @@ from feulgama.attach.link import ContainerGoneError, Link
 from feulgama.attach.timeline import BrokenOffError, LiveTimeline
 from feulgama.cli import main
 from feulgama.confinement import NOBODY, confinement
+from feulgama.debug import track
 from feulgama.debug.commands import Commands
 from feulgama.debug.debugger import Debugger
 from feulgama.debug.hunt import Search
@@ -39,6 +42,9 @@ from tests.stub_container import StubContainer
 from tests.support import CLIENT, EXIT_7, FOREVER_BYTES, SHIM, TRAPPING_BYTES
 
 WORDS = (CLIENT / "examples/words.wasm").read_bytes()
+# FOREVER with a memory of two pages, which has "hi" at address 100,000.
+TWO_PAGES = FOREVER_BYTES.replace(bytes.fromhex("03020100"), bytes.fromhex("03020100" "0503010002")) + \
+    bytes.fromhex("0b0a01" "0041a08d060b" "026869")
 
 
 class Attached(unittest.TestCase):
@@ -251,6 +257,79 @@ class Going(Attached):
         self.assertGreaterEqual(container.left, 0)
         self.assertIn("the container stays where it is", " ".join(self.said))
 
+    def test_few_requests_left_on_the_way(self) -> None:
+        """One search looks at more turns than the container has requests for."""
+        container = self.container()
+        container.left = 400
+        _, timeline = self.opened(self.link())
+        self.assertIs(timeline.forward(Search(lambda look: look.turn == 900, each_turn=True)), Why.FOUND)
+        self.assert_at(timeline, 900)
+        self.assertLess(container.shim.state("one").turns, 900)
+        self.assertGreaterEqual(container.left, 0)
+        self.assertEqual(len(self.said), 1)
+        self.assertIn("the container stays where it is", self.said[0])
+
+    def test_few_requests_left_for_a_turn(self) -> None:
+        container = self.container()
+        container.left = 400
+        _, timeline = self.opened(self.link())
+        with mock.patch.object(track, "STRIDE", 1):
+            self.assertIs(timeline.seek(1300), Why.FOUND)
+        self.assert_at(timeline, 1300)
+        self.assertLess(container.shim.state("one").turns, 1300)
+
+    def test_few_requests_left_for_memory(self) -> None:
+        """Each takes 256 bytes. The container has enough for one page, and not for two."""
+        data = bytes(100_000) + b"hi" + bytes(31_070)
+        container = self.container(TWO_PAGES)
+        _, timeline = self.opened(self.link())
+        found: list[bytes] = []
+        for length in (65_536, 131_072):
+            container.left = timeline._link._most = 390
+            timeline._link._asked = 0
+            thread = threading.Thread(target=lambda: found.append(timeline.memory(0, length)), daemon=True)
+            thread.start()
+            thread.join(20)
+            self.assertEqual(found, [data[:65_536], data][:len(found)])
+        self.assertEqual(len(found), 2)
+
+    def short(self, left: int, module: bytes = FOREVER_BYTES) -> tuple[StubContainer, LiveTimeline]:
+        """A container whose shim answers fewer requests than it has said, since it also counts what others ask."""
+        container = self.container(module)
+        container.other, container.left = {"left": 10_000}, left
+        return container, self.opened(self.link())[1]
+
+    def assert_left(self, container: StubContainer, timeline: LiveTimeline) -> None:
+        """Checks that the container is left at the turn that it is at, which is known."""
+        self.assertFalse(timeline.live.is_usable)
+        self.assertEqual(goodbye(timeline._link, timeline), f"one runs on from turn {container.shim.state('one').turns}")
+
+    def test_a_search_beyond_the_last_request(self) -> None:
+        """A step is the last one that is answered, and not the look after it."""
+        container, timeline = self.short(101)
+        self.assertIs(timeline.forward(Search(lambda look: look.turn == 900, each_turn=True)), Why.FOUND)
+        self.assert_at(timeline, 900)
+        self.assert_left(container, timeline)
+
+    def test_a_way_beyond_the_last_request(self) -> None:
+        container, timeline = self.short(100)
+        with mock.patch.object(track, "STRIDE", 1):
+            self.assertIs(timeline.seek(900), Why.FOUND)
+        self.assert_at(timeline, 900)
+        self.assert_left(container, timeline)
+
+    def test_looks_beyond_the_last_request(self) -> None:
+        """At memory, whose size is looked for by requests that are refused where there is none; and at all else."""
+        container, timeline = self.short(3, TWO_PAGES)
+        self.assertEqual((timeline.memory(99_999, 4), timeline.memory_size()), (b"\0hi\0", 131_072))
+        self.assert_left(container, timeline)
+
+    def test_a_place_beyond_the_last_request(self) -> None:
+        container, timeline = self.short(0)
+        self.assert_at(timeline, 600)
+        self.assertEqual(timeline.output(1), b"")
+        self.assert_left(container, timeline)
+
     def test_none_left(self) -> None:
         container = self.container()
         link = self.link()
@@ -304,6 +383,15 @@ class Containers(Attached):
         door = mock.Mock(container="one", knock=lambda _seconds: mine)
         self.assertEqual(self.fault(lambda: Link(door)), "one: its shim does not answer: timed out")
         self.assertEqual(mine.fileno(), -1)
+
+    def test_an_end_that_is_told_first(self) -> None:
+        """By a shim whose container ends just as the debugger comes."""
+        container = self.container()
+        container.shim.kill("one", 15)
+        container.before = b'{"ended":%s}\n' % container.shim.raw(requests.state("one").line, 1).strip()
+        link = self.link()
+        container.close()
+        self.assertEqual(str(link.state("one").exit), "kill, exit 143")
 
     def test_what_may_not_be_asked(self) -> None:
         container = self.container()

@@ -5,6 +5,7 @@ import contextlib
 import importlib.util
 import io
 import os
+import signal
 import subprocess
 import sys
 import tempfile
@@ -18,13 +19,35 @@ from unittest import mock
 import feulgama
 from feulgama.debug import dwarf, terminal
 from feulgama.debug.commands import COMMANDS, Commands, Quit
+from feulgama.debug.lines import MOST_SOURCE, Sources
 from feulgama.debug.memory import BadFormatError, Format, dump, format_of
-from feulgama.debug.terminal import answer, plain, words_for
+from feulgama.debug.terminal import Interrupts, answer, plain, words_for
 from feulgama.errors import FeulgamaError
 from feulgama.opening import open_debugger
 from tests.support import CLIENT, SHIM, TRAPPING_BYTES, full_disk
 
 MODULE = CLIENT / "examples/words.wasm"
+
+
+def press(count: int) -> None:
+    """Presses Ctrl-C so often."""
+    for _ in range(count):
+        os.kill(os.getpid(), signal.SIGINT)
+
+
+class Pressed(io.StringIO):
+    """A terminal at which Ctrl-C is pressed when it has shown a text, or each time that all is shown if that is empty."""
+
+    def __init__(self, after: str) -> None:
+        super().__init__()
+        self._after = after
+
+    def write(self, text: str) -> int:
+        press(1 if self._after and self._after in text else 0)
+        return super().write(text)
+
+    def flush(self) -> None:
+        press(0 if self._after else 1)
 
 
 class Terminal(unittest.TestCase):
@@ -63,7 +86,7 @@ class Terminal(unittest.TestCase):
         fault = UnicodeDecodeError("utf-8", b"\xff", 0, 1, "invalid start byte")
         with contextlib.redirect_stdout(io.StringIO()) as shown, mock.patch.dict(sys.modules, prompt_toolkit=None), \
                 mock.patch("builtins.input", side_effect=[fault, "info memory", EOFError]):
-            self.assertEqual(list(terminal.asked(self.commands)), ["info memory"])
+            self.assertEqual(list(terminal.asked(self.commands, Interrupts(self.commands.timeline))), ["info memory"])
         self.assertEqual(shown.getvalue(), "a command is text in UTF-8, and this line is not\n")
 
     def test_surrogates_are_shown(self) -> None:
@@ -90,6 +113,40 @@ class Terminal(unittest.TestCase):
         thread.start()
         thread.join(10)
         self.assertFalse(thread.is_alive())
+
+    def test_signals_between_commands(self) -> None:
+        """As the second one of two, whose first has broken off what was running. While a line is read, one breaks that off."""
+        before = signal.getsignal(signal.SIGINT)
+        lines = iter(["", "info memory"])
+
+        def read() -> str:
+            line = next(lines, None)
+            if line == "":
+                press(1)
+            if line is None:
+                raise EOFError
+            return line
+        with contextlib.redirect_stdout(Pressed("")) as out, mock.patch.object(terminal, "reader", lambda _commands: read):
+            self.assertEqual(terminal.debug(self.commands, mock.Mock(isatty=lambda: True)), 0)
+        self.assertEqual(out.getvalue().splitlines()[-1], "65536 bytes, 1 pages")
+        self.assertIs(signal.getsignal(signal.SIGINT), before)
+
+    def test_a_signal_while_much_is_shown(self) -> None:
+        """A short text is shown whole, as is what a move shows that was broken off."""
+        for line, count in (("x/160xb 0", 10), ("x/65536xb 0", None)):
+            with contextlib.redirect_stdout(Pressed("0x00000010: ")) as told:
+                answer(self.commands, line)
+            shown = told.getvalue().splitlines()
+            self.assertEqual(len(shown) if count else shown[-1], count or "interrupted", line)
+            self.assertLess(len(shown), 200)
+        lines = [f"stdout: {number}" for number in range(500)]
+
+        def broken_off(_line: str) -> list[str]:
+            press(1)
+            return lines
+        with contextlib.redirect_stdout(io.StringIO()) as out, mock.patch.object(self.commands, "answer", broken_off):
+            answer(self.commands, "continue")
+        self.assertEqual(out.getvalue().splitlines(), lines)
 
     def test_places(self) -> None:
         self.assertEqual(self.answer("break count:3")[0].split(" <")[0], "breakpoint 1 at 3:3")
@@ -220,8 +277,8 @@ class Terminal(unittest.TestCase):
     def test_texts_up_to_the_end_of_memory(self) -> None:
         data = 250 * b"a" + b"\0b\0"
         shown = dump(Format(10**18, "s", 1), 0, lambda address, size: data[address:address + size])
-        self.assertEqual(shown, [f"0x00000000: '{200 * 'a'}'...", f"0x000000c8: '{50 * 'a'}'", "0x000000fb: 'b'",
-                                 "0x000000fd: no memory"])
+        self.assertEqual(list(shown), [f"0x00000000: '{200 * 'a'}'...", f"0x000000c8: '{50 * 'a'}'", "0x000000fb: 'b'",
+                                       "0x000000fd: no memory"])
 
     def test_memory(self) -> None:
         self.assertEqual(self.answer("x/4xw 1024"), ["0x00000400: 0x20656874 0x63697571 0x7262206b 0x206e776f"])
@@ -243,6 +300,16 @@ class Terminal(unittest.TestCase):
         self.assertEqual(self.answer("step"), ["ended after 8069 turns: exit, exit 9"])
         self.assertIn("turn 8068", self.answer("rs")[0])
         self.assertEqual(self.answer("continue"), ["ended after 8069 turns: exit, exit 9"])
+        self.assertEqual(self.answer("run"), ["stdout: 35", "ended after 8069 turns: exit, exit 9"])
+
+    def test_a_frame_that_is_gone(self) -> None:
+        """A move may fail, and leave the run elsewhere."""
+        self.answer("break end_word")
+        self.answer("continue")
+        self.answer("frame 2")
+        self.commands.timeline.seek(0)
+        for line in ("info locals", "frame", "list", "break", "finish"):
+            self.assertEqual(self.fault(line), "there is no frame 2", line)
 
     def test_a_trap(self) -> None:
         """A run stops before the instruction that traps, once; then it ends."""
@@ -293,3 +360,34 @@ class Terminal(unittest.TestCase):
         self.assertIn("count", words_for(self.commands, "break c"))
         self.assertIn("locals", words_for(self.commands, "info "))
         self.assertEqual(words_for(self.commands, "step "), [])
+
+
+class Texts(unittest.TestCase):
+    """Sources, whose paths a module says that nobody may trust."""
+
+    def setUp(self) -> None:
+        self.folder = Path(self.enterContext(tempfile.TemporaryDirectory()))
+
+    def test_a_path_that_may_not_be_looked_at(self) -> None:
+        """As in a home of another user. What is beside the module is found nevertheless."""
+        source = Sources([self.folder])
+        self.assertIsNone(source.path(f"/{300 * 'n'}.c"))
+        (self.folder / "main.c").write_text("one\n")
+        with mock.patch.object(Path, "is_file", autospec=True, side_effect=self.is_file):
+            self.assertEqual(source.path("/root/src/main.c"), self.folder / "main.c")
+            self.assertIsNone(source.lines("/root/src/other.c"))
+
+    def is_file(self, path: Path) -> bool:
+        """Whether a file is there, for somebody who may not look into the home of root."""
+        if path.is_relative_to("/root"):
+            raise PermissionError(13, "Permission denied", str(path))
+        return path.exists()
+
+    def test_files_that_are_no_sources(self) -> None:
+        """One that tells no size, as it may have no end, and one that is too large."""
+        large = self.folder / "large.c"
+        large.write_text("one\ntwo\n")
+        self.assertEqual(Sources([self.folder]).lines("large.c"), ["one", "two"])
+        os.truncate(large, MOST_SOURCE + 1)
+        for name in (str(large), "/proc/self/status"):
+            self.assertTrue(Sources([]).lines(name) is None, name)

@@ -4,27 +4,26 @@ from __future__ import annotations
 import base64
 import io
 import json
-import queue
 import subprocess
 import tempfile
 import threading
 import time
 import unittest
-from collections.abc import Iterator
 from typing import Any
 from unittest import mock
 
 import pytest
 
 import feulgama
-from feulgama.dap.adapter import Messages as Queue
 from feulgama.dap.adapter import read_all
+from feulgama.dap.inbox import Inbox
 from feulgama.dap.session import Session
 from feulgama.dap.wire import BadMessageError, Writer, read_message
 from feulgama.debug import dwarf
+from feulgama.debug.timeline import Why
 from feulgama.debug.track import TooFarError
 from feulgama.opening import open_debugger
-from tests.support import CLIENT, EXIT_7, FOREVER, SHIM, TRAPPING_BYTES
+from tests.support import CLIENT, EXIT_7, FOREVER, FOREVER_BYTES, SHIM, TRAPPING_BYTES
 
 Body = dict[str, Any]
 FOLDER = CLIENT / "examples"
@@ -229,6 +228,17 @@ class Lines(WithEditor):
         self.editor.move("continue")
         self.assertEqual(self.editor.frames()[0]["instructionPointerReference"], after)
 
+    def test_a_frame_of_the_console_after_a_move(self) -> None:
+        """The console looks at the innermost frame again, which is the only one then."""
+        self.stop_at(35)
+        self.editor.ask("setBreakpoints", source=SOURCE, breakpoints=[])
+        self.assertEqual(self.editor.evaluate("frame 2", "repl").partition(" ")[0], "#2")
+        for _ in range(2):
+            self.editor.move("stepOut")
+        self.assertEqual(len(self.editor.frames()), 1)
+        for command, shown in (("frame", "#0 "), ("info locals", "local 0"), ("list", "  ")):
+            self.assertTrue(self.editor.evaluate(command, "repl").startswith(shown), command)
+
     def test_end(self) -> None:
         self.launch()
         self.editor.ask("setFunctionBreakpoints", breakpoints=[{"name": "decimal"}, {"name": "none"}])
@@ -331,26 +341,148 @@ class Moves(unittest.TestCase):
         self.assertEqual([found.get("event", "") for found in told], ["", "output", "stopped"])
         self.assertEqual([told[1]["body"]["output"], told[2]["body"]["description"]], ["it is too far\n", "it is too far"])
 
+    def test_a_fault_of_the_adapter(self) -> None:
+        """It is told, and the session goes on."""
+        with mock.patch.object(self.debugger, "frames", side_effect=IndexError("one too many")):
+            self.session.answer({"command": "stackTrace"})
+        with mock.patch.object(self.debugger, "go_back", side_effect=IndexError("one too many")):
+            self.session.answer({"command": "reverseContinue"})
+        told = self.told()
+        self.assertEqual([found.get("event", found.get("success")) for found in told], [False, True, "output", "stopped"])
+        self.assertEqual((told[0]["message"], told[2]["body"]["output"]),
+                         ("IndexError: one too many", "IndexError: one too many\n"))
+
     def test_a_pause_that_is_answered_at_once(self) -> None:
-        """It breaks off nothing that comes after it."""
-        is_set: list[bool] = []
+        """It breaks off nothing that comes after it, and takes back no interrupt but its own."""
+        are_set: list[bool] = []
+        for command in ("pause", "threads", "pause", "disconnect"):
+            self.session.inbox.put({"command": command})
+        for _ in range(4):
+            are_set.append(self.debugger.timeline.interrupted.is_set())
+            self.take()
+        self.assertEqual((are_set, self.debugger.timeline.interrupted.is_set()), (4 * [True], False))
+        self.assertEqual(self.told()[0]["command"], "pause")
 
-        def messages() -> Iterator[Body | None]:
-            yield {"command": "pause"}
-            is_set.append(self.debugger.timeline.interrupted.is_set())
-            yield None
+    def take(self) -> None:
+        """Answers the next message."""
+        message = self.session.inbox.get()
+        assert isinstance(message, dict)
+        self.session.answer(message)
 
-        def put(message: Body | None) -> None:
-            if message is not None:
-                self.session.answer(message)
-        with mock.patch("feulgama.dap.adapter.read_message", side_effect=messages()):
-            read_all(io.BytesIO(), self.session, mock.Mock(put=put))
-        self.assertEqual((is_set, self.told()[0]["command"]), ([False], "pause"))
+    def test_a_move_that_fails_after_a_breakpoint_was_set(self) -> None:
+        """On its way, so that the last response is not to the move."""
+        def go_on() -> Why:
+            if not self.session.inbox.interrupted.is_set():
+                raise TooFarError("it is too far")
+            return Why.INTERRUPTED
+        self.session.inbox.put({"command": "setBreakpoints", "arguments": {"source": SOURCE}})
+        with mock.patch.object(self.debugger, "go_on", go_on):
+            self.session.answer({"command": "continue"})
+        self.assertEqual([found.get("event") or found["command"] for found in self.told()],
+                         ["continue", "setBreakpoints", "output", "stopped"])
+
+    def test_a_breakpoint_while_writes_are_looked_for(self) -> None:
+        """It waits, and the search goes on. A pause breaks it off."""
+        are_set: list[bool] = []
+
+        def go_on() -> Why:
+            are_set.append(self.session.inbox.interrupted.is_set())
+            self.session.inbox.put({"command": "pause"})
+            are_set.append(self.session.inbox.interrupted.is_set())
+            return Why.INTERRUPTED
+        self.session.inbox.put({"command": "setFunctionBreakpoints"})
+        with mock.patch.object(self.debugger, "go_on", go_on), mock.patch.object(self.debugger, "watchpoints", {1: None}):
+            self.session.answer({"command": "continue"})
+            self.take()
+        self.assertEqual((are_set, [found.get("event") or found["command"] for found in self.told()]),
+                         ([False, True], ["continue", "stopped", "setFunctionBreakpoints"]))
+
+    def test_a_breakpoint_on_the_way_back_from_a_trap(self) -> None:
+        """The run stops before the trap nevertheless."""
+        shim = self.enterContext(feulgama.Shim(SHIM))
+        self.debugger = open_debugger(shim, FOLDER / "words.wasm", TRAPPING_BYTES, [], {}, None)
+        self.session.answer({"command": "launch", "arguments": {}})
+        seek, inbox, turns = self.debugger.timeline.seek, self.session.inbox, list[int]()
+
+        def late(turn: int) -> Why:
+            turns.append(turn)
+            if len(turns) == 1:
+                inbox.put({"command": "setFunctionBreakpoints"})
+                return Why.INTERRUPTED
+            return seek(turn)
+        with mock.patch.object(self.debugger.timeline, "seek", late):
+            self.session.answer({"command": "continue"})
+        self.assertEqual((turns, self.told()[-1]["body"]["reason"]), ([2, 2], "exception"))
 
     def test_a_restart_after_the_end_was_asked_for(self) -> None:
-        self.session.interrupt()
-        self.session.answer({"command": "restart"})
+        self.session.inbox.put({"command": "terminate"})
+        self.session.inbox.put({"command": "restart"})
+        self.take()
+        self.take()
         self.assertEqual([found["event"] for found in self.told() if found["type"] == "event"][-2:], ["exited", "terminated"])
+
+    def test_output_after_a_restart(self) -> None:
+        """It is that of a new run, and shown again. It is text of its own, too, whatever half a character the last one had."""
+        self.session.answer({"command": "configurationDone"})
+        for decoder in self.session._decoders.values():
+            decoder.decode(b"\xc3")
+        self.session.answer({"command": "restart"})
+        self.assertEqual([found["body"]["output"] for found in self.told() if found.get("event") == "output"],
+                         2 * ["35\n", "ended after 8069 turns: exit, exit 9\n"])
+
+
+class Endless(WithEditor):
+    """The same program as in the next class, in bytes. It runs when a test begins."""
+
+    def setUp(self) -> None:
+        super().setUp()
+        file = self.enterContext(tempfile.NamedTemporaryFile(suffix=".wasm"))
+        file.write(FOREVER_BYTES)
+        file.flush()
+        self.launch(program=file.name)
+        self.editor.ask("configurationDone")
+
+    def assert_runs(self) -> None:
+        """Checks that the program runs, and has not stopped since the events were looked at."""
+        self.assertNotIn("stopped", [found["event"] for found in self.editor.events])
+        self.assertTrue(self.editor.ask("pause", threadId=1)["success"])
+        self.assertEqual(self.editor.event("stopped")["body"]["reason"], "pause")
+
+    def test_restart(self) -> None:
+        for _ in range(2):
+            self.assertTrue(self.editor.ask("restart")["success"])
+            self.assert_runs()
+            self.assertTrue(self.editor.ask("continue", threadId=1)["success"])
+
+    def test_disconnect_right_after_another_request(self) -> None:
+        """That does not take the interrupt of this one back."""
+        for command in ("pause", "restart", "continue", "disconnect"):
+            self.editor.send(command)
+        self.assertEqual(self.editor.process.wait(10), 0)
+
+    def test_a_breakpoint_while_it_runs(self) -> None:
+        """The run goes on, and stops there. Line 3 is the instruction 2 of the loop."""
+        answer = self.editor.ask("setBreakpoints", source={"sourceReference": 1000}, breakpoints=[{"line": 3}])
+        self.assertTrue(answer["body"]["breakpoints"][0]["verified"])
+        self.assertEqual(self.editor.event("stopped")["body"]["reason"], "breakpoint")
+        self.assertEqual(self.editor.frames()[0]["line"], 3)
+        turn = int(self.editor.evaluate("turn"))
+        self.assertEqual(self.editor.move("continue"), ("breakpoint", 3))
+        self.assertEqual(int(self.editor.evaluate("turn")), turn + 6)
+
+    def test_what_is_answered_while_it_runs(self) -> None:
+        self.assertEqual(self.editor.ask("threads")["body"]["threads"], [{"id": 1, "name": "task"}])
+        for kind in ("", "Function", "Instruction", "Data"):
+            self.assertTrue(self.editor.ask(f"set{kind}Breakpoints", breakpoints=[], source=SOURCE)["success"], kind)
+        self.assertTrue(self.editor.ask("setExceptionBreakpoints", filters=["traps"])["success"])
+        self.assert_runs()
+
+    def test_breakpoints_right_after_a_move(self) -> None:
+        """They may have been sent before it began."""
+        self.assert_runs()
+        self.editor.send("continue", threadId=1)
+        self.editor.send("setBreakpoints", source={"sourceReference": 1000}, breakpoints=[{"line": 3}])
+        self.assertEqual(self.editor.event("stopped")["body"]["reason"], "breakpoint")
 
 
 @pytest.mark.program
@@ -394,11 +526,10 @@ class Messages(unittest.TestCase):
 
     def test_whatever_ends_the_reading_is_told(self) -> None:
         """Or the adapter would wait for ever."""
-        messages: Queue = queue.SimpleQueue()
-        session = Session(Writer(io.BytesIO()), lambda _given: self.fail("nothing is launched"))
+        inbox = Inbox()
         with mock.patch("feulgama.dap.adapter.read_message", side_effect=MemoryError), self.assertRaises(MemoryError):
-            read_all(io.BytesIO(), session, messages)
-        self.assertIsNone(messages.get(block=False))
+            read_all(io.BytesIO(), inbox)
+        self.assertEqual((inbox.interrupted.is_set(), inbox.get()), (True, None))
 
     def test_faults(self) -> None:
         self.assertIsNone(read_message(io.BytesIO(b"")))

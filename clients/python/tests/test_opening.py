@@ -19,7 +19,7 @@ from feulgama import said
 from feulgama.cli import main
 from feulgama.files import write_whole
 from feulgama.opening import NeedsMemoryError, RefusedError, open_debugger
-from tests.support import CLIENT, IS_REFERENCE, SHIM
+from tests.support import ASCII, CLIENT, IS_REFERENCE, SHIM
 
 WORDS = CLIENT / "examples/words.wasm"
 HEAD, TYPE, FUNC, BODY = "0061736d01000000", "010401600000", "03020100", "0a040102000b"
@@ -104,6 +104,15 @@ class Refused(unittest.TestCase):
                 run = subprocess.run([sys.executable, "-m", "feulgama", "--shim", SHIM, "--version"], cwd=CLIENT, check=False,
                                      stdin=subprocess.DEVNULL, stdout=stream, stderr=subprocess.PIPE, text=True)
             self.assertEqual((run.returncode, run.stderr), (1, f"feulgama: {why}\n"))
+
+    def test_output_that_is_not_utf_8(self) -> None:
+        """A character that it does not have is shown by its number."""
+        file = Path(self.enterContext(tempfile.TemporaryDirectory())) / "commands"
+        file.write_text("# \u00e4\n", encoding="utf-8")
+        run = subprocess.run([sys.executable, "-m", "feulgama", "--shim", SHIM, "debug", "--commands", file, WORDS],
+                             cwd=CLIENT, check=False, env={**os.environ, **ASCII}, stdin=subprocess.DEVNULL,
+                             capture_output=True)
+        self.assertEqual((run.returncode, run.stdout.splitlines()[-1], run.stderr), (0, b"(feulgama) # \\xe4", b""))
 
     def test_streams_that_are_closed(self) -> None:
         """Standard output alone, or all three, whose numbers pipes of the shim would have then."""

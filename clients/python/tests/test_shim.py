@@ -3,6 +3,9 @@ from __future__ import annotations
 
 import gc
 import os
+import stat
+import tempfile
+import threading
 import time
 import unittest
 from pathlib import Path
@@ -234,5 +237,68 @@ class Absent(unittest.TestCase):
     def test_after_the_end(self) -> None:
         shim = feulgama.Shim(SHIM)
         shim.close()
+        with self.assertRaises(feulgama.ShimEndedError):
+            shim.gc()
+
+    def test_a_request_while_it_is_closed(self) -> None:
+        """Its line goes into no file that has got the number of the pipe meanwhile."""
+        shim, found, file = feulgama.Shim(SHIM), list[BaseException](), self.enterContext(tempfile.TemporaryFile())
+        wait, lines = shim._pipe._process.wait, shim._pipe._in
+
+        def ask() -> None:
+            try:
+                shim.gc()
+            except feulgama.ShimEndedError as error:
+                found.append(error)
+        thread = threading.Thread(target=ask, daemon=True)
+
+        def late(timeout: float | None = None) -> int:
+            if thread.ident is None:
+                os.dup2(file.fileno(), lines)
+                thread.start()
+                thread.join(0.3)
+            return wait(timeout)
+
+        with mock.patch.object(shim._pipe._process, "wait", late):
+            shim.close()
+        thread.join(10)
+        os.close(lines)
+        self.assertEqual((os.fstat(file.fileno()).st_size, len(found)), (0, 1))
+
+    def test_a_wait_while_it_is_closed(self) -> None:
+        """The pipe stays open until its line is written."""
+        shim, write, are_pipes = feulgama.Shim(SHIM), os.write, list[bool]()
+        task = shim.create(feulgama.Config(shim.ensure(FOREVER_BYTES))).id
+        thread = threading.Thread(target=shim.close, daemon=True)
+
+        def late(lines: int, data: bytes) -> int:
+            thread.start()
+            thread.join(0.5)
+            are_pipes.append(stat.S_ISFIFO(os.fstat(lines).st_mode))
+            return write(lines, data)
+
+        with mock.patch("os.write", late), self.assertRaises(feulgama.ShimEndedError):
+            shim.wait(task)
+        thread.join(10)
+        self.assertEqual(are_pipes, [True])
+
+    def test_closing_while_a_request_is_not_answered(self) -> None:
+        """It is broken off."""
+        shim, found = feulgama.Shim(SHIM), list[BaseException]()
+        task = shim.create(feulgama.Config(shim.ensure(FOREVER_BYTES))).id
+        shim.start(task)
+
+        def ask() -> None:
+            try:
+                shim.call(requests.wait(task))
+            except feulgama.ShimEndedError as error:
+                found.append(error)
+        thread = threading.Thread(target=ask, daemon=True)
+        thread.start()
+        while not shim._pipe._unanswered:
+            thread.join(0.01)
+        shim.close()
+        thread.join(10)
+        self.assertEqual(len(found), 1)
         with self.assertRaises(feulgama.ShimEndedError):
             shim.gc()

@@ -1,8 +1,11 @@
 """Variables of C and Rust: at random stops they have the values of a second reading of their descriptions."""
 from __future__ import annotations
 
+import os
 import random
 import shutil
+import subprocess
+import sys
 import tempfile
 import unittest
 from collections.abc import Iterator
@@ -22,7 +25,7 @@ from feulgama.wasm.names import Names
 from tests import c_programs
 from tests.c_programs import HAS_RUST, MISSING, Maker, built_c, built_rust
 from tests.second_dwarf import SecondReading
-from tests.support import CLIENT, EXIT_7, SHIM
+from tests.support import ASCII, CLIENT, EXIT_7, SHIM
 
 STOPS = 25
 MODULE = CLIENT / "examples/words.wasm"
@@ -185,6 +188,12 @@ class Demangled(unittest.TestCase):
                   "_ZN48_$LT$prog..Shape$u20$as$u20$core..fmt..Debug$GT$3fmt17h0123456789abcdefE":
                       "<prog::Shape as core::fmt::Debug>::fmt"}
         self.assertEqual(demangled([*wanted, "main", "_start"]), wanted)
+
+    def test_a_name_that_the_locale_cannot_write(self) -> None:
+        script = "from feulgama.debug.demangle import demangled; print(ascii(demangled(['_Z3f\\xe4v', '_Z3foov'])))"
+        run = subprocess.run([sys.executable, "-c", script], cwd=CLIENT, env={**os.environ, **ASCII}, capture_output=True,
+                             text=True, check=False)
+        self.assertEqual((run.stdout, run.stderr), ("{'_Z3f\\xe4v': '_Z3f\\xe4v', '_Z3foov': 'foo()'}\n", ""))
 
     def test_functions_by_their_names(self) -> None:
         names = Names({0: "prog::total", 1: "std::total", 2: "count::word(char const*)", 3: "total"})

@@ -226,6 +226,49 @@ class Threads(unittest.TestCase):
             self.shim.run(EXIT_7)
         self.shim.put(EXIT_7)
 
+    def test_a_run_whose_module_another_thread_removes(self) -> None:
+        """Just before its task is made, as at the end of that thread's run."""
+        create, calls = self.shim.create, list[feulgama.Config]()
+
+        def late(config: feulgama.Config) -> feulgama.TaskStatus:
+            calls.append(config)
+            if len(calls) == 1:
+                self.shim.remove(config.module)
+            return create(config)
+
+        self.shim.put(EXIT_7)
+        with mock.patch.object(self.shim, "create", late):
+            self.assertEqual(self.shim.run(EXIT_7).exit.code, 7)
+        self.shim.put(EXIT_7)
+
+    def test_a_module_that_is_stored_while_it_runs(self) -> None:
+        """Whoever has stored it may make tasks of it after the run."""
+        wait = self.shim.wait
+        with mock.patch.object(self.shim, "wait", lambda *words: (self.shim.ensure(EXIT_7), wait(*words))[1]):
+            self.shim.run(EXIT_7)
+        self.shim.remove(feulgama.digest_of(EXIT_7))
+
+    def test_runs_of_a_module_at_once(self) -> None:
+        """The first one has stored it, and ends first. The last one removes it."""
+        wait, others, is_second, goes_on = self.shim.wait, list[threading.Thread](), threading.Event(), threading.Event()
+        self.addCleanup(goes_on.set)
+
+        def late(task: str, timeout: float | None = None) -> feulgama.State:
+            if not others:
+                others.append(threading.Thread(target=self.shim.run, args=(EXIT_7,), daemon=True))
+                others[0].start()
+                is_second.wait(10)
+            else:
+                is_second.set()
+                goes_on.wait(10)
+            return wait(task, timeout)
+
+        with mock.patch.object(self.shim, "wait", late):
+            self.assertEqual(self.shim.run(EXIT_7).exit.code, 7)
+            goes_on.set()
+            others[0].join(10)
+        self.shim.put(EXIT_7)
+
     @pytest.mark.program
     def test_reasons(self) -> None:
         """Of each caller's own lines."""
@@ -357,6 +400,41 @@ class Asyncio(unittest.IsolatedAsyncioTestCase):
         early.set_result(feulgama.State(task, Status.PAUSED, 0))
         await self.shim.kill(task)
         self.assertEqual((await last).status, Status.STOPPED)
+
+    async def test_a_wait_after_a_request_that_is_cancelled(self) -> None:
+        """It is sent once that is answered, so a task that was started is not said to be created."""
+        task = (await self.shim.create(feulgama.Config(await self.shim.ensure(EXIT_7)))).id
+        loop, control = asyncio.get_running_loop(), self.shim._running.control
+        loop.remove_reader(control._ends.replies)
+        starting = asyncio.create_task(self.shim.start(task))
+        await asyncio.sleep(0)
+        starting.cancel()
+        waiting = asyncio.create_task(self.shim.wait(task))
+        for _ in range(5):
+            await asyncio.sleep(0)
+        sent = sum(len(waiter.pending) for waiter in self.shim._running.waiters)
+        loop.add_reader(control._ends.replies, control._read)
+        self.assertEqual((sent, (await waiting).status), (0, Status.STOPPED))
+
+    async def test_a_wait_after_a_glance_that_is_cancelled(self) -> None:
+        """The same for a wait that asks for the state, since no caller is free for it."""
+        async with feulgama.AsyncShim(SHIM, waiters=1) as shim:
+            digest = await shim.ensure(FOREVER_BYTES)
+            tasks = [(await shim.create(feulgama.Config(digest))).id for _ in range(2)]
+            for task in tasks:
+                await shim.start(task)
+            loop, control = asyncio.get_running_loop(), shim._running.control
+            loop.remove_reader(control._ends.replies)
+            waiting = [asyncio.create_task(shim.wait(task)) for task in tasks]
+            with mock.patch("feulgama.aio.pause", lambda _begin: 0.0):
+                while not control.pending:
+                    await asyncio.sleep(0)
+            for wait in waiting:
+                wait.cancel()
+            await asyncio.gather(*waiting, return_exceptions=True)
+            asked = [one.future.done() for one in control.pending]
+            loop.add_reader(control._ends.replies, control._read)
+            self.assertEqual(asked, [False])
 
     @pytest.mark.program
     async def test_reasons(self) -> None:

@@ -3,13 +3,14 @@ from __future__ import annotations
 
 import contextlib
 import json
+import re
 from collections.abc import Mapping, Sequence
 from typing import Any, TypeVar
 
 from feulgama import requests
 from feulgama.answering import Answering
 from feulgama.attach.door import Door, NoContainerError
-from feulgama.errors import BadReplyError, FeulgamaError
+from feulgama.errors import BadReplyError, FeulgamaError, JournalFullError
 from feulgama.model import State
 from feulgama.operation import Request
 
@@ -19,6 +20,8 @@ PATIENCE = 30.0  # seconds for an answer
 AT_ONCE = 16  # lines that are sent before their replies are read
 ENDED = b'{"ended":'
 WRONG_STATUS = b'{"error":"WrongStatus","number":11,"ok":false}'
+JOURNAL_FULL = b'{"error":"JournalFull","number":15,"ok":false}'
+TURNS = re.compile(rb'"n":(\d+),"ok":true')
 
 
 class ContainerGoneError(FeulgamaError):
@@ -28,7 +31,8 @@ class ContainerGoneError(FeulgamaError):
 class Link(Answering):
     """The way to the task of a container, which stands still until this is closed, but for what is asked here. `ran` says
     whether it runs on then. `module` is what runs, `original` what was lowered to it, None if it is the same; `config` is
-    the text of the config of the task. `state` is what it was doing at first."""
+    the text of the config of the task. `state_at_first` is what it was doing at first, `turns` how many turns it had made when
+    that was told last."""
 
     def __init__(self, door: Door) -> None:
         self._socket = door.knock(PATIENCE)
@@ -41,6 +45,7 @@ class Link(Answering):
             self.container, self.task = str(first["container"]), str(first["state"]["id"])
             self.ran, self._most = bool(first["ran"]), int(first["left"])
             self.state_at_first = requests.state_of(first["state"])
+            self.turns = self.state_at_first.turns
             self.module, self.config = bytes.fromhex(first["module"]), str(first["config"])
             self.original = bytes.fromhex(first["original"]) if first.get("original") else None
         except (KeyError, TypeError, ValueError) as error:
@@ -55,7 +60,7 @@ class Link(Answering):
 
     def _first(self, door: Door) -> Mapping[str, Any]:
         """What the shim says first. Raises NoContainerError if that is why nobody can attach."""
-        first = json.loads(self._line())
+        first = json.loads(self._reply())  # the end of the task may be told before it
         if first["ok"] is not True:
             raise NoContainerError(f"{door.container}: {first['error']}")
         if first["protocol"] != PROTOCOL:
@@ -87,7 +92,7 @@ class Link(Answering):
         for request, line in zip(asked, replies):
             try:
                 results.append(request.result(line))
-            except BadReplyError:
+            except (BadReplyError, JournalFullError):
                 raise
             except FeulgamaError as refused:
                 results.append(refused)
@@ -109,7 +114,7 @@ class Link(Answering):
                 with contextlib.suppress(BrokenPipeError, ConnectionResetError):  # what was said before can be read
                     self._socket.sendall(b"".join(line + b"\n" for line in lines))
                 while len(replies) < len(lines):
-                    replies.append(self._reply())
+                    replies.append(self._noted(self._reply()))
         except (OSError, ContainerGoneError):
             self.close()
         return replies + [self._without_container(line) for line in lines[len(replies):]]
@@ -118,6 +123,15 @@ class Link(Answering):
         """The next line that is a reply. The shim also tells unasked how the task has ended."""
         while (line := self._line()).startswith(ENDED):
             self._ended = json.loads(line)["ended"]
+        return line
+
+    def _noted(self, line: bytes) -> bytes:
+        """A reply, of which is noted what it says of the task. The shim also counts what others ask it, so it may answer no
+        more requests before its time."""
+        if (told := TURNS.search(line)) is not None:
+            self.turns = int(told[1])
+        if line == JOURNAL_FULL:
+            self._most = 0
         return line
 
     def _line(self) -> bytes:

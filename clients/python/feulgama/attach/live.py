@@ -9,6 +9,10 @@ from feulgama.debug.shims import Shims
 from feulgama.debug.track import RESERVE, TooFarError, Track
 
 
+class FewLeftError(TooFarError):
+    """The container answers too few requests yet."""
+
+
 class LiveTrack(Track):
     """A container's task. It cannot be made anew: one that has passed a turn stays beyond it. Its requests are few, so it
     runs to a breakpoint at once, and never makes a turn more than it is asked for."""
@@ -32,8 +36,12 @@ class LiveTrack(Track):
 
     def _has_room(self, count: int, watch: Watch | None = None) -> bool:
         if not self.link.is_closed and self.link.left < count:
-            raise TooFarError("the container's wasm-shim answers too few requests yet to be debugged")
+            raise FewLeftError("the container's wasm-shim answers too few requests yet to be debugged")
         return True
+
+    def _room(self) -> int:
+        """All that are left: the container's shim keeps a reserve itself. A link that is closed is asked, too, and says so."""
+        return max(2, self.link.left)
 
     def advance(self, turn: int, watch: Watch) -> None:
         while self.turn < turn and self.exit is None and not watch.is_over():

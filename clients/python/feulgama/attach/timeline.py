@@ -3,20 +3,23 @@ at are those of tasks of the same module and config, in a shim of the debugger's
 from __future__ import annotations
 
 from collections.abc import Callable
+from functools import partial
+from typing import TypeVar
 
 from feulgama.attach.link import Link
-from feulgama.attach.live import LiveTrack
+from feulgama.attach.live import FewLeftError, LiveTrack
 from feulgama.config import Config
 from feulgama.debug.hunt import Search
 from feulgama.debug.running import Interrupt
 from feulgama.debug.timeline import Timeline, Why
 from feulgama.debug.track import Track
 from feulgama.debug.trail import Trail
-from feulgama.errors import FeulgamaError
+from feulgama.errors import FeulgamaError, JournalFullError
 from feulgama.model import Stream
 from feulgama.shim import Shim
 from feulgama.wasm.module import Module
 
+T = TypeVar("T")
 LONG_WAY = 1_000_000_000  # turns that take some seconds
 
 
@@ -87,9 +90,38 @@ class LiveTimeline(Timeline):
         self._leave_unusable()
         return super()._with_memory()
 
+    # What the container may have too few requests for. Then a task of the debugger's own does it.
+
+    def _gone_on(self, work: Callable[[], T]) -> T:
+        """What something comes to, done once more if the container answers no more requests on the way."""
+        try:
+            return work()
+        except (FewLeftError, JournalFullError):
+            self.live.turn = max(self.live.turn, self._link.turns)
+            self._leave_unusable()
+            return work()
+
+    def _line(self) -> bytes:
+        return self._gone_on(super()._line)
+
+    def memory(self, address: int, length: int) -> bytes:
+        return self._gone_on(partial(super().memory, address, length))
+
+    def memory_size(self) -> int:
+        return self._gone_on(super().memory_size)
+
+    def seek(self, turn: int) -> Why:
+        return self._gone_on(partial(super().seek, turn))
+
+    def backward(self, search: Search) -> Why:
+        return self._gone_on(partial(super().backward, search))
+
+    def forward(self, search: Search, limit: int | None = None) -> Why:
+        return self._gone_on(partial(self._forward, search, limit))
+
     def output(self, stream: int) -> bytes:
         self._leave_unusable()
-        return super().output(stream)
+        return self._gone_on(partial(super().output, stream))
 
     def new_output(self) -> dict[Stream, bytes]:
         """As always; but nothing of a container that is gone, whose output is in its own log."""
@@ -97,7 +129,7 @@ class LiveTimeline(Timeline):
 
     # Searching.
 
-    def forward(self, search: Search, limit: int | None = None) -> Why:
+    def _forward(self, search: Search, limit: int | None) -> Why:
         self._to_container()
         if self._track is self.live and self.live.exit is None:
             self._leave_unusable()

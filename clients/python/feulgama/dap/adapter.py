@@ -2,38 +2,32 @@
 from __future__ import annotations
 
 import contextlib
-import queue
 import sys
 import threading
 from pathlib import Path
 from typing import BinaryIO
 
+from feulgama.dap.inbox import Inbox
 from feulgama.dap.session import Session, opener_of
-from feulgama.dap.wire import BadMessageError, Message, Writer, read_message
+from feulgama.dap.wire import BadMessageError, Writer, read_message
 from feulgama.debug.debugger import Debugger
 from feulgama.opening import module_bytes, open_debugger
 from feulgama.shim import Shim
 
-BREAKS_OFF = ("pause", "disconnect", "terminate")
-Messages = queue.SimpleQueue[Message | BadMessageError | None]
 
-
-def read_all(stream: BinaryIO, session: Session, found: Messages) -> None:
-    """Hands each message on, up to a `disconnect`; one that has to break off what is running does so at once. The last is
-    None, or what is wrong with the stream, whatever ends this: the adapter waits for it."""
+def read_all(stream: BinaryIO, inbox: Inbox) -> None:
+    """Hands each message on, up to a `disconnect`. The last is None, or what is wrong with the stream, whatever ends this: the
+    adapter waits for it."""
     last: BadMessageError | None = None
     try:
         while (message := read_message(stream)) is not None:
-            if message.get("command") in BREAKS_OFF:
-                session.interrupt()  # before the message is taken: a pause takes the interrupt back
-            found.put(message)
+            inbox.put(message)
             if message.get("command") == "disconnect":
                 return
     except BadMessageError as error:
         last = error
     finally:
-        session.interrupt()
-        found.put(last)
+        inbox.put(last)
 
 
 def serve(shim_file: str | None) -> int:
@@ -47,9 +41,8 @@ def serve(shim_file: str | None) -> int:
 
         writer = Writer(sys.stdout.buffer)
         session = Session(writer, opener_of(open_file))
-        messages: Messages = queue.SimpleQueue()
-        threading.Thread(target=read_all, args=(sys.stdin.buffer, session, messages)).start()
-        while not session.is_over and (message := messages.get()) is not None:
+        threading.Thread(target=read_all, args=(sys.stdin.buffer, session.inbox)).start()
+        while not session.is_over and (message := session.inbox.get()) is not None:
             if isinstance(message, BadMessageError):
                 raise BadMessageError(f"{message}; this command speaks the Debug Adapter Protocol, and an editor starts it")
             if message.get("type") == "request":

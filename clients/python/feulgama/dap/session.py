@@ -2,11 +2,13 @@
 from __future__ import annotations
 
 import codecs
+import contextlib
 import re
 from collections.abc import Callable
 from functools import partial
 from pathlib import Path
 
+from feulgama.dap.inbox import Inbox
 from feulgama.dap.views import Body, Views
 from feulgama.dap.wire import Message, Writer
 from feulgama.debug.c_types import CType
@@ -37,7 +39,8 @@ class NoSessionError(FeulgamaError):
 
 
 class Session:
-    """A run under an editor's hand. `opener` makes a debugger of the arguments of `launch`."""
+    """A run under an editor's hand. `opener` makes a debugger of the arguments of `launch`. `inbox` is what the editor has
+    sent and what is not answered yet."""
 
     def __init__(self, writer: Writer, opener: Callable[[Body], Debugger]) -> None:
         self._writer, self._opener = writer, opener
@@ -48,6 +51,7 @@ class Session:
         self._owned: dict[str, list[Breakpoint]] = {}
         self._kinds: dict[tuple[int, int], CType] = {}
         self._decoders = {stream: codecs.getincrementaldecoder("utf-8")("replace") for stream in Stream}
+        self.inbox = Inbox()
         self.is_over = False
 
     @property
@@ -71,11 +75,6 @@ class Session:
             raise NoSessionError("no module is launched")
         return self._commands
 
-    def interrupt(self) -> None:
-        """Breaks off what is running. Another thread may call this."""
-        if self._debugger is not None:
-            self._debugger.timeline.interrupted.set()
-
     def answer(self, request: Message) -> None:
         """Answers a request, with the events that it brings."""
         method = REQUESTS.get(str(request.get("command")))
@@ -93,10 +92,16 @@ class Session:
         except (TypeError, AttributeError) as error:
             self._failed(request, f"an argument has another type: {error}")
         except (FeulgamaError, OSError, ValueError) as error:
-            is_move = self._writer.has_answered(request) and self._debugger is not None
-            self._failed(request, str(error))
-            if is_move:  # after which the run stands still
-                self._tell_stop({"reason": "pause", "description": str(error), "text": str(error)})
+            self._broken_off(request, str(error))
+        except Exception as error:  # a fault of this program. An editor would wait for ever for what is not answered
+            self._broken_off(request, f"{type(error).__name__}: {error}")
+
+    def _broken_off(self, request: Message, why: str) -> None:
+        """Refuses a request; after a move, which is answered already, it tells that the run has stopped."""
+        is_move = self._writer.has_answered(request) and self._debugger is not None
+        self._failed(request, why)
+        if is_move:
+            self._tell_stop({"reason": "pause", "description": why, "text": why})
 
     def _failed(self, request: Message, why: str) -> None:
         """Refuses a request; if it is answered already, what went wrong after that is told as output."""
@@ -112,7 +117,7 @@ class Session:
 
     def launch(self, request: Message, given: Body) -> None:
         self._debugger = self._opener(given)
-        self._debugger.timeline.progress = self._new_output
+        self._debugger.timeline.progress, self._debugger.timeline.interrupted = self._new_output, self.inbox.interrupted
         self._views, self._commands, self._launch = Views(self._debugger), Commands(self._debugger), given
         self._writer.respond(request)
         self._writer.event("initialized")
@@ -122,11 +127,12 @@ class Session:
         if self._launch.get("stopOnEntry") or self.debugger.hit():
             self._stopped("entry", None)
         else:
-            self._moved("breakpoint", self.debugger.go_on())
+            self._moved("breakpoint", self._go_on())
 
     def restart(self, request: Message, _given: Body) -> None:
-        self.debugger.timeline.interrupted.clear()  # a `terminate` before has set it
-        self.debugger.timeline.seek(0)
+        self.debugger.timeline.begin_again()
+        for decoder in self._decoders.values():
+            decoder.reset()
         self.configuration_done(request, {})
 
     def disconnect(self, request: Message, _given: Body) -> None:
@@ -247,7 +253,25 @@ class Session:
 
     def continue_(self, request: Message, _given: Body) -> None:
         self._writer.respond(request, {"allThreadsContinued": True})
-        self._moved("breakpoint", self.debugger.go_on())
+        self._moved("breakpoint", self._go_on())
+
+    def _go_on(self) -> Why:
+        """Runs on. What sets breakpoints is answered on the way, and the run goes on with these."""
+        why = self._run(self.debugger.go_on)
+        while why is Why.INTERRUPTED and not self.debugger.watchpoints and (asides := self.inbox.asides()):
+            with self._writer.aside():
+                for aside in asides:
+                    self.answer(aside)
+            if self.debugger.timeline.exit is None:
+                why = self._run(self.debugger.go_on)
+            else:
+                why = self._run(partial(self.debugger.back_over_trap, Why.ENDED))
+        return why
+
+    def _run(self, move: Callable[[], Why]) -> Why:
+        """Moves. What sets breakpoints breaks it off, but no search for writes, which would begin anew."""
+        with contextlib.nullcontext() if self.debugger.watchpoints else self.inbox.running():
+            return move()
 
     def next(self, request: Message, given: Body) -> None:
         self._step(request, given, self.debugger.next, partial(self.debugger.step_line, True))
@@ -272,13 +296,15 @@ class Session:
 
     def pause(self, request: Message, _given: Body) -> None:
         """Answers a pause. What was running was broken off when the message was read."""
-        self.debugger.timeline.interrupted.clear()
         self._writer.respond(request)
 
     def _moved(self, reason: str, why: Why) -> None:
-        """Tells what came of a move: what the task wrote, and where it stopped or how it ended."""
+        """Tells what came of a move: what the task wrote, and where it stopped or how it ended; but not where it stopped for a
+        restart."""
         self._new_output()
         self._console("".join(f"{line}\n" for line in self.debugger.told()))
+        if why is Why.INTERRUPTED and self.inbox.has("restart"):
+            return
         if self.debugger.timeline.exit is not None and not self._launch.get("stopAtEnd"):
             self._ended()
         elif self.debugger.timeline.exit is not None:
@@ -307,6 +333,7 @@ class Session:
         self._tell_stop(body)
 
     def _tell_stop(self, body: Body) -> None:
+        self.commands.leave_frame()
         self._writer.event("stopped", {**body, "threadId": THREAD, "allThreadsStopped": True})
 
     def _ended(self) -> None:

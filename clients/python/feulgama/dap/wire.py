@@ -1,9 +1,10 @@
 """Messages of the Debug Adapter Protocol on two streams: a head with their length, and JSON."""
 from __future__ import annotations
 
+import contextlib
 import json
 import threading
-from collections.abc import Mapping
+from collections.abc import Iterator, Mapping
 from typing import IO, Any
 
 from feulgama.errors import FeulgamaError
@@ -55,8 +56,15 @@ class Writer:
         self._answered: object = None
 
     def has_answered(self, request: Message) -> bool:
-        """Whether the last response was to this request."""
+        """Whether the last response was to this request, but for those to asides."""
         return self._answered is request
+
+    @contextlib.contextmanager
+    def aside(self) -> Iterator[None]:
+        """Lets other requests be answered on the way of one."""
+        before = self._answered
+        yield
+        self._answered = before
 
     def _write(self, message: Message) -> None:
         with self._lock:

@@ -61,7 +61,7 @@ class Commands:
 
     def stopped(self, why: Why | None = None) -> Lines:
         """Where the run is now, after what it wrote on the way."""
-        self.selected, self._listed = 0, None
+        self.leave_frame()
         yield from self._new_output()
         yield from self.debugger.told()
         if why in (Why.INTERRUPTED, Why.LIMIT, Why.BEGIN):
@@ -79,6 +79,10 @@ class Commands:
         yield from render.stop_lines(self.symbols, look.turn, look.place, look.depth)
         for number, words in self.displayed.items():
             yield f"{number}: {words} = {self._displayed(words)}"
+
+    def leave_frame(self) -> None:
+        """Looks at the innermost frame, as after each move."""
+        self.selected, self._listed = 0, None
 
     def _displayed(self, words: str) -> str:
         try:
@@ -106,6 +110,8 @@ class Commands:
         frames = self.debugger.frames()
         if not frames:
             raise BadCommandError("the task has ended, and has no frames")
+        if self.selected >= len(frames):  # a move that has failed may have left it
+            raise BadCommandError(f"there is no frame {self.selected}")
         return frames[self.selected]
 
     def _place(self) -> Place:
@@ -117,7 +123,7 @@ class Commands:
     # Moving.
 
     def run(self, rest: str) -> Lines:
-        self.timeline.seek(0)
+        self.timeline.begin_again()
         return self.stopped() if self.debugger.hit() else self.continue_(rest)
 
     def continue_(self, rest: str) -> Lines:

@@ -187,10 +187,15 @@ class Debugger:
     def _before_trap(self, move: Callable[[], Why]) -> Why:
         """Moves; if the task has trapped on the way, goes back to where the instruction that trapped is next."""
         begin, why = self.timeline.turn, move()
-        found, turn = self.timeline.exit, self.timeline.turn
-        if not self.stops_at_traps or found is None or found.cause is not Cause.TRAP or begin >= turn - 1:
+        return why if begin >= self.timeline.turn - 1 else self.back_over_trap(why)
+
+    def back_over_trap(self, why: Why) -> Why:
+        """Goes back to where the instruction that trapped is next. If the task has not trapped it stays, for the reason that
+        is given."""
+        found = self.timeline.exit
+        if not self.stops_at_traps or found is None or found.cause is not Cause.TRAP:
             return why
-        return Why.TRAP if self.timeline.seek(turn - 1) is Why.FOUND else Why.INTERRUPTED
+        return Why.TRAP if self.timeline.seek(self.timeline.turn - 1) is Why.FOUND else Why.INTERRUPTED
 
     def _forward(self, search: Search, limit: int | None = None, is_goal: Callable[[Look], bool] | None = None) -> Why:
         """Goes on to what is looked for; where that is a breakpoint and no goal, to one that stops the run."""

@@ -25,7 +25,8 @@ def demangled(names: Iterable[str]) -> dict[str, str]:
         return {}
     lines = "".join(SUFFIX.sub("", name) + "\n" for name in asked)
     try:
-        run = subprocess.run([program], input=lines, capture_output=True, text=True, check=True, timeout=PATIENCE)
+        run = subprocess.run([program], input=lines, capture_output=True, encoding="utf-8", errors="replace", check=True,
+                             timeout=PATIENCE)
     except (OSError, subprocess.SubprocessError):
         return {}
     found = run.stdout.splitlines()

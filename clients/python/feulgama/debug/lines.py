@@ -2,6 +2,7 @@
 from __future__ import annotations
 
 import bisect
+import os
 from collections.abc import Iterable
 from dataclasses import dataclass
 from pathlib import Path
@@ -9,6 +10,8 @@ from typing import NamedTuple
 
 from feulgama.debug.look import Place
 from feulgama.wasm.module import Function, Module
+
+MOST_SOURCE = 1 << 24  # bytes of a source
 
 
 class SourceLine(NamedTuple):
@@ -119,20 +122,36 @@ class Sources:
         """Where a file is; None if it is not there."""
         told = Path(file)
         beside = [folder / part for folder in self._folders for part in (told, Path(told.name))]
-        return next((path for path in (*beside, told) if path.is_file()), None)
+        return next((path for path in (*beside, told) if is_file(path)), None)
 
     def lines(self, file: str) -> list[str] | None:
-        """The lines of a file; None if it is not there or cannot be read."""
+        """The lines of a file; None if it is not there, cannot be read or is no source."""
         if file not in self._texts:
             path = self.path(file)
-            try:
-                text = None if path is None else path.read_text(errors="replace").splitlines()
-            except OSError:
-                text = None
-            self._texts[file] = text
+            text = None if path is None else text_of(path)
+            self._texts[file] = None if text is None else text.splitlines()
         return self._texts[file]
 
     def line(self, source: SourceLine) -> str | None:
         """One line; None if it is not there."""
         lines = self.lines(source.file)
         return lines[source.line - 1] if lines is not None and 0 < source.line <= len(lines) else None
+
+
+def is_file(path: Path) -> bool:
+    """Whether a file is there, as far as that can be known."""
+    try:
+        return path.is_file()
+    except OSError:  # it is in a folder of another user, or its name is too long
+        return False
+
+
+def text_of(path: Path) -> str | None:
+    """The text of a source; None of a file that cannot be read, is very large, or tells no size, as those of /proc. A module
+    that nobody trusts may name any file, also one without an end."""
+    try:
+        with path.open("rb") as file:
+            size = os.fstat(file.fileno()).st_size
+            return file.read(size).decode(errors="replace") if 0 < size <= MOST_SOURCE else None
+    except OSError:
+        return None

@@ -2,7 +2,7 @@
 from __future__ import annotations
 
 import re
-from collections.abc import Callable
+from collections.abc import Callable, Iterator
 from dataclasses import dataclass
 
 from feulgama.debug.numbers import number_of
@@ -39,16 +39,18 @@ def format_of(text: str) -> Format:
     return Format(number, letter, SIZES[size] if size else 1 if letter in "cs" else 4)
 
 
-def dump(form: Format, address: int, memory: Callable[[int, int], bytes]) -> list[str]:
+def dump(form: Format, address: int, memory: Callable[[int, int], bytes]) -> Iterator[str]:
     """Lines that show memory from an address on. Where it ends, the last line says so."""
     if form.letter == "s":
-        return [line for line in strings(form.count, address, memory)]
+        yield from strings(form.count, address, memory)
+        return
     data = memory(address, form.count * form.size)
     items = [data[at:at + form.size] for at in range(0, len(data) - form.size + 1, form.size)]
     across = max(1, ROW // form.size)
-    lines = [f"{address + at * form.size:#010x}: {' '.join(shown(form, item) for item in items[at:at + across])}"
-             for at in range(0, len(items), across)]
-    return lines if len(items) == form.count else [*lines, f"{address + len(items) * form.size:#010x}: no memory"]
+    for at in range(0, len(items), across):
+        yield f"{address + at * form.size:#010x}: {' '.join(shown(form, item) for item in items[at:at + across])}"
+    if len(items) < form.count:
+        yield f"{address + len(items) * form.size:#010x}: no memory"
 
 
 def shown(form: Format, item: bytes) -> str:
@@ -64,17 +66,15 @@ def shown(form: Format, item: bytes) -> str:
             return f"{int.from_bytes(item, 'little'):#0{2 * form.size + 2}x}"
 
 
-def strings(count: int, address: int, memory: Callable[[int, int], bytes]) -> list[str]:
+def strings(count: int, address: int, memory: Callable[[int, int], bytes]) -> Iterator[str]:
     """Texts that end with a NUL, one after the other, in parts of up to 200 bytes. Where memory ends, the last line says
     so."""
-    lines = []
     for _ in range(count):
         data = memory(address, 200)
         if not data:
-            lines.append(f"{address:#010x}: no memory")
-            break
+            yield f"{address:#010x}: no memory"
+            return
         text, end, _ = data.partition(b"\0")
         rest = "" if end else "..."
-        lines.append(f"{address:#010x}: {ascii(text.decode('latin-1'))}{rest}")
+        yield f"{address:#010x}: {ascii(text.decode('latin-1'))}{rest}"
         address += len(text) + len(end)
-    return lines

@@ -13,6 +13,7 @@ from types import FrameType
 from typing import TextIO
 
 from feulgama.debug.commands import COMMANDS, Commands, Quit
+from feulgama.debug.running import Interrupt
 from feulgama.debug.timeline import Timeline
 from feulgama.errors import FeulgamaError, NoShimError, ShimEndedError
 
@@ -22,6 +23,7 @@ HISTORY = os.path.expanduser("~/.feulgama_history")
 # surrogates, which represent bytes that a user has typed and that are not UTF-8.
 CONTROLS = {number: f"\\x{number:02x}" for number in (*range(32), *range(127, 160)) if chr(number) not in "\t\n"}
 CONTROLS |= {number: f"\\u{number:04x}" for number in range(0xD800, 0xE000)}
+LONG = 100  # lines, from which on Ctrl-C ends a text
 TAKES_PLACE = {"break", "b", "until", "u", "list", "l", "disassemble", "dis"}
 
 
@@ -43,18 +45,53 @@ def words_for(commands: Commands, before: str) -> list[str]:
     return ["local", "operand", "turn"] if head in ("print", "p", "x") else []
 
 
-def asked(commands: Commands) -> Iterator[str]:
+@contextlib.contextmanager
+def handling(handler: Callable[[int, FrameType | None], None]) -> Iterator[None]:
+    """Lets a handler take Ctrl-C."""
+    before = signal.signal(signal.SIGINT, handler)
+    try:
+        yield
+    finally:
+        signal.signal(signal.SIGINT, before)
+
+
+class Interrupts:
+    """What Ctrl-C does at a terminal: it breaks off a line that is read, and at any other moment what is running. One that
+    comes between two commands does nothing."""
+
+    def __init__(self, timeline: Timeline) -> None:
+        self._interrupted, self._is_reading = timeline.interrupted, False
+
+    def __call__(self, _number: int, _frame: FrameType | None) -> None:
+        if not self._is_reading:
+            self._interrupted.set()
+            return
+        self._is_reading = False  # so that nothing that comes while this one is handled is raised, too
+        raise KeyboardInterrupt
+
+    def reading(self, read: Callable[[], str]) -> str:
+        """A line. Raises KeyboardInterrupt."""
+        try:
+            self._is_reading = True
+            return read()
+        finally:
+            self._is_reading = False
+
+
+def asked(commands: Commands, interrupts: Interrupts) -> Iterator[str]:
     """The lines of a user at a terminal, with completion and a history if prompt_toolkit is there."""
     read = reader(commands)
     while True:
         try:
-            yield read()
+            line = interrupts.reading(read)
         except KeyboardInterrupt:
             continue
         except UnicodeDecodeError:
             print("a command is text in UTF-8, and this line is not", flush=True)
+            continue
         except EOFError:
             return
+        yield line
 
 
 def reader(commands: Commands) -> Callable[[], str]:
@@ -134,34 +171,47 @@ def plain(line: str) -> str:
 
 
 def answer(commands: Commands, line: str) -> None:
-    """Does what a line asks for and shows what comes of it; what goes wrong is shown too."""
-    timeline = commands.timeline
+    """Does what a line asks for and shows what comes of it; what goes wrong is shown too. Ctrl-C breaks off what is running,
+    and then a long text."""
+    timeline, pressed = commands.timeline, Interrupt()
 
     def interrupt(_number: int, _frame: FrameType | None) -> None:
         timeline.interrupted.set()
+        pressed.set()
 
     timeline.interrupted.clear()
     timeline.searching = Progress(timeline)
-    before = signal.signal(signal.SIGINT, interrupt)
     try:
-        for shown in commands.answer(line):
-            print(plain(shown))
+        with handling(interrupt):
+            lines = commands.answer(line)
+            pressed.clear()  # a move that was broken off is shown
+            for count, shown in enumerate(lines):
+                if count >= LONG and pressed.is_set():
+                    print("interrupted")
+                    break
+                print(plain(shown))
     except (ShimEndedError, NoShimError):
         raise
     except FeulgamaError as error:
         print(plain(str(error)))
-    finally:
-        signal.signal(signal.SIGINT, before)
 
 
 def debug(commands: Commands, source: TextIO, first: Iterable[str] = ()) -> int:
     """Answers the lines of a user or a script, up to its end or `quit`; before them some others."""
     is_user = source.isatty()
+    interrupts = Interrupts(commands.timeline)
+    with handling(interrupts) if is_user else contextlib.nullcontext():
+        for shown in commands.stopped():
+            print(plain(shown))
+        sys.stdout.flush()
+        return answer_all(commands, itertools.chain(scripted(first), asked(commands, interrupts) if is_user
+                                                    else scripted(source)), is_user)
+
+
+def answer_all(commands: Commands, lines: Iterable[str], is_user: bool) -> int:
+    """Answers lines up to the last one or `quit`; the status. An empty line of a user's is the one before."""
     last = ""
-    for shown in commands.stopped():
-        print(plain(shown))
-    sys.stdout.flush()
-    for line in itertools.chain(scripted(first), asked(commands) if is_user else scripted(source)):
+    for line in lines:
         last = line.strip() or (last if is_user else "")
         if last.startswith("#"):
             continue

@@ -137,8 +137,8 @@ class Timeline:
         return self._here().output(stream)
 
     def new_output(self) -> dict[Stream, bytes]:
-        """What was written to the streams up to this turn, but for what this method has answered before. At a turn
-        that is not after the last one for which it was asked there is nothing, and no task is moved."""
+        """What was written to the streams up to this turn, but for what this method has answered before, in this run. At
+        a turn that is not after the last one for which it was asked there is nothing, and no task is moved."""
         if self.turn <= self._told_turn:
             return {}
         self._told_turn = self.turn
@@ -150,6 +150,11 @@ class Timeline:
         return found
 
     # Going to a turn.
+
+    def begin_again(self) -> None:
+        """Goes to the first turn, as of a new run, whose output is new too."""
+        self.seek(0)
+        self._told, self._told_turn = dict.fromkeys(Stream, 0), 0
 
     def seek(self, turn: int) -> Why:
         """Goes to a turn, or to the task's end if that is before it."""
