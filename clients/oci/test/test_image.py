@@ -4,6 +4,7 @@ from __future__ import annotations
 import hashlib
 import io
 import json
+import os
 import subprocess
 import tarfile
 import tempfile
@@ -124,6 +125,28 @@ class Bytes(ImageTest):
         self.assertEqual(first, (self.folder / "again.tar").read_bytes())
         with tarfile.open(self.folder / "m.tar") as opened:
             self.assertEqual({(about.mtime, about.uid, about.gid, about.uname) for about in opened}, {(0, 0, 0, "")})
+
+    def test_what_is_no_regular_file_stays_what_it_is(self) -> None:
+        pipe = self.folder / "pipe"
+        os.mkfifo(pipe)
+        # Both ends are open, so that nothing waits for the other. The archive fits into a pipe.
+        with open(os.open(pipe, os.O_RDWR | os.O_NONBLOCK), "rb", buffering=0) as reader:
+            self.assertEqual(self.tool(str(self.module), "x", "-o", str(pipe)).stderr, b"")
+            self.assertTrue(pipe.is_fifo())
+            self.assertEqual(read(reader.read(1 << 16) or b""), self.archive("x"))
+        made = self.tool(str(self.module), "x", "-o", "/dev/fd/1")  # a file that another program has opened
+        self.assertEqual((made.returncode, made.stderr, read(made.stdout)), (0, b"", self.archive("x")))
+
+    def test_a_link_stays_a_link(self) -> None:
+        link, target = self.folder / "link", self.folder / "elsewhere" / "a.tar"
+        target.parent.mkdir()
+        link.symlink_to(target)
+        for before in (None, b"before"):
+            if before is not None:
+                target.write_bytes(before)
+            self.assertEqual(self.tool(str(self.module), "x", "-o", str(link)).returncode, 0)
+            self.assertEqual(link.readlink(), target)
+            self.assertEqual(read(target.read_bytes()), self.archive("x"))
 
     def test_a_long_file_name(self) -> None:
         long = self.folder / ("n" * 200 + ".wasm")
