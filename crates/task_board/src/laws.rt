@@ -58,7 +58,7 @@ pub fn boards_are_sound()
         → IsBoard s → Happens s e r s' → IsBoard s' }
 {}
 
-/// Only a delete removes a task, and only a stopped one. What another event makes of a task is that it stays
+/// A task is removed only if it is stopped. What else an event makes of a task is that it stays
 /// as it is, that it is started, paused, resumed or killed, makes a step, or gets or loses a breakpoint,
 /// each only if its status allows it, that its slice is taken, which only that of a running idle one is,
 /// or that its slice returns.

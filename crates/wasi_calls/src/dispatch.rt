@@ -72,8 +72,8 @@ fn host_with(
 }
 
 /// Makes a system call of WASI snapshot_preview1, with the memory of the module, if it has one. It
-/// changes nothing but the memory and the two output streams of the process, and takes no memory of
-/// its own. The answer is `Value` with an error number ($errno): 0 if the call was made, 8 for a file
+/// changes nothing but the memory and the two output streams of the process, and cannot answer that
+/// memory ran out. The answer is `Value` with an error number ($errno): 0 if the call was made, 8 for a file
 /// descriptor that is neither 1 nor 2, 21 for a range that is not inside the memory, and 51 if bytes
 /// are to be written to a stream that is full. Of `proc_exit` it is `Exit`.
 pub fn host(

@@ -66,7 +66,7 @@ pub fn read_call_indirect(bytes: &[u8]) -> Result<(Simple, &[u8]), ReadError>
     read_reserved(Simple::CallIndirect(index), rest)
 }
 
-/// A `br_table`, and the rest. A count of more labels than there are bytes left takes no memory.
+/// A `br_table`, and the rest. A count of more labels than there are bytes left is refused for that.
 #[tactic(auto, unfolding(crate::specs::Inside::Reading::read_br_table))]
 pub fn read_br_table(alloc: Global, bytes: &[u8]) -> Result<(Simple, &[u8]), ReadError>
     ensures value { Gives (λ x. (x.0, x.1.now)) result (read_br_table bytes.now) }
