@@ -1,5 +1,5 @@
 //! The desk of a book, at which machines are checked out.
-ghost use Rattle.std.specs.Prelude.{◌≡◌, ◌⊎◌, Some, None, option_map, true, false, IfSome, IfNone, is_some, slice_get};
+ghost use Rattle.std.specs.Prelude.{◌≡◌, ◌⊎◌, Some, None, length, option_map, true, false, IfSome, IfNone, is_some, slice_get};
 ghost use Rattle.call_journal.specs.Desks.{Spot, AreIdle, spot_names, lent_at};
 ghost use Rattle.call_journal.specs.Inside.Desks.{IsSetAt};
 
@@ -105,9 +105,10 @@ impl Model for Desk {
 }
 
 impl Desk {
-    /// A desk where nothing is checked out. None if it runs out of memory.
+    /// A desk of 64 places, where nothing is checked out. None if it runs out of memory.
     pub fn new(alloc: Global) -> Option<Desk>
-        ensures { IfSome result (λ d. AreIdle d) }
+        ensures places { IfSome result (λ d. length d ≡ 64) }
+        ensures idle { IfSome result (λ d. AreIdle d) }
     {
         let mut places = Vec::with_capacity(alloc, PLACES).ok()?;
         for _ in 0..PLACES {

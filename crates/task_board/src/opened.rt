@@ -1,11 +1,11 @@
 //! The modules of contents that were decoded, validated and made flat code of.
 
-ghost use Rattle.std.specs.Prelude.{ℕ, List, ◌≡◌, ◌++◌, ◌∷◌, [], None, option_map, filter, is_some, string_bytes, IfOk, OnOk, OnErr};
+ghost use Rattle.std.specs.Prelude.{ℕ, List, ◌≡◌, ◌⊎◌, ◌<◌, ◌≤◌, ◌++◌, ◌∷◌, [], None, true, false, length, option_map, filter, is_some, string_bytes, IfOk, OnOk, OnErr};
 ghost use Rattle.slab.specs.Slab.{entries};
 ghost use Rattle.content_leases.specs.StoreState.{content_in, is_among};
 ghost use Rattle.task_board.specs.BoardState.{used_by};
 ghost use Rattle.task_board.specs.Sound.{Each};
-ghost use Rattle.task_board.specs.Inside.OpenedModules.{module_in, IsOpened};
+ghost use Rattle.task_board.specs.Inside.OpenedModules.{module_in, opened_of, IsOpened, always_kept, most_idle_bytes, idle_size, idle_bytes};
 
 use crate::task::{Task, is_used};
 use content_leases::Store;
@@ -99,30 +99,57 @@ impl Opened {
         );
     }
 
-    // How many bytes the contents have together whose modules no task uses.
-    fn idle_bytes(&self, store: &Store, tasks: &Slab<Task>) -> usize {
-        let mut bytes: usize = 0;
-        for digest in self.map.keys() {
-            if is_used(tasks, digest.as_str()) {
-                continue;
-            }
-            if let Some(content) = store.content(digest.as_str()) {
-                bytes = bytes.saturating_add(content.len());
-            }
-        }
-        bytes
-    }
-
-    /// Drops the modules that no task uses, if their contents have more than 1 MiB together. No memory is
-    /// taken.
+    /// Drops the modules that no task uses, if their contents have more than 1 MiB together. Those of four
+    /// modules never have. No memory is taken.
     pub fn drop_idle(&mut self, store: &Store, tasks: &Slab<Task>)
         ensures sound { Each (IsOpened store.now.state.contents) self.old
             → Each (IsOpened store.now.state.contents) self.new }
         ensures absent { (digest : List ℕ)
             → module_in self.old digest ≡ None → module_in self.new digest ≡ None }
+        ensures kept { (length self.old ≤ always_kept)
+            ⊎ (idle_bytes store.now.state.contents (used_by (entries tasks.now)) self.old
+            ≤ most_idle_bytes) → self.new ≡ self.old }
+        ensures dropped { always_kept < length self.old → most_idle_bytes
+            < idle_bytes store.now.state.contents (used_by (entries tasks.now)) self.old
+            → self.new
+            ≡ filter (λ o. is_among o.digest (used_by (entries tasks.now))) self.old }
     {
-        if self.map.len() > ALWAYS_KEPT && self.idle_bytes(store, tasks) > MAX_IDLE_BYTES {
+        if self.map.len() > ALWAYS_KEPT && is_much_idle(&self.map, store, tasks) {
             self.keep_used(tasks);
         }
     }
+}
+
+// How many bytes the content under a digest has: 0 if a task uses it, or none is stored.
+fn idle_size(store: &Store, tasks: &Slab<Task>, digest: &str) -> usize
+    ensures { result
+        ≡ idle_size store.now.state.contents (used_by (entries tasks.now)) digest.now }
+{
+    if is_used(tasks, digest) {
+        return 0;
+    }
+    match store.content(digest) {
+        Some(content) => content.len(),
+        None => 0,
+    }
+}
+
+// Whether the contents have more than 1 MiB together whose modules no task uses.
+fn is_much_idle(map: &IndexMap<String, FlatModule>, store: &Store, tasks: &Slab<Task>) -> bool
+    ensures yes { result ≡ true → most_idle_bytes
+        < idle_bytes store.now.state.contents (used_by (entries tasks.now))
+        (opened_of map.now.entries) }
+    ensures no { result ≡ false
+        → idle_bytes store.now.state.contents (used_by (entries tasks.now))
+        (opened_of map.now.entries) ≤ most_idle_bytes }
+{
+    let mut left = MAX_IDLE_BYTES;
+    for (digest, _flat) in map.iter() {
+        let size = idle_size(store, tasks, digest.as_str());
+        if size > left {
+            return true;
+        }
+        left -= size;
+    }
+    false
 }

@@ -1,9 +1,9 @@
 -- The modules of contents that were decoded and validated.
-use Rattle.std.specs.Prelude.{◌≡◌, ℕ, List, [], ◌∷◌, map, bytes_eq, if◌then◌else◌, Option, Some, None, String, string_bytes}
+use Rattle.std.specs.Prelude.{◌≡◌, ◌+◌, ℕ, List, [], ◌∷◌, length, map, bytes_eq, if◌then◌else◌, Option, Some, None, String, string_bytes}
 use Rattle.std.specs.Global.{Global}
 use Rattle.wasm_ast.specs.declared.module.Module.{Module}
 use Rattle.validator.specs.Typing.{ValidModule}
-use Rattle.content_leases.specs.StoreState.{Content, content_in}
+use Rattle.content_leases.specs.StoreState.{Content, content_in, is_among}
 use Rattle.wasm_binary.specs.Spelled.{IsSpelled}
 
 pub record OpenedModule : Type 0 where
@@ -28,3 +28,25 @@ IsOpen bytes m = IsSpelled bytes m × ValidModule m
 -- it is the valid module of the content under its digest, which is stored
 abbrev pub IsOpened : List Content → OpenedModule → Type 0
 IsOpened cs o = (bytes : List ℕ) × (content_in cs o.digest ≡ Some bytes) × IsOpen bytes o.module
+
+-- ---- modules that no task uses
+
+-- this number of modules stays open, whatever the bytes of their contents
+abbrev pub always_kept : ℕ
+always_kept = 4
+
+-- and so do all, if the contents of those that no task uses have at most this number of bytes together
+abbrev pub most_idle_bytes : ℕ
+most_idle_bytes = 1048576
+
+abbrev pub stored_size : Option (List ℕ) → ℕ
+stored_size (Some bytes) = length bytes
+stored_size None = 0
+
+-- the bytes of a content, unless a task uses it
+abbrev pub idle_size : List Content → (used : List (List ℕ)) → (digest : List ℕ) → ℕ
+idle_size cs used digest = if is_among digest used then 0 else stored_size (content_in cs digest)
+
+abbrev pub idle_bytes : List Content → (used : List (List ℕ)) → List OpenedModule → ℕ
+idle_bytes cs used [] = 0
+idle_bytes cs used (o ∷ os) = idle_size cs used o.digest + idle_bytes cs used os

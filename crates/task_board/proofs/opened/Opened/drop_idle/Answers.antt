@@ -7,15 +7,15 @@ use Rattle.task_board.specs.Inside.OpenedModules.{OpenedModule, module_in, IsOpe
 use Rattle.task_board.proofs.OpenedLemmas.{each_filtered, absent_filtered}
 use Rattle.task_board.proofs.opened.Opened.drop_idle.Goals as goal
 
-pub returns-then-idle_bytes-gt-MAX_IDLE_BYTES-clause-sound : goal.returns-then-idle_bytes-gt-MAX_IDLE_BYTES-clause-sound
-returns-then-idle_bytes-gt-MAX_IDLE_BYTES-clause-sound c each =
+pub returns-then-is_much_idle-clause-sound : goal.returns-then-is_much_idle-clause-sound
+returns-then-is_much_idle-clause-sound c each =
     let test : OpenedModule → Bool = λ o. is_among o.digest (used_by (entries c.args.tasks.now)) in
     let P : OpenedModule → Type 0 = IsOpened c.args.store.now.state.contents in
     subst (λ (os : List OpenedModule). Each P os) (sym c.keep_used.ensures) (each_filtered P test c.args.self.now each)
 
-pub returns-then-idle_bytes-gt-MAX_IDLE_BYTES-clause-absent :
-    goal.returns-then-idle_bytes-gt-MAX_IDLE_BYTES-clause-absent
-returns-then-idle_bytes-gt-MAX_IDLE_BYTES-clause-absent c digest none =
+pub returns-then-is_much_idle-clause-absent :
+    goal.returns-then-is_much_idle-clause-absent
+returns-then-is_much_idle-clause-absent c digest none =
     let test : OpenedModule → Bool = λ o. is_among o.digest (used_by (entries c.args.tasks.now)) in
     subst (λ (os : List OpenedModule). module_in os digest ≡ None) (sym c.keep_used.ensures)
     (absent_filtered test digest c.args.self.now none)
