@@ -362,7 +362,10 @@ def test_nothing_is_listed_in_the_crates_of_threads() -> None:
     "IndexSet::with_capacity(alloc, 9)", "list.reserve(1)?;", "vec![in alloc; 0u8; 9]?;", "allocate(&alloc, 9, &0u8)",
     "entries.resize(size, None)?;", "text.repeat(alloc, 9)?", "list.try_reserve_exact(9)?;", "std::mem::forget(line);",
     "None => forget(words),", "open(lines.leak())", "Ok(flight) => Some(Box::leak(flight)),", "flight.map(Box::leak)",
-    "let kept = ManuallyDrop::new(line);", "let at = Box::into_raw(flight);", "use std::mem::forget as end;"])
+    "let kept = ManuallyDrop::new(line);", "let at = Box::into_raw(flight);", "use std::mem::forget as end;",
+    "bytes: bytes.share()?,", "let bytes = bytes.into_arc();", "let own = Arc::try_clone(&bytes)?;", "places.sort_unstable();",
+    "self.opened.drop_idle(store, tasks);", "let shown = inspect(alloc, machine);", "let id: ArrayString<64> = id;",
+    "return Work::Scripts(names, inputs);"])
 def test_call_is_listed(code: str) -> None:
     found = listed_calls.places_in("crates/callers/src/a.rt", f"fn f() {{\n    {code}\n}}\n")
     assert [place.text for place in found] == [code]
@@ -372,7 +375,8 @@ def test_call_is_listed(code: str) -> None:
     "// task.into_ticket()", "fn with_capacity(room: usize) {}", "pub fn worker(rt: &W) {}", "use std::vec::with_capacity;",
     "blocks.is_closed()", "let at: crate::seat::Seat = seat;", "use crate::seat::Seat;", "Snapshot::of(loan)", "run()",
     "self.block(x)", "let seat = seat(shim);", '"vec![in alloc; 9]"', "fn resize(size: usize) {}", "repeated(alloc, line, 2)",
-    "pub fn forget<T>(row: Slots<T>) {}", "use raw_block::{forget, no_places};", "let flight = leaked_flight(alloc);"])
+    "pub fn forget<T>(row: Slots<T>) {}", "use raw_block::{forget, no_places};", "let flight = leaked_flight(alloc);",
+    "pub fn inspect(alloc: Global) {}", "use arrayvec::ArrayString;", "use debugger::inspect;"])
 def test_call_is_not_listed(code: str) -> None:
     assert not list(listed_calls.places_in("crates/callers/src/a.rt", f"fn f() {{\n    {code}\n}}\n"))
 

@@ -3,9 +3,10 @@
 A task that is turned into a plain ticket can be forgotten, a seat more makes calls that nobody asked for, a shim that is
 closed refuses all that follows, a slice that runs under a lock holds up all others, who sleeps and is not woken waits for
 ever, workers may be fewer than were asked for, and the turns of a slice more, room that is asked for is memory, memory that
-is let go of and not freed is lost, a single write may write a part, and an end that is told twice is wrong. No contract says
-where these calls may be made, and with what, and code that makes another one is proved as before. So each place that makes
-one is in a list, tests/listed_calls.txt, with the reason for it, and the check fails where the sources and the list differ.
+is let go of and not freed is lost, a single write may write a part, and an end that is told twice is wrong. Where what is
+shared is copied, or what nobody uses is kept, all answers stay as they are and cost more. No contract says where these calls
+may be made, and with what, and code that makes another one is proved as before. So each place that makes one is in a list,
+tests/listed_calls.txt, with the reason for it, and the check fails where the sources and the list differ.
 In the crates of threads the list also has the condition that a place is under, if it begins on a line before.
 
 What is told after the end, or before a change, is told in vain. So a second list, tests/call_order.txt, has the order in which
@@ -27,6 +28,10 @@ SOURCES = "crates/*/src/*.rt"
 ROOM = re.compile(r"(?<!fn )\b(?:with_capacity(?:_and_hasher)?|allocate|from_elem|(?:try_)?reserve(?:_exact)?"
                   r"|resize(?:_with)?|repeat)\(|\bvec!\[in\b")
 LEFT = re.compile(r"(?<!fn )\b(?:forget|leak|into_raw(?:_parts|_with_allocator)?|ManuallyDrop)\b")
+# What shares memory, drops what nobody uses, or shows all frames; what is sorted, so that it is found fast; and arrays, which
+# lie on a thread's stack. In wasm_shim, what becomes of scripts: replies are kept only where there are several.
+SHARED = re.compile(r"\.(?:share|into_arc|sort_unstable|drop_idle|keep_used|keep_stored)\(|\bArc::try_clone\("
+                    r"|(?<!fn )\binspect\(|\bArray(?:String|Vec)<|\bWork::(?:Scripts|Stream|Live)\b")
 # Calls of the crates that read and write files, standard streams and the log without a clause: a single write may take a part
 # only, and a read that is left out, or whose error is, loses what comes.
 WRITES = re.compile(r"\.(?:write(?:_all|_fmt|_vectored)?|read(?:_to_end|_exact|_to_string)?)\(")
@@ -55,7 +60,7 @@ CONSTANT = re.compile(r"\b[A-Z][A-Z_]+\b")
 
 def calls_in(path: str, code: str) -> list[int]:
     """Where code makes such calls, as often as it does."""
-    calls = [ROOM, LEFT, *([HANDS] if WITH_HANDS.match(path) else []), *([WRITES] if WITH_WRITES.match(path) else [])]
+    calls = [ROOM, LEFT, SHARED, *([HANDS] if WITH_HANDS.match(path) else []), *([WRITES] if WITH_WRITES.match(path) else [])]
     return [match.start() for call in calls for match in call.finditer(code)]
 
 
