@@ -34,7 +34,7 @@ SHARED = re.compile(r"\.(?:share|into_arc|sort_unstable|drop_idle|keep_used|keep
                     r"|(?<!fn )\binspect\(|\bArray(?:String|Vec)<|\bWork::(?:Scripts|Stream|Live)\b")
 # Calls of the crates that read and write files, standard streams and the log without a clause: a single write may take a part
 # only, and a read that is left out, or whose error is, loses what comes.
-WRITES = re.compile(r"\.(?:write(?:_all|_fmt|_vectored)?|read(?:_to_end|_exact|_to_string)?)\(")
+WRITES = re.compile(r"\.(?:write(?:_all|_fmt|_vectored)?|read(?:_to_end|_exact|_to_string)?|strip_suffix)\(")
 WITH_WRITES = re.compile(r"crates/(?:serve_command|shim_log|wasm_shim)/")
 # Calls of the crates of threads: what lets go of a task, closes a shim, hands out a seat, sets workers to work, takes a lock,
 # makes a call under it, sleeps, wakes, waits for a thread, gives the next task or line, lends a machine, runs it, takes it
@@ -50,8 +50,8 @@ WITH_HANDS = re.compile(r"crates/(?:call_journal|callers|slice_workers|serve_com
 # The type whose function makes a task of a ticket: under another name it is not seen.
 HANDED = {"Runnable"}
 # What numbers are called that are handed on from the command line to the threads: of workers, and of the turns of a slice; and
-# those of who sleeps, and of replies that are being written.
-NUMBERS = {"wasm_shim": "workers", "serve_command": "workers", "slice_workers": "count|budget",
+# those of who sleeps, of replies that are being written, and where a worker looks first.
+NUMBERS = {"wasm_shim": "workers", "serve_command": "workers", "slice_workers": "count|budget|queue_first",
            "call_journal": "budget|workers|callers", "callers": "answering"}
 BOUND = re.compile(r"\blet\s+(?:mut\s+)?\Z")
 OF_TESTS = re.compile(r"crates/test_")
