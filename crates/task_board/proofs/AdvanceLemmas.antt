@@ -1,5 +1,6 @@
 -- A running task may advance by what slices make: by one turn at a time, and by any slices that leave it running.
-use Rattle.std.proofs.Common.{◌≡◌, ℕ, zero, suc, ◌+◌, ◌-◌, ◌<◌, ◌≤◌, nat_eq, nat_lt, List, [], ◌∷◌, Bool, true, false, cond, ◌||◌, ◌&&◌, Option, Some, None, is_some, is_none, refl, sym, ap, ◌∙◌, subst, arith}
+use Rattle.std.proofs.Common.{◌≡◌, ℕ, zero, suc, ◌+◌, ◌-◌, ◌<◌, ◌≤◌, nat_eq, nat_lt, List, [], ◌∷◌, Bool, true, false, cond, ◌||◌, Option, Some, None, is_some, is_none, refl, sym, ap, ◌∙◌, subst, arith}
+use Rattle.std.proofs.lemmas.Bool.{and_parts, or_parts}
 use Rattle.std.proofs.lemmas.Bool.Decides.{nat_tests}
 use Rattle.wasm_ast.specs.declared.module.Module.{Module}
 use Rattle.wasm_ast.specs.declared.place.Place.{Place}
@@ -18,7 +19,7 @@ use Rattle.task_board.specs.Tasks.{execution_at, is_break_at, landing, advanced,
 use Rattle.task_board.specs.Sound.{IsSound}
 use Rattle.task_board.specs.Step.{is_budget}
 use Rattle.task_board.specs.Moves.{MakeTurns}
-use Rattle.task_board.proofs.StepLemmas.{running_only, GoForward, StopFirst}
+use Rattle.task_board.proofs.StepLemmas.{none_of, running_only, GoForward, StopFirst}
 use Rattle.task_board.proofs.LawLemmas.{budget_range}
 
 -- what the machine promises of slices: no more turns than the budget
@@ -37,26 +38,20 @@ same_halt (exited n) = refl
 same_halt (trapped t) = refl
 same_halt stuck = refl
 
-none_of : (o : Option End) → is_some o ≡ false → o ≡ None
-none_of None h = refl
-none_of (Some e) h = cc
-
-or_false : (a b : Bool) → (a || b) ≡ false → (a ≡ false) × (b ≡ false)
-or_false true b h = cc
-or_false false b h = (refl, h)
-
 -- a slice goes on where there is neither an end nor a breakpoint
-goes_on : (bs : List Place) (s : ExecutionState) → ends_slice bs s ≡ false → (ended s ≡ None) × (at_break bs s ≡ false)
+pub goes_on :
+    (bs : List Place) (s : ExecutionState) → ends_slice bs s ≡ false → (ended s ≡ None) × (at_break bs s ≡ false)
 goes_on bs s off =
-    let both = or_false (is_halted s) (at_break bs s) off in
+    let both = or_parts (is_halted s) (at_break bs s) off in
     (none_of (ended s) (sym (same_halt s) ∙ both.0), both.1)
 
-no_cut : (bs : List Place) (s : ExecutionState) → ended s ≡ None → at_break bs s ≡ false → ends_slice bs s ≡ false
+pub no_cut : (bs : List Place) (s : ExecutionState) → ended s ≡ None → at_break bs s ≡ false → ends_slice bs s ≡ false
 no_cut bs s none off = ap (λ (b : Bool). b || at_break bs s) (same_halt s ∙ ap is_some none) ∙ off
 
 -- ---- where a task lands that is running again
 
-landing_running : (o : Option End) (signal : Option Signal) (pauses : Bool) → o ≡ None → signal ≡ None → pauses ≡ false
+pub landing_running :
+    (o : Option End) (signal : Option Signal) (pauses : Bool) → o ≡ None → signal ≡ None → pauses ≡ false
     → (landing o signal pauses).0 ≡ Running
 landing_running o signal pauses none quiet off = rw (none, quiet, off) refl
 
@@ -152,7 +147,7 @@ module _ (forward : GoForward) (first : StopFirst) (most : AtMost) where
       here : ends_slice t.breaks (execution_at t (t.turns + a)) ≡ false
       here =
           no_cut t.breaks (execution_at t (t.turns + a)) lands.0
-          (or_false (is_pausing t.status) (is_break_at t (t.turns + a)) lands.1).1
+          (or_parts (is_pausing t.status) (is_break_at t (t.turns + a)) lands.1).1
 
       by : (i : ℕ) → 1 ≤ i → i < a + j → (b : Bool) → nat_lt i a ≡ b → (c : Bool) → nat_eq i a ≡ c
           → ends_slice t.breaks (execution_at t (t.turns + i)) ≡ false
@@ -189,15 +184,11 @@ none_idle : (o : Option ℕ) → is_none o ≡ true → is_some o ≡ true → �
 none_idle None idle out = cc
 none_idle (Some n) idle out = cc
 
-and_true : (a b : Bool) → (a && b) ≡ true → (a ≡ true) × (b ≡ true)
-and_true true b h = (refl, h)
-and_true false b h = cc
-
 -- it is running, no signal is pending, and it has not ended
 pub can_lend_parts : (creates : ℕ) (t : Task) → IsSound creates t → can_lend t ≡ true
     → (t.status ≡ Running) × (t.signal ≡ None) × (ended (execution_at t t.turns) ≡ None)
 can_lend_parts creates t h can =
-    let both = and_true (is_running t.status) (is_none t.out) can in
+    let both = and_parts (is_running t.status) (is_none t.out) can in
     let is = running_only t.status both.0 in (
       is,
       not_some t.signal (λ s. none_idle t.out both.1 (h.signal s)),

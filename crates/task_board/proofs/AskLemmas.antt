@@ -103,20 +103,14 @@ module _ (s : BoardState) (id : List ℕ) (a : Ask) where
 pub change_accepted :
     (c : Change) (t : Task) → IsPlain c → allowed (change_call c) t.status ≡ true → IsAccepted (change_ask c) t
 change_accepted (change.Kill signal.Kill) t plain can = rw can refl
-change_accepted (change.Kill signal.Terminate) t plain can = rw can refl
-change_accepted change.Start t plain can = rw can refl
-change_accepted change.Pause t plain can = rw can refl
-change_accepted change.Resume t plain can = rw can refl
 change_accepted (change.Step count) t plain can = absurd plain
+change_accepted _ t plain can = rw can refl
 
 pub change_refused : (c : Change) (t : Task) → IsPlain c → allowed (change_call c) t.status ≡ false
     → first_refusal (own_refusals (change_ask c) t) ≡ Some refusal.WrongStatus
 change_refused (change.Kill signal.Kill) t plain cannot = rw cannot refl
-change_refused (change.Kill signal.Terminate) t plain cannot = rw cannot refl
-change_refused change.Start t plain cannot = rw cannot refl
-change_refused change.Pause t plain cannot = rw cannot refl
-change_refused change.Resume t plain cannot = rw cannot refl
 change_refused (change.Step count) t plain cannot = absurd plain
+change_refused _ t plain cannot = rw cannot refl
 
 -- ---- an instruction of a task
 

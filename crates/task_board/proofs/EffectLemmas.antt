@@ -60,26 +60,20 @@ signal_known n s h = signal_known_by n s (nat_eq n 9) (nat_eq n 15) refl refl h
 -- ---- changes
 
 pub change_id : (c : Change) (t : Task) → (changed c t).id ≡ t.id
-change_id change.Start t = refl
-change_id change.Pause t = refl
-change_id change.Resume t = refl
-change_id (change.Step count) t = refl
 change_id (change.Kill signal) t = by t.out
   where
     by : (o : Option ℕ) → (killed_while o signal t).id ≡ t.id
     by None = refl
     by (Some n) = refl
+change_id _ t = refl
 
 pub change_incarnation : (c : Change) (t : Task) → (changed c t).incarnation ≡ t.incarnation
-change_incarnation change.Start t = refl
-change_incarnation change.Pause t = refl
-change_incarnation change.Resume t = refl
-change_incarnation (change.Step count) t = refl
 change_incarnation (change.Kill signal) t = by t.out
   where
     by : (o : Option ℕ) → (killed_while o signal t).incarnation ≡ t.incarnation
     by None = refl
     by (Some n) = refl
+change_incarnation _ t = refl
 
 pub created_only : (status : Status) → allowed call.Start status ≡ true → status ≡ Created
 created_only Created h = refl
@@ -156,11 +150,7 @@ accepted_on s id own does t s' at none is =
 
 change_does : (c : Change) (t : Task) → does (change_ask c) t ≡ (change_reply c t.id (changed c t), Some (changed c t))
 change_does (change.Kill signal.Kill) t = refl
-change_does (change.Kill signal.Terminate) t = refl
-change_does change.Start t = refl
-change_does change.Pause t = refl
-change_does change.Resume t = refl
-change_does (change.Step count) t = refl
+change_does _ t = refl
 
 -- the answer to a change that is made
 pub change_answers :

@@ -1,5 +1,6 @@
 -- Held contents stay: what a lease names is there, and of each task the bytes that it was created from.
 use Rattle.std.proofs.Common.{◌≡◌, ℕ, List, [], ◌∷◌, true, false, bytes_eq, nat_eq, Option, Some, None, inl, inr, ◌⊎◌, Ok, Err, refl, sym, ap, ◌∙◌, subst}
+use Rattle.std.proofs.lemmas.Bool.{or_left, or_right}
 use Rattle.task_requests.specs.declared.event.Event.{Event}
 use Rattle.task_requests.specs.declared.event.Event.TheVariants as event
 use Rattle.task_requests.specs.declared.event.EventReply.{EventReply}
@@ -17,7 +18,7 @@ use Rattle.task_board.specs.Run.{Happens, Run}
 use Rattle.task_board.specs.Sound.{IsBoard}
 use Rattle.task_board.proofs.EntryLemmas.{none_is_not, some_is, by_slot, same_id, cond_true, cond_false, changed_from_old, IsChangedFrom, put_in, put_there, removed_there, removed_beside}
 use Rattle.task_board.proofs.StepLemmas.{found, task_named}
-use Rattle.task_board.proofs.StoreLemmas.{or_left, or_right, LeasedAreThere, held_stays, leased_are_there}
+use Rattle.task_board.proofs.StoreLemmas.{LeasedAreThere, held_stays, leased_are_there}
 use Rattle.task_board.proofs.EffectLemmas.{change_id, Effect, nothing, stores, enters, changes, deletes, marks, effect_of}
 use Rattle.task_board.proofs.LawLemmas.{empty_sound, happens, happens_sound, taken_of}
 use Rattle.task_board.proofs.RunLemmas.{run_keeps}
@@ -126,15 +127,12 @@ task_changed s id old new at same process bytes all j t there =
     (changed_from_old old new f.0 j s.tasks own) there
 
 change_process : (c : Change) (t : Task) → ((changed c t).process ≡ t.process) × ((changed c t).bytes ≡ t.bytes)
-change_process change.Start t = (refl, refl)
-change_process change.Pause t = (refl, refl)
-change_process change.Resume t = (refl, refl)
-change_process (change.Step count) t = (refl, refl)
 change_process (change.Kill signal) t = by t.out
   where
     by : (o : Option ℕ) → ((killed_while o signal t).process ≡ t.process) × ((killed_while o signal t).bytes ≡ t.bytes)
     by None = (refl, refl)
     by (Some n) = (refl, refl)
+change_process _ t = (refl, refl)
 
 create_tasks : (s : BoardState) (config id : List ℕ) (r : Answer) (s' : BoardState) → Creates s config id r s'
     → TasksHave s.store s.tasks → TasksHave s'.store s'.tasks

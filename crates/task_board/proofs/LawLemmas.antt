@@ -1,5 +1,6 @@
 -- Laws of steps and runs: soundness, the moves of tasks, contents, and what is determined.
-use Rattle.std.proofs.Common.{◌≡◌, ◌≢◌, ℕ, List, [], ◌∷◌, ◌+◌, ◌≤◌, arith, nat_le, ◌&&◌, length, Bool, true, false, true≢false, cond, Option, Some, None, is_some, option_and_then, Ok, Err, MatchBool, inl, inr, ◌⊎◌, refl, sym, ap, ◌∙◌, subst, bytes_eq, nat_eq}
+use Rattle.std.proofs.Common.{◌≡◌, ◌≢◌, ℕ, List, [], ◌∷◌, ◌+◌, ◌≤◌, arith, nat_le, length, Bool, true, false, true≢false, cond, Option, Some, None, is_some, option_and_then, Ok, Err, MatchBool, inl, inr, ◌⊎◌, refl, sym, ap, ◌∙◌, subst, bytes_eq, nat_eq}
+use Rattle.std.proofs.lemmas.Bool.{and_parts}
 use Rattle.std.proofs.lemmas.Bool.Decides.{nat_tests}
 use Rattle.wasm_ast.specs.declared.module.Module.{Module}
 use Rattle.wasm_ast.specs.declared.place.Place.{Place}
@@ -70,13 +71,9 @@ empty_sound = record {
   few_creates = omega arith;
 }
 
-and_true : (a b : Bool) → (a && b) ≡ true → (a ≡ true) × (b ≡ true)
-and_true true b h = (refl, h)
-and_true false b h = cc
-
 pub budget_range : (budget : ℕ) → is_budget budget ≡ true → (1 ≤ budget) × (budget ≤ max_budget)
 budget_range budget h =
-    let both = and_true (nat_le 1 budget) (nat_le budget max_budget) h in
+    let both = and_parts (nat_le 1 budget) (nat_le budget max_budget) h in
     let low = both.0 in
     let high = both.1 in
     (grind (arith, nat_tests, low), grind (arith, nat_tests, high))
@@ -400,10 +397,8 @@ created_only _ can going = cc
 
 -- no signal ends a task where a step leads
 no_signal : (o : Option End) (signal : Signal) → (landing o None true).1 ≡ Some (exit.Kill signal) → ⊥
-no_signal None signal h = cc
 no_signal (Some own.Returned) signal h = cc
-no_signal (Some (own.Exited n)) signal h = cc
-no_signal (Some (own.Trapped t)) signal h = cc
+no_signal _ signal h = cc
 
 -- a task that goes on, and what ends it is a signal
 signal_ends : (creates : ℕ) (t t' : Task) (signal : Signal) → IsSound creates t → is_going t.status ≡ true → Moves t t'
@@ -642,11 +637,8 @@ create_agrees s config id r s1 r' s2 one faulty a b =
 never_invalid_by : (a b c d : Bool) (at : Option Place) → cond a (Some refusal.NoEntry)
     (cond b (Some refusal.BadImport) (cond c (Some refusal.Limit) (cond d (Some refusal.SegmentOutOfBounds) None)))
     ≡ Some (refusal.Invalid at) → ⊥
-never_invalid_by true b c d at h = cc
-never_invalid_by false true c d at h = cc
-never_invalid_by false false true d at h = cc
-never_invalid_by false false false true at h = cc
 never_invalid_by false false false false at h = cc
+never_invalid_by _ _ _ _ at h = cc
 
 never_invalid : (m : Module) (p : ProcessConfig) (at : Option Place)
     → instantiation_refusal m p ≡ Some (refusal.Invalid at) → ⊥

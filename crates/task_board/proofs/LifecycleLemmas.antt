@@ -1,5 +1,7 @@
 -- Where the calls of the lifecycle lead, and where a task lands whose slice returns.
 use Rattle.std.proofs.Common.{◌≡◌, ℕ, ◌+◌, Bool, true, false, cond, ◌||◌, Option, Some, None, is_some, refl, sym, ap, ◌∙◌}
+use Rattle.std.specs.Prelude.{unwrap_or}
+use Rattle.std.proofs.lemmas.Bool.{or_right}
 use Rattle.step_machine.specs.declared.ends.End.{End}
 use Rattle.step_machine.specs.Instantiation.{ended}
 use Rattle.task_lifecycle.specs.declared.lifecycle.TaskCall.TheVariants as call
@@ -10,7 +12,7 @@ use Rattle.task_lifecycle.specs.declared.status.ExitRecord.{ExitRecord}
 use Rattle.task_lifecycle.specs.declared.status.ExitRecord.TheVariants as exit
 use Rattle.task_lifecycle.specs.Lifecycle.{after, is_pausing}
 use Rattle.task_board.specs.BoardState.{Task}
-use Rattle.task_board.specs.Tasks.{execution_at, is_break_at, Standing, exit_of, landing, started, situation_at, first_signal, killed_while, killed, slice_turns, HasReturned, stepped}
+use Rattle.task_board.specs.Tasks.{execution_at, is_break_at, Standing, exit_of, landing, started, situation_at, killed_while, killed, slice_turns, HasReturned, stepped}
 use Rattle.task_board.proofs.EntryLemmas.{none_is_not, some_is}
 
 -- ---- the table of the lifecycle
@@ -119,11 +121,7 @@ module _ (t t' : Task) (back : HasReturned t t') where
       ended (execution_at t' t'.turns) ≡ None → t.signal ≡ None → is_break_at t' t'.turns ≡ true → t'.status ≡ Paused
   breaks_pause none quiet is =
       goes_on true none quiet
-      (ap (λ (x : Bool). is_pausing t.status || x) (sym same_break ∙ is) ∙ or_true (is_pausing t.status))
-    where
-      or_true : (b : Bool) → (b || true) ≡ true
-      or_true true = refl
-      or_true false = refl
+      (ap (λ (x : Bool). is_pausing t.status || x) (sym same_break ∙ is) ∙ or_right (is_pausing t.status) true refl)
 
   -- and else it is running
   pub others_run :
@@ -139,7 +137,7 @@ first_kept_by : (t : Task) (first second : Signal) (budget : ℕ) (o : Option �
     → p ≡ Some first → t.signal ≡ p → killed_while o second t ≡ record t { signal = Some first }
 first_kept_by t first second budget None p out is same = absurd (none_is_not budget out)
 first_kept_by t first second budget (Some n) p out is same =
-    ap (λ (x : Signal). record t { signal = Some x }) (ap (λ (y : Option Signal). first_signal y second) (same ∙ is))
+    ap (λ (x : Signal). record t { signal = Some x }) (ap (λ (y : Option Signal). unwrap_or y second) (same ∙ is))
 
 pub first_kept :
     (t : Task) (first second : Signal) (budget : ℕ) → t.out ≡ Some budget → t.signal ≡ Some first → killed second t ≡ t

@@ -1,5 +1,6 @@
 -- Breakpoints that are set and removed: they stay few, and none is there twice.
-use Rattle.std.proofs.Common.{◌≡◌, ◌≢◌, ℕ, suc, ◌<◌, ◌≤◌, List, [], ◌∷◌, ◌++◌, filter, length, nat_eq, nat_le, Bool, true, false, true≢false, cond, not, ◌||◌, None, refl, sym, ap, ◌∙◌, arith}
+use Rattle.std.proofs.Common.{◌≡◌, ◌≢◌, ℕ, suc, ◌<◌, ◌≤◌, List, [], ◌∷◌, ◌++◌, filter, length, nat_eq, nat_le, Bool, true, false, true≢false, cond, not, None, refl, sym, ap, ◌∙◌, arith}
+use Rattle.std.proofs.lemmas.Bool.{or_parts}
 use Rattle.std.proofs.lemmas.Bool.Decides.{nat_tests}
 use Rattle.wasm_ast.specs.declared.place.Place.{Place}
 use Rattle.wasm_ast.specs.declared.refusal.Refusal.TheVariants as refusal
@@ -29,14 +30,10 @@ own_place p =
 
 -- ---- a breakpoint more
 
-or_false : (a b : Bool) → (a || b) ≡ false → (a ≡ false) × (b ≡ false)
-or_false true b h = cc
-or_false false b h = (refl, h)
-
 away : (p : Place) (bs : List Place) → is_among bs p.func p.instr ≡ false → Each (λ (b : Place). b ≢ p) bs
 away p [] h = tt
 away p (b ∷ bs) h =
-    let both = or_false (is_place b p.func p.instr) (is_among bs p.func p.instr) h in (
+    let both = or_parts (is_place b p.func p.instr) (is_among bs p.func p.instr) h in (
       λ e. true≢false (sym (ap (λ (x : Place). is_place x p.func p.instr) e ∙ own_place p) ∙ both.0),
       away p bs both.1,
     )

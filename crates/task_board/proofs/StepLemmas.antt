@@ -1,5 +1,6 @@
 -- What the steps do to a board: by the task that they concern, and that the board stays sound.
 use Rattle.std.proofs.Common.{◌≡◌, ◌≢◌, ℕ, ◌+◌, ◌<◌, ◌≤◌, List, [], ◌∷◌, ◌++◌, length, Bool, true, false, true≢false, cond, not, ◌||◌, ◌&&◌, nat_le, bytes_eq, Option, Some, None, is_some, is_none, option_map, option_and_then, Ok, Err, inl, inr, ◌⊎◌, refl, sym, ap, ◌∙◌, subst, arith}
+use Rattle.std.proofs.lemmas.Bool.{or_parts}
 use Rattle.std.proofs.lemmas.Bool.Decides.{nat_tests}
 use Rattle.wasm_ast.specs.declared.module.Module.{Module}
 use Rattle.wasm_ast.specs.declared.refusal.Refusal.{Refusal}
@@ -94,13 +95,9 @@ not_true false h = cc
 
 -- ---- what requests leave
 
-no_task : (o : Option Task) → is_some o ≡ false → o ≡ None
-no_task None h = refl
-no_task (Some t) h = absurd (true≢false h)
-
-neither_of : (a b : Bool) → (a || b) ≡ false → (a ≡ false) × (b ≡ false)
-neither_of true b h = cc
-neither_of false b h = (refl, h)
+pub none_of : {X : Type 0} (o : Option X) → is_some o ≡ false → o ≡ None
+none_of None h = refl
+none_of (Some x) h = absurd (true≢false h)
 
 pub create_leaves : (s : BoardState) (config id : List ℕ) (r : Answer) (s' : BoardState) → IsBoard s
     → first_refusal (create_refusals s config id) ≡ None → Creates s config id r s' → IsBoard s'
@@ -109,7 +106,7 @@ create_leaves s config id (Ok r) s' b none effect =
     let n = none_first (not (is_id id)) refusal.BadId _ none in
     let x = none_first (is_some (task_of id s.tasks)) refusal.Exists _ n.1 in
     let m = none_first (nat_le max_tasks (length s.tasks) || nat_le max_creates s.creates) refusal.TooMany _ x.1 in
-    let both = neither_of (nat_le max_tasks (length s.tasks)) (nat_le max_creates s.creates) m.0 in
+    let both = or_parts (nat_le max_tasks (length s.tasks)) (nat_le max_creates s.creates) m.0 in
     let few_off = both.0 in
     let few : length s.tasks < max_tasks = grind (arith, nat_tests, few_off) in
     let low_off = both.1 in
@@ -122,7 +119,7 @@ create_leaves s config id (Ok r) s' b none effect =
     let sound : IsSound (s.creates + 1) t =
     created_sound id s.creates bytes opened.0 p (not_true (is_id id) n.0) opened.1 digest in
     subst IsBoard (sym opened.3.2)
-    (put_sound s opened.3.0 t b opened.3.1 (no_task (task_of id s.tasks) x.0) refl sound few low)
+    (put_sound s opened.3.0 t b opened.3.1 (none_of (task_of id s.tasks) x.0) refl sound few low)
 
 -- ---- slices
 
@@ -190,7 +187,7 @@ few_tasks s config id none =
     let n = none_first (not (is_id id)) refusal.BadId _ none in
     let x = none_first (is_some (task_of id s.tasks)) refusal.Exists _ n.1 in
     let m = none_first (nat_le max_tasks (length s.tasks) || nat_le max_creates s.creates) refusal.TooMany _ x.1 in
-    let both = neither_of (nat_le max_tasks (length s.tasks)) (nat_le max_creates s.creates) m.0 in
+    let both = or_parts (nat_le max_tasks (length s.tasks)) (nat_le max_creates s.creates) m.0 in
     let few_off = both.0 in
     grind (arith, nat_tests, few_off)
 
@@ -286,10 +283,8 @@ id_refused s config id e E h =
 not_memory : (a b c : Bool) (e : Refusal)
     → cond a (Some refusal.BadId) (cond b (Some refusal.Exists) (cond c (Some refusal.TooMany) None)) ≡ Some e
     → e ≢ refusal.NoMemory
-not_memory true b c e h is = cc
-not_memory false true c e h is = cc
-not_memory false false true e h is = cc
 not_memory false false false e h is = cc
+not_memory _ _ _ e h is = cc
 
 pub id_refusal_known :
     (s : BoardState) (id : List ℕ) (e : Refusal) → first_refusal (id_refusals s id) ≡ Some e → e ≢ refusal.NoMemory

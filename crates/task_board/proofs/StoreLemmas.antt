@@ -1,5 +1,6 @@
 -- What requests do to the store: its contents stay sound, what is held stays, and what a lease names is there.
 use Rattle.std.proofs.Common.{◌≡◌, ◌≢◌, ℕ, suc, ◌<◌, ◌≤◌, List, [], ◌∷◌, ◌++◌, filter, length, Bool, true, false, true≢false, cond, not, ◌||◌, bytes_eq, nat_le, nat_lt, Option, Some, None, is_some, is_none, inl, inr, ◌⊎◌, refl, sym, ap, ◌∙◌, subst, arith}
+use Rattle.std.proofs.lemmas.Bool.{or_cases, or_left, or_right}
 use Rattle.std.proofs.lemmas.Bool.Decides.{nat_tests}
 use Rattle.std.proofs.lemmas.Slice.Eq.{bytes_eq-Decides}
 use Rattle.wasm_ast.specs.Limits.{max_module_bytes}
@@ -28,10 +29,6 @@ pub data StoreEffect (used : List (List ℕ)) (s s' : StoreState) : Type 0 where
   ends : (id : List ℕ) → first_refusal (lease_delete_refusals s id) ≡ None → s' ≡ without_lease s id
       → StoreEffect used s s'
   collects : s' ≡ collected used s → StoreEffect used s s'
-
-pub or_left : (a b : Bool) → a ≡ true → (a || b) ≡ true
-or_left true b h = refl
-or_left false b h = cc
 
 -- ---- contents less
 
@@ -383,14 +380,6 @@ held_stays used s s' (collects is) digest bytes held h =
 
 -- ---- what a lease names is there
 
-pub or_true : (a b : Bool) → (a || b) ≡ true → (a ≡ true) ⊎ (b ≡ true)
-or_true true b h = inl refl
-or_true false b h = inr h
-
-pub or_right : (a b : Bool) → b ≡ true → (a || b) ≡ true
-or_right true b h = refl
-or_right false b h = h
-
 some_of : (o : Option (List ℕ)) → is_some o ≡ true → (bytes : List ℕ) × (o ≡ Some bytes)
 some_of None h = cc
 some_of (Some bytes) h = (bytes, refl)
@@ -413,7 +402,7 @@ leased_more (l ∷ ls) id digest h = by (λ k. leased_more ls id digest k) (is_a
 
 among_more : (ms : List (List ℕ)) (new digest : List ℕ) → is_among digest (ms ++ new ∷ []) ≡ true
     → (is_among digest ms ≡ true) ⊎ (new ≡ digest)
-among_more [] new digest h = by (or_true (bytes_eq new digest) false h)
+among_more [] new digest h = by (or_cases (bytes_eq new digest) false h)
   where
     by : (bytes_eq new digest ≡ true) ⊎ (false ≡ true) → (false ≡ true) ⊎ (new ≡ digest)
     by (inl y) = inr ((bytes_eq-Decides new digest).0 y)
@@ -441,13 +430,13 @@ leased_added (l ∷ ls) new id digest h = by (λ k. leased_added ls new id diges
     by : (is_leased (add_member new id ls) digest ≡ true → (is_leased ls digest ≡ true) ⊎ (new ≡ digest)) → (b : Bool)
         → is_leased (cond b (record l { members = l.members ++ new ∷ [] } ∷ ls) (l ∷ add_member new id ls)) digest
         ≡ true → (is_leased (l ∷ ls) digest ≡ true) ⊎ (new ≡ digest)
-    by rest true g = here (or_true (is_among digest (l.members ++ new ∷ [])) (is_leased ls digest) g)
+    by rest true g = here (or_cases (is_among digest (l.members ++ new ∷ [])) (is_leased ls digest) g)
       where
         here : (is_among digest (l.members ++ new ∷ []) ≡ true) ⊎ (is_leased ls digest ≡ true)
             → (is_leased (l ∷ ls) digest ≡ true) ⊎ (new ≡ digest)
         here (inl y) = left_leased (is_among digest l.members) (is_leased ls digest) (among_more l.members new digest y)
         here (inr n) = inl (or_right (is_among digest l.members) (is_leased ls digest) n)
-    by rest false g = here (or_true (is_among digest l.members) (is_leased (add_member new id ls) digest) g)
+    by rest false g = here (or_cases (is_among digest l.members) (is_leased (add_member new id ls) digest) g)
       where
         here : (is_among digest l.members ≡ true) ⊎ (is_leased (add_member new id ls) digest ≡ true)
             → (is_leased (l ∷ ls) digest ≡ true) ⊎ (new ≡ digest)
@@ -462,7 +451,7 @@ leased_less (l ∷ ls) id digest h = by (λ k. leased_less ls id digest k) (byte
     by : (is_leased (remove_lease id ls) digest ≡ true → is_leased ls digest ≡ true) → (b : Bool)
         → is_leased (cond b ls (l ∷ remove_lease id ls)) digest ≡ true → is_leased (l ∷ ls) digest ≡ true
     by rest true g = or_right (is_among digest l.members) (is_leased ls digest) g
-    by rest false g = here (or_true (is_among digest l.members) (is_leased (remove_lease id ls) digest) g)
+    by rest false g = here (or_cases (is_among digest l.members) (is_leased (remove_lease id ls) digest) g)
       where
         here : (is_among digest l.members ≡ true) ⊎ (is_leased (remove_lease id ls) digest ≡ true)
             → is_leased (l ∷ ls) digest ≡ true

@@ -1,5 +1,6 @@
 -- The tasks that wait: each once, each of them there, and so no more than there are tasks.
-use Rattle.std.proofs.Common.{◌≡◌, ◌≢◌, ℕ, suc, ◌<◌, ◌≤◌, List, [], ◌∷◌, ◌++◌, filter, length, Bool, true, false, true≢false, cond, not, ◌||◌, bytes_eq, nat_eq, Option, Some, None, option_and_then, inl, inr, refl, sym, ap, ap₂, ◌∙◌, subst, arith}
+use Rattle.std.proofs.Common.{◌≡◌, ◌≢◌, ℕ, suc, ◌<◌, ◌≤◌, List, [], ◌∷◌, ◌++◌, filter, length, Bool, true, false, true≢false, cond, not, bytes_eq, nat_eq, Option, Some, None, option_and_then, inl, inr, refl, sym, ap, ap₂, ◌∙◌, subst, arith}
+use Rattle.std.proofs.lemmas.Bool.{or_parts}
 use Rattle.std.proofs.lemmas.Bool.Decides.{nat_tests}
 use Rattle.task_board.specs.declared.ticket.Ticket.{Ticket}
 use Rattle.task_board.specs.Limits.{max_tasks}
@@ -21,14 +22,10 @@ is_own a =
     let two : nat_eq a.incarnation a.incarnation ≡ true = same_slot a.incarnation a.incarnation refl in
     rw (one, two) refl
 
-or_false : (a b : Bool) → (a || b) ≡ false → (a ≡ false) × (b ≡ false)
-or_false true b h = cc
-or_false false b h = (refl, h)
-
 away : (t : Ticket) (ws : List Ticket) → is_waiting t ws ≡ false → Each (λ (w : Ticket). w ≢ t) ws
 away t [] h = tt
 away t (w ∷ ws) h =
-    let both = or_false (is_ticket w t) (is_waiting t ws) h in
+    let both = or_parts (is_ticket w t) (is_waiting t ws) h in
     ((λ e. true≢false (sym (ap (λ (x : Ticket). is_ticket x t) e ∙ is_own t) ∙ both.0)), away t ws both.1)
 
 -- ---- some of them

@@ -25,7 +25,7 @@ use Rattle.task_board.specs.BoardState.{Task, BoardState}
 use Rattle.task_board.specs.Tasks.{configuration_of, execution_at, EndsSo}
 use Rattle.task_board.specs.Step.{does, LeavesTask}
 
--- the id of the task that a request is about
+-- the id of the task that a request is about; a create is about the task that it is to make
 abbrev pub asked_of : Request → Option (List ℕ)
 asked_of (request.Create config id) = Some id
 asked_of (request.Task id a) = Some id

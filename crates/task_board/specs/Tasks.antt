@@ -1,5 +1,5 @@
 -- What happens to a task: it is started, its slice goes out, and it advances by turns.
-use Rattle.std.specs.Prelude.{◌≡◌, ℕ, ◌+◌, ◌<◌, ◌≤◌, ◌&&◌, ◌||◌, not, List, [], ◌∷◌, ◌++◌, filter, Bool, true, false, Option, Some, None, is_some, is_none}
+use Rattle.std.specs.Prelude.{◌≡◌, ℕ, ◌+◌, ◌<◌, ◌≤◌, ◌&&◌, ◌||◌, not, List, [], ◌∷◌, ◌++◌, filter, Bool, true, false, Option, Some, None, is_some, is_none, unwrap_or}
 use Rattle.wasm_ast.specs.declared.place.Place.{Place}
 use Rattle.debugger.specs.Peek.{peeked}
 use Rattle.step_machine.specs.declared.ends.End.{End}
@@ -114,15 +114,10 @@ paused t = record t { status = after_call call.Pause (situation_at t t.turns) t.
 abbrev pub resumed : Task → Task
 resumed t = record t { status = after_call call.Resume (situation_at t t.turns) t.status }
 
--- the first of two signals is kept
-abbrev pub first_signal : Option Signal → Signal → Signal
-first_signal None signal = signal
-first_signal (Some first) signal = first
-
--- stopped at once if its machine is on the board; while its slice is out, the signal is pending
+-- stopped at once if its machine is on the board; while its slice is out, the first of two signals is pending
 abbrev pub killed_while : (out : Option ℕ) → Signal → Task → Task
 killed_while None signal t = idle_task t (Stopped, Some (exit.Kill signal))
-killed_while (Some budget) signal t = record t { signal = Some (first_signal t.signal signal) }
+killed_while (Some budget) signal t = record t { signal = Some (unwrap_or t.signal signal) }
 
 abbrev pub killed : Signal → Task → Task
 killed signal t = killed_while t.out signal t

@@ -1,6 +1,6 @@
 //! A task, and its machine while that is not checked out.
 
-ghost use Rattle.std.specs.Prelude.{◌≡◌, option_map, ◌↔◌, IsTrue, Option, Some, None, IfSome, IfNone, IfOk, true, false, is_some};
+ghost use Rattle.std.specs.Prelude.{◌≡◌, option_map, ◌↔◌, IsTrue, Option, Some, None, IfSome, IfNone, IfOk, true, false, is_some, unwrap_or};
 ghost use Rattle.std.specs.Arc.{arc_value};
 ghost use Rattle.slab.specs.Slab.{entries};
 ghost use Rattle.step_machine.specs.Instantiation.{ended};
@@ -11,7 +11,7 @@ ghost use Rattle.task_board.specs.BoardState.{created_task, entry_of, used_by};
 ghost use Rattle.task_board.specs.Ended.{end_of};
 ghost use Rattle.task_board.specs.Loans.{loan_of, FitsTask};
 ghost use Rattle.task_board.specs.Refusals.{Openable};
-ghost use Rattle.task_board.specs.Tasks.{started, paused, resumed, first_signal, killed, place_of, advanced, slice_turns, can_lend, lent, stepped, state_of, output_of};
+ghost use Rattle.task_board.specs.Tasks.{started, paused, resumed, killed, place_of, advanced, slice_turns, can_lend, lent, stepped, state_of, output_of};
 ghost use Rattle.task_board.specs.Tickets.{ticket_if_running};
 ghost use Rattle.task_board.specs.Waiting.{is_present};
 ghost use Rattle.task_board.specs.Inside.Machines.{IsMachine};
@@ -346,7 +346,7 @@ impl Task {
 
 // The first of two signals.
 fn first_signal(pending: Option<Signal>, signal: Signal) -> Signal
-    ensures { result ≡ first_signal pending signal }
+    ensures { result ≡ unwrap_or pending signal }
 {
     match pending {
         Some(first) => first,

@@ -1,5 +1,5 @@
 -- The modules of contents that were decoded and validated.
-use Rattle.std.specs.Prelude.{◌≡◌, ◌+◌, ℕ, List, [], ◌∷◌, length, map, bytes_eq, if◌then◌else◌, Option, Some, None, String, string_bytes}
+use Rattle.std.specs.Prelude.{◌≡◌, ◌+◌, ℕ, List, [], ◌∷◌, length, map, bytes_eq, if◌then◌else◌, Option, Some, None, unwrap_or, String, string_bytes}
 use Rattle.std.specs.Global.{Global}
 use Rattle.wasm_ast.specs.declared.module.Module.{Module}
 use Rattle.validator.specs.Typing.{ValidModule}
@@ -39,13 +39,10 @@ always_kept = 4
 abbrev pub most_idle_bytes : ℕ
 most_idle_bytes = 1048576
 
-abbrev pub stored_size : Option (List ℕ) → ℕ
-stored_size (Some bytes) = length bytes
-stored_size None = 0
-
 -- the bytes of a content, unless a task uses it
 abbrev pub idle_size : List Content → (used : List (List ℕ)) → (digest : List ℕ) → ℕ
-idle_size cs used digest = if is_among digest used then 0 else stored_size (content_in cs digest)
+idle_size cs used digest =
+    if is_among digest used then 0 else length (unwrap_or (content_in cs digest) [])
 
 abbrev pub idle_bytes : List Content → (used : List (List ℕ)) → List OpenedModule → ℕ
 idle_bytes cs used [] = 0
