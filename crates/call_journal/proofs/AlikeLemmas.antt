@@ -1,5 +1,6 @@
 -- The same tasks in other slots.
 use Rattle.std.proofs.Common.{◌≡◌, ◌≢◌, ℕ, suc, List, [], ◌∷◌, length, Bool, true, false, cond, ◌||◌, bytes_eq, nat_lt, filter, Option, Some, None, option_map, refl, sym, ap, ap₂, ◌∙◌, subst}
+use Rattle.std.proofs.lemmas.Bool.{or_left, or_right}
 use Rattle.content_leases.specs.StoreState.{is_among}
 use Rattle.task_board.specs.BoardState.{Task, Entries, used_by, entry_of, task_of, put_task, change_task, remove_task}
 use Rattle.task_board.specs.Sound.{Each, AreDistinct, ids_of}
@@ -161,14 +162,6 @@ same_count (e ∷ es) us d d' same =
     ∙ remove_length e.1.id (f.0, e.1) us f.1
 
 -- ---- which digests they name
-
-or_left : (a b : Bool) → a ≡ true → (a || b) ≡ true
-or_left true b h = refl
-or_left false b h = cc
-
-or_right : (a b : Bool) → b ≡ true → (a || b) ≡ true
-or_right true b h = refl
-or_right false b h = h
 
 used_of : (digest id : List ℕ) (t : Task) (es : Entries) → task_of id es ≡ Some t
     → bytes_eq t.process.module digest ≡ true → is_among digest (used_by es) ≡ true

@@ -1,5 +1,6 @@
 -- A board refuses for reasons of its own.
 use Rattle.std.proofs.Common.{◌≡◌, ℕ, List, [], ◌∷◌, length, Bool, true, false, Option, Some, None, Ok, Err, refl, arith}
+use Rattle.std.proofs.lemmas.Bool.{and_parts}
 use Rattle.std.specs.Prelude.{◌&&◌, not, if◌then◌else◌}
 use Rattle.wasm_ast.specs.declared.module.Module.{Module}
 use Rattle.wasm_ast.specs.declared.refusal.Refusal.{Refusal}
@@ -28,14 +29,10 @@ abbrev are_told : Refusals → Bool
 are_told [] = true
 are_told (c ∷ cs) = not (is_refused c.1) && are_told cs
 
-and_right : (a b : Bool) → (a && b) ≡ true → b ≡ true
-and_right true b both = both
-and_right false b both = cc
-
 first_told : (l : Refusals) (x : Refusal) → are_told l ≡ true → first_refusal l ≡ Some x → is_refused x ≡ false
 first_told [] x told is = cc
 first_told ((true, y) ∷ cs) x told is = grind arith
-first_told ((false, y) ∷ cs) x told is = first_told cs x (and_right (not (is_refused y)) (are_told cs) told) is
+first_told ((false, y) ∷ cs) x told is = first_told cs x (and_parts (not (is_refused y)) (are_told cs) told).1 is
 
 -- why a module cannot be instantiated
 one_of : (a b c d : Bool) (e : Refusal)

@@ -6,8 +6,7 @@ use Rattle.wasm_ast.specs.declared.refusal.Refusal.{Refusal}
 use Rattle.wasm_ast.specs.declared.refusal.Refusal.TheVariants as refusal
 use Rattle.oci_config.specs.declared.process.ProcessConfig.{ProcessConfig}
 use Rattle.oci_config.specs.Config.{process_read}
-use Rattle.content_leases.specs.Digests.{digest_of}
-use Rattle.content_leases.specs.StoreState.{StoreState, with_content, without_content, with_lease, with_member, without_lease, unheld, collected}
+use Rattle.content_leases.specs.StoreState.{StoreState, without_content, unheld, collected}
 use Rattle.content_leases.specs.Refusals.{Refusals, first_refusal, put_refusals, remove_refusals, lease_create_refusals, lease_add_refusals, lease_delete_refusals}
 use Rattle.task_requests.specs.declared.request.Request.{Request}
 use Rattle.task_requests.specs.declared.request.Request.TheVariants as request
@@ -15,15 +14,25 @@ use Rattle.task_requests.specs.declared.request.Reply.{Reply}
 use Rattle.task_requests.specs.declared.request.Reply.TheVariants as reply
 use Rattle.task_board.specs.Limits.{max_tasks, max_creates}
 use Rattle.task_board.specs.BoardState.{Task, Entries, BoardState, created_task, used_by, with_store, task_in, task_of, put_task, change_task, remove_task, with_task, without_task, with_new_task}
-use Rattle.task_board.specs.Refusals.{named_bytes, create_refusals, own_refusals, task_refusals}
-use Rattle.task_board.specs.Step.{Answer, DecidedBy, Puts, PutsText, refused, stored, Done, with_left, OnFound, Opens, Creates, does, Answers}
-use Rattle.call_journal.specs.Finding.{named}
+use Rattle.task_board.specs.Refusals.{named_bytes, create_refusals, own_refusals}
+use Rattle.task_board.specs.Step.{Answer, DecidedBy, OnStore, PutsText, refused, stored, Done, with_left, OnFound, Opens, Creates, does, Answers}
+use Rattle.task_board.specs.Claims.{asked_of}
 use Rattle.call_journal.specs.Replay.{HaveCome, IsSince}
 use Rattle.call_journal.proofs.SinceLemmas.{same_used, same_length, same_free, still_free, both_put, both_change, both_remove}
 
 -- the board with other tasks
 abbrev pub on : BoardState → Entries → BoardState
 on b es = record b { tasks = es }
+
+-- what a create is refused for is the same if as many tasks are there, and the same one with its id
+pub same_refusals :
+    (b : BoardState) (es : Entries) (config id : List ℕ) → task_of id es ≡ task_of id b.tasks
+    → length es ≡ length b.tasks → create_refusals (on b es) config id ≡ create_refusals b config id
+same_refusals b es config id =
+    ap₂ λ (o : Option Task) (n : ℕ).
+    (not (is_id id), refusal.BadId) ∷ (is_some o, refusal.Exists)
+    ∷ (nat_le max_tasks n || nat_le max_creates b.creates, refusal.TooMany)
+    ∷ (is_none (process_read config), refusal.BadConfig) ∷ (is_none (named_bytes b config), refusal.NoContent) ∷ []
 
 -- two boards with this between their tasks, and nothing else
 pub record IsBetween (R : Entries → Entries → Type 0) (s s' : BoardState) : Type 0 where
@@ -47,7 +56,7 @@ Leaves R A b' = (s' : BoardState) × A s' × IsBetween R s' b'
 
 -- the task that the request names is the same in both
 abbrev pub HaveSame : Request → Entries → Entries → Type 0
-HaveSame r es us = (id : List ℕ) → named r ≡ Some id → task_of id es ≡ task_of id us
+HaveSame r es us = (id : List ℕ) → asked_of r ≡ Some id → task_of id es ≡ task_of id us
 
 module _ (R : Entries → Entries → Type 0) (b : BoardState) (es : Entries) (h : IsUnread R es b.tasks) where
   since : (x b' : BoardState) (us : Entries) → R us x.tasks → b' ≡ x → IsBetween R (on x us) b'
@@ -63,34 +72,22 @@ module _ (R : Entries → Entries → Type 0) (b : BoardState) (es : Entries) (h
   decided (Some e) E F a b' f d = (on b es, (d.0, refl), since b b' es h.same d.1)
 
   on_store : (refusals : Refusals) (rep : Reply) (new : StoreState) (a : Answer) (b' : BoardState)
-      → DecidedBy (first_refusal refusals) ((a ≡ Ok rep) × (b' ≡ with_store b new)) b a b' → Leaves R
-      (λ s'. DecidedBy (first_refusal refusals) ((a ≡ Ok rep) × (s' ≡ with_store (on b es) new)) (on b es) a s') b'
+      → OnStore b refusals rep new a b' → Leaves R (λ s'. OnStore (on b es) refusals rep new a s') b'
   on_store refusals rep new a b' d =
-      decided (first_refusal refusals) ((a ≡ Ok rep) × (b' ≡ with_store b new))
-      (λ s'. (a ≡ Ok rep) × (s' ≡ with_store (on b es) new)) a b'
+      decided _ _ (λ s'. (a ≡ Ok rep) × (s' ≡ with_store (on b es) new)) a b'
       (λ x. (on (with_store b new) es, (x.0, refl), since (with_store b new) b' es h.same x.1)) d
 
   left : (t : Task) (o : Option Task) (a : Answer) (rep : Reply) (b' : BoardState)
       → (a ≡ Ok rep) × (b' ≡ with_left b t o) → Leaves R (λ s'. (a ≡ Ok rep) × (s' ≡ with_left (on b es) t o)) b'
-  left t None a rep b' d = (
-    on (without_task b t.id) (remove_task t.id es),
-    (d.0, refl),
-    since (without_task b t.id) b' (remove_task t.id es) (h.remove t.id) d.1,
-  )
-  left t (Some u) a rep b' d = (
-    on (with_task b u) (change_task u es),
-    (d.0, refl),
-    since (with_task b u) b' (change_task u es) (h.change u) d.1,
-  )
+  left t None a rep b' d = (_, (d.0, refl), since (without_task b t.id) b' (remove_task t.id es) (h.remove t.id) d.1)
+  left t (Some u) a rep b' d = (_, (d.0, refl), since (with_task b u) b' (change_task u es) (h.change u) d.1)
 
   on_found : (id : List ℕ) (own : Task → Refusals) (does : Task → Done) (o : Option Task) (a : Answer) (b' : BoardState)
       → OnFound id own does o b a b' → Leaves R (λ s'. OnFound id own does o (on b es) a s') b'
-  on_found id own does None a b' d =
-      decided (first_refusal (task_refusals id own None)) ⊥ (λ s'. ⊥) a b' (λ x. absurd x) d
+  on_found id own does None a b' d = decided _ _ (λ s'. ⊥) a b' (λ x. absurd x) d
   on_found id own does (Some t) a b' d =
-      decided (first_refusal (task_refusals id own (Some t))) ((a ≡ Ok (does t).0) × (b' ≡ with_left b t (does t).1))
-      (λ s'. (a ≡ Ok (does t).0) × (s' ≡ with_left (on b es) t (does t).1)) a b'
-      (λ x. left t (does t).1 a (does t).0 b' x) d
+      decided _ _ (λ s'. (a ≡ Ok (does t).0) × (s' ≡ with_left (on b es) t (does t).1)) a b'
+      (left t (does t).1 a (does t).0 b') d
 
   on_task : (id : List ℕ) (own : Task → Refusals) (does : Task → Done) (a : Answer) (b' : BoardState)
       → task_of id es ≡ task_of id b.tasks → OnFound id own does (task_of id b.tasks) b a b'
@@ -99,17 +96,11 @@ module _ (R : Entries → Entries → Type 0) (b : BoardState) (es : Entries) (h
       subst (λ (o : Option Task). Leaves R (λ s'. OnFound id own does o (on b es) a s') b') (sym same)
       (on_found id own does (task_of id b.tasks) a b' d)
 
-  puts : (bytes : List ℕ) (a : Answer) (b' : BoardState) → Puts b bytes a b'
-      → Leaves R (λ s'. Puts (on b es) bytes a s') b'
-  puts bytes a b' d =
-      on_store (put_refusals b.store bytes) (reply.Put (digest_of bytes) (length bytes)) (with_content b.store bytes)
-      a b' d
-
   puts_text : (text : List ℕ) (a : Answer) (b' : BoardState) → PutsText b text a b'
       → Leaves R (λ s'. PutsText (on b es) text a s') b'
   puts_text text a b' (refused e why is same) = (on b es, refused e why is refl, since b b' es h.same same)
   puts_text text a b' (stored bytes is put) =
-      let left = puts bytes a b' put in (left.0, stored bytes is left.1, left.2)
+      let left = on_store (put_refusals b.store bytes) _ _ a b' put in (left.0, stored bytes is left.1, left.2)
 
   removes : (digest : List ℕ) (a : Answer) (b' : BoardState) → Answers b (request.Remove digest) a b'
       → Leaves R (λ s'. Answers (on b es) (request.Remove digest) a s') b'
@@ -117,26 +108,17 @@ module _ (R : Entries → Entries → Type 0) (b : BoardState) (es : Entries) (h
       subst
       (λ (used : List (List ℕ)).
       Leaves R
-      (λ s'.
-      DecidedBy (first_refusal (remove_refusals used b.store digest))
-      ((a ≡ Ok (reply.Remove digest)) × (s' ≡ with_store (on b es) (without_content b.store digest))) (on b es) a s')
+      (OnStore (on b es) (remove_refusals used b.store digest) (reply.Remove digest) (without_content b.store digest) a)
       b')
-      (sym h.used)
-      (on_store (remove_refusals (used_by b.tasks) b.store digest) (reply.Remove digest)
-      (without_content b.store digest) a b' d)
+      (sym h.used) (on_store (remove_refusals (used_by b.tasks) b.store digest) _ _ a b' d)
 
   collects : (a : Answer) (b' : BoardState) → Answers b request.Gc a b'
       → Leaves R (λ s'. Answers (on b es) request.Gc a s') b'
   collects a b' d =
       subst
       (λ (used : List (List ℕ)).
-      Leaves R
-      (λ s'.
-      DecidedBy None
-      ((a ≡ Ok (reply.Gc (unheld used b.store))) × (s' ≡ with_store (on b es) (collected used b.store))) (on b es) a s')
-      b')
-      (sym h.used)
-      (on_store [] (reply.Gc (unheld (used_by b.tasks) b.store)) (collected (used_by b.tasks) b.store) a b' d)
+      Leaves R (OnStore (on b es) [] (reply.Gc (unheld used b.store)) (collected used b.store) a) b')
+      (sym h.used) (on_store [] _ _ a b' d)
 
   opens : (id bytes : List ℕ) (p : ProcessConfig) (a : Answer) (b' : BoardState) → Opens b id bytes p a b'
       → Leaves R (λ s'. Opens (on b es) id bytes p a s') b'
@@ -159,30 +141,20 @@ module _ (R : Entries → Entries → Type 0) (b : BoardState) (es : Entries) (h
       → Answers b (request.Create config id) a b'
       → Leaves R (λ s'. Answers (on b es) (request.Create config id) a s') b'
   creates config id a b' same d =
-      let refusals : create_refusals (on b es) config id ≡ create_refusals b config id =
-      ap₂
-      (λ (o : Option Task) (n : ℕ).
-      (not (is_id id), refusal.BadId) ∷ (is_some o, refusal.Exists)
-      ∷ (nat_le max_tasks n || nat_le max_creates b.creates, refusal.TooMany)
-      ∷ (is_none (process_read config), refusal.BadConfig) ∷ (is_none (named_bytes b config), refusal.NoContent) ∷ [])
-      same h.count in
       subst
       (λ (rs : Refusals).
-      Leaves R (λ s'. DecidedBy (first_refusal rs) (Creates (on b es) config id a s') (on b es) a s') b') (sym refusals)
-      (decided (first_refusal (create_refusals b config id)) (Creates b config id a b')
-      (λ s'. Creates (on b es) config id a s') a b' (makes config id a b') d)
+      Leaves R (λ s'. DecidedBy (first_refusal rs) (Creates (on b es) config id a s') (on b es) a s') b')
+      (sym (same_refusals b es config id same h.count))
+      (decided _ _ (Creates (on b es) config id a) a b' (makes config id a b') d)
 
   pub calls : (r : Request) (a : Answer) (b' : BoardState) → HaveSame r es b.tasks → Answers b r a b'
       → Leaves R (λ s'. Answers (on b es) r a s') b'
-  calls (request.Put bytes) a b' same d = puts bytes a b' d
+  calls (request.Put bytes) a b' same d = on_store (put_refusals b.store bytes) _ _ a b' d
   calls (request.PutText text) a b' same d = puts_text text a b' d
   calls (request.Remove digest) a b' same d = removes digest a b' d
-  calls (request.LeaseCreate id) a b' same d =
-      on_store (lease_create_refusals b.store id) (reply.LeaseCreate id) (with_lease b.store id) a b' d
-  calls (request.LeaseAdd digest id) a b' same d =
-      on_store (lease_add_refusals b.store digest id) (reply.LeaseAdd digest id) (with_member b.store digest id) a b' d
-  calls (request.LeaseDelete id) a b' same d =
-      on_store (lease_delete_refusals b.store id) (reply.LeaseDelete id) (without_lease b.store id) a b' d
+  calls (request.LeaseCreate id) a b' same d = on_store (lease_create_refusals b.store id) _ _ a b' d
+  calls (request.LeaseAdd digest id) a b' same d = on_store (lease_add_refusals b.store digest id) _ _ a b' d
+  calls (request.LeaseDelete id) a b' same d = on_store (lease_delete_refusals b.store id) _ _ a b' d
   calls request.Gc a b' same d = collects a b' d
   calls (request.Create config id) a b' same d = creates config id a b' (same id refl) d
   calls (request.Task id k) a b' same d = on_task id (own_refusals k) (does k) a b' (same id refl) d

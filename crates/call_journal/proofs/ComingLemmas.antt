@@ -1,10 +1,8 @@
 -- What takes and returns make of a task, one after another.
-use Rattle.std.proofs.Common.{◌≡◌, ℕ, ◌+◌, ◌-◌, ◌<◌, ◌≤◌, nat_eq, nat_lt, List, Bool, true, false, cond, ◌||◌, ◌&&◌, Option, Some, None, is_none, inl, inr, refl, sym, ap, ◌∙◌, subst, arith}
+use Rattle.std.proofs.Common.{◌≡◌, ℕ, ◌+◌, ◌-◌, ◌<◌, ◌≤◌, nat_eq, nat_lt, List, Bool, true, false, ◌||◌, Option, Some, None, is_none, inl, inr, refl, sym, ap, ◌∙◌, subst, arith}
+use Rattle.std.proofs.lemmas.Bool.{and_parts, or_parts}
 use Rattle.std.proofs.lemmas.Bool.Decides.{nat_tests}
-use Rattle.wasm_ast.specs.declared.place.Place.{Place}
 use Rattle.step_machine.specs.declared.ends.End.{End}
-use Rattle.step_machine.specs.declared.ends.End.TheVariants as own
-use Rattle.step_machine.specs.Configuration.{State as ExecutionState, running, exited, trapped, stuck, is_halted}
 use Rattle.step_machine.specs.Instantiation.{ended}
 use Rattle.step_machine.specs.Slices.{at_break, ends_slice}
 use Rattle.task_lifecycle.specs.declared.status.Status.{Status}
@@ -16,26 +14,19 @@ use Rattle.task_board.specs.BoardState.{Task, BoardState, task_of, with_task}
 use Rattle.task_board.specs.Tasks.{execution_at, is_break_at, landing, idle_after, advanced, MayAdvance, can_lend, lent, slice_turns, HasReturned}
 use Rattle.task_board.specs.Step.{is_budget}
 use Rattle.task_board.proofs.EntryLemmas.{none_is_not, some_is}
+use Rattle.task_board.proofs.AdvanceLemmas.{no_cut}
 use Rattle.call_journal.specs.declared.entry.Found.{Found}
-use Rattle.call_journal.specs.Finding.{named, found_in}
+use Rattle.call_journal.specs.Finding.{found_in}
 use Rattle.call_journal.specs.Replay.{Spans, ComesTo, stays, is_taken, advances, is_retaken, Finds, no_task, task}
 
 -- ---- what can be lent
-
-and_true : (a b : Bool) → (a && b) ≡ true → (a ≡ true) × (b ≡ true)
-and_true true b h = (refl, h)
-and_true false b h = cc
-
-or_false : (a b : Bool) → (a || b) ≡ false → (a ≡ false) × (b ≡ false)
-or_false true b h = cc
-or_false false b h = (refl, h)
 
 none_of : (o : Option ℕ) → is_none o ≡ true → o ≡ None
 none_of None h = refl
 none_of (Some n) h = cc
 
 is_idle : (t : Task) → can_lend t ≡ true → t.out ≡ None
-is_idle t can = none_of t.out (and_true (is_running t.status) (is_none t.out) can).1
+is_idle t can = none_of t.out (and_parts (is_running t.status) (is_none t.out) can).1
 
 -- what is out is not lent
 not_again : (t : Task) (budget : ℕ) → can_lend (lent t budget) ≡ true → ⊥
@@ -73,7 +64,7 @@ goes_on t k goes =
     let parts =
     landing_goes (ended (execution_at t (t.turns + k))) t.signal (is_pausing t.status || is_break_at t (t.turns + k))
     goes in
-    let off = or_false (is_pausing t.status) (is_break_at t (t.turns + k)) parts.2 in
+    let off = or_parts (is_pausing t.status) (is_break_at t (t.turns + k)) parts.2 in
     record { ended = parts.0; quiet = parts.1; pausing = off.0; at_break = off.1 }
 
 -- ---- k turns and then j
@@ -91,20 +82,6 @@ twice t k j goes =
     ap (λ (n : ℕ). F n None (is_pausing (advanced t k).status)) sum
     ∙ (ap (λ (s : Bool). F (t.turns + (k + j)) None s) (off ∙ sym g.pausing)
     ∙ ap (λ (x : Option Signal). F (t.turns + (k + j)) x (is_pausing t.status)) (sym g.quiet))
-
--- what has not ended has not halted
-no_cut : (bs : List Place) (s : ExecutionState) → ended s ≡ None → at_break bs s ≡ false → ends_slice bs s ≡ false
-no_cut bs s none off = ap (λ (b : Bool). b || at_break bs s) (by s none) ∙ off
-  where
-    by : (s : ExecutionState) → ended s ≡ None → is_halted s ≡ false
-    by (running t) h = by_test (is_halted (running t)) h
-      where
-        by_test : (b : Bool) → cond b (Some own.Returned) None ≡ None → b ≡ false
-        by_test true h = cc
-        by_test false h = refl
-    by (exited n) h = cc
-    by (trapped t) h = cc
-    by stuck h = refl
 
 more : (t : Task) (k j : ℕ) → takes_turns (advanced t k).status ≡ true → MayAdvance t k → MayAdvance (advanced t k) j
     → MayAdvance t (k + j)

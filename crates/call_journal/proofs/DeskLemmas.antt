@@ -1,5 +1,6 @@
 -- What is checked out at the places of a desk.
-use Rattle.std.proofs.Common.{◌≡◌, ◌≢◌, ℕ, zero, suc, List, [], ◌∷◌, ◌⊎◌, ◌&&◌, Bool, true, false, true≢false, is_none, Option, Some, None, is_some, option_and_then, slice_get, slice_set, inl, inr, refl, sym, ap, ◌∙◌, subst}
+use Rattle.std.proofs.Common.{◌≡◌, ◌≢◌, ℕ, zero, suc, List, [], ◌∷◌, ◌⊎◌, true, false, true≢false, is_none, Option, Some, None, is_some, option_and_then, slice_get, slice_set, inl, inr, refl, sym, ap, ◌∙◌, subst}
+use Rattle.std.proofs.lemmas.Bool.{and_parts}
 use Rattle.std.specs.Prelude.{IfSome, IfNone}
 use Rattle.task_requests.specs.declared.request.Request.{Request}
 use Rattle.task_requests.specs.declared.event.Event.TheVariants as event
@@ -117,10 +118,6 @@ some_lent : (o : Option Lent) → is_some o ≡ true → (l : Lent) × (o ≡ So
 some_lent None h = absurd (true≢false (sym h))
 some_lent (Some l) h = (l, refl)
 
-both_true : (b c : Bool) → b && c ≡ true → c ≡ true
-both_true true c h = h
-both_true false c h = absurd (true≢false (sym h))
-
 none_is : (o : Option ℕ) (n : ℕ) → is_none o ≡ true → o ≡ Some n → ⊥
 none_is None n h e = none_not_some n e
 none_is (Some k) n h e = true≢false (sym h)
@@ -130,7 +127,7 @@ not_lent : (s : BoardState) (ticket : Ticket) (budget : ℕ) (l m : Lent) (s' : 
 not_lent s ticket budget l m s' is slot fit =
     let same : fit.0 ≡ is.task =
     some_one fit.0 is.task (sym fit.1 ∙ (ap (λ (k : ℕ). task_in k s.tasks) slot ∙ is.can.there)) in
-    let idle = both_true (is_running (is.task).status) (is_none (is.task).out) is.can.ready in
+    let idle = (and_parts (is_running (is.task).status) (is_none (is.task).out) is.can.ready).1 in
     none_is (is.task).out m.budget idle (subst (λ (t : Task). t.out ≡ Some m.budget) same fit.2.1)
 
 pub no_place :

@@ -18,7 +18,8 @@ use Rattle.task_board.proofs.LawLemmas.{IsTakenOf, taken_of}
 use Rattle.task_board.proofs.StepLemmas.{task_named, in_range}
 use Rattle.call_journal.specs.declared.entry.Entry.{Entry}
 use Rattle.call_journal.specs.declared.entry.Found.{Found}
-use Rattle.call_journal.specs.Finding.{named, found_in, found_of}
+use Rattle.task_board.specs.Claims.{asked_of}
+use Rattle.call_journal.specs.Finding.{found_in, found_of}
 use Rattle.call_journal.specs.Replay.{ComesTo, is_taken, Finds, no_task, task, IsSince, IsReplay, MayAnswer}
 use Rattle.call_journal.specs.Records.{entry_on, IsOfSlice, Records, ends, call, slice, no_memory}
 use Rattle.call_journal.proofs.ComingLemmas.{comes_back}
@@ -79,7 +80,7 @@ replay_slice h b b' e a r is step = (r.0, r.1, since_slice r.0 b b' e a r.2 is s
 abbrev pub Meets : BoardState → BoardState → Request → Type 0
 Meets s b r = (mid : BoardState) × Finds s r (found_of b r) mid × IsSince mid b × HaveSame r mid.tasks b.tasks
 
-meets_none : (s b : BoardState) (r : Request) → IsSince s b → named r ≡ None → Meets s b r
+meets_none : (s b : BoardState) (r : Request) → IsSince s b → asked_of r ≡ None → Meets s b r
 meets_none s b r between is =
     let none : (x : BoardState) → found_of x r ≡ None =
     λ x. ap (λ (o : Option (List ℕ)). option_map found_in (option_and_then (λ (id : List ℕ). task_of id x.tasks) o)) is
@@ -91,18 +92,18 @@ meets_none s b r between is =
     )
 
 pub found_at :
-    (x : BoardState) (r : Request) (id : List ℕ) (o : Option Task) → named r ≡ Some id → task_of id x.tasks ≡ o
+    (x : BoardState) (r : Request) (id : List ℕ) (o : Option Task) → asked_of r ≡ Some id → task_of id x.tasks ≡ o
     → found_of x r ≡ option_map found_in o
 found_at x r id o is at =
     ap (λ (p : Option (List ℕ)). option_map found_in (option_and_then (λ (i : List ℕ). task_of i x.tasks) p)) is
     ∙ ap (option_map found_in) at
 
-same_at : (r : Request) (id : List ℕ) (es us : Entries) → named r ≡ Some id → task_of id es ≡ task_of id us
+same_at : (r : Request) (id : List ℕ) (es us : Entries) → asked_of r ≡ Some id → task_of id es ≡ task_of id us
     → HaveSame r es us
 same_at r id es us is same other at =
     subst (λ (x : List ℕ). task_of x es ≡ task_of x us) (some_is id other (sym is ∙ at)) same
 
-meets_some : (s b : BoardState) (r : Request) (id : List ℕ) (o : Option Task) → IsSince s b → named r ≡ Some id
+meets_some : (s b : BoardState) (r : Request) (id : List ℕ) (o : Option Task) → IsSince s b → asked_of r ≡ Some id
     → task_of id b.tasks ≡ o → Meets s b r
 meets_some s b r id None between is at =
     let none : task_of id s.tasks ≡ None =
@@ -130,21 +131,21 @@ meets_some s b r id (Some u) between is at =
           (subst (λ (x : List ℕ). task_of x (change_task u s.tasks) ≡ Some u) own there ∙ sym at),
     )
 
-meets_by : (s b : BoardState) (r : Request) (o : Option (List ℕ)) → IsSince s b → named r ≡ o → Meets s b r
+meets_by : (s b : BoardState) (r : Request) (o : Option (List ℕ)) → IsSince s b → asked_of r ≡ o → Meets s b r
 meets_by s b r None between is = meets_none s b r between is
 meets_by s b r (Some id) between is = meets_some s b r id (task_of id b.tasks) between is refl
 
 pub may_answer : (h : List Entry) (b b' : BoardState) (seat : ℕ) (r : Request) (a : Answer) → IsReplay h b
     → Answers b r a b' → MayAnswer h (entry_on b seat r) a
 may_answer h b b' seat r a is answers =
-    let m = meets_by is.0 b r (named r) is.2 refl in
+    let m = meets_by is.0 b r (asked_of r) is.2 refl in
     let c = calls_commute m.0 b r a b' m.2 m.3 answers in
     (is.0, m.0, c.0, is.1, m.1, c.1)
 
 pub replay_call : (h : List Entry) (b b' : BoardState) (seat : ℕ) (r : Request) (a : Answer) → IsReplay h b
     → Answers b r a b' → IsReplay (h ++ entry_on b seat r ∷ []) b'
 replay_call h b b' seat r a is answers =
-    let m = meets_by is.0 b r (named r) is.2 refl in
+    let m = meets_by is.0 b r (asked_of r) is.2 refl in
     let c = calls_commute m.0 b r a b' m.2 m.3 answers in
     (c.0, one_more h (entry_on b seat r) a empty is.0 m.0 c.0 is.1 m.1 c.1, c.2)
 

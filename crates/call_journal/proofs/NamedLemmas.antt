@@ -1,8 +1,7 @@
 -- A call changes no task but the one that it names.
-use Rattle.std.proofs.Common.{◌≡◌, ◌≢◌, ℕ, List, [], length, Option, Some, None, Ok, Err, refl, sym, ap, ◌∙◌}
+use Rattle.std.proofs.Common.{◌≡◌, ◌≢◌, ℕ, List, [], Option, Some, None, Ok, Err, refl, sym, ap, ◌∙◌}
 use Rattle.wasm_ast.specs.declared.refusal.Refusal.{Refusal}
-use Rattle.content_leases.specs.Digests.{digest_of}
-use Rattle.content_leases.specs.StoreState.{StoreState, with_content, without_content, with_lease, with_member, without_lease, unheld, collected}
+use Rattle.content_leases.specs.StoreState.{StoreState}
 use Rattle.content_leases.specs.Refusals.{Refusals, first_refusal, put_refusals, remove_refusals, lease_create_refusals, lease_add_refusals, lease_delete_refusals}
 use Rattle.task_lifecycle.specs.declared.status.Signal.{Signal}
 use Rattle.task_lifecycle.specs.Names.{signal_of}
@@ -12,15 +11,14 @@ use Rattle.task_requests.specs.declared.request.Request.{Request}
 use Rattle.task_requests.specs.declared.request.Request.TheVariants as request
 use Rattle.task_requests.specs.declared.request.Ask.TheVariants as ask
 use Rattle.task_requests.specs.declared.request.Reply.{Reply}
-use Rattle.task_requests.specs.declared.request.Reply.TheVariants as reply
-use Rattle.task_board.specs.BoardState.{Task, BoardState, created_task, used_by, with_store, task_of}
+use Rattle.task_board.specs.BoardState.{Task, BoardState, created_task, used_by, task_of}
 use Rattle.task_board.specs.Tasks.{killed_by}
 use Rattle.task_board.specs.Refusals.{create_refusals, own_refusals, task_refusals}
-use Rattle.task_board.specs.Step.{Answer, DecidedBy, Puts, PutsText, refused, stored, Done, with_left, OnFound, Creates, does, Answers}
+use Rattle.task_board.specs.Step.{Answer, DecidedBy, OnStore, PutsText, refused, stored, Done, with_left, OnFound, Creates, does, Answers}
 use Rattle.task_board.proofs.EntryLemmas.{none_is_not, some_is}
 use Rattle.task_board.proofs.StepLemmas.{task_named}
 use Rattle.task_board.proofs.EffectLemmas.{change_id}
-use Rattle.call_journal.specs.Finding.{named}
+use Rattle.task_board.specs.Claims.{asked_of}
 use Rattle.call_journal.proofs.AlikeLemmas.{changed_beside, put_beside, removed_beside}
 
 -- what a request leaves of a task has its id
@@ -38,17 +36,15 @@ module _ (s : BoardState) (a : Answer) (s' : BoardState) (id : List ℕ) where
   stays : s' ≡ s → task_of id s'.tasks ≡ task_of id s.tasks
   stays is = ap (λ (x : BoardState). task_of id x.tasks) is
 
-  decided : (o : Option Refusal) (E : Type 0) → (E → task_of id s'.tasks ≡ task_of id s.tasks)
-      → DecidedBy o E s a s' → task_of id s'.tasks ≡ task_of id s.tasks
-  decided None E f d = f d
-  decided (Some e) E f d = stays d.1
+  decided : (o : Option Refusal) (E : Type 0) → DecidedBy o E s a s' → (E → task_of id s'.tasks ≡ task_of id s.tasks)
+      → task_of id s'.tasks ≡ task_of id s.tasks
+  decided None E d f = f d
+  decided (Some e) E d f = stays d.1
 
-  on_store : (refusals : Refusals) (rep : Reply) (new : StoreState)
-      → DecidedBy (first_refusal refusals) ((a ≡ Ok rep) × (s' ≡ with_store s new)) s a s'
+  on_store : (refusals : Refusals) (rep : Reply) (new : StoreState) → OnStore s refusals rep new a s'
       → task_of id s'.tasks ≡ task_of id s.tasks
   on_store refusals rep new d =
-      decided (first_refusal refusals) ((a ≡ Ok rep) × (s' ≡ with_store s new))
-      (λ x. ap (λ (y : BoardState). task_of id y.tasks) x.1) d
+      decided (first_refusal refusals) _ d (λ x. ap (λ (y : BoardState). task_of id y.tasks) x.1)
 
   left : (t : Task) (o : Option Task) → ((u : Task) → o ≡ Some u → u.id ≡ t.id) → t.id ≢ id → s' ≡ with_left s t o
       → task_of id s'.tasks ≡ task_of id s.tasks
@@ -59,22 +55,18 @@ module _ (s : BoardState) (a : Answer) (s' : BoardState) (id : List ℕ) where
 
   on_found : (x : List ℕ) (own : Task → Refusals) (does : Task → Done) (o : Option Task) → KeepsId does → x ≢ id
       → task_of x s.tasks ≡ o → OnFound x own does o s a s' → task_of id s'.tasks ≡ task_of id s.tasks
-  on_found x own does None keeps away at d = decided (first_refusal (task_refusals x own None)) ⊥ (λ y. absurd y) d
+  on_found x own does None keeps away at d = decided (first_refusal (task_refusals x own None)) _ d (λ y. absurd y)
   on_found x own does (Some t) keeps away at d =
-      decided (first_refusal (task_refusals x own (Some t))) ((a ≡ Ok (does t).0) × (s' ≡ with_left s t (does t).1))
-      (λ y. left t (does t).1 (keeps t) (λ same. away (sym (task_named x s.tasks t at) ∙ same)) y.1) d
+      decided (first_refusal (task_refusals x own (Some t))) _ d
+      (λ y. left t (does t).1 (keeps t) (λ same. away (sym (task_named x s.tasks t at) ∙ same)) y.1)
 
   on_task : (x : List ℕ) (own : Task → Refusals) (does : Task → Done) → KeepsId does → (Some x ≡ Some id → ⊥)
       → OnFound x own does (task_of x s.tasks) s a s' → task_of id s'.tasks ≡ task_of id s.tasks
   on_task x own does keeps other d = on_found x own does (task_of x s.tasks) keeps (λ same. other (ap Some same)) refl d
 
-  puts : (bytes : List ℕ) → Puts s bytes a s' → task_of id s'.tasks ≡ task_of id s.tasks
-  puts bytes d =
-      on_store (put_refusals s.store bytes) (reply.Put (digest_of bytes) (length bytes)) (with_content s.store bytes) d
-
   puts_text : (text : List ℕ) → PutsText s text a s' → task_of id s'.tasks ≡ task_of id s.tasks
   puts_text text (refused e why is same) = stays same
-  puts_text text (stored bytes is put) = puts bytes put
+  puts_text text (stored bytes is put) = on_store (put_refusals s.store bytes) _ _ put
 
 makes : (s : BoardState) (config new : List ℕ) (a : Answer) (s' : BoardState) (id : List ℕ) → new ≢ id
     → Creates s config new a s' → task_of id s'.tasks ≡ task_of id s.tasks
@@ -89,21 +81,17 @@ keeps_id ask.Delete t u is = absurd (none_is_not u is)
 keeps_id _ t u is = id_of t _ u refl is
 
 pub only_named : (s : BoardState) (r : Request) (a : Answer) (s' : BoardState) (id : List ℕ) → Answers s r a s'
-    → (named r ≡ Some id → ⊥) → task_of id s'.tasks ≡ task_of id s.tasks
-only_named s (request.Put bytes) a s' id d other = puts s a s' id bytes d
+    → (asked_of r ≡ Some id → ⊥) → task_of id s'.tasks ≡ task_of id s.tasks
+only_named s (request.Put bytes) a s' id d other = on_store s a s' id (put_refusals s.store bytes) _ _ d
 only_named s (request.PutText text) a s' id d other = puts_text s a s' id text d
 only_named s (request.Remove digest) a s' id d other =
-    on_store s a s' id (remove_refusals (used_by s.tasks) s.store digest) (reply.Remove digest)
-    (without_content s.store digest) d
-only_named s (request.LeaseCreate x) a s' id d other =
-    on_store s a s' id (lease_create_refusals s.store x) (reply.LeaseCreate x) (with_lease s.store x) d
+    on_store s a s' id (remove_refusals (used_by s.tasks) s.store digest) _ _ d
+only_named s (request.LeaseCreate x) a s' id d other = on_store s a s' id (lease_create_refusals s.store x) _ _ d
 only_named s (request.LeaseAdd digest x) a s' id d other =
-    on_store s a s' id (lease_add_refusals s.store digest x) (reply.LeaseAdd digest x) (with_member s.store digest x) d
-only_named s (request.LeaseDelete x) a s' id d other =
-    on_store s a s' id (lease_delete_refusals s.store x) (reply.LeaseDelete x) (without_lease s.store x) d
-only_named s request.Gc a s' id d other =
-    on_store s a s' id [] (reply.Gc (unheld (used_by s.tasks) s.store)) (collected (used_by s.tasks) s.store) d
+    on_store s a s' id (lease_add_refusals s.store digest x) _ _ d
+only_named s (request.LeaseDelete x) a s' id d other = on_store s a s' id (lease_delete_refusals s.store x) _ _ d
+only_named s request.Gc a s' id d other = on_store s a s' id [] _ _ d
 only_named s (request.Create config x) a s' id d other =
-    decided s a s' id (first_refusal (create_refusals s config x)) (Creates s config x a s')
-    (λ made. makes s config x a s' id (λ same. other (ap Some same)) made) d
+    decided s a s' id (first_refusal (create_refusals s config x)) _ d
+    (makes s config x a s' id (λ same. other (ap Some same)))
 only_named s (request.Task x k) a s' id d other = on_task s a s' id x (own_refusals k) (does k) (keeps_id k) other d

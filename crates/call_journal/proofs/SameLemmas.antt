@@ -1,35 +1,28 @@
 -- A call on two boards that are the same but for slots leaves two that are; and so do whole histories.
-use Rattle.std.proofs.Common.{◌≡◌, ℕ, List, [], ◌∷◌, length, nat_le, Bool, false, true≢false, not, ◌||◌, Option, Some, None, is_some, is_none, Ok, Err, refl, sym, ap, ap₂, ◌∙◌, subst}
+use Rattle.std.proofs.Common.{◌≡◌, ℕ, List, [], ◌∷◌, Bool, not, ◌||◌, Option, Some, None, is_some, is_none, Ok, Err, refl, sym, ap, ap₂, ◌∙◌, subst}
 use Rattle.wasm_ast.specs.declared.module.Module.{Module}
 use Rattle.wasm_ast.specs.Identifiers.{is_id, is_digest}
 use Rattle.wasm_ast.specs.declared.refusal.Refusal.{Refusal}
 use Rattle.wasm_ast.specs.declared.refusal.Refusal.TheVariants as refusal
 use Rattle.oci_config.specs.declared.process.ProcessConfig.{ProcessConfig}
-use Rattle.oci_config.specs.Config.{process_read}
 use Rattle.step_machine.specs.Instantiation.{instantiation_refusal}
 use Rattle.validator.specs.Typing.{ValidModule}
-use Rattle.content_leases.specs.Digests.{digest_of}
-use Rattle.content_leases.specs.StoreState.{Content, Lease, StoreState, content_in, is_leased, is_held, with_content, without_content, with_lease, with_member, without_lease, collected}
+use Rattle.content_leases.specs.StoreState.{Content, Lease, StoreState, content_in, is_leased, is_held, with_content, without_content, collected}
 use Rattle.content_leases.specs.Refusals.{Refusals, first_refusal, put_refusals, remove_refusals, lease_create_refusals, lease_add_refusals, lease_delete_refusals}
 use Rattle.task_requests.specs.declared.request.Request.{Request}
 use Rattle.task_requests.specs.declared.request.Request.TheVariants as request
 use Rattle.task_requests.specs.declared.request.Reply.{Reply}
 use Rattle.task_requests.specs.declared.request.Reply.TheVariants as reply
-use Rattle.task_board.specs.Limits.{max_tasks, max_creates}
 use Rattle.task_board.specs.BoardState.{Task, Entries, BoardState, created_task, used_by, with_store, task_of, put_task, change_task, remove_task, with_task, without_task, with_new_task}
 use Rattle.task_board.specs.Choices.{AgreeOnText}
-use Rattle.task_board.specs.Refusals.{named_bytes, create_refusals, own_refusals, task_refusals, Openable, CannotOpen, no_module, too_much, invalid, refused as unopened}
-use Rattle.task_board.specs.Step.{Answer, DecidedBy, Puts, PutsText, refused, stored, Done, with_left, OnFound, Opens, Creates, does, Answers}
+use Rattle.task_board.specs.Refusals.{create_refusals, own_refusals, task_refusals, Openable, CannotOpen, no_module, too_much, invalid, refused as unopened}
+use Rattle.task_board.specs.Step.{Answer, DecidedBy, OnStore, PutsText, refused, stored, Done, with_left, OnFound, Opens, Creates, does, Answers}
 use Rattle.task_board.proofs.EntryLemmas.{none_is_not, some_is}
-use Rattle.task_board.proofs.StepLemmas.{none_first}
+use Rattle.task_board.proofs.StepLemmas.{none_first, none_of}
 use Rattle.task_board.proofs.LawLemmas.{One, Faulty}
 use Rattle.call_journal.specs.Replay.{IsAlike}
-use Rattle.call_journal.proofs.CallLemmas.{on}
+use Rattle.call_journal.proofs.CallLemmas.{on, same_refusals}
 use Rattle.call_journal.proofs.AlikeLemmas.{Same, Distinct, both_changed, both_put, both_removed, same_count, same_uses, same_filter}
-
-no_task : (o : Option Task) → is_some o ≡ false → o ≡ None
-no_task None h = refl
-no_task (Some t) h = absurd (true≢false h)
 
 -- bytes that can be opened are not refused
 not_both : (bytes : List ℕ) (p : ProcessConfig) (m : Module) (e : Refusal) → One → Faulty → Openable bytes p m
@@ -58,18 +51,15 @@ module _ (one : One) (faulty : Faulty) (texts : TextsAgree) (b : BoardState) (es
         ∙ (tasks id ∙ sym (ap (λ (w : BoardState). task_of id w.tasks) is'));
   }
 
-  decided : (o : Option Refusal) (E F : Type 0) → (o ≡ None → E → F → IsAlike n n') → DecidedBy o E (on b es) a n
-      → DecidedBy o F b a' n' → IsAlike n n'
-  decided None E F f x y = f refl x y
-  decided (Some e) E F f x y = alike b es n n' same x.1 y.1
+  decided : (o : Option Refusal) (E F : Type 0) → DecidedBy o E (on b es) a n → DecidedBy o F b a' n'
+      → (o ≡ None → E → F → IsAlike n n') → IsAlike n n'
+  decided None E F x y f = f refl x y
+  decided (Some e) E F x y f = alike b es n n' same x.1 y.1
 
-  on_store : (refusals : Refusals) (rep rep' : Reply) (new : StoreState)
-      → DecidedBy (first_refusal refusals) ((a ≡ Ok rep) × (n ≡ with_store (on b es) new)) (on b es) a n
-      → DecidedBy (first_refusal refusals) ((a' ≡ Ok rep') × (n' ≡ with_store b new)) b a' n' → IsAlike n n'
-  on_store refusals rep rep' new x y =
-      decided (first_refusal refusals) ((a ≡ Ok rep) × (n ≡ with_store (on b es) new))
-      ((a' ≡ Ok rep') × (n' ≡ with_store b new))
-      (λ none p q. alike (with_store b new) es n n' same p.1 q.1) x y
+  on_store : (refusals : Refusals) (rep : Reply) (new : StoreState) → OnStore (on b es) refusals rep new a n
+      → OnStore b refusals rep new a' n' → IsAlike n n'
+  on_store refusals rep new x y =
+      decided (first_refusal refusals) _ _ x y (λ none p q. alike (with_store b new) es n n' same p.1 q.1)
 
   left : (t : Task) (o : Option Task) → n ≡ with_left (on b es) t o → n' ≡ with_left b t o → IsAlike n n'
   left t None x y = alike (without_task b t.id) (remove_task t.id es) n n' (both_removed t.id es b.tasks d d' same) x y
@@ -77,11 +67,10 @@ module _ (one : One) (faulty : Faulty) (texts : TextsAgree) (b : BoardState) (es
 
   on_found : (id : List ℕ) (own : Task → Refusals) (does : Task → Done) (o : Option Task)
       → OnFound id own does o (on b es) a n → OnFound id own does o b a' n' → IsAlike n n'
-  on_found id own does None x y = decided (first_refusal (task_refusals id own None)) ⊥ ⊥ (λ none p q. absurd p) x y
+  on_found id own does None x y =
+      decided (first_refusal (task_refusals id own None)) _ _ x y (λ none p q. absurd p)
   on_found id own does (Some t) x y =
-      decided (first_refusal (task_refusals id own (Some t)))
-      ((a ≡ Ok (does t).0) × (n ≡ with_left (on b es) t (does t).1))
-      ((a' ≡ Ok (does t).0) × (n' ≡ with_left b t (does t).1)) (λ none p q. left t (does t).1 p.1 q.1) x y
+      decided (first_refusal (task_refusals id own (Some t))) _ _ x y (λ none p q. left t (does t).1 p.1 q.1)
 
   on_task : (id : List ℕ) (own : Task → Refusals) (does : Task → Done)
       → OnFound id own does (task_of id es) (on b es) a n → OnFound id own does (task_of id b.tasks) b a' n'
@@ -89,11 +78,6 @@ module _ (one : One) (faulty : Faulty) (texts : TextsAgree) (b : BoardState) (es
   on_task id own does x y =
       on_found id own does (task_of id b.tasks)
       (subst (λ (o : Option Task). OnFound id own does o (on b es) a n) (same id) x) y
-
-  puts : (bytes : List ℕ) → Puts (on b es) bytes a n → Puts b bytes a' n' → IsAlike n n'
-  puts bytes x y =
-      on_store (put_refusals b.store bytes) (reply.Put (digest_of bytes) (length bytes))
-      (reply.Put (digest_of bytes) (length bytes)) (with_content b.store bytes) x y
 
   -- the same put on the second board
   put_by : (o : Option Refusal) (rep : Reply) (new : StoreState)
@@ -107,9 +91,7 @@ module _ (one : One) (faulty : Faulty) (texts : TextsAgree) (b : BoardState) (es
   puts_text text (refused e why is stays) y =
       alike b es n n' same stays (sym (texts b text a b a' n' (refused e why is refl) y).1)
   puts_text text (stored bytes is put) y =
-      let m =
-      put_by (first_refusal (put_refusals b.store bytes)) (reply.Put (digest_of bytes) (length bytes))
-      (with_content b.store bytes) put in
+      let m = put_by (first_refusal (put_refusals b.store bytes)) _ (with_content b.store bytes) put in
       subst (IsAlike n) (texts b text a m.0 a' n' (stored bytes is m.1) y).1 m.2
 
   held : (leases : List Lease) (digest : List ℕ)
@@ -125,12 +107,9 @@ module _ (one : One) (faulty : Faulty) (texts : TextsAgree) (b : BoardState) (es
       (not (is_digest digest), refusal.BadId) ∷ (is_none (content_in b.store.contents digest), refusal.NoContent)
       ∷ (h, refusal.InUse) ∷ [])
       (held b.store.leases digest) in
-      on_store (remove_refusals (used_by b.tasks) b.store digest) (reply.Remove digest) (reply.Remove digest)
-      (without_content b.store digest)
+      on_store (remove_refusals (used_by b.tasks) b.store digest) _ _
       (subst
-      (λ (rs : Refusals).
-      DecidedBy (first_refusal rs)
-      ((a ≡ Ok (reply.Remove digest)) × (n ≡ with_store (on b es) (without_content b.store digest))) (on b es) a n)
+      (λ (rs : Refusals). OnStore (on b es) rs (reply.Remove digest) (without_content b.store digest) a n)
       refusals x)
       y
 
@@ -168,36 +147,22 @@ module _ (one : One) (faulty : Faulty) (texts : TextsAgree) (b : BoardState) (es
   creates : (config id : List ℕ) → Answers (on b es) (request.Create config id) a n
       → Answers b (request.Create config id) a' n' → IsAlike n n'
   creates config id x y =
-      let refusals : create_refusals (on b es) config id ≡ create_refusals b config id =
-      ap₂
-      (λ (o : Option Task) (m : ℕ).
-      (not (is_id id), refusal.BadId) ∷ (is_some o, refusal.Exists)
-      ∷ (nat_le max_tasks m || nat_le max_creates b.creates, refusal.TooMany)
-      ∷ (is_none (process_read config), refusal.BadConfig) ∷ (is_none (named_bytes b config), refusal.NoContent) ∷ [])
-      (same id) (same_count es b.tasks d d' same) in
-      decided (first_refusal (create_refusals b config id)) (Creates (on b es) config id a n)
-      (Creates b config id a' n')
+      decided (first_refusal (create_refusals b config id)) _ _
+      (subst (λ (rs : Refusals). DecidedBy (first_refusal rs) (Creates (on b es) config id a n) (on b es) a n)
+      (same_refusals b es config id (same id) (same_count es b.tasks d d' same)) x)
+      y
       (λ none p q.
       let first = none_first (not (is_id id)) refusal.BadId _ none in
       let exists = none_first (is_some (task_of id b.tasks)) refusal.Exists _ first.1 in
-      makes config id (no_task (task_of id b.tasks) exists.0) p q)
-      (subst
-      (λ (rs : Refusals). DecidedBy (first_refusal rs) (Creates (on b es) config id a n) (on b es) a n) refusals x)
-      y
+      makes config id (none_of (task_of id b.tasks) exists.0) p q)
 
   pub calls : (r : Request) → Answers (on b es) r a n → Answers b r a' n' → IsAlike n n'
-  calls (request.Put bytes) x y = puts bytes x y
+  calls (request.Put bytes) x y = on_store (put_refusals b.store bytes) _ _ x y
   calls (request.PutText text) x y = puts_text text x y
   calls (request.Remove digest) x y = removes digest x y
-  calls (request.LeaseCreate id) x y =
-      on_store (lease_create_refusals b.store id) (reply.LeaseCreate id) (reply.LeaseCreate id) (with_lease b.store id)
-      x y
-  calls (request.LeaseAdd digest id) x y =
-      on_store (lease_add_refusals b.store digest id) (reply.LeaseAdd digest id) (reply.LeaseAdd digest id)
-      (with_member b.store digest id) x y
-  calls (request.LeaseDelete id) x y =
-      on_store (lease_delete_refusals b.store id) (reply.LeaseDelete id) (reply.LeaseDelete id)
-      (without_lease b.store id) x y
+  calls (request.LeaseCreate id) x y = on_store (lease_create_refusals b.store id) _ _ x y
+  calls (request.LeaseAdd digest id) x y = on_store (lease_add_refusals b.store digest id) _ _ x y
+  calls (request.LeaseDelete id) x y = on_store (lease_delete_refusals b.store id) _ _ x y
   calls request.Gc x y = collects x y
   calls (request.Create config id) x y = creates config id x y
   calls (request.Task id k) x y = on_task id (own_refusals k) (does k) x y

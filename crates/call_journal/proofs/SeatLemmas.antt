@@ -3,6 +3,7 @@ use Rattle.std.proofs.Common.{◌≡◌, ℕ, zero, suc, ◌+◌, ◌≤◌, ◌
 use Rattle.std.specs.Prelude.{slice_get}
 use Rattle.std.proofs.lemmas.List.Sums.{sum_by-append, sum_by-cons}
 use Rattle.std.proofs.lemmas.Bool.Decides.{nat_tests}
+use Rattle.task_board.proofs.EntryLemmas.{some_is}
 use Rattle.std.proofs.lemmas.List.{append_assoc}
 use Rattle.task_requests.specs.declared.request.Request.{Request}
 use Rattle.task_board.specs.Step.{Answer}
@@ -21,9 +22,6 @@ none_own n [] (e ∷ rest) f =
     let r = none_own n [] rest (λ k x le p. f (suc k) x (omega arith) p) in
     sum_by-cons _ e rest ∙ rw (no, r) refl
 none_own n (x ∷ front) rest f = none_own n front rest (λ k e le p. f (suc k) e (omega arith) p)
-
-some_is : (x y : Entry) → Some x ≡ Some y → x ≡ y
-some_is x y h = cc
 
 counted : (b : Bool) (m : ℕ) → b ≡ true → cond b 1 0 + m ≡ 0 → ⊥
 counted true m h e = omega (arith, e)

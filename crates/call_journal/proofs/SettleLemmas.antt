@@ -7,7 +7,7 @@ use Rattle.content_leases.specs.Refusals.{first_refusal}
 use Rattle.task_lifecycle.specs.declared.lifecycle.TaskCall.TheVariants as call
 use Rattle.task_lifecycle.specs.declared.status.Signal.{Signal}
 use Rattle.task_lifecycle.specs.declared.status.Status.{Status}
-use Rattle.task_lifecycle.specs.declared.status.Status.TheVariants.{Created, Running, Pausing, Paused, Stopped}
+use Rattle.task_lifecycle.specs.declared.status.Status.TheVariants.{Created, Pausing, Paused, Stopped}
 use Rattle.task_lifecycle.specs.Lifecycle.{allowed}
 use Rattle.task_lifecycle.specs.Names.{signal_of}
 use Rattle.task_requests.specs.declared.request.Ask.{Ask}
@@ -31,25 +31,16 @@ use Rattle.call_journal.proofs.NamedLemmas.{only_named, keeps_id}
 
 -- it can be neither started, deleted nor stepped
 not_started : (st : Status) → allowed call.Wait st ≡ false → allowed call.Start st ≡ true → ⊥
-not_started Created off on = true≢false off
-not_started Running off on = true≢false (sym on)
-not_started Pausing off on = true≢false (sym on)
-not_started Paused off on = true≢false off
-not_started Stopped off on = true≢false off
+not_started Created off on = cc
+not_started _ off on = cc
 
 not_deleted : (st : Status) → allowed call.Wait st ≡ false → allowed call.Delete st ≡ true → ⊥
-not_deleted Created off on = true≢false off
-not_deleted Running off on = true≢false (sym on)
-not_deleted Pausing off on = true≢false (sym on)
-not_deleted Paused off on = true≢false off
-not_deleted Stopped off on = true≢false off
+not_deleted Stopped off on = cc
+not_deleted _ off on = cc
 
 not_stepped : (st : Status) → allowed call.Wait st ≡ false → allowed call.Step st ≡ true → ⊥
-not_stepped Created off on = true≢false off
-not_stepped Running off on = true≢false (sym on)
-not_stepped Pausing off on = true≢false (sym on)
-not_stepped Paused off on = true≢false off
-not_stepped Stopped off on = true≢false off
+not_stepped Paused off on = cc
+not_stepped _ off on = cc
 
 -- a pause leaves it paused if its machine is on the board
 pauses : (out : Bool) → allowed call.Wait (if out then Pausing else Paused) ≡ true
@@ -103,15 +94,9 @@ module _ (s : BoardState) (a : Answer) (s' : BoardState) (id : List ℕ) where
       (becomes t (killed_by (signal_of signal) t) at (keeps_id (ask.Kill signal) t _ refl) is on)
   asked ask.Delete t at off none is on =
       absurd (not_deleted t.status off (not_true _ (none_first _ refusal.WrongStatus None none).0))
-  asked ask.State t at off none is on = absurd (true≢false (sym (becomes t t at refl is on) ∙ off))
-  asked ask.Wait t at off none is on = absurd (true≢false (sym (becomes t t at refl is on) ∙ off))
-  asked (ask.Output stream) t at off none is on = absurd (true≢false (sym (becomes t t at refl is on) ∙ off))
-  asked (ask.Break func place) t at off none is on = absurd (true≢false (sym (becomes t _ at refl is on) ∙ off))
-  asked (ask.Unbreak func place) t at off none is on = absurd (true≢false (sym (becomes t _ at refl is on) ∙ off))
   asked (ask.Step count) t at off none is on =
       absurd (not_stepped t.status off (not_true _ (none_first _ refusal.WrongStatus _ none).0))
-  asked ask.Inspect t at off none is on = absurd (true≢false (sym (becomes t t at refl is on) ∙ off))
-  asked (ask.Peek address length) t at off none is on = absurd (true≢false (sym (becomes t t at refl is on) ∙ off))
+  asked _ t at off none is on = absurd (true≢false (sym (becomes t _ at refl is on) ∙ off))
 
   by_cases : (k : Ask) (t : Task) → task_of id s.tasks ≡ Some t → allowed call.Wait t.status ≡ false
       → is_settled (task_of id s.tasks) ≡ false
@@ -156,18 +141,7 @@ module _ (s : BoardState) (a : Answer) (s' : BoardState) (id : List ℕ) where
       (decided (first_refusal (create_refusals s config id)) _ s a s'
       (subst (λ (z : List ℕ). Answers s (request.Create config z) a s') same d)) on))
       (λ n other. absurd (stays (only_named s (request.Create config x) a s' id d (named_other x other)) off on))
-  settled_by (request.Put bytes) d off on = absurd (stays (only_named s (request.Put bytes) a s' id d (λ h. cc)) off on)
-  settled_by (request.PutText text) d off on =
-      absurd (stays (only_named s (request.PutText text) a s' id d (λ h. cc)) off on)
-  settled_by (request.Remove digest) d off on =
-      absurd (stays (only_named s (request.Remove digest) a s' id d (λ h. cc)) off on)
-  settled_by (request.LeaseCreate x) d off on =
-      absurd (stays (only_named s (request.LeaseCreate x) a s' id d (λ h. cc)) off on)
-  settled_by (request.LeaseAdd digest x) d off on =
-      absurd (stays (only_named s (request.LeaseAdd digest x) a s' id d (λ h. cc)) off on)
-  settled_by (request.LeaseDelete x) d off on =
-      absurd (stays (only_named s (request.LeaseDelete x) a s' id d (λ h. cc)) off on)
-  settled_by request.Gc d off on = absurd (stays (only_named s request.Gc a s' id d (λ h. cc)) off on)
+  settled_by r d off on = absurd (stays (only_named s r a s' id d (λ h. cc)) off on)
 
 -- ---- a book
 

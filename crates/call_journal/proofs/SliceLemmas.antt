@@ -1,20 +1,17 @@
 -- What a history says of slices, some slices do.
-use Rattle.std.proofs.Common.{◌≡◌, ℕ, ◌+◌, ◌-◌, ◌<◌, ◌≤◌, List, [], ◌∷◌, Bool, true, false, cond, ◌||◌, ◌&&◌, bytes_eq, Option, Some, None, is_none, is_some, option_and_then, inl, inr, refl, sym, ap, ◌∙◌, subst, arith}
-use Rattle.step_machine.specs.declared.ends.End.{End}
-use Rattle.step_machine.specs.declared.ends.End.TheVariants as own
-use Rattle.step_machine.specs.Configuration.{State as ExecutionState, running, exited, trapped, stuck, is_halted}
+use Rattle.std.proofs.Common.{◌≡◌, ℕ, ◌+◌, ◌-◌, ◌<◌, ◌≤◌, List, [], ◌∷◌, true, false, ◌||◌, ◌&&◌, bytes_eq, Option, Some, None, is_none, is_some, option_and_then, inl, inr, refl, sym, ap, ◌∙◌, subst, arith}
+use Rattle.step_machine.specs.Configuration.{running}
 use Rattle.step_machine.specs.Instantiation.{ended}
 use Rattle.step_machine.specs.Slices.{ends_slice}
 use Rattle.task_lifecycle.specs.declared.status.Status.{Status}
 use Rattle.task_lifecycle.specs.declared.status.Status.TheVariants.{Created, Running, Pausing, Paused, Stopped}
-use Rattle.task_lifecycle.specs.declared.status.Signal.{Signal}
 use Rattle.task_lifecycle.specs.Lifecycle.{takes_turns, is_running, is_pausing}
 use Rattle.task_requests.specs.declared.event.Event.{Event}
 use Rattle.task_requests.specs.declared.event.Event.TheVariants as event
 use Rattle.task_requests.specs.declared.event.EventReply.{EventReply}
 use Rattle.task_requests.specs.declared.event.EventReply.TheVariants as answer
 use Rattle.task_board.specs.BoardState.{Task, Entries, BoardState, task_of, with_task, change_task}
-use Rattle.task_board.specs.Tasks.{execution_at, is_break_at, landing, advanced, MayAdvance, can_lend, lent, slice_turns, HasReturned}
+use Rattle.task_board.specs.Tasks.{execution_at, is_break_at, advanced, MayAdvance, can_lend, lent, slice_turns, HasReturned}
 use Rattle.task_board.specs.Step.{Step, is_budget, lends, taken, Returns}
 use Rattle.task_board.specs.Sound.{IsSound}
 use Rattle.task_board.specs.Moves.{MakeTurns}
@@ -22,6 +19,7 @@ use Rattle.task_board.proofs.EntryLemmas.{by_id, cond_is_true, cond_is_false, sa
 use Rattle.task_board.proofs.SoundLemmas.{advanced_sound}
 use Rattle.task_board.proofs.StepLemmas.{unchanged, lent_sound}
 use Rattle.task_board.proofs.LawLemmas.{budget_range}
+use Rattle.task_board.proofs.AdvanceLemmas.{goes_on, landing_running}
 use Rattle.call_journal.specs.declared.entry.Entry.{Entry}
 use Rattle.call_journal.specs.Replay.{Spans, ComesTo, stays, is_taken, advances, is_retaken}
 use Rattle.call_journal.specs.Records.{IsOfSlice, Records, slice}
@@ -89,24 +87,6 @@ there s t u same at = now_there u t s.tasks (ap (λ (x : List ℕ). task_of x s.
 
 -- ---- part of the turns
 
-not_halted : (s : ExecutionState) → is_halted s ≡ false → ended s ≡ None
-not_halted (running t) h = by (is_halted (running t)) h
-  where
-    by : (b : Bool) → b ≡ false → cond b (Some own.Returned) None ≡ None
-    by true h = cc
-    by false h = refl
-not_halted (exited n) h = cc
-not_halted (trapped t) h = cc
-not_halted stuck h = refl
-
-or_false : (a b : Bool) → (a || b) ≡ false → (a ≡ false) × (b ≡ false)
-or_false true b h = cc
-or_false false b h = (refl, h)
-
-lands_running : (o : Option End) (x : Option Signal) (p : Bool) → o ≡ None → x ≡ None → p ≡ false
-    → (landing o x p).0 ≡ Running
-lands_running o x p none quiet off = rw (none, quiet, off) refl
-
 -- a running task that may make a + j turns is running after a of them, and may make the others
 record CanGoOn (t : Task) (a j : ℕ) : Type 0 where
   pub running : (advanced t a).status ≡ Running
@@ -119,7 +99,7 @@ can_go_on t a j is quiet low some may = record {
   may = record {
     status = ap takes_turns runs;
     some = some;
-    goes = none;
+    goes = part.0;
     uncut = λ i first last.
         let at : t.turns + (a + i) ≡ (t.turns + a) + i = omega arith in
         subst (λ (n : ℕ). ends_slice t.breaks (execution_at t n) ≡ false) at
@@ -127,20 +107,14 @@ can_go_on t a j is quiet low some may = record {
   };
 }
   where
-    cut : ends_slice t.breaks (execution_at t (t.turns + a)) ≡ false
-    cut = may.uncut a low (omega (arith, some))
-
-    none : ended (execution_at t (t.turns + a)) ≡ None
-    none =
-        not_halted (execution_at t (t.turns + a))
-        (or_false (is_halted (execution_at t (t.turns + a))) (is_break_at t (t.turns + a)) cut).0
+    part : (ended (execution_at t (t.turns + a)) ≡ None) × (is_break_at t (t.turns + a) ≡ false)
+    part = goes_on t.breaks (execution_at t (t.turns + a)) (may.uncut a low (omega (arith, some)))
 
     runs : (advanced t a).status ≡ Running
     runs =
-        let off = (or_false (is_halted (execution_at t (t.turns + a))) (is_break_at t (t.turns + a)) cut).1 in
-        lands_running (ended (execution_at t (t.turns + a))) t.signal
-        (is_pausing t.status || is_break_at t (t.turns + a))
-        none quiet (ap (λ (x : Status). is_pausing x || is_break_at t (t.turns + a)) is ∙ off)
+        landing_running (ended (execution_at t (t.turns + a))) t.signal
+        (is_pausing t.status || is_break_at t (t.turns + a)) part.0 quiet
+        (ap (λ (x : Status). is_pausing x || is_break_at t (t.turns + a)) is ∙ part.1)
 
 can_again : (status : Status) (o : Option ℕ) → status ≡ Running → o ≡ None → (is_running status && is_none o) ≡ true
 can_again status o is idle = rw (is, idle) refl

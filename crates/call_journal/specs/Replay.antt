@@ -9,7 +9,8 @@ use Rattle.task_board.specs.Tasks.{advanced, MayAdvance, can_lend, lent, slice_t
 use Rattle.task_board.specs.Step.{Answer, Answers, is_budget}
 use Rattle.call_journal.specs.declared.entry.Found.{Found}
 use Rattle.call_journal.specs.declared.entry.Entry.{Entry}
-use Rattle.call_journal.specs.Finding.{named, found_in, found_of}
+use Rattle.task_board.specs.Claims.{asked_of}
+use Rattle.call_journal.specs.Finding.{found_in, found_of}
 
 -- ---- one task
 
@@ -36,8 +37,8 @@ pub data ComesTo (t : Task) : Task → Type 0 where
 pub data Finds (s : BoardState) (r : Request) : Option Found → BoardState → Type 0 where
   no_task : found_of s r ≡ None → Finds s r None s
   task :
-      (id : List ℕ) → (t t' : Task) → named r ≡ Some id → task_of id s.tasks ≡ Some t → ComesTo t t'
-      → Finds s r (Some (found_in t')) (with_task s t')
+      (id : List ℕ) → (t t' : Task) → asked_of r ≡ Some id → task_of id s.tasks ≡ Some t
+      → ComesTo t t' → Finds s r (Some (found_in t')) (with_task s t')
 
 -- ---- histories
 

@@ -2,7 +2,8 @@
 
 ghost use Rattle.std.specs.Prelude.{◌≡◌, None, IfOk};
 ghost use Rattle.task_requests.specs.declared.request.Request.TheVariants as request;
-ghost use Rattle.call_journal.specs.Finding.{named, found_of};
+ghost use Rattle.task_board.specs.Claims.{asked_of};
+ghost use Rattle.call_journal.specs.Finding.{found_of};
 
 use crate::entry::Found;
 use std::alloc::{AllocError, Global};
@@ -45,7 +46,7 @@ fn copy_create(alloc: Global, config: &Text, id: &Text) -> Result<Request, Alloc
 
 // The same request to the store.
 fn copy_store(alloc: Global, request: &Request) -> Result<Request, AllocError>
-    requires { named request.now ≡ None }
+    requires { asked_of request.now ≡ None }
     ensures { IfOk result (λ r. r ≡ request.now) }
 {
     match request {

@@ -12,7 +12,8 @@ ghost use Rattle.call_journal.specs.declared.entry.Entry.{Entry as EntryValue};
 ghost use Rattle.call_journal.specs.declared.entry.Found.{Found as FoundValue};
 ghost use Rattle.task_board.specs.Waiting.{waiting_after};
 ghost use Rattle.call_journal.specs.Books.{BookValue, HasCalled, is_due, is_full, is_journalled, settles};
-ghost use Rattle.call_journal.specs.Finding.{named, found_in};
+ghost use Rattle.task_board.specs.Claims.{asked_of};
+ghost use Rattle.call_journal.specs.Finding.{found_in};
 ghost use Rattle.call_journal.specs.Fronts.{Begins};
 ghost use Rattle.call_journal.specs.Records.{entry_on, IsOfSlice, Records};
 ghost use Rattle.call_journal.specs.Replay.{ComesTo, Finds, Replays, IsLegal, MayAnswer, IsSince, IsReplay, IsAlike};
@@ -96,7 +97,7 @@ pub fn calls_are_the_boards()
 /// A call changes no task but the one that it names.
 pub fn calls_change_the_task_they_name()
     ensures { (s : BoardState) (r : Request) (a : Answer) (s' : BoardState) (id : List ℕ)
-        → Answers s r a s' → (named r ≡ Some id → ⊥) → task_of id s'.tasks ≡ task_of id s.tasks }
+        → Answers s r a s' → (asked_of r ≡ Some id → ⊥) → task_of id s'.tasks ≡ task_of id s.tasks }
 {}
 
 /// A wait that a call makes due is for a task that the call has paused or killed, or the call fills the
@@ -126,12 +127,12 @@ pub fn returns_make_turns()
 pub fn calls_commute_with_slices()
     ensures before { (s now : BoardState) (r : Request) (a : Answer) (now' : BoardState)
         → IsSince s now
-        → ((id : List ℕ) → named r ≡ Some id → task_of id s.tasks ≡ task_of id now.tasks)
+        → ((id : List ℕ) → asked_of r ≡ Some id → task_of id s.tasks ≡ task_of id now.tasks)
         → Answers now r a now'
         → (s' : BoardState) × Answers s r a s' × IsSince s' now' }
     ensures after { (s now : BoardState) (r : Request) (a : Answer) (s' : BoardState)
         → IsSince s now
-        → ((id : List ℕ) → named r ≡ Some id → task_of id s.tasks ≡ task_of id now.tasks)
+        → ((id : List ℕ) → asked_of r ≡ Some id → task_of id s.tasks ≡ task_of id now.tasks)
         → Answers s r a s'
         → (now' : BoardState) × Answers now r a now' × IsSince s' now' }
 {}
