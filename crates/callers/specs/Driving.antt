@@ -11,10 +11,6 @@ use Rattle.callers.specs.declared.caller.Driven.{Driven}
 use Rattle.callers.specs.declared.caller.Driven.TheVariants as driven
 use Rattle.callers.specs.Answered.{IsServed}
 
--- the known bytes have these lines
-abbrev pub HaveLines : Option (List ℕ) → List (List ℕ) → Type 0
-HaveLines known lines = IfSome known (λ bytes. lines_of bytes ≡ lines)
-
 -- the known bytes begin with these lines
 abbrev pub BeginWithLines : Option (List ℕ) → List (List ℕ) → Type 0
 BeginWithLines known lines = IfSome known (λ bytes. Begins lines (lines_of bytes))
@@ -32,7 +28,7 @@ AreGiven input left lines =
 -- The lines that were answered: all that there are if the input is at its end, else the first ones. If the
 -- reader failed, each that it has given whole, and no other
 abbrev pub AreRead : Driven → (input left : Option (List ℕ)) → (lines : List (List ℕ)) → Type 0
-AreRead driven.End input left lines = HaveLines input lines
+AreRead driven.End input left lines = IfSome input (λ bytes. lines_of bytes ≡ lines)
 AreRead driven.ReadFault input left lines = BeginWithLines input lines × AreGiven input left lines
 AreRead other input left lines = BeginWithLines input lines
 

@@ -1,6 +1,6 @@
 -- How the lines of several callers ended, and the replies to all of them.
-use Rattle.std.specs.Prelude.{◌≡◌, ◌++◌, ℕ, List, [], ◌∷◌, Option, None, Some, IsSomeAnd}
-use Rattle.std.specs.List.{AllByRecursion}
+use Rattle.std.specs.Prelude.{◌≡◌, ℕ, List, Option, filter_map, option_map, IsSomeAnd}
+use Rattle.std.specs.List.{AllByRecursion, concat}
 use Rattle.callers.specs.declared.caller.Driven.{Driven}
 use Rattle.callers.specs.declared.caller.Driven.TheVariants.{End}
 
@@ -10,6 +10,4 @@ AllEnded how = AllByRecursion (λ c. IsSomeAnd c (λ answered. how answered ≡ 
 
 -- the replies of each caller that was answered, in the order of the callers
 abbrev pub all_replies : {A : Type 0} → (replies : A → List ℕ) → List (Option A) → List ℕ
-all_replies replies [] = []
-all_replies replies (None ∷ callers) = all_replies replies callers
-all_replies replies (Some c ∷ callers) = replies c ++ all_replies replies callers
+all_replies replies callers = concat (filter_map (option_map replies) callers)
