@@ -1,5 +1,6 @@
 -- The program's command line, and what was found of its arguments.
 use Rattle.std.proofs.Common.{◌≡◌, ◌⊎◌, ◌≤◌, ℕ, nat_le, List, [], ◌∷◌, map, codes, string_bytes, Option, Some, None, Bool, true, false, not, ◌&&◌, ◌||◌, refl, ap, subst, inl, inr, arith}
+use Rattle.std.proofs.lemmas.Bool.{and_parts}
 use Rattle.std.proofs.lemmas.Bool.Decides.{nat_tests}
 use Rattle.clap.specs.Faults.{is_simple_and_free}
 use Rattle.clap.specs.Kinds.{IsAmong}
@@ -42,17 +43,13 @@ named_from_chosen arguments (Some f) e none (Show text) (h, complete) = absurd h
 pub named_from_shown :
     (arguments : List Text) (kind : ErrorKind) → (kind ≡ OutOfMemory) ⊎ IsAmong kind (faults_in arguments)
     → (c : Command) → IsShown kind c → Name arguments c
-named_from_shown arguments kind h (Serve workers scripts callers explain log format) shown = absurd shown
-named_from_shown arguments kind h (Replay file) shown = absurd shown
-named_from_shown arguments kind h (Asm file output explain) shown = absurd shown
-named_from_shown arguments kind h (Check file list task memory explain) shown = absurd shown
-named_from_shown arguments kind h (Run name args settings explain) shown = absurd shown
 named_from_shown arguments kind (inl memory) (Show text) (inl help) = cc
 named_from_shown arguments kind (inl memory) (Show text) (inr version) = cc
 named_from_shown arguments kind (inr among) (Show text) (inl help) =
     inl (subst (λ k. IsAmong k (faults_in arguments)) help among)
 named_from_shown arguments kind (inr among) (Show text) (inr version) =
     inr (subst (λ k. IsAmong k (faults_in arguments)) version among)
+named_from_shown arguments kind h _ shown = absurd shown
 
 pub faulty_from_kind :
     (arguments : List Text) (kind : ErrorKind) → (kind ≡ OutOfMemory) ⊎ IsAmong kind (faults_in arguments)
@@ -78,15 +75,11 @@ not_false : (a : Bool) → not a ≡ false → a ≡ true
 not_false true h = refl
 not_false false h = cc
 
-both_true : (a b : Bool) → (a && b) ≡ true → (a ≡ true) × (b ≡ true)
-both_true true b h = (refl, h)
-both_true false b h = cc
-
 pub workers_within : (n : ℕ) (a b : Bool) → (is_no_count n || a || b) ≡ false → (1 ≤ n) × (n ≤ most_workers)
 workers_within n a b h =
     let fits = first_false (is_no_count n) a (first_false (is_no_count n || a) b h) in
     let within = not_false (nat_le 1 n && nat_le n most_workers) fits in
-    let both = both_true (nat_le 1 n) (nat_le n most_workers) within in
+    let both = and_parts (nat_le 1 n) (nat_le n most_workers) within in
     let low = both.0 in
     let high = both.1 in
     (grind (arith, nat_tests, low), grind (arith, nat_tests, high))

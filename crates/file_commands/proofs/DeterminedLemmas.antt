@@ -1,5 +1,6 @@
 -- What a line is answered is determined by the line and the board.
-use Rattle.std.proofs.Common.{◌≡◌, ◌≢◌, ◌&&◌, ℕ, List, Bool, true, false, Err, inl, inr, ◌⊎◌, refl, sym, ap, ◌∙◌, subst}
+use Rattle.std.proofs.Common.{◌≡◌, ◌≢◌, ℕ, List, true, false, Err, inl, inr, ◌⊎◌, sym, ap, ◌∙◌, subst}
+use Rattle.std.proofs.lemmas.Bool.{and_parts, false_from_ne_true}
 use Rattle.wasm_ast.specs.declared.refusal.Refusal.TheVariants as refusal
 use Rattle.task_requests.specs.declared.event.Event.{Event}
 use Rattle.task_requests.specs.declared.event.Event.TheVariants as event
@@ -24,26 +25,15 @@ EventsAreDetermined =
 
 -- ---- lack of memory shows in the text
 
-and_right : (a b : Bool) → (a && b) ≡ true → b ≡ true
-and_right true b h = h
-and_right false b h = cc
-
 met_reply : (e : Event) (r : EventReply) → met_no_memory e r ≡ true → r ≡ answer.Called (Err refusal.NoMemory)
 met_reply (event.Call q) (answer.Called a) h =
-    ap answer.Called (no_memory_is a (and_right (takes_memory q) (is_no_memory a) h))
-met_reply (event.Call q) (answer.Taken b) h = cc
-met_reply (event.Call q) (answer.Returned b) h = cc
-met_reply (event.Take id n) r h = cc
-met_reply (event.Return id) r h = cc
-
-not_true : (b : Bool) → (b ≡ true → ⊥) → b ≡ false
-not_true true h = absurd (h refl)
-not_true false h = refl
+    ap answer.Called (no_memory_is a (and_parts (takes_memory q) (is_no_memory a) h).1)
+met_reply _ _ h = cc
 
 not_met : (e : Event) (r : EventReply) (text : List ℕ) → text ≡ line_text (event_data r)
     → text ≢ line_text (json_of (Err refusal.NoMemory)) → met_no_memory e r ≡ false
 not_met e r text is other =
-    not_true (met_no_memory e r) (λ h. other (is ∙ ap (λ r. line_text (event_data r)) (met_reply e r h)))
+    false_from_ne_true (met_no_memory e r) (λ h. other (is ∙ ap (λ r. line_text (event_data r)) (met_reply e r h)))
 
 -- ---- a line of a script
 

@@ -86,13 +86,10 @@ assembled_alike one never bytes r s (asm.IsAssembled.assembled m h f) (asm.IsAss
     absurd (never bytes m e h g)
 assembled_alike one never bytes r s (asm.IsAssembled.too_long m h long) (asm.IsAssembled.assembled n g f) =
     absurd (long (subst FitsLimits (one bytes n m g h) f))
-assembled_alike one never bytes r s (asm.IsAssembled.too_long m h long) (asm.IsAssembled.too_long n g longer) =
-    (refl, refl)
-assembled_alike one never bytes r s (asm.IsAssembled.too_long m h long) (asm.IsAssembled.no_module e g) = (refl, refl)
 assembled_alike one never bytes r s (asm.IsAssembled.no_module e h) (asm.IsAssembled.assembled n g f) =
     absurd (never bytes n e g h)
-assembled_alike one never bytes r s (asm.IsAssembled.no_module e h) (asm.IsAssembled.too_long n g long) = (refl, refl)
-assembled_alike one never bytes r s (asm.IsAssembled.no_module e h) (asm.IsAssembled.no_module d g) = (refl, refl)
+assembled_alike one never bytes r s _ _ =
+    (refl, refl)
 
 pub checked_alike : OneModule → Either → (bytes : List ℕ) (list : Bool) (r s : Ran) → IsChecked bytes list r
     → IsChecked bytes list s → Alike r s
@@ -104,15 +101,10 @@ checked_alike one never bytes list r s (check.IsChecked.valid m h v) (check.IsCh
     absurd (never bytes m e h g)
 checked_alike one never bytes list r s (check.IsChecked.invalid m at h fault) (check.IsChecked.valid n g v) =
     absurd (fault_not_valid m at fault (subst ValidModule (one bytes n m g h) v))
-checked_alike one never bytes list r s (check.IsChecked.invalid m at h fault) (check.IsChecked.invalid n at' g fault') =
-    (refl, refl)
-checked_alike one never bytes list r s (check.IsChecked.invalid m at h fault) (check.IsChecked.no_module e g) =
-    (refl, refl)
 checked_alike one never bytes list r s (check.IsChecked.no_module e h) (check.IsChecked.valid n g v) =
     absurd (never bytes n e g h)
-checked_alike one never bytes list r s (check.IsChecked.no_module e h) (check.IsChecked.invalid n at g fault) =
+checked_alike one never bytes list r s _ _ =
     (refl, refl)
-checked_alike one never bytes list r s (check.IsChecked.no_module e h) (check.IsChecked.no_module d g) = (refl, refl)
 
 -- ---- the end of a task
 

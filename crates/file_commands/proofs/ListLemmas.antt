@@ -42,50 +42,16 @@ small align bytes h most = by_order (below_or align 32)
 
 load_small : (op : LoadOp) → load_bytes op ≤ 8
 load_small load.I32 = omega arith
-load_small load.I64 = omega arith
-load_small load.I32From8S = omega arith
-load_small load.I32From8U = omega arith
-load_small load.I32From16S = omega arith
-load_small load.I32From16U = omega arith
-load_small load.I64From8S = omega arith
-load_small load.I64From8U = omega arith
-load_small load.I64From16S = omega arith
-load_small load.I64From16U = omega arith
-load_small load.I64From32S = omega arith
-load_small load.I64From32U = omega arith
+load_small _ = omega arith
 
 store_small : (op : StoreOp) → store_bytes op ≤ 8
 store_small store.I32 = omega arith
-store_small store.I64 = omega arith
-store_small store.I32To8 = omega arith
-store_small store.I32To16 = omega arith
-store_small store.I64To8 = omega arith
-store_small store.I64To16 = omega arith
-store_small store.I64To32 = omega arith
+store_small _ = omega arith
 
 simple_aligned : (c : Context) (s : Simple) (old new : List ValType) → SimpleTyped c s old new → HasAlignment s
-simple_aligned c instr.Unreachable old new t = tt
-simple_aligned c instr.Nop old new t = tt
-simple_aligned c (instr.Br label) old new t = tt
-simple_aligned c (instr.BrIf label) old new t = tt
-simple_aligned c (instr.BrTable other labels) old new t = tt
-simple_aligned c instr.Return old new t = tt
-simple_aligned c (instr.Call func) old new t = tt
-simple_aligned c (instr.CallIndirect type) old new t = tt
-simple_aligned c instr.Drop old new t = tt
-simple_aligned c instr.Select old new t = tt
-simple_aligned c (instr.Local op index) old new t = tt
-simple_aligned c (instr.Global op index) old new t = tt
 simple_aligned c (instr.Load op at) old new t = small at.align (load_bytes op) t.0.1 (load_small op)
 simple_aligned c (instr.Store op at) old new t = small at.align (store_bytes op) t.0.1 (store_small op)
-simple_aligned c instr.MemorySize old new t = tt
-simple_aligned c instr.MemoryGrow old new t = tt
-simple_aligned c (instr.Const value) old new t = tt
-simple_aligned c (instr.Unary type op) old new t = tt
-simple_aligned c (instr.Binary type op) old new t = tt
-simple_aligned c (instr.Test type op) old new t = tt
-simple_aligned c (instr.Compare type op) old new t = tt
-simple_aligned c (instr.Convert op) old new t = tt
+simple_aligned c _ old new t = tt
 
 mutual
   op_aligned : (c : Context) (o : Op) (old new : List ValType) → OpTyped c o old new → OpAligned o

@@ -21,12 +21,9 @@ are_marked_append :
     (ls : List (List ℕ)) (ms : List Mark) (es : List Event) (bs : List (List ℕ)) (ns : List Mark) (fs : List Event)
     → AreMarked ls ms es → AreMarked bs ns fs → AreMarked (ls ++ bs) (ms ++ ns) (es ++ fs)
 are_marked_append [] [] [] bs ns fs h g = g
-are_marked_append [] [] (e ∷ es) bs ns fs h g = absurd h
-are_marked_append [] (m ∷ ms) es bs ns fs h g = absurd h
-are_marked_append (l ∷ ls) [] es bs ns fs h g = absurd h
-are_marked_append (l ∷ ls) (mark.Event ∷ ms) [] bs ns fs h g = absurd h
 are_marked_append (l ∷ ls) (mark.Event ∷ ms) (e ∷ es) bs ns fs h g = (h.0, are_marked_append ls ms es bs ns fs h.1 g)
 are_marked_append (l ∷ ls) (mark.Bad ∷ ms) es bs ns fs h g = (h.0, are_marked_append ls ms es bs ns fs h.1 g)
+are_marked_append _ _ _ bs ns fs h g = absurd h
 
 -- one line more of the bytes
 pub one_line_more : (bytes left rest line : List ℕ) (old_marks marks : List Mark) (old_events events : List Event)
@@ -65,10 +62,6 @@ pub replay_session :
     → (texts : List (List ℕ)) × Session IsReplied s lines texts s' × (replay_text marks replies ≡ concat texts)
 replay_session [] [] [] [] s s' h run = ([], run, refl)
 replay_session [] [] [] (r ∷ rs) s s' h run = absurd run
-replay_session [] [] (e ∷ es) replies s s' h run = absurd h
-replay_session [] (m ∷ ms) events replies s s' h run = absurd h
-replay_session (l ∷ ls) [] events replies s s' h run = absurd h
-replay_session (l ∷ ls) (mark.Event ∷ ms) [] replies s s' h run = absurd h
 replay_session (l ∷ ls) (mark.Event ∷ ms) (e ∷ es) [] s s' h run = absurd run
 replay_session (l ∷ ls) (mark.Event ∷ ms) (e ∷ es) (r ∷ rs) s s' h run =
     let rest = replay_session ls ms es rs run.0 s' h.1 run.2 in
@@ -86,3 +79,4 @@ replay_session (l ∷ ls) (mark.Bad ∷ ms) events replies s s' h run =
       (s, answered, rest.1),
       ap (λ t. line_text (refusal_data BadRequest) ++ t) rest.2,
     )
+replay_session _ _ _ replies s s' h run = absurd h

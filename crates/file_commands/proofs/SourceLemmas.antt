@@ -42,28 +42,7 @@ IsPlace e = (line : ℕ) × (column : ℕ) × (e ≡ refusal.BadText line column
 
 place_of : (e : Refusal) → IsBadText e → IsPlace e
 place_of (refusal.BadText line column) h = (line, column, refl)
-place_of refusal.BadRequest h = absurd h
-place_of refusal.BadId h = absurd h
-place_of refusal.Exists h = absurd h
-place_of refusal.NotFound h = absurd h
-place_of refusal.NoContent h = absurd h
-place_of refusal.InUse h = absurd h
-place_of refusal.BadModule h = absurd h
-place_of (refusal.Invalid at) h = absurd h
-place_of refusal.Limit h = absurd h
-place_of refusal.BadConfig h = absurd h
-place_of refusal.WrongStatus h = absurd h
-place_of refusal.Busy h = absurd h
-place_of refusal.OutOfRange h = absurd h
-place_of refusal.TooMany h = absurd h
-place_of refusal.JournalFull h = absurd h
-place_of refusal.DigestConflict h = absurd h
-place_of refusal.NoMemory h = absurd h
-place_of refusal.Closed h = absurd h
-place_of refusal.JournalFault h = absurd h
-place_of refusal.NoEntry h = absurd h
-place_of refusal.BadImport h = absurd h
-place_of refusal.SegmentOutOfBounds h = absurd h
+place_of _ h = absurd h
 
 abbrev pub IsTextRefusal : List ℕ → Refusal → Type 0
 IsTextRefusal text e = (e ≡ refusal.NoMemory) ⊎ (is_binary text ≡ false → is_utf8 text ≡ true → IsNoSource text e)

@@ -18,7 +18,9 @@ use Rattle.file_commands.specs.declared.ran.Ran.{Ran}
 use Rattle.file_commands.specs.declared.run_error.RunError.{RunError}
 use Rattle.file_commands.specs.Ran.{refused_run}
 use Rattle.file_commands.specs.Explained.{IsToldBy}
-use Rattle.file_commands.specs.TaskRun.{Given, end_lines, status_of, ran_to, CannotRun, IsRun, IsWritten, HasEnded}
+use Rattle.task_lifecycle.specs.Names.{exit_status}
+use Rattle.task_board.specs.Tasks.{exit_of}
+use Rattle.file_commands.specs.TaskRun.{Given, end_lines, ran_to, CannotRun, IsRun, IsWritten, HasEnded}
 use Rattle.file_commands.specs.TaskRun as task
 use Rattle.file_commands.specs.Inside.Written.{IsOpened, IsCopied, IsTold}
 use Rattle.file_commands.proofs.RanLemmas.{told_plain}
@@ -62,7 +64,7 @@ pub end_written : (v w : MachineView) (end : End) (o o' e e' e'' : Option (List 
     → w.module ≡ v.module → w.process ≡ v.process → ended (state_of w) ≡ Some end
     → Appends o o' (output_of w Out) → Appends e e' (output_of w stream.Err) → Appends e' e''
     (end_lines (output_of w Out) (output_of w stream.Err) end)
-    → status ≡ status_of end % 256 → IsWritten (HasEnded v.module v.process) o o' e e'' status
+    → status ≡ exit_status (exit_of end) % 256 → IsWritten (HasEnded v.module v.process) o o' e e'' status
 end_written v w end o o' e e' e'' status same_module same_process ends out err line is =
     let r = ran_to (after w.module w.process w.turns).store end in
     let its : HasEnded w.module w.process r = record { turns = w.turns; end = end; ends = ends; is = refl } in (

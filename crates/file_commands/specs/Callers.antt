@@ -1,5 +1,5 @@
 -- The words of `--caller`: each names a file of lines and a file for replies.
-use Rattle.std.specs.Prelude.{ℕ, ◌==◌, Bool, true, false, ◌&&◌, ◌||◌, List, [], ◌∷◌, length, map, bytes_eq, nat_lt}
+use Rattle.std.specs.Prelude.{ℕ, ◌==◌, Bool, false, ◌&&◌, ◌||◌, List, [], ◌∷◌, length, map, bytes_eq, nat_lt}
 use Rattle.std.specs.List.{list_any, before_first, after_first}
 use Rattle.clap.specs.Walk.{Text}
 
@@ -18,25 +18,18 @@ lines_file word = before_first is_colon word
 abbrev pub replies_file : Text → Text
 replies_file word = after_first is_colon word
 
-abbrev pub is_nothing : Text → Bool
-is_nothing [] = true
-is_nothing (b ∷ bs) = false
-
 -- the word names no two files
 abbrev pub lacks_file : Text → Bool
-lacks_file word = is_nothing (lines_file word) || is_nothing (replies_file word)
+lacks_file word = (length (lines_file word) == 0) || (length (replies_file word) == 0)
 
 -- one of them is there twice
 abbrev pub has_repeat : List Text → Bool
 has_repeat [] = false
 has_repeat (name ∷ names) = list_any (bytes_eq name) names || has_repeat names
 
-abbrev pub are_some : List Text → Bool
-are_some [] = false
-are_some (word ∷ words) = true
-
 -- There are SCRIPTs too, or more callers than there may be; a word does not name two files, or two callers
 -- have one file for their replies
 abbrev pub are_unfit : (scripts words : List Text) → Bool
-are_unfit scripts words = (are_some scripts && are_some words) || nat_lt most_callers (length words)
-    || list_any lacks_file words || has_repeat (map replies_file words)
+are_unfit scripts words = (nat_lt 0 (length scripts) && nat_lt 0 (length words))
+    || nat_lt most_callers (length words) || list_any lacks_file words
+    || has_repeat (map replies_file words)

@@ -109,13 +109,9 @@ file_in = first_of (codes "FILE")
 abbrev pub module_in : List Row → Option (List Text)
 module_in = all_of (codes "MODULE")
 
-abbrev pub is_set : Option Text → Bool
-is_set None = false
-is_set (Some value) = bytes_eq value (codes "true")
-
 -- the flag of this name is among them
 abbrev pub has_flag : (name : Text) → List Row → Bool
-has_flag name rows = is_set (first_of name rows)
+has_flag name rows = bytes_eq (unwrap_or (first_of name rows) []) (codes "true")
 
 -- the values of the argument of this name, in their order
 abbrev pub texts_in : (name : Text) → List Row → List Text

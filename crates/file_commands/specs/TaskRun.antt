@@ -16,7 +16,7 @@ use Rattle.step_machine.specs.declared.ends.End.TheVariants as ends
 use Rattle.step_machine.specs.Configuration.{Store}
 use Rattle.step_machine.specs.Instantiation.{instantiation_refusal, after, ended}
 use Rattle.task_lifecycle.specs.Names.{exit_status}
-use Rattle.task_lifecycle.specs.declared.status.ExitRecord.TheVariants as exit
+use Rattle.task_board.specs.Tasks.{exit_of}
 use Rattle.file_commands.specs.declared.ran.Ran.{Ran}
 use Rattle.file_commands.specs.declared.settings.Settings.{Settings}
 use Rattle.file_commands.specs.Source.{IsSource, IsNoSource}
@@ -71,18 +71,12 @@ abbrev pub end_lines : (out err : List ℕ) → End → List ℕ
 end_lines out err end = trap_line end ++ (full_line (codes "standard output") (length out)
     ++ full_line (codes "standard error") (length err))
 
--- the exit status of a task that ended so
-abbrev pub status_of : End → ℕ
-status_of ends.Returned = exit_status exit.Return
-status_of (ends.Exited code) = exit_status (exit.Exit code)
-status_of (ends.Trapped trap) = exit_status (exit.Trapped trap)
-
 -- what a task has written and its exit status, of which a program's status has the lowest 8 bits
 abbrev pub ran_to : Store → End → Ran
 ran_to store end = record {
   out = store.out;
   err = store.err ++ end_lines store.out store.err end;
-  status = status_of end % 256;
+  status = exit_status (exit_of end) % 256;
 }
 
 -- the module in a file can be run so

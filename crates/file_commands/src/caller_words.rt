@@ -2,7 +2,7 @@
 
 ghost use Rattle.std.specs.Prelude.{◌≡◌, true, false, is_some, bytes_eq, map, MatchOption, string_bytes};
 ghost use Rattle.std.specs.List.{list_any};
-ghost use Rattle.file_commands.specs.Callers.{lines_file, replies_file, lacks_file, has_repeat, are_some, are_unfit};
+ghost use Rattle.file_commands.specs.Callers.{lines_file, replies_file, lacks_file, has_repeat, are_unfit};
 
 use std::alloc::{AllocError, Global};
 

@@ -12,10 +12,12 @@ ghost use Rattle.validator.specs.Typing.{ValidModule};
 ghost use Rattle.step_machine.specs.Instantiation.{instantiation_refusal, ended};
 ghost use Rattle.step_machine.specs.Limits.{last_turn};
 ghost use Rattle.step_machine.specs.MachineView.{state_of, output_of};
+ghost use Rattle.task_lifecycle.specs.Names.{exit_status};
+ghost use Rattle.task_board.specs.Tasks.{exit_of};
 ghost use Rattle.file_commands.specs.Command.{repeated_rule, module_rule, run_shape, module_in, texts_in, number_in, IsRead};
 ghost use Rattle.file_commands.specs.Ran.{line, refused_run};
 ghost use Rattle.file_commands.specs.Explained.{IsExplained, IsToldBy};
-ghost use Rattle.file_commands.specs.TaskRun.{given, can_have, process_given, trap_line, full_line, end_lines, CannotRun, IsRun, IsWritten, status_of, HasEnded};
+ghost use Rattle.file_commands.specs.TaskRun.{given, can_have, process_given, trap_line, full_line, end_lines, CannotRun, IsRun, IsWritten, HasEnded};
 ghost use Rattle.file_commands.specs.Inside.Written.{CannotStart, IsOpened};
 ghost use Rattle.file_commands.specs.Inside.Chosen.{Has, IsNumberIn, IsComplete};
 
@@ -305,7 +307,7 @@ fn run_to_end<O: Write, E: Write>(
 
 // The status of a program whose task has ended so.
 fn status_of(end: End) -> u8
-    ensures { result ≡ status_of end % 256 }
+    ensures { result ≡ exit_status (exit_of end) % 256 }
 {
     match end {
         End::Returned => 0,
