@@ -17,8 +17,8 @@ help: ## what each target does
 try: ## serve the first run of examples/ by the program before any proof; two minutes, and then at once
 	tools/try
 
-build: ## prove the program's crates and build it, 35 to 50 minutes from nothing
-	tools/build
+build: ## prove the program's crates and build it, 35 to 50 minutes from nothing; rt goes on from what it keeps
+	tools/build --keep
 
 build-tests: ## prove and build the programs that only check-all runs
 	set -e; for name in $(TEST_PROGRAMS); do (cd crates/$$name && rt run </dev/null >/dev/null); done
