@@ -17,10 +17,10 @@ help: ## what each target does
 try: ## serve the first run of examples/ by the program before any proof; two minutes, and then at once
 	tools/try
 
-build: ## prove the program's crates and build it, 35 to 50 minutes from nothing; rt goes on from what it keeps
+build: ## prove the program's crates and build it, 35 minutes or more from nothing; rt goes on from what it keeps
 	tools/build --keep
 
-build-tests: ## prove and build the programs that only check-all runs
+build-tests: ## prove and build the programs that only check-all runs, after make build
 	set -e; for name in $(TEST_PROGRAMS); do (cd crates/$$name && rt run </dev/null >/dev/null); done
 
 deb: ## the Debian package out/feulgama_VERSION_amd64.deb of the built program, a minute; names packages that are missing

@@ -158,7 +158,8 @@ class Anew:
     """Proves crates from nothing. As `rt ci` does, it writes what the crates above can cite of a crate, and not its checked
     proofs, which they would only load. The prover keeps no work so.
 
-    The statements are in crates/NAME/out/statements, with a checksum of all that they were made from.
+    The statements are in crates/NAME/out/statements, with a checksum of all that they were made from. They stay there until
+    others are proved.
     """
 
     for_a_job, of_urgent = 1.5, 3
@@ -174,7 +175,7 @@ class Anew:
         self.begun: dict[str, str] = {}
 
     def is_done(self, crate: Crate) -> bool:
-        kept, made = self._sum_file(crate.name), self._made(crate.name)
+        kept, made = statements_of(crate.name) / "sum", self._made(crate.name)
         if not (self.sums.keys() >= set(crate.uses) and kept.is_file() and made.exists()):
             return False
         if kept.read_text() != self._sum(crate):
@@ -183,8 +184,8 @@ class Anew:
         return True
 
     def begin(self, crate: Crate, jobs: int) -> tuple[list[str], Path]:
-        self._sum_file(crate.name).unlink(missing_ok=True)
-        statements_of(crate.name).mkdir(parents=True, exist_ok=True)
+        shutil.rmtree(self._new(crate.name), ignore_errors=True)
+        self._new(crate.name).mkdir(parents=True)
         self.begun[crate.name] = self._sum(crate)
         return self._words(crate, jobs), TOP / "crates" / crate.name
 
@@ -197,12 +198,15 @@ class Anew:
             why = self._link()
             if why:
                 return why
-        self._sum_file(crate.name).write_text(self.begun[crate.name])
-        self.sums[crate.name] = self.begun[crate.name]
+        self.sums[crate.name] = self.begun.pop(crate.name)
+        (self._new(crate.name) / "sum").write_text(self.sums[crate.name])
+        shutil.rmtree(statements_of(crate.name), ignore_errors=True)
+        self._new(crate.name).rename(statements_of(crate.name))
         return ""
 
     def leave(self) -> None:
-        """A check that is stopped leaves nothing of its own."""
+        for name in self.begun:
+            shutil.rmtree(self._new(name), ignore_errors=True)
 
     def _words(self, crate: Crate, jobs: int) -> list[str]:
         """The command by which rt checks a crate and writes its statements or, of the program, its object file."""
@@ -220,11 +224,11 @@ class Anew:
         words += ["--links", f"{crate.name}=", "--jobs", str(jobs)]
         if crate.name == PROGRAM:
             return [*words, "--toolchain", str(kit / "toolchain"), "--backend", "llvm", "-o", str(self._object())]
-        return [*words, "--statements", "-o", str(self._made(crate.name))]
+        return [*words, "--statements", "-o", str(self._new(crate.name) / f"{crate.name}.rlib")]
 
     def _link(self) -> str:
         """Links the program. Why that failed; empty if it did not."""
-        new = statements_of(PROGRAM) / PROGRAM
+        new = self._new(PROGRAM) / PROGRAM
         kit, target = self.kit, "x86_64-unknown-linux-gnu"
         words = [kit / "bin/rattle-link", "--target", target, "--toolchain", kit / "toolchain", "-o", new, self._object(),
                  kit / "c/libos_c.a", kit / "c/liblibc_c.a"]
@@ -237,14 +241,15 @@ class Anew:
         return ""
 
     def _object(self) -> Path:
-        return statements_of(PROGRAM) / f"{PROGRAM}.o"
+        return self._new(PROGRAM) / f"{PROGRAM}.o"
 
     def _made(self, name: str) -> Path:
         """What is made of a crate."""
         return out_of(name) / name if name == PROGRAM else statements_of(name) / f"{name}.rlib"
 
-    def _sum_file(self, name: str) -> Path:
-        return statements_of(name) / "sum"
+    def _new(self, name: str) -> Path:
+        """Where statements are until they are proved."""
+        return out_of(name) / "statements.new"
 
     def _sum(self, crate: Crate) -> str:
         """A checksum of all that a crate is made from: the kit, its line in crates.txt, its files, and what it uses."""
